@@ -1,5 +1,5 @@
 -- The checked prefix of an input has the input's meaning.
-use Rattle.std.proofs.Common.{◌≡◌, ◌<◌, ◌∙◌, inl, inr, ℕ, List, false, length, nat_le, ap, sym, arith, refl}
+use Rattle.std.proofs.Common.{◌≡◌, ◌<◌, ◌∙◌, inl, inr, ℕ, List, false, length, take, nat_le, ap, sym, arith, refl}
 use Rattle.std.specs.Prelude.{Option, Some, None, IfSome}
 use Rattle.std.proofs.lemmas.List.{take_all, length-take-le}
 use Rattle.std.proofs.lemmas.Bool.{cases_order}
@@ -17,18 +17,21 @@ too_long bytes long =
     let test : nat_le (length bytes) longest_mapfile ≡ false = grind (arith, nat_tests) in
     rw test refl
 
--- the checked prefix, one byte longer than the longest mapfile, has the input's meaning
-judged_meaning : (input : List ℕ) → meaning (judged input) ≡ meaning input
-judged_meaning input =
-    elim (cases_order (length input) most_input_bytes) [
-      | inl same ↦ ap meaning (take_all most_input_bytes input (omega arith))
+-- a prefix that is longer than the longest mapfile, or the whole input, has the input's meaning
+pub cut_meaning : (most : ℕ) (input : List ℕ) → longest_mapfile < most → meaning (take most input) ≡ meaning input
+cut_meaning most input long =
+    elim (cases_order (length input) most) [
+      | inl same ↦ ap meaning (take_all most input (omega arith))
       | inr apart ↦ elim apart [
-        | inl shorter ↦ ap meaning (take_all most_input_bytes input (omega arith))
+        | inl shorter ↦ ap meaning (take_all most input (omega arith))
         | inr longer ↦
-            let cut : length (judged input) ≡ most_input_bytes = length-take-le most_input_bytes input (omega arith) in
-            too_long (judged input) (omega arith) ∙ sym (too_long input (omega arith))
+            let cut : length (take most input) ≡ most = length-take-le most input (omega arith) in
+            too_long (take most input) (omega arith) ∙ sym (too_long input (omega arith))
       ]
     ]
+
+judged_meaning : (input : List ℕ) → meaning (judged input) ≡ meaning input
+judged_meaning input = cut_meaning most_input_bytes input (omega arith)
 
 pub means_known : (known : Option (List ℕ)) (bytes : List ℕ) (d : Definition) → IfSome known (λ input. bytes ≡ judged input)
     → Means bytes d → IfSome known (λ input. Means input d)

@@ -1,4 +1,6 @@
+mod Checked
 mod Ended
+mod Folders
 mod Judged
 mod Last
 mod Listed

@@ -3,3 +3,4 @@ pub mod Ending
 pub mod Program
 pub mod Run
 pub mod Serving
+pub mod Folder

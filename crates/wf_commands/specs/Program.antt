@@ -8,8 +8,9 @@ use Rattle.wf_service.specs.declared.service.Service.{Service}
 use Rattle.wf_stream.specs.Reading.{TakesUpTo}
 use Rattle.wf_line.specs.CommandLine.{Asks, program}
 use Rattle.wf_commands.specs.Counting.{CountsReads, CountsWrites}
-use Rattle.wf_commands.specs.Ending.{reported, run_status}
-use Rattle.wf_commands.specs.Run.{IsListed, IsOutcomeOf, most_read}
+use Rattle.wf_commands.specs.Ending.{left_to_report, reported, run_status}
+use Rattle.wf_commands.specs.Folder.{Contents, IsTapeDone}
+use Rattle.wf_commands.specs.Run.{IsOutcomeOf, most_read}
 use Rattle.wf_commands.specs.Serving.{IsServing}
 use Rattle.wf_commands.specs.declared.ending.Ending.{Ending}
 use Rattle.wf_commands.specs.declared.fault.RunFault.{RunFault}
@@ -20,19 +21,16 @@ use Rattle.wf_line.specs.declared.line.Line.TheVariants as lines
 abbrev pub Serves : Type 1
 Serves = Service → Option (List ℕ) → Option (List ℕ) → Result (Unit {0}) ServeFault → Type 0
 
--- The files that tapes are read from: the content of the one at each path, if that is known.
-abbrev pub Contents : Type 0
-Contents = List ℕ → Option (List ℕ)
-
--- The command of the line was run, with this result: a command about standard input reads and writes as such, `tape` lists the tape
--- in the line's file, and `serve` serves the line's service.
+-- The command of the line was run, with this result: a command about standard input reads and writes as such, `tape` writes about
+-- the tapes at the line's path, and `serve` serves the line's service.
 abbrev pub IsDone : Serves → Contents → Line → Option (List ℕ) → Option (List ℕ) → Option (List ℕ) → Result (Unit {0}) RunFault → Type 0
 IsDone serves contents (lines.Caps seq query) input old new result = IsOutcomeOf (lines.Caps seq query) input old new result
 IsDone serves contents (lines.Draw query) input old new result = IsOutcomeOf (lines.Draw query) input old new result
 IsDone serves contents lines.Canon input old new result = IsOutcomeOf lines.Canon input old new result
+IsDone serves contents lines.Check input old new result = IsOutcomeOf lines.Check input old new result
 IsDone serves contents lines.Run input old new result = IsOutcomeOf lines.Run input old new result
 IsDone serves contents lines.Wire input old new result = IsOutcomeOf lines.Wire input old new result
-IsDone serves contents (lines.Tape file) input old new result = IsListed (contents file.now) old new result
+IsDone serves contents (lines.Tape file map) input old new result = IsTapeDone contents file.now map old new result
 IsDone serves contents (lines.Serve service) input old new result = IsServing (serves service) old new result
 
 -- The run of a line: by the input before and after, the output before and after, the counts of failed reads before and after, and
@@ -45,7 +43,7 @@ pub record IsRunOf (serves : Serves) (contents : Contents) (line : Line) (input 
   pub read : CountsReads result reads reads_after
   pub written : CountsWrites result writes writes_after
   -- the line on standard error, and the exit status
-  pub told : ending.reported ≡ reported result
+  pub told : ending.reported ≡ left_to_report line (reported result)
   pub status : ending.status ≡ run_status result
 
 -- The run of a command line's words: that of the line that they ask for.

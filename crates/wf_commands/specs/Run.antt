@@ -1,18 +1,26 @@
 -- What a run of a command reads and writes, and its errors.
-use Rattle.std.specs.Prelude.{◌≡◌, ◌+◌, ◌<◌, ℕ, List, [], ◌∷◌, length, Option, Result, Ok, Err, false, true, take, IfSome}
+use Rattle.std.specs.Prelude.{◌≡◌, ◌+◌, ◌<◌, ℕ, List, [], ◌∷◌, length, Option, Result, Ok, Err, false, true, take, IfSome, Vec, None, Some, ◌⊎◌}
 use Rattle.std.specs.Io.KnownBytes.{Appends, Keeps}
 use Rattle.wf_def.specs.Definition.{Definition}
 use Rattle.wf_def.specs.Limits.{IsWithinLimits}
 use Rattle.wf_mapfile.specs.Meaning.{Means, MeansNothing, longest_mapfile}
 use Rattle.wf_block.specs.Reading.{is_memory}
+use Rattle.wf_block.specs.declared.fault.MapFault.{MapFault}
 use Rattle.wf_spelling.specs.Canon.{canon}
 use Rattle.wf_spelling.specs.Refusal.{IsCauseOf}
 use Rattle.wf_spelling.specs.declared.fault.CanonFault.{CanonFault}
+use Rattle.wf_spelling.specs.declared.fault.CanonFault.TheVariants as canons
+use Rattle.wf_check.specs.Finding.{IsPublishable, IsReport, IsReportOf}
+use Rattle.wf_check.specs.declared.fault.CheckFault.{CheckFault}
+use Rattle.wf_check.specs.declared.fault.CheckFault.TheVariants as found
+use Rattle.wf_check.specs.declared.finding.Finding.{Finding}
 use Rattle.wf_wms.specs.Answer.{AnswerValue, IsAnswerOf, description}
 use Rattle.wf_script.specs.Fault as script
 use Rattle.wf_script.specs.Lines.{most_script_bytes}
 use Rattle.wf_play.specs.Running.{IsFaultOf, IsScriptText, PlaysInput}
+use Rattle.std.specs.declared.alloc.Global.{Global}
 use Rattle.wf_listing.specs.Listing.{IsListing}
+use Rattle.wf_listing.specs.Map.{IsTextOf}
 use Rattle.wf_listing.specs.Reading.{most_tape_bytes}
 use Rattle.wf_listing.specs.declared.fault.TapeReadFault.{TapeReadFault}
 use Rattle.wf_listing.specs.declared.fault.TapeReadFault.TheVariants as tapes
@@ -25,15 +33,20 @@ use Rattle.wf_commands.specs.declared.fault.RunFault.TheVariants as faults
 abbrev pub most_input_bytes : ℕ
 most_input_bytes = longest_mapfile + 1
 
+-- the most bytes that `check` reads: as many as it counts, plus one
+abbrev pub most_checked_bytes : ℕ
+most_checked_bytes = 16_777_217
+
 -- the most bytes of standard input that each command reads: of a script, the longest script's length plus one; none for `tape` and
 -- `serve`
 abbrev pub most_read : Line → ℕ
 most_read (lines.Caps seq query) = most_input_bytes
 most_read (lines.Draw query) = most_input_bytes
 most_read lines.Canon = most_input_bytes
+most_read lines.Check = most_checked_bytes
 most_read lines.Run = most_script_bytes + 1
 most_read lines.Wire = most_script_bytes + 1
-most_read (lines.Tape file) = 0
+most_read (lines.Tape file map) = 0
 most_read (lines.Serve service) = 0
 
 -- the prefix of an input that is checked
@@ -150,6 +163,69 @@ IsPlayed loses input old new (Err (faults.Canon fault)) = ⊥
 IsPlayed loses input old new (Err (faults.Tape fault)) = ⊥
 IsPlayed loses input old new (Err faults.Serve) = ⊥
 
+-- the prefix of an input that `check` reads
+abbrev pub checked : List ℕ → List ℕ
+checked input = take most_checked_bytes input
+
+-- the error of a run for that of a finding
+abbrev pub fault_of : CheckFault → RunFault
+fault_of (found.Map fault) = faults.Map fault
+fault_of found.TooBig = faults.Canon canons.TooBig
+
+-- P holds of the report of a finding of the bytes with this error
+abbrev pub HasReport : List ℕ → CheckFault → (List ℕ → Type 0) → Type 0
+HasReport bytes fault P = (text : List ℕ) × IsReportOf bytes fault text × P text
+
+-- the same for the prefix of an input that is read, if the input is known
+abbrev pub HasReportIn : Option (List ℕ) → CheckFault → (List ℕ → Type 0) → Type 0
+HasReportIn input fault P = (text : List ℕ) × IfSome input (λ known. IsReportOf (checked known) fault text) × P text
+
+-- What `check` writes: nothing if the input is a map that a farm publishes; else the report of a finding, whose error is that of
+-- the run, or a prefix of it if the writer failed. Nothing if a read or an allocation failed.
+abbrev pub IsChecked : Option (List ℕ) → Option (List ℕ) → Option (List ℕ) → Result (Unit {0}) RunFault → Type 0
+IsChecked input old new (Ok done) = IfSome input IsPublishable × Keeps old new
+IsChecked input old new (Err (faults.Map fault)) =
+    (is_memory fault ≡ true → Keeps old new) × (is_memory fault ≡ false → HasReportIn input (found.Map fault) (λ text. Appends old new text))
+IsChecked input old new (Err (faults.Canon fault)) = (fault ≡ canons.TooBig) × HasReportIn input found.TooBig (λ text. Appends old new text)
+IsChecked input old new (Err faults.Write) = (fault : CheckFault) × HasReportIn input fault (λ text. AppendsPart old new text)
+IsChecked input old new (Err faults.Read) = Keeps old new
+IsChecked input old new (Err (faults.Script fault)) = ⊥
+IsChecked input old new (Err (faults.Tape fault)) = ⊥
+IsChecked input old new (Err faults.Serve) = ⊥
+IsChecked input old new (Err faults.Wire) = ⊥
+
+-- the same for bytes that were read
+abbrev pub IsCheckOf : List ℕ → Option (List ℕ) → Option (List ℕ) → Result (Unit {0}) RunFault → Type 0
+IsCheckOf bytes old new (Ok done) = IsPublishable bytes × Keeps old new
+IsCheckOf bytes old new (Err (faults.Map fault)) =
+    (is_memory fault ≡ true → Keeps old new) × (is_memory fault ≡ false → HasReport bytes (found.Map fault) (λ text. Appends old new text))
+IsCheckOf bytes old new (Err (faults.Canon fault)) = (fault ≡ canons.TooBig) × HasReport bytes found.TooBig (λ text. Appends old new text)
+IsCheckOf bytes old new (Err faults.Write) = (fault : CheckFault) × HasReport bytes fault (λ text. AppendsPart old new text)
+IsCheckOf bytes old new (Err faults.Read) = ⊥
+IsCheckOf bytes old new (Err (faults.Script fault)) = ⊥
+IsCheckOf bytes old new (Err (faults.Tape fault)) = ⊥
+IsCheckOf bytes old new (Err faults.Serve) = ⊥
+IsCheckOf bytes old new (Err faults.Wire) = ⊥
+
+-- what is written of a finding: its report, and its error is returned; a prefix of the report; nothing if an allocation failed
+abbrev pub IsFindingWritten : Finding → Option (List ℕ) → Option (List ℕ) → Result (Unit {0}) RunFault → Type 0
+IsFindingWritten finding old new result =
+    ((text : List ℕ) × IsReport finding text
+    × (((result ≡ Err (fault_of finding.fault)) × Appends old new text) ⊎ ((result ≡ Err faults.Write) × AppendsPart old new text)))
+    ⊎ ((fault : MapFault) × (result ≡ Err (faults.Map fault)) × (is_memory fault ≡ true) × Keeps old new)
+
+-- What is written about a tape: the whole of an output, or a prefix of it if the writer failed; nothing if there is none, for its cause.
+abbrev pub IsTapeWriting : ((List ℕ → Type 0) → Type 0) → (TapeReadFault → Type 0) → Option (List ℕ) → Option (List ℕ) → Result (Unit {0}) RunFault → Type 0
+IsTapeWriting HasOutput why old new (Ok done) = HasOutput (λ text. Appends old new text)
+IsTapeWriting HasOutput why old new (Err faults.Write) = HasOutput (λ text. AppendsPart old new text)
+IsTapeWriting HasOutput why old new (Err (faults.Tape fault)) = why fault × Keeps old new
+IsTapeWriting HasOutput why old new (Err (faults.Map fault)) = ⊥
+IsTapeWriting HasOutput why old new (Err (faults.Canon fault)) = ⊥
+IsTapeWriting HasOutput why old new (Err (faults.Script fault)) = ⊥
+IsTapeWriting HasOutput why old new (Err faults.Read) = ⊥
+IsTapeWriting HasOutput why old new (Err faults.Serve) = ⊥
+IsTapeWriting HasOutput why old new (Err faults.Wire) = ⊥
+
 -- P holds of the listing of some bytes, those of the file if they are known
 abbrev pub HasListing : Option (List ℕ) → (List ℕ → Type 0) → Type 0
 HasListing content P = (bytes text : List ℕ) × IfSome content (λ known. bytes ≡ known) × IsListing bytes text × P text
@@ -158,26 +234,33 @@ HasListing content P = (bytes text : List ℕ) × IfSome content (λ known. byte
 abbrev pub IsWhyUnlisted : Option (List ℕ) → TapeReadFault → Type 0
 IsWhyUnlisted content tapes.Failed = IfSome content (λ known. most_tape_bytes < length known)
 IsWhyUnlisted content tapes.Memory = Unit {0}
+IsWhyUnlisted content tapes.NoMap = ⊥
 
--- What is written of a tape in a file: the listing of its bytes, or a prefix of it if the writer failed; nothing if it can't be read
--- or an allocation failed. The bytes are the file's content, if that is known.
+-- What is written of a tape in a file: the listing of its bytes, which are the file's content, if that is known.
 abbrev pub IsListed : Option (List ℕ) → Option (List ℕ) → Option (List ℕ) → Result (Unit {0}) RunFault → Type 0
-IsListed content old new (Ok done) = HasListing content (λ text. Appends old new text)
-IsListed content old new (Err faults.Write) = HasListing content (λ text. AppendsPart old new text)
-IsListed content old new (Err (faults.Tape fault)) = IsWhyUnlisted content fault × Keeps old new
-IsListed content old new (Err (faults.Map fault)) = ⊥
-IsListed content old new (Err (faults.Canon fault)) = ⊥
-IsListed content old new (Err (faults.Script fault)) = ⊥
-IsListed content old new (Err faults.Read) = ⊥
-IsListed content old new (Err faults.Serve) = ⊥
-IsListed content old new (Err faults.Wire) = ⊥
+IsListed content old new result = IsTapeWriting (HasListing content) (IsWhyUnlisted content) old new result
+
+-- P holds of the text of the map that some bytes have as published under a sequence, those of the file if they are known
+abbrev pub HasMap : Option (List ℕ) → ℕ → (List ℕ → Type 0) → Type 0
+HasMap content sequence P = (bytes : List ℕ) × ((text : Vec ℕ Global) × IfSome content (λ known. bytes ≡ known) × IsTextOf bytes sequence (Some text) × P text.items)
+
+-- why such a map isn't written: the tape can't be read; an allocation failed; or it has none
+abbrev pub IsWhyUnwritten : Option (List ℕ) → ℕ → TapeReadFault → Type 0
+IsWhyUnwritten content sequence tapes.Failed = IfSome content (λ known. most_tape_bytes < length known)
+IsWhyUnwritten content sequence tapes.Memory = Unit {0}
+IsWhyUnwritten content sequence tapes.NoMap = (bytes : List ℕ) × IfSome content (λ known. bytes ≡ known) × IsTextOf bytes sequence None
+
+-- What is written of a map on a tape in a file: its canonical text.
+abbrev pub IsMapWritten : Option (List ℕ) → ℕ → Option (List ℕ) → Option (List ℕ) → Result (Unit {0}) RunFault → Type 0
+IsMapWritten content sequence old new result = IsTapeWriting (HasMap content sequence) (IsWhyUnwritten content sequence) old new result
 
 -- the outcome of a command over a reader and a writer; never of `tape` and `serve`
 abbrev pub IsOutcomeOf : Line → Option (List ℕ) → Option (List ℕ) → Option (List ℕ) → Result (Unit {0}) RunFault → Type 0
 IsOutcomeOf (lines.Caps seq query) input old new result = IsOutcome (IsDescription seq query.now) (λ _ _. ⊥) input old new result
 IsOutcomeOf (lines.Draw query) input old new result = IsOutcome (IsPreview query.now) (λ _ _. ⊥) input old new result
 IsOutcomeOf lines.Canon input old new result = IsOutcome IsCanonical IsCauseOf input old new result
+IsOutcomeOf lines.Check input old new result = IsChecked input old new result
 IsOutcomeOf lines.Run input old new result = IsPlayed ⊥ input old new result
 IsOutcomeOf lines.Wire input old new result = IsPlayed (Unit {0}) input old new result
-IsOutcomeOf (lines.Tape file) input old new result = ⊥
+IsOutcomeOf (lines.Tape file map) input old new result = ⊥
 IsOutcomeOf (lines.Serve service) input old new result = ⊥

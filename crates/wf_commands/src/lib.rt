@@ -1,9 +1,9 @@
-//! The commands of the program `wfarm`. They answer a Web Map Service request about a mapfile, write its canonical text, play a
+//! The commands of the program `wfarm`. They answer a Web Map Service request about a mapfile, write its canonical text, check it, play a
 //! script of a farm of servers, also with its messages crossing a connection, list what a node's tape holds, and serve a farm's
 //! nodes over HTTP.
 //!
 //! The crate is thin. [`wf_line::arguments::line`] parses the command line's arguments to a [`wf_line::line::Line`]; [`run::run_line`] runs the
-//! commands about standard input, over any reader and writer; [`tapes::run_tape`] lists the tape in a file, which a [`tapes::Tapes`] reads;
+//! commands about standard input, over any reader and writer; [`tapes::run_tape`] lists the tape in a file or the tapes in a folder, which a [`tapes::Tapes`] reads, or writes a map on a tape;
 //! a [`server::Server`] serves nodes. [`server::Host`] is both: the machine's files, and its nodes over HTTP.
 //! A [`wf_farm::Carrier`] brings the messages of `wire` to their nodes: [`wf_link::Connection`], over a connection of the machine.
 //! [`program::run_words`] is the program over any words, reader, writer, server and carrier, and [`program::program`] connects it
@@ -18,6 +18,8 @@
 //! - an error of the map or of its canonical text is returned only for its cause
 //! - before a write error a prefix of the output is written, before any other error nothing
 //! - at most one byte more than the longest mapfile has is read
+//! - `check` writes nothing where the input is a map that a farm publishes, else a report of its first error, which is then the
+//!   error of the run and isn't printed again; it reads at most 16,777,217 bytes
 //!
 //! About a script:
 //! - if the input isn't a script, nothing is written
@@ -29,12 +31,14 @@
 //! Of these: a read error is returned only if a read has failed, a write error iff a write has; and a failed write is the last call
 //! of the writer, so that no text is written once more.
 //!
-//! [`tapes::run_tape`] promises: after Ok exactly the listing of the file's bytes is written (wf_listing defines it), before a write
-//! error a prefix of it, before any other error nothing. A file with known content is listed unless it is too long or an allocation
-//! fails.
+//! [`tapes::run_tape`] promises: after Ok exactly the listing of the file's bytes is written (wf_listing defines it), or of a folder
+//! those of its tapes, each after its name, and a last line; or the text of the map that the tape has as published. Before a write error
+//! a prefix of it is written, before any other error nothing. A file with known content is listed unless it is too long or an
+//! allocation fails.
 //!
 //! [`program::run_words`] promises that exactly the command of that line was run, or none: for `serve`, that the server was called
-//! with the line's numbers of nodes, connections and pictures, its port and its folder, or none if it has none. The error of the
+//! with the line's numbers of nodes, connections and pictures, its port and its folder, or none if it has none, and whether it asks for
+//! a log. The error of the
 //! run is the one to be printed, unless a write failed, and the exit status is 0 without an error and 1 with one. What serving
 //! means is the server's; of [`server::Host`] it is `wf_serve`'s contract.
 //!
@@ -42,8 +46,10 @@
 //! the process hands its own words, input and output on; the stored run of `wfarm` shows these.
 #![tactic(auto)]
 
+pub mod checking;
 pub mod ending;
 pub mod fault;
+mod folder;
 pub mod program;
 pub mod run;
 pub mod server;

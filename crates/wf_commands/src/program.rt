@@ -7,7 +7,7 @@ ghost use Rattle.wf_stream.specs.Reading.{TakesUpTo};
 ghost use Rattle.wf_line.specs.CommandLine.{IsRejection, IsWhyRejected};
 ghost use Rattle.wf_commands.specs.Counting.{CountsReads, CountsWrites, FailsLast};
 ghost use Rattle.wf_line.specs.Line.{IsInRange};
-ghost use Rattle.wf_commands.specs.Ending.{run_status, reported, rejection_status, unreadable_status};
+ghost use Rattle.wf_commands.specs.Ending.{is_found, is_written, left_to_report, run_status, reported, rejection_status, unreadable_status};
 ghost use Rattle.wf_commands.specs.Program.{IsDone, IsRun, IsRunOf};
 ghost use Rattle.wf_commands.specs.Run.{most_read};
 ghost use Rattle.wf_commands.specs.Serving.{IsServing};
@@ -77,10 +77,13 @@ fn run<I: Source, K: Sink, V: Server + Tapes, C: Carrier>(
 {
     match line {
         Line::Serve(service) => serve(service, sink, server),
-        Line::Tape { file } => run_tape(alloc, file, sink, server),
-        Line::Caps { .. } | Line::Draw { .. } | Line::Canon | Line::Run | Line::Wire => {
-            run_line(alloc, line, source, sink, carrier)
-        }
+        Line::Tape { file, map } => run_tape(alloc, file, map, sink, server),
+        Line::Caps { .. }
+        | Line::Draw { .. }
+        | Line::Canon
+        | Line::Check
+        | Line::Run
+        | Line::Wire => run_line(alloc, line, source, sink, carrier),
     }
 }
 
@@ -106,6 +109,42 @@ fn ending_of(outcome: Result<(), RunFault>) -> Ending
     }
 }
 
+// Whether a check ends with this error after a report of it.
+fn is_found(fault: RunFault) -> bool
+    ensures { result ≡ is_found fault }
+{
+    match fault {
+        RunFault::Map(MapFault::Memory) => false,
+        RunFault::Map(_) | RunFault::Canon(_) => true,
+        _ => false,
+    }
+}
+
+// Whether the command of a line has written a report of the error.
+fn is_written(line: Line<'_>, fault: RunFault) -> bool
+    ensures { result ≡ is_written line.entry fault }
+{
+    match line {
+        Line::Check => is_found(fault),
+        _ => false,
+    }
+}
+
+// The ending without an error that the command has written a report of.
+fn reported_once(line: Line<'_>, ending: Ending) -> Ending
+    ensures told { result.reported ≡ left_to_report line.entry ending.reported }
+    ensures status { result.status ≡ ending.status }
+    ensures low { ending.status ≤ 1 → result.status ≤ 1 }
+{
+    match ending.reported {
+        Some(fault) if is_written(line, fault) => Ending {
+            reported: None,
+            status: ending.status,
+        },
+        _ => ending,
+    }
+}
+
 /// Runs the command of a line: a command about standard input between the reader and the writer, with the messages of `wire` by the
 /// carrier; `tape` by the server, which reads the file, and `serve` by the server, whose line goes to the writer. Returns the error
 /// whose text is the line on standard error, and the exit status.
@@ -127,7 +166,8 @@ pub fn run_command<I: Source, K: Sink, V: Server + Tapes, C: Carrier>(
     ensures last { FailsLast K.Sink sink.old sink.new }
     ensures low { result.status ≤ 1 }
 {
-    ending_of(run(alloc, line, source, sink, server, carrier))
+    let outcome = run(alloc, line, source, sink, server, carrier);
+    reported_once(line, ending_of(outcome))
 }
 
 /// Runs the words of a command line, without the program's name: as [`run_command`] the line that they ask for.

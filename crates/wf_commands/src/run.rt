@@ -1,5 +1,5 @@
 //! The commands about standard input, over any reader and writer.
-ghost use Rattle.std.specs.Prelude.{◌≡◌, ◌+◌, ◌≤◌, IfOk, IfErr, IfSome, OnOk};
+ghost use Rattle.std.specs.Prelude.{◌≡◌, ◌+◌, ◌≤◌, IfOk, IfErr, IfSome, OnOk, take};
 ghost use Rattle.std.specs.Io.KnownBytes.{IsAtEnd};
 ghost use Rattle.wf_def.specs.Limits.{IsWithinLimits};
 ghost use Rattle.wf_mapfile.specs.Meaning.{Means, longest_mapfile};
@@ -10,9 +10,10 @@ ghost use Rattle.wf_ballot.specs.Sequence.{last_sequence};
 ghost use Rattle.wf_line.specs.Line.{IsInRange, IsOfInput};
 ghost use Rattle.wf_stream.specs.Reading.{TakesUpTo};
 ghost use Rattle.wf_script.specs.Lines.{most_script_bytes};
-ghost use Rattle.wf_commands.specs.Run.{most_input_bytes, most_read, judged, IsInputFault, IsMapFault, IsReadingFault, IsWriting, IsWritingOf, IsOutcome, IsOutcomeOf, IsCanonical, IsDescription, IsPreview, IsPlayed};
+ghost use Rattle.wf_commands.specs.Run.{most_checked_bytes, most_input_bytes, most_read, IsInputFault, IsMapFault, IsReadingFault, IsWriting, IsWritingOf, IsOutcome, IsOutcomeOf, IsCanonical, IsDescription, IsPreview, IsPlayed};
 ghost use Rattle.wf_commands.specs.Counting.{CountsReads, CountsWrites, FailsLast};
 
+use crate::checking::{MOST_CHECKED_BYTES, run_check};
 use crate::fault::RunFault;
 use std::alloc::Global;
 use std::io::ErrorKind;
@@ -35,18 +36,23 @@ pub const MOST_INPUT_BYTES: usize = MOST_MAPFILE_BYTES + 1;
 pub fn limits_are_as_defined()
     ensures input { MOST_INPUT_BYTES ≡ most_input_bytes }
     ensures one_more { most_input_bytes ≡ longest_mapfile + 1 }
+    ensures checked { MOST_CHECKED_BYTES ≡ most_checked_bytes }
     ensures sequence { SEQUENCES ≡ last_sequence }
 {}
 
-// Reads the input to its end, or its first `MOST_INPUT_BYTES` bytes.
-fn input<S: Source>(alloc: Global, source: &mut S) -> Result<Vec<u8>, RunFault>
+// Reads the input to its end, or its first `most` bytes.
+pub(crate) fn input<S: Source>(
+    alloc: Global,
+    source: &mut S,
+    most: usize,
+) -> Result<Vec<u8>, RunFault>
     ensures first { IfOk result
-        (λ bytes. IfSome (S.left source.old) (λ known. bytes.items ≡ judged known)) }
+        (λ bytes. IfSome (S.left source.old) (λ known. bytes.items ≡ take most known)) }
     ensures err { IfErr result IsInputFault }
-    ensures most { TakesUpTo most_input_bytes (S.left source.old) (S.left source.new) }
+    ensures most { TakesUpTo most (S.left source.old) (S.left source.new) }
     ensures reads { CountsReads result (S.failures source.old) (S.failures source.new) }
 {
-    match read_up_to(alloc, source, MOST_INPUT_BYTES) {
+    match read_up_to(alloc, source, most) {
         Ok(bytes) => Ok(bytes),
         Err(error) if error.kind() == ErrorKind::OutOfMemory => Err(RunFault::Map(
             MapFault::Memory,
@@ -77,7 +83,7 @@ fn map<S: Source>(alloc: Global, source: &mut S) -> Result<MapDef, RunFault>
     ensures most { TakesUpTo most_input_bytes (S.left source.old) (S.left source.new) }
     ensures reads { CountsReads result (S.failures source.old) (S.failures source.new) }
 {
-    let bytes = input(alloc, source)?;
+    let bytes = input(alloc, source, MOST_INPUT_BYTES)?;
     let map = map_of(alloc, &bytes);
     drop(bytes);
     match map {
@@ -87,7 +93,7 @@ fn map<S: Source>(alloc: Global, source: &mut S) -> Result<MapDef, RunFault>
 }
 
 #[tactic(auto, using(crate::proofs::Last::none_failed, crate::proofs::Last::one_failed))]
-fn write<K: Sink>(sink: &mut K, bytes: &[u8]) -> Result<(), RunFault>
+pub(crate) fn write<K: Sink>(sink: &mut K, bytes: &[u8]) -> Result<(), RunFault>
     ensures written { IsWriting bytes.now (λ _. ⊥) (K.written sink.old) (K.written sink.new)
         result }
     ensures writes { CountsWrites result (K.failures sink.old) (K.failures sink.new) }
@@ -323,6 +329,7 @@ pub fn run_line<S: Source, K: Sink, C: Carrier>(
         Line::Caps { seq, query } => run_caps(alloc, source, sink, seq, query.as_bytes()),
         Line::Draw { query } => run_draw(alloc, source, sink, query.as_bytes()),
         Line::Canon => run_canon(alloc, source, sink),
+        Line::Check => run_check(alloc, source, sink),
         Line::Run => run_script(alloc, source, sink),
         Line::Wire => wire_script(alloc, carrier, source, sink),
         Line::Tape { .. } | Line::Serve(_) => unreachable!(),

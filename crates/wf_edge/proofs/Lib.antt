@@ -1,6 +1,3 @@
-mod EndingLaw
-mod HearingLaw
 mod PublishLaw
 mod ServiceLaw
-mod ServingLaw
 mod UnavailableLaw

@@ -10,4 +10,7 @@ pub mod Page
 pub mod Publish
 pub mod Saying
 pub mod Serving
+pub mod HearingLaws
+pub mod ServingLaws
+pub mod EndingLaws
 pub mod Unavailable

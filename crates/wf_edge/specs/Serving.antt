@@ -10,9 +10,11 @@ use Rattle.wf_http.specs.Breaking.{BreaksOff}
 use Rattle.wf_http.specs.Request.{Request, BeginsWith, IsRequestFault}
 use Rattle.wf_http.specs.Response.{Response, response_bytes, IsCount, WritesPart}
 use Rattle.wf_http.specs.Target.{query_of}
+use Rattle.wf_edge.specs.Hearing.{CountsHearing}
 use Rattle.wf_edge.specs.Notice.{response_of}
 use Rattle.wf_edge.specs.Page.{status_page, IsServiceGiven}
 use Rattle.wf_edge.specs.Publish.{IsProposed, IsPublished, TellsFault}
+use Rattle.wf_edge.specs.Saying.{CountsSaying}
 use Rattle.wf_http.specs.declared.fault.RequestFault.{RequestFault}
 use Rattle.wf_http.specs.declared.fault.RequestFault.TheVariants as fault
 use Rattle.wf_edge.specs.declared.notice.Notice.{Notice}
@@ -23,6 +25,7 @@ use Rattle.wf_http.specs.declared.resource.Asked.TheVariants as asked
 use Rattle.wf_edge.specs.declared.outcome.Outcome.{Outcome}
 use Rattle.wf_edge.specs.declared.outcome.Outcome.TheVariants as outcome
 use Rattle.wf_stream.specs.declared.stream.Sink.{Ghosts as Sink}
+use Rattle.wf_stream.specs.declared.stream.Source.{Ghosts as Source}
 use Rattle.wf_tape.specs.declared.tape.Tape.{Ghosts as Tape}
 
 -- ---- what the input asks for
@@ -32,7 +35,25 @@ abbrev pub Asks : List ℕ → Result Request RequestFault → Type 0
 Asks input (Ok request) = BeginsWith input request
 Asks input (Err why) = IsRequestFault input why
 
+-- the request only reads: it isn't a publish
+abbrev pub IsReading : Asked → Type 0
+IsReading asked.Wms = Unit {0}
+IsReading asked.Status = Unit {0}
+IsReading (asked.Publish bytes) = ⊥
+
+-- the request is a publish
+abbrev pub IsPublish : Asked → Type 0
+IsPublish asked.Wms = ⊥
+IsPublish asked.Status = ⊥
+IsPublish (asked.Publish bytes) = Unit {0}
+
 -- ---- the reply
+
+-- the answer to a request that only reads, by what it asks for and its query
+abbrev pub Answers : {T : Type 0} → Asked → List ℕ → Node T → Result Response Notice → Type 0
+Answers asked.Wms query node answer = IsServiceGiven node.parts.history query answer
+Answers asked.Status query node answer = answer ≡ Ok (status_page node)
+Answers (asked.Publish bytes) query node answer = ⊥
 
 -- the node is unchanged, and sends nothing
 pub record IsUnmoved {T A : Type 0} (before : Node T) (sent : Vec Message A) (after : Node T) : Type 0 where
@@ -134,3 +155,12 @@ module _ {T A : Type 0} (tapes : Tape T) where
     IsEnding input old new before sent after (outcome.WriteFailed status count) = StopsAtFailure input old new before sent after status count
     IsEnding input old new before sent after outcome.ReadFailed = new ≡ old
     IsEnding input old new before sent after outcome.NoRequest = new ≡ old
+
+    -- One request was served: what was written and what the node did, also where the input isn't known, and how the reading and the
+    -- writing ended.
+    pub record Serves {S : Type 0} (sources : Source S) (source source_after : S) (sink sink_after : K) (before : Node T) (sent : Vec Message A) (after : Node T) (said : Outcome) : Type 0 where
+      pub outcome : IsOutcome (sources.left source) (sinks.written sink) (sinks.written sink_after) before sent after said
+      pub moves : MovesOnce before sent after
+      pub reads : CountsHearing said (sources.failures source) (sources.failures source_after)
+      pub writes : CountsSaying said (sinks.failures sink) (sinks.failures sink_after)
+      pub last : IsEnding (sources.left source) sink sink_after before sent after said

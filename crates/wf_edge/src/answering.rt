@@ -1,44 +1,20 @@
 //! A node's answers that leave it unchanged.
-ghost use Rattle.std.specs.Prelude.{◌≡◌, IfOk};
-ghost use Rattle.wf_edge.specs.Page.{IsLastAnswer, service_page, IsServiceGiven, status_page, accepted_page, bad_map_page};
-ghost use Rattle.wf_wms.specs.KeptPictures.{AllKept};
+ghost use Rattle.std.specs.Prelude.{◌≡◌};
+ghost use Rattle.wf_edge.specs.Page.{service_page, IsServiceGiven, status_page, accepted_page, bad_map_page};
+ghost use Rattle.wf_edge.specs.Serving.{Answers, IsReading};
 
 use crate::notice::Notice;
 use crate::page::Page;
+use crate::pictures::Pictures;
 use crate::text_line::{accepted_line, fault_line, status_line};
 use http::StatusCode;
-use std::alloc::{AllocError, Global};
+use std::alloc::Global;
 use wf_ballot::Seq;
+use wf_http::resource::Asked;
 use wf_mapfile::fault::MapFault;
 use wf_node::Node;
 use wf_tape::Tape;
 use wf_wms::Answer;
-use wf_wms::cache::Cache;
-use wf_wms::service::{answer, answer_cached};
-
-// The map service's answer to a query, at the last published sequence.
-fn answer_at<T: Tape>(alloc: Global, node: &Node<T>, query: &[u8]) -> Result<Answer, AllocError>
-    ensures { IfOk result (IsLastAnswer node.now.parts.history query.now) }
-{
-    let history = node.history();
-    answer(alloc, history.published().number(), history, query)
-}
-
-// The same, with a cache of pictures of the node's maps.
-fn answer_by<T: Tape>(
-    alloc: Global,
-    node: &Node<T>,
-    cache: &mut Cache,
-    query: &[u8],
-) -> Result<Answer, AllocError>
-    requires { AllKept node.now.parts.history cache.old }
-    ensures answer { IfOk result (IsLastAnswer node.now.parts.history query.now) }
-    ensures kept { AllKept node.now.parts.history cache.new }
-    ensures capacity { cache.new.cap ≡ cache.old.cap }
-{
-    let history = node.history();
-    answer_cached(alloc, cache, history.published().number(), history, query)
-}
 
 // The page of an answer of the map service.
 fn service_page(answer: Answer) -> Page
@@ -49,43 +25,50 @@ fn service_page(answer: Answer) -> Page
 }
 
 /// The page of the map service's answer to a query.
-pub(crate) fn answer_query<T: Tape>(
+fn answer_query<T: Tape, P: Pictures>(
     alloc: Global,
     node: &Node<T>,
+    pictures: &mut P,
     query: &[u8],
 ) -> Result<Page, Notice>
-    ensures { IsServiceGiven node.now.parts.history query.now result }
-{
-    match answer_at(alloc, node, query) {
-        Ok(answer) => Ok(service_page(answer)),
-        Err(_) => Err(Notice::Unavailable),
-    }
-}
-
-/// The same page, with a cache of pictures of the node's maps.
-pub(crate) fn answer_query_by<T: Tape>(
-    alloc: Global,
-    node: &Node<T>,
-    cache: &mut Cache,
-    query: &[u8],
-) -> Result<Page, Notice>
-    requires { AllKept node.now.parts.history cache.old }
+    requires { P.kept pictures.old node.now.parts.history }
     ensures given { IsServiceGiven node.now.parts.history query.now result }
-    ensures kept { AllKept node.now.parts.history cache.new }
-    ensures capacity { cache.new.cap ≡ cache.old.cap }
+    ensures kept { P.kept pictures.new node.now.parts.history }
+    ensures capacity { P.capacity pictures.new ≡ P.capacity pictures.old }
 {
-    match answer_by(alloc, node, cache, query) {
+    match pictures.answer(alloc, node.history(), query) {
         Ok(answer) => Ok(service_page(answer)),
         Err(_) => Err(Notice::Unavailable),
     }
 }
 
 /// The status of the node. Allocates nothing.
-pub(crate) fn tell_status<T: Tape>(node: &Node<T>) -> Page
+fn tell_status<T: Tape>(node: &Node<T>) -> Page
     ensures { result ≡ status_page node.now }
 {
     let line = status_line(node.id(), node.published(), node.proposal());
     Page::of_line(StatusCode::OK, line)
+}
+
+/// The page for a request that isn't a publish.
+pub(crate) fn answer_reading<T: Tape, P: Pictures>(
+    alloc: Global,
+    node: &Node<T>,
+    pictures: &mut P,
+    asked: Asked,
+    query: &[u8],
+) -> Result<Page, Notice>
+    requires reads { IsReading asked }
+    requires kept { P.kept pictures.old node.now.parts.history }
+    ensures answers { Answers asked query.now node.now result }
+    ensures kept { P.kept pictures.new node.now.parts.history }
+    ensures capacity { P.capacity pictures.new ≡ P.capacity pictures.old }
+{
+    match asked {
+        Asked::Wms => answer_query(alloc, node, pictures, query),
+        Asked::Status => Ok(tell_status(node)),
+        Asked::Publish(_) => unreachable!(),
+    }
 }
 
 /// The page for a map accepted for the sequence after the last published. Allocates nothing.

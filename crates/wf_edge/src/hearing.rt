@@ -15,7 +15,7 @@ use wf_stream::{Sink, Source};
 /// Reads the request at the front of the input, and nothing after it but what came in one piece with the last of its head. Err:
 /// the outcome of the response if there is no request to answer: its rejection, or 503 if an allocation for its body fails;
 /// the writer isn't called if the input is empty or a read failed.
-#[tactic(auto, using(crate::proofs::HearingLaw::unheard, crate::proofs::EndingLaw::unheard_ends, crate::proofs::HearingLaw::fault_reads))]
+#[tactic(auto, using(crate::specs::HearingLaws::unheard, crate::specs::EndingLaws::unheard_ends, crate::specs::HearingLaws::fault_reads))]
 pub fn hear<S: Source, K: Sink>(
     alloc: Global,
     source: &mut S,

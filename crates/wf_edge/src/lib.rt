@@ -5,7 +5,9 @@
 //!   [`saying::say_fault`] responds if a request can't be read.
 //! - [`hearing::hear`] reads a request, or responds why there is none.
 //! - [`serve::serve_one`] does everything: it reads a request, answers it by a node, and writes the response;
-//!   [`serve::serve_one_cached`] does so with a cache of pictures of the node's maps.
+//!   [`serve::serve_one_cached`] does so with a cache of pictures of the node's maps. A caller for whom only a publish is an
+//!   event reads and answers all other requests by [`serve::serve_reading`], and proposes a map by [`serve::publish_request`]. All of them are one
+//!   path; where the pictures come from is a [`pictures::Pictures`].
 //!
 //! **Model.** `specs/Serving.antt` states the response to a request and the node's step, with the pages in `specs/Page.antt` and a
 //! publish in `specs/Publish.antt`.
@@ -35,9 +37,9 @@ pub mod law;
 pub mod notice;
 pub mod outcome;
 mod page;
+pub mod pictures;
 mod publish;
 mod publish_fault;
-mod reply;
 pub mod saying;
 pub mod serve;
 pub mod telling;

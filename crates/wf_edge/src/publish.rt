@@ -3,6 +3,7 @@ ghost use Rattle.std.specs.Prelude.{◌≡◌, IfOk, IfErr, if◌then◌else◌}
 ghost use Rattle.wf_mapfile.specs.Meaning.{Means};
 ghost use Rattle.wf_block.specs.Reading.{is_memory};
 ghost use Rattle.wf_edge.specs.Publish.{IsMapOf, IsWhyNoMap, IsProposed, IsPublished, TellsFault, unwritten};
+ghost use Rattle.wf_edge.specs.Serving.{GivesPublish};
 
 use crate::answering::{accept, tell_fault};
 use crate::notice::Notice;
@@ -113,7 +114,7 @@ fn publish_map<T: Tape>(
 
 /// Publishes the map in a body: performs the node's step Propose, and returns the page that reports it and the messages of the
 /// step. No step is made if the body isn't a map, its canonical text is too long, or an allocation fails before.
-pub(crate) fn publish<T: Tape>(
+fn publish<T: Tape>(
     alloc: Global,
     node: &mut Node<T>,
     body: &[u8],
@@ -127,7 +128,7 @@ pub(crate) fn publish<T: Tape>(
 }
 
 /// The notice for a map that isn't proposed. Allocates nothing.
-pub(crate) fn tell_publish_fault(fault: PublishFault) -> Result<Page, Notice>
+fn tell_publish_fault(fault: PublishFault) -> Result<Page, Notice>
     ensures { TellsFault fault result }
 {
     match fault {
@@ -135,5 +136,29 @@ pub(crate) fn tell_publish_fault(fault: PublishFault) -> Result<Page, Notice>
         PublishFault::TooBig => Err(Notice::TooBig),
         PublishFault::Memory => Err(Notice::Unavailable),
         PublishFault::Node(fault) => Err(notice_of(fault)),
+    }
+}
+
+/// A page or the notice in its place, and the messages that the node sends.
+#[derive(Drop)]
+pub(crate) struct Reply {
+    pub(crate) answer: Result<Page, Notice>,
+    pub(crate) messages: Vec<Message>,
+}
+
+/// The reply to a publish of the map in a body.
+#[tactic(auto, using(crate::specs::ServingLaws::gives_published))]
+pub(crate) fn reply_to_publish<T: Tape>(alloc: Global, node: &mut Node<T>, body: &[u8]) -> Reply
+    ensures { GivesPublish T.Tape body.now node.old result.answer result.messages node.new }
+{
+    match publish(alloc, node, body) {
+        Ok((page, messages)) => Reply {
+            answer: Ok(page),
+            messages,
+        },
+        Err(fault) => Reply {
+            answer: tell_publish_fault(fault),
+            messages: Vec::new(alloc),
+        },
     }
 }

@@ -1,12 +1,11 @@
 -- An allocation fails only at an event that has an effect.
-use Rattle.std.proofs.Common.{◌≡◌, ◌∙◌, ℕ, ◌+◌, true, is_some, is_none, List, map, take, get_or, length, slice_get, Option, Some, None, option_map, Result, Ok, Err, OnErr, refl, sym, ap, subst}
+use Rattle.std.proofs.Common.{◌≡◌, ◌∙◌, ℕ, true, is_some, is_none, List, map, take, length, slice_get, Some, None, option_map, Result, Ok, Err, OnErr, sym, ap, subst}
 use Rattle.std.proofs.lemmas.Bool.{false≢true}
 use Rattle.std.proofs.lemmas.Option.{slice_get-map}
 use Rattle.wf_codec.specs.Message as message
 use Rattle.wf_codec.specs.declared.message.Message.{Message}
 use Rattle.wf_def.specs.Definition.{Definition}
 use Rattle.wf_def.specs.Equality.{definition_eq}
-use Rattle.wf_model.specs.Table as table
 use Rattle.wf_model.specs.Table.{Action, Input, refusal}
 use Rattle.wf_model.specs.World as world
 use Rattle.wf_model.specs.World.{Event, input_of, refusal_of, turn_of, steps}
@@ -19,7 +18,6 @@ use Rattle.wf_farm.specs.Cluster.{AreMembers, Moves}
 use Rattle.wf_farm.specs.Event.{view}
 use Rattle.wf_farm.specs.Farm.{running_in}
 use Rattle.wf_farm.specs.Place.{MemoryPlace, IsNode, TellsWhyNot}
-use Rattle.wf_farm.specs.Pump.{NextMayAllocate, deliveries}
 use Rattle.wf_farm.proofs.Events.{as_many, member_at, node_at}
 use Rattle.wf_farm.proofs.Turns.{running_refusal, turn_goes, turn_is}
 
@@ -48,20 +46,16 @@ module _ (places : List MemoryPlace) (sent : List Message) (i : ℕ) (action : A
   pub taken_there : (place : MemoryPlace) → slice_get places i ≡ Some place → TellsWhyNot place action None → TakesStep i action places sent
   taken_there place at free = taken_in place at (subst (λ there. is_some (running_in there) ≡ true) at runs) free
 
-  taken_at : (there : Option MemoryPlace) → slice_get places i ≡ there → ((place : MemoryPlace) → TellsWhyNot place action None) → TakesStep i action places sent
-  taken_at None at free = absurd (false≢true (subst (λ there. is_some (running_in there) ≡ true) at runs))
-  taken_at (Some place) at free = taken_there place at (free place)
-
-  -- The same for a step that no node rejects.
-  pub taken_anyway : ((place : MemoryPlace) → TellsWhyNot place action None) → TakesStep i action places sent
-  taken_anyway free = taken_at (slice_get places i) refl free
-
 -- ---- an event that may allocate
 
 module _ (places : List MemoryPlace) (sent : List Message) (i : ℕ) where
   pub step_may : (action : Action Definition ℕ) → TakesStep i action places sent → MayAllocate (world.Act i action) places sent
   unfolding TakesStep MayAllocate may_allocate
   step_may action taken = taken
+
+  pub may_step : (action : Action Definition ℕ) → MayAllocate (world.Act i action) places sent → TakesStep i action places sent
+  unfolding TakesStep MayAllocate may_allocate
+  may_step action may = may
 
   pub torn_may : (action : Action Definition ℕ) → TakesStep i action places sent → MayAllocate (world.Torn i action world.After) places sent
   unfolding TakesStep MayAllocate may_allocate
@@ -92,9 +86,3 @@ module _ (places middle : List MemoryPlace) (sent said : List Message) where
   next_may events done event at moves may = λ w shows.
       let so_far = steps definition_eq w (take done (map view events)) in
       subst (MayAllocateIn so_far) (sym (slice_get-map view events done ∙ ap (λ x. option_map view x) at)) (may so_far (moves w shows))
-
-  -- the next delivery of a pump
-  pub next_delivery_may : (targets : List ℕ) (first whole some : ℕ) → Moves (deliveries targets first whole some) places sent middle said →
-      TakesStep (get_or targets some 0) (table.Deliver (first + whole)) middle said → NextMayAllocate targets first whole some places sent
-  unfolding Moves TakesStep NextMayAllocate may_allocate
-  next_delivery_may targets first whole some moves taken = λ w shows. taken (steps definition_eq w (deliveries targets first whole some)) (moves w shows)

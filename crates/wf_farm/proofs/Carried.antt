@@ -1,24 +1,21 @@
 -- A delivery by a carrier: one event, or none.
-use Rattle.std.proofs.Common.{◌≡◌, ◌∙◌, ℕ, Bool, List, [], ◌∷◌, Option, Result, Ok, Err, IfErr, IfOk, OnErr, IsOk, refl, sym, ap, subst, inl, inr}
+use Rattle.std.proofs.Common.{◌≡◌, ◌∙◌, ℕ, Bool, List, [], Result, Ok, Err, IfErr, IsOk, refl, sym, ap, subst, inl, inr}
 use Rattle.std.proofs.lemmas.Bool.{false≢true}
 use Rattle.wf_codec.specs.declared.message.Message.{Message}
 use Rattle.wf_def.specs.Definition.{Definition}
-use Rattle.wf_model.specs.Table as table
 use Rattle.wf_model.specs.Table.{Action}
-use Rattle.wf_model.specs.World.{Event, deliver, happens, steps}
-use Rattle.wf_farm.specs.declared.rejection.Rejection.{Rejection}
+use Rattle.wf_model.specs.World.{steps}
 use Rattle.wf_farm.specs.declared.carrier.CarrierFault.{CarrierFault}
 use Rattle.wf_farm.specs.declared.carrier.CarrierFault.TheVariants as carrier
 use Rattle.wf_farm.specs.declared.fault.FarmFault.{FarmFault}
 use Rattle.wf_farm.specs.Allocating.{TakesStep}
 use Rattle.wf_farm.specs.Carrying.{ChangesByStep, IsMemory, IsUndelivered, fault_after}
-use Rattle.wf_farm.specs.Cluster.{IsActed, Moves, StayShown}
+use Rattle.wf_farm.specs.Cluster.{Moves, StayShown}
 use Rattle.wf_farm.specs.declared.progress.End.{End}
 use Rattle.wf_farm.specs.declared.progress.End.TheVariants.{Done, Stopped, Failed}
 use Rattle.wf_farm.specs.declared.progress.Progress.{Progress}
 use Rattle.wf_farm.specs.Farm.{IsAtOnce}
-use Rattle.wf_farm.specs.Progress.{outcome}
-use Rattle.wf_farm.specs.Round.{IsForMemory}
+use Rattle.wf_farm.specs.Progress.{IsForMemory, outcome}
 use Rattle.wf_farm.specs.Place.{MemoryPlace}
 
 -- what is Ok has no error
@@ -42,22 +39,10 @@ memory_at p (Failed fault) is = subst (λ f. IsMemory (fault_after f p.done)) (s
 pub pump_for_memory : (p : Progress) (end : End) (result : Result Bool FarmFault) → result ≡ outcome p end → IsForMemory end → IfErr result IsMemory
 pump_for_memory p end result told is = subst (λ r. IfErr r IsMemory) (sym told) (memory_at p end is)
 
-module _ (places after : List MemoryPlace) (sent more : List Message) where
-  -- a delivery is one event
-  pub acted_moves : (i k : ℕ) {rejection : Option Rejection} → IsActed i (table.Deliver k) rejection places sent after more → Moves (deliver i k ∷ []) places sent after more
-  unfolding Moves steps happens
-  acted_moves i k acted = acted.leads
-
-  -- what isn't delivered is no event
-  pub stays_moves : StayShown places sent after more → Moves [] places sent after more
-  unfolding Moves StayShown steps
-  stays_moves stays = stays
-
-  -- one event or none, by the result
-  pub moves_some : (i k : ℕ) (result : Result (Option Rejection) CarrierFault) → IfOk result (λ rejection. IsActed i (table.Deliver k) rejection places sent after more) → OnErr result (StayShown places sent after more) →
-      (events : List (Event Definition)) × Moves events places sent after more
-  moves_some i k (Ok rejection) acted stays = (deliver i k ∷ [], acted_moves i k acted)
-  moves_some i k (Err fault) acted stays = ([], stays_moves stays)
+-- what wasn't delivered is no event
+pub stays_moves : (places after : List MemoryPlace) (sent more : List Message) → StayShown places sent after more → Moves [] places sent after more
+unfolding Moves StayShown steps
+stays_moves places after sent more stays = stays
 
 module _ {C : Type 0} (i : ℕ) (action : Action Definition ℕ) (places : List MemoryPlace) (sent : List Message) where
   -- What isn't used is unchanged.

@@ -1,10 +1,8 @@
 -- The counts of deliveries after one more delivery, and at the end.
 use Rattle.std.proofs.Common.{◌≡◌, ℕ, zero, suc, ◌+◌, ◌<◌, ◌≤◌, Bool, true, false, refl, subst, arith, if◌then◌else◌, ◌==◌}
 use Rattle.wf_farm.specs.declared.progress.Progress.{Progress}
-use Rattle.wf_farm.specs.Delivering.{counted}
-use Rattle.wf_farm.specs.Progress.{next}
+use Rattle.wf_farm.specs.Progress.{AreCounted, counted, next}
 use Rattle.wf_farm.specs.Pump.{begun, most_deliveries}
-use Rattle.wf_farm.specs.Round.{AreCounted}
 
 -- the progress after one more delivery, whether or not it completes a round
 abbrev next_by : Bool → Progress → Progress

@@ -1,7 +1,8 @@
 -- A step of one of the nodes that a caller holds is an event of the world that they are; so is a delivery, and so are many.
 use Rattle.std.proofs.Common.{◌≡◌, ◌≢◌, ◌⊎◌, ℕ, ◌+◌, ◌≤◌, nat_lt, Bool, true, false, List, [], ◌∷◌, ◌++◌, map, length, slice_get, slice_set, Option, Some, None, Result, Ok, Err, IfOk, IfErr, OnOk, refl, sym, ap, subst, ◌∙◌, inl, inr, arith, length-append, length-set, Vec}
 use Rattle.std.proofs.lemmas.Bool.{both_ways, cases_eq, false≢true}
-use Rattle.std.proofs.lemmas.List.{append-nil, get_or_past, length-map, map-append}
+use Rattle.std.proofs.lemmas.Bool.Decides.{nat_tests}
+use Rattle.std.proofs.lemmas.List.{append-nil, length-map, map-append}
 use Rattle.std.proofs.lemmas.Option.{same_Some}
 use Rattle.wf_ballot.specs.Ballot.{Ballot}
 use Rattle.wf_codec.specs.Message as message
@@ -26,20 +27,15 @@ use Rattle.wf_node.specs.Storing.{bytes_of}
 use Rattle.wf_node.specs.declared.fault.NodeFault.{NodeFault}
 use Rattle.wf_node.specs.declared.fault.NodeFault.TheVariants as fault_case
 use Rattle.wf_tape.specs.Tape.{IsExtended, IsUnchanged}
-use Rattle.wf_farm.specs.declared.progress.End.{End}
-use Rattle.wf_farm.specs.declared.progress.End.TheVariants.{Done, Stopped, Failed}
 use Rattle.wf_farm.specs.declared.progress.Progress.{Progress}
 use Rattle.wf_farm.specs.Giving as giving
 use Rattle.wf_farm.specs.Giving.{Answers, Takes, is_halt, is_memory, tells_halt}
-use Rattle.wf_farm.specs.Delivering.{AnyPart, StandFor, IsNodeBy, IsNode, AreNodes, Shows, StandAmong, StandInTurn, MayLeave, IsDelivery, AreDeliveries, IsLed, Lead, TakeOne, KeepHalted, IsOne, IsEnd, IsHanded, First, Next, AreHandedOut, AreKept, IsGiven, counted, is_early, HaveCome, IsDelivered}
-use Rattle.wf_farm.specs.Progress as goes
-use Rattle.wf_farm.specs.Progress.{next}
-use Rattle.wf_farm.specs.Pump.{most_deliveries}
-use Rattle.wf_farm.specs.Round.{Begin, Go, HaveEnded, HaveGone, IsLeft}
+use Rattle.wf_farm.specs.Delivering.{AnyPart, StandFor, IsNodeBy, IsNode, AreNodes, Shows, StandAmong, StandInTurn, MayLeave, IsDelivery, AreDeliveries, IsLed, Lead, TakeOne, KeepHalted, IsOne, IsEnd, IsHanded, First, Next, AreHandedOut, HaveCome, IsDelivered}
+use Rattle.wf_farm.specs.Progress.{AreCounted, counted, next}
 use Rattle.wf_farm.specs.Turn.{node_after, messages_of, node_torn}
 use Rattle.wf_farm.specs.DeliveringLaws.{halted_itself, halted_twice, keeps_turn, keeps_turn_itself, keeps_turn_twice}
 use Rattle.wf_farm.specs.PlaceLaws.{get_set_same, get_set_other, set_there}
-use Rattle.wf_farm.proofs.Counting.{done_on}
+use Rattle.wf_farm.proofs.Counting.{done_on, none_begun}
 use Rattle.wf_farm.proofs.Events.{sent_message}
 use Rattle.wf_farm.proofs.Runs.{steps_more}
 use Rattle.wf_farm.proofs.Turns.{turn_goes, turn_is, turn_sets, torn_sets}
@@ -456,21 +452,9 @@ left_before tapes nodes after left keeps may = λ i node at halted. may i node (
 
 -- ---- the rounds
 
--- Whether or not the last delivery was made, the nodes are as the others left them.
-kept_left : {T : Type 0} (end : End) (node number : ℕ) (middle after : List (Node T)) (said more : List Message) → IsLeft AreKept end node number middle said after more → after ≡ middle
-kept_left Done node number middle after said more left = left.0
-kept_left Stopped node number middle after said more left = left.0
-kept_left (Failed fault) node number middle after said more left = left.1
-
--- How the rounds ended is how the deliveries did.
-ended_early : {T : Type 0} (p : Progress) (end : End) (node : ℕ) (middle after : List (Node T)) (said more : List Message) → IsLeft AreKept end node (0 + p.whole) middle said after more → goes.IsEnd 0 (length more) p end → IsEnd (is_early end) p said
-ended_early p Done node middle after said more left ended = (ended.0, omega (arith, ended.1, ap length left.1))
-ended_early p Stopped node middle after said more left ended = omega (arith, ended.1, ap length left.1)
-ended_early p (Failed fault) node middle after said more left ended = omega (arith, left.0)
-
 module _ {T : Type 0} (tapes : Tape T) (nodes : List (Node T)) (messages : List Message) where
   -- Nothing is delivered yet.
-  come_start : HaveCome tapes nodes messages (record { whole = 0; some = 0; done = 0 }) 0 nodes messages
+  pub come_start : HaveCome tapes nodes messages (record { whole = 0; some = 0; done = 0 }) 0 nodes messages
   come_start = record {
     any = leads_nowhere AnyPart nodes messages;
     on_tape = λ h left may. leads_nowhere (StandFor left) nodes messages;
@@ -481,7 +465,7 @@ module _ {T : Type 0} (tapes : Tape T) (nodes : List (Node T)) (messages : List 
 
   module _ (p : Progress) (lost : ℕ) (loses : Bool) (middle after : List (Node T)) (said more : List Message) where
     -- One more delivery.
-    come_on : HaveCome tapes nodes messages p lost middle said → IsOne tapes middle said after more → IsHanded tapes p.some p.whole loses middle said after more →
+    pub come_on : HaveCome tapes nodes messages p lost middle said → IsOne tapes middle said after more → IsHanded tapes p.some p.whole loses middle said after more →
         HaveCome tapes nodes messages (next (length nodes) p) (counted lost loses) after more
     come_on come one handed = record {
       any = subst (λ d. Lead AnyPart d nodes messages after more) (sym (done_on (length nodes) p)) (leads_on AnyPart p.done nodes middle after messages said more come.any one.any);
@@ -493,29 +477,29 @@ module _ {T : Type 0} (tapes : Tape T) (nodes : List (Node T)) (messages : List 
       order = Next p lost loses middle after said more come.order handed;
     }
 
-  -- What the rounds delivered, as the world and the nodes see it.
-  come_along : (p : Progress) (lost : ℕ) (after : List (Node T)) (more : List Message) → HaveGone (IsGiven tapes) [] (length nodes) 0 nodes messages p lost after more →
-      HaveCome tapes nodes messages p lost after more
-  come_along _ _ _ _ Begin = come_start
-  come_along _ _ _ _ (Go p lost loses middle after said more gone left one) = come_on p lost loses middle after said more (come_along p lost middle said gone) one.0
-      (subst (λ k. IsHanded tapes p.some k loses middle said after more) (omega arith)
-      (subst (λ i. IsHanded tapes i (0 + p.whole) loses middle said after more) (get_or_past [] p.some p.some (omega arith)) one.1))
-
-  module _ (p : Progress) (lost : ℕ) (end : End) (after : List (Node T)) (more : List Message) (ended : HaveEnded (IsGiven tapes) AreKept [] (length nodes) 0 nodes messages p lost end after more) where
-    come_to : HaveCome tapes nodes messages p lost after ended.said
-    come_to =
-        subst (λ ns. HaveCome tapes nodes messages p lost ns ended.said) (sym (kept_left end _ _ ended.middle after ended.said more ended.left)) (come_along p lost ended.middle ended.said ended.gone)
-
-    -- The rounds lead to what they left.
-    pub come_done : p.done ≤ most_deliveries → IsDelivered tapes nodes messages p.done after
-    come_done most = record {
-      any = record { sent = ended.said; lead = come_to.any };
-      on_tape = λ h left may. record { sent = ended.said; lead = come_to.on_tape h left may };
-      halted = come_to.halted;
-      turn = come_to.turn;
-      most = most;
+  -- The deliveries lead to what they left, and were made in this order.
+  module _ (p : Progress) (lost : ℕ) (after : List (Node T)) (more : List Message) (come : HaveCome tapes nodes messages p lost after more) (counts : AreCounted (length nodes) 0 p lost (length more)) where
+    pub come_done : IsDelivered tapes nodes messages p.done after
+    come_done = record {
+      any = record { sent = more; lead = come.any };
+      on_tape = λ h left may. record { sent = more; lead = come.on_tape h left may };
+      halted = come.halted;
+      turn = come.turn;
+      most = counts.most;
     }
 
-    -- The deliveries were those of the rounds.
-    pub handed_out : goes.IsEnd 0 (length more) p end → AreHandedOut tapes nodes messages p.done lost (is_early end) after
-    handed_out is = record { come = p; sent = ended.said; handed = come_to.order; count = refl; ended = ended_early p end _ ended.middle after ended.said more ended.left is }
+    end_by : (left : Bool) → nat_lt p.whole (length more) ≡ left → IsEnd left p more
+    end_by true is = grind (arith, nat_tests)
+    end_by false is =
+        let all : length more ≤ p.whole = grind (arith, nat_tests) in
+        let none = none_begun (length nodes) 0 p lost (length more) counts (omega (arith, all)) in
+        (none.0, omega (arith, none.1))
+
+    pub handed_out : (stopped : Bool) (count : ℕ) → count ≡ length more → stopped ≡ nat_lt p.whole count → AreHandedOut tapes nodes messages p.done lost stopped after
+    handed_out stopped count all is = record {
+      come = p;
+      sent = more;
+      handed = come.order;
+      count = refl;
+      ended = subst (λ b. IsEnd b p more) (sym (is ∙ ap (nat_lt p.whole) all)) (end_by (nat_lt p.whole (length more)) refl);
+    }

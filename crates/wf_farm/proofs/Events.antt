@@ -1,7 +1,7 @@
 -- One event: the entry that it is about is set, and the farm is the model's world after it.
-use Rattle.std.proofs.Common.{◌≡◌, ℕ, zero, suc, Bool, true, false, is_some, List, [], ◌∷◌, ◌++◌, map, length, slice_get, slice_set, Option, Some, None, option_map, Result, Ok, Err, IfOk, IfSome, OnErr, IsSome, refl, sym, ap, subst, ◌∙◌, inl, inr, length-set}
+use Rattle.std.proofs.Common.{◌≡◌, ℕ, zero, suc, Bool, true, false, is_some, List, [], ◌∷◌, ◌++◌, map, length, slice_get, slice_set, Option, Some, None, option_map, Result, Ok, Err, IfOk, IfSome, OnErr, refl, sym, ap, subst, ◌∙◌, inl, inr, length-set}
 use Rattle.std.proofs.lemmas.Bool.{cases_eq, false≢true}
-use Rattle.std.proofs.lemmas.List.{append-nil, map-append}
+use Rattle.std.proofs.lemmas.List.{map-append}
 use Rattle.std.proofs.lemmas.Option.{none-some, same_Some, slice_get-map}
 use Rattle.wf_codec.specs.Message as message
 use Rattle.wf_codec.specs.declared.message.Message.{Message}
@@ -11,15 +11,14 @@ use Rattle.wf_model.specs.Table as table
 use Rattle.wf_model.specs.Table.{Action, Input}
 use Rattle.wf_model.specs.World as world
 use Rattle.wf_model.specs.World.{World, Turn, input_of, delivered, refused, after_turn, after_torn, after_stop, after_restart, happens}
-use Rattle.wf_node.specs.declared.fault.NodeFault.{NodeFault}
 use Rattle.wf_farm.specs.declared.rejection.Rejection.{Rejection}
 use Rattle.wf_farm.specs.Cluster.{AreNodes, Shows, AreMembers, KeepMembers, IsActed, IsTorn, Happens, StayShown}
 use Rattle.wf_farm.specs.Fault.{told}
-use Rattle.wf_farm.specs.Place.{MemoryPlace, IsNode, IsMember, Stays, IsStepped, IsTornAt, KeepsMember, Stops, Restarts, Steps, DeniesStep, Tears, DeniesTear, rejection_in, turn_at}
+use Rattle.wf_farm.specs.Place.{MemoryPlace, IsNode, IsMember, Stays, IsStepped, IsTornAt, KeepsMember, KeepsSturdy, Stops, Restarts, tape_in, turn_at}
 use Rattle.wf_farm.specs.Turn.{node_after, messages_of, node_torn, node_stopped, node_restarted}
 use Rattle.wf_farm.proofs.Turns.{turn_is, turn_absent, turn_unsent, refused_is, refused_absent, refused_unsent, turn_sets, torn_sets, stop_sets, restart_sets}
 use Rattle.wf_farm.proofs.Entries as entries
-use Rattle.wf_tape.specs.MemoryTape.{IsImageOf}
+use Rattle.wf_tape.specs.MemoryTape.{IsImageOf, NeverFails}
 use Rattle.wf_farm.specs.PlaceLaws.{get_set_same, get_set_other, set_same}
 
 -- ---- entries and nodes
@@ -52,35 +51,57 @@ set_nodes (p ∷ places) (x ∷ nodes) (suc i) place node are is = (are.0, set_n
 
 -- nothing has changed
 pub same_members : (places : List MemoryPlace) → KeepMembers places places
-same_members places = record { as_many = refl; members = λ are. are }
+same_members places = record { as_many = refl; members = λ are. are; sturdy = λ i place at. (place, at, λ never. never) }
 
--- A member that replaces one.
-pub place_members : (places : List MemoryPlace) (i : ℕ) (place after : MemoryPlace) → slice_get places i ≡ Some place →
-    (IsMember (length places) i place → IsMember (length places) i after) → KeepMembers places (slice_set places i after)
-unfolding AreMembers
-place_members places i place after at keeps = record {
-  as_many = length-set places i after;
-  members = λ are j p e. subst (λ n. IsMember n j p) (sym (length-set places i after)) (elim (cases_eq j i) [
-    | inl same ↦ subst (λ k. IsMember (length places) k p) (sym same)
-        (subst (IsMember (length places) i) (get_set_same places i after place p at (subst (λ k. slice_get (slice_set places i after) k ≡ Some p) same e)) (keeps (are i place at)))
-    | inr differs ↦ are j p (sym (get_set_other places i j after differs) ∙ e)
-  ]);
+pub keep_twice : (places middle after : List MemoryPlace) → KeepMembers places middle → KeepMembers middle after → KeepMembers places after
+keep_twice places middle after first second = record {
+  as_many = second.as_many ∙ first.as_many;
+  members = λ are. second.members (first.members are);
+  sturdy = λ i place at.
+      let here = second.sturdy i place at in
+      let was = first.sturdy i here.0 here.1 in
+      (was.0, was.1, λ never. here.2 (was.2 never));
 }
 
--- The same where the rejection of entries and the entry's index are given by other names.
+-- A member that replaces one.
+pub set_members : (places : List MemoryPlace) (i : ℕ) (place after : MemoryPlace) → slice_get places i ≡ Some place →
+    (IsMember (length places) i place → IsMember (length places) i after) → AreMembers places → AreMembers (slice_set places i after)
+unfolding AreMembers
+set_members places i place after at keeps are = λ j p e. subst (λ n. IsMember n j p) (sym (length-set places i after)) (elim (cases_eq j i) [
+  | inl same ↦ subst (λ k. IsMember (length places) k p) (sym same)
+      (subst (IsMember (length places) i) (get_set_same places i after place p at (subst (λ k. slice_get (slice_set places i after) k ≡ Some p) same e)) (keeps (are i place at)))
+  | inr differs ↦ are j p (sym (get_set_other places i j after differs) ∙ e)
+])
+
+pub place_members : (places : List MemoryPlace) (i : ℕ) (place after : MemoryPlace) → slice_get places i ≡ Some place →
+    (IsMember (length places) i place → IsMember (length places) i after) → KeepsSturdy place after → KeepMembers places (slice_set places i after)
+place_members places i place after at keeps sturdy = record {
+  as_many = length-set places i after;
+  members = set_members places i place after at keeps;
+  sturdy = λ j p e. elim (cases_eq j i) [
+    | inl same ↦ (
+      place,
+      subst (λ k. slice_get places k ≡ Some place) (sym same) at,
+      λ never. subst (λ q. NeverFails (tape_in q)) (get_set_same places i after place p at (subst (λ k. slice_get (slice_set places i after) k ≡ Some p) same e)) (sturdy never),
+    )
+    | inr differs ↦ (p, sym (get_set_other places i j after differs) ∙ e, λ never. never)
+  ];
+}
+
+-- The same where the number of entries and the entry's index are given by other names.
 pub cast_members : (places : List MemoryPlace) (i : ℕ) (place after : MemoryPlace) (n id : ℕ) → slice_get places i ≡ Some place → n ≡ length places → id ≡ i → (IsMember n id place → IsMember n id after) →
-    KeepMembers places (slice_set places i after)
-cast_members places i place after n id at many is keeps = place_members places i place after at
-    (subst (λ k. IsMember (length places) k place → IsMember (length places) k after) is (subst (λ k. IsMember k id place → IsMember k id after) many keeps))
+    KeepsSturdy place after → KeepMembers places (slice_set places i after)
+cast_members places i place after n id at many is keeps sturdy = place_members places i place after at
+    (subst (λ k. IsMember (length places) k place → IsMember (length places) k after) is (subst (λ k. IsMember k id place → IsMember k id after) many keeps)) sturdy
 
 -- The number that a node number was made of.
 pub cast_id : (found : Option ℕ) (id number i : ℕ) → found ≡ Some id → IfSome found (λ x. x ≡ number) → number ≡ i → id ≡ i
 cast_id None id number i is made same = absurd (none-some id is)
 cast_id (Some x) id number i is made same = sym (same_Some x id is) ∙ made ∙ same
 
-pub place_keeps : (places : List MemoryPlace) (i : ℕ) (place after : MemoryPlace) → slice_get places i ≡ Some place → KeepsMember place after → KeepMembers places (slice_set places i after)
+pub place_keeps : (places : List MemoryPlace) (i : ℕ) (place after : MemoryPlace) → slice_get places i ≡ Some place → KeepsMember place after → KeepsSturdy place after → KeepMembers places (slice_set places i after)
 unfolding KeepsMember
-place_keeps places i place after at keeps = place_members places i place after at (keeps (length places) i)
+place_keeps places i place after at keeps sturdy = place_members places i place after at (keeps (length places) i) sturdy
 
 pub member_at : (places : List MemoryPlace) (i : ℕ) (place : MemoryPlace) → AreMembers places → slice_get places i ≡ Some place → IsMember (length places) i place
 unfolding AreMembers
@@ -133,59 +154,13 @@ module _ (places : List MemoryPlace) (sent : List Message) (i : ℕ) where
       let here = node_at places w.nodes i place shows.nodes at in
       record { nodes = subst (AreNodes (slice_set places i after)) (set_same w.nodes i here.0 here.1) (set_nodes places w.nodes i after here.0 shows.nodes (stays here.0 here.2)); messages = shows.messages }
 
-  -- ---- from what an entry promises of its step, whatever its rejection and the rejection of nodes
-
   module _ (place after : MemoryPlace) (action : Action Definition ℕ) (input : Input Definition) (at : slice_get places i ≡ Some place) (members : AreMembers places)
       (given : input_of (map message.view sent) action ≡ Some input) where
-    pub step_acts : (said : List Message) → Steps input place after (map message.view said) → IsActed i action None places sent (slice_set places i after) (sent ++ said)
-    unfolding Steps
-    step_acts said done = place_acts place after said action input None at given (done (length places) i (member_at places i place members at))
-
-    -- A rejected step sends nothing.
-    pub refused_acts : (f : NodeFault) (rejection : Rejection) → DeniesStep input place after f → rejection_in f ≡ Some rejection → IsActed i action (Some rejection) places sent (slice_set places i after) sent
-    unfolding DeniesStep
-    refused_acts f rejection denied is =
-        subst (λ ms. IsActed i action (Some rejection) places sent (slice_set places i after) ms) (append-nil sent)
-        (place_acts place after [] action input (Some rejection) at given ((denied (length places) i (member_at places i place members at)).refused rejection is))
-
-    -- the result of a rejection
-    pub answered_acts : {E : Type 0} (result : Result (Option Rejection) E) (f : NodeFault) → IfOk result (λ rejection. rejection ≡ rejection_in f) → IfOk result IsSome → DeniesStep input place after f →
-        IfOk result (λ rejection. IsActed i action rejection places sent (slice_set places i after) sent)
-    answered_acts (Ok None) f is some denied = absurd (false≢true some)
-    answered_acts (Ok (Some rejection)) f is some denied = refused_acts f rejection denied (sym is)
-    answered_acts (Err e) f is some denied = tt
-
-    pub tear_acts : (kept : world.Kept) → Tears kept input place after → IsTorn i action kept None places sent (slice_set places i after) sent
-    unfolding Tears
-    tear_acts kept torn = place_tears place after [] action input None at given kept (torn (length places) i (member_at places i place members at))
-
-    pub refused_tears : (kept : world.Kept) (f : NodeFault) (rejection : Rejection) → DeniesTear kept input place after f → rejection_in f ≡ Some rejection →
-        IsTorn i action kept (Some rejection) places sent (slice_set places i after) sent
-    unfolding DeniesTear
-    refused_tears kept f rejection denied is = place_tears place after [] action input (Some rejection) at given kept ((denied (length places) i (member_at places i place members at)).refused rejection is)
-
-    pub answered_tears : {E : Type 0} (kept : world.Kept) (result : Result (Option Rejection) E) (f : NodeFault) → IfOk result (λ rejection. rejection ≡ rejection_in f) → IfOk result IsSome → DeniesTear kept input place after f →
-        IfOk result (λ rejection. IsTorn i action kept rejection places sent (slice_set places i after) sent)
-    answered_tears kept (Ok None) f is some denied = absurd (false≢true some)
-    answered_tears kept (Ok (Some rejection)) f is some denied = refused_tears kept f rejection denied (sym is)
-    answered_tears kept (Err e) f is some denied = tt
-
     -- A crash within a step that changes nothing in its entry changes nothing.
     pub keeps_torn : (kept : world.Kept) (rejection : Option Rejection) → ((n j : ℕ) → IsMember n j place → IsTornAt kept n j input place place rejection) → IsTorn i action kept rejection places sent places sent
     keeps_torn kept rejection torn =
         subst (λ ps. IsTorn i action kept rejection places sent ps sent) (set_same places i place at)
         (place_tears place place [] action input rejection at given kept (torn (length places) i (member_at places i place members at)))
-
-  -- The state after an error, whatever the input was.
-  pub denied_stays : (place after : MemoryPlace) (input : Input Definition) (f : NodeFault) → slice_get places i ≡ Some place → AreMembers places → DeniesStep input place after f →
-      StayShown places sent (slice_set places i after) sent
-  unfolding DeniesStep
-  denied_stays place after input f at members denied = place_stays place after at (denied (length places) i (member_at places i place members at)).stays
-
-  pub torn_stays : (kept : world.Kept) (place after : MemoryPlace) (input : Input Definition) (f : NodeFault) → slice_get places i ≡ Some place → AreMembers places → DeniesTear kept input place after f →
-      StayShown places sent (slice_set places i after) sent
-  unfolding DeniesTear
-  torn_stays kept place after input f at members denied = place_stays place after at (denied (length places) i (member_at places i place members at)).stays
 
   pub nothing_stays : StayShown places sent places sent
   unfolding StayShown

@@ -16,14 +16,14 @@ use Rattle.wf_model.specs.World.{World, deliver, after_turn, happens, input_of, 
 use Rattle.wf_node.specs.Node.{Node}
 use Rattle.wf_farm.specs.declared.progress.Progress.{Progress}
 use Rattle.wf_farm.specs.Cluster.{Moves}
-use Rattle.wf_farm.specs.Delivering.{AnyPart, Shows, StandInTurn, KeepHalted, KeepTurn, IsHanded, AreHanded, First, Next, AreHandedOut, counted}
+use Rattle.wf_farm.specs.Delivering.{AnyPart, Shows, StandInTurn, KeepHalted, KeepTurn, IsHanded, AreHanded, First, Next, AreHandedOut}
 use Rattle.wf_farm.specs.DeliveringLaws.{none_before, keeps_turn, keeps_turn_itself, keeps_turn_twice}
 use Rattle.wf_farm.specs.Farm as farm
 use Rattle.wf_farm.specs.Farm.{MemoryFarm, size}
 use Rattle.wf_farm.specs.Giving as giving
 use Rattle.wf_farm.specs.Giving.{Answers}
 use Rattle.wf_farm.specs.PlaceLaws.{set_there}
-use Rattle.wf_farm.specs.Progress.{next}
+use Rattle.wf_farm.specs.Progress.{counted, next}
 use Rattle.wf_farm.specs.Publishing.{NoneHalted, ArePumped, DeliveredExactly, PumpedAlike}
 use Rattle.wf_farm.specs.Pump.{AreTargets, IsPumped, begun, count, deliveries, rounds, to_each}
 use Rattle.wf_farm.proofs.Counting.{begun_most}

@@ -1,5 +1,5 @@
 -- Deliveries to the entries of a farm are deliveries to its nodes; and what a client does to one of them is done to the nodes.
-use Rattle.std.proofs.Common.{◌≡◌, ℕ, zero, suc, ◌∷◌, slice_index_or, ◌+◌, ◌≤◌, Bool, false, List, [], ◌++◌, length, slice_get, slice_set, Some, refl, sym, ap, subst, ◌∙◌, arith, Vec}
+use Rattle.std.proofs.Common.{◌≡◌, ℕ, zero, suc, ◌∷◌, slice_index_or, ◌≤◌, Bool, false, List, [], ◌++◌, length, slice_get, slice_set, Some, refl, sym, ap, subst, ◌∙◌, arith, Vec}
 use Rattle.std.specs.declared.alloc.Global.{Global}
 use Rattle.std.proofs.lemmas.Option.{none-some, same_Some}
 use Rattle.wf_codec.specs.Message as message
@@ -12,11 +12,8 @@ use Rattle.wf_model.specs.World.{after}
 use Rattle.wf_node.specs.Node.{Node}
 use Rattle.wf_farm.specs.declared.place.Place.{Place}
 use Rattle.wf_farm.specs.declared.place.Place.TheVariants.{Running, Stopped}
-use Rattle.wf_farm.specs.declared.progress.End.{End}
-use Rattle.wf_farm.specs.declared.progress.End.TheVariants as end_case
-use Rattle.wf_farm.specs.declared.progress.Progress.{Progress}
-use Rattle.wf_farm.specs.Delivering.{AreKept, IsGiven, IsOne, StandAmong}
-use Rattle.wf_farm.specs.Exchange.{IsAsked, IsGivenTo, IsNotGiven, IsReadyFor, IsSturdy, LeadsOn}
+use Rattle.wf_farm.specs.Delivering.{IsOne, StandAmong}
+use Rattle.wf_farm.specs.Exchange.{IsAsked, IsGivenTo, IsReadyFor, IsSturdy, LeadsOn}
 use Rattle.wf_farm.specs.Farm.{IsFarm}
 use Rattle.wf_farm.specs.Giving as giving
 use Rattle.wf_farm.specs.Giving.{Takes}
@@ -24,47 +21,10 @@ use Rattle.wf_farm.specs.Leading.{AreLedOn, AreLedSaying}
 use Rattle.wf_farm.specs.Nodes.{KeepPlaces, KeepsPlace, node_in, nodes_of}
 use Rattle.wf_farm.specs.PlaceLaws.{set_there}
 use Rattle.wf_farm.specs.Places.{IsMember, AreMembers}
-use Rattle.wf_farm.specs.Round.{Begin, Go, HaveEnded, HaveGone, IsLeft}
 use Rattle.wf_farm.proofs.Deliveries.{one_delivery, stays_itself}
-use Rattle.wf_farm.specs.NodesLaws.{keep_set, keep_themselves, keep_twice, length-nodes, nodes_get, nodes_set}
+use Rattle.wf_farm.specs.NodesLaws.{keep_set, length-nodes, nodes_get, nodes_set}
 use Rattle.wf_farm.proofs.Nodes.{in_turn_of, member_of, reached_led, running_stopped, set_members}
 use Rattle.wf_tape.specs.declared.tape.Tape.{Ghosts as Tape}
-
--- ---- the rounds
-
-left_as : {T : Type 0} (end : End) (node number : ℕ) (middle after : List (Place T)) (said more : List Message) → IsLeft IsNotGiven end node number middle said after more →
-    IsLeft AreKept end node number (nodes_of middle) said (nodes_of after) more
-left_as end_case.Done node number middle after said more left = (ap nodes_of left.0, left.1)
-left_as end_case.Stopped node number middle after said more left = (ap nodes_of left.0, left.1)
-left_as (end_case.Failed fault) node number middle after said more left = (left.0, ap nodes_of left.1)
-
-kept_left : {T : Type 0} (end : End) (node number : ℕ) (middle after : List (Place T)) (said more : List Message) → IsLeft IsNotGiven end node number middle said after more → after ≡ middle
-kept_left end_case.Done node number middle after said more left = left.0
-kept_left end_case.Stopped node number middle after said more left = left.0
-kept_left (end_case.Failed fault) node number middle after said more left = left.1
-
-module _ {T : Type 0} (tapes : Tape T) (places : List (Place T)) (messages : List Message) (round : ℕ) where
-  gone_as : (p : Progress) (lost : ℕ) (after : List (Place T)) (more : List Message) → HaveGone (IsGivenTo tapes) [] round 0 places messages p lost after more →
-      HaveGone (IsGiven tapes) [] round 0 (nodes_of places) messages p lost (nodes_of after) more
-  gone_as _ _ _ _ Begin = Begin
-  gone_as _ _ _ _ (Go p lost loses middle after said more gone left one) = Go p lost loses (nodes_of middle) (nodes_of after) said more (gone_as p lost middle said gone) left one.0
-
-  gone_kept : (p : Progress) (lost : ℕ) (after : List (Place T)) (more : List Message) → HaveGone (IsGivenTo tapes) [] round 0 places messages p lost after more → KeepPlaces places after
-  gone_kept _ _ _ _ Begin = keep_themselves places
-  gone_kept _ _ _ _ (Go p lost loses middle after said more gone left one) = keep_twice places middle after (gone_kept p lost middle said gone) one.1
-
-  module _ (p : Progress) (lost : ℕ) (end : End) (after : List (Place T)) (more : List Message) (ended : HaveEnded (IsGivenTo tapes) IsNotGiven [] round 0 places messages p lost end after more) where
-    -- Deliveries to the entries, ended so, are deliveries to the nodes.
-    pub ended_as : round ≡ length places → HaveEnded (IsGiven tapes) AreKept [] (length (nodes_of places)) 0 (nodes_of places) messages p lost end (nodes_of after) more
-    ended_as long = subst (λ k. HaveEnded (IsGiven tapes) AreKept [] k 0 (nodes_of places) messages p lost end (nodes_of after) more) (long ∙ sym (length-nodes places)) (record {
-      middle = nodes_of ended.middle;
-      said = ended.said;
-      gone = gone_as p lost ended.middle ended.said ended.gone;
-      left = left_as end _ _ ended.middle after ended.said more ended.left;
-    })
-
-    pub ended_kept : KeepPlaces places after
-    ended_kept = subst (λ (ps : List (Place T)). KeepPlaces places ps) (sym (kept_left end _ _ ended.middle after ended.said more ended.left)) (gone_kept p lost ended.middle ended.said ended.gone)
 
 -- ---- one delivery
 

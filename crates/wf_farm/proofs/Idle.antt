@@ -12,9 +12,9 @@ use Rattle.wf_farm.specs.declared.rejection.Rejection.{Rejection}
 use Rattle.wf_farm.specs.declared.place.Place.TheVariants.{Running, Stopped}
 use Rattle.wf_farm.specs.Cluster.{AreMembers, IsActed, IsTorn}
 use Rattle.wf_farm.specs.Farm.{running_in}
-use Rattle.wf_farm.specs.Place.{MemoryPlace, IsMember, IsStepped, TellsWhyNot, Steps, rejection_in}
-use Rattle.wf_farm.proofs.Events.{absent_acts, absent_torn, member_at, place_acts, tear_acts, unsent_acts, unsent_torn}
-use Rattle.wf_farm.proofs.Steps.{refused_step, same_member, step_stops, still_stopped, stopped_steps}
+use Rattle.wf_farm.specs.Place.{MemoryPlace, IsMember, IsStepped, TellsWhyNot, rejection_in}
+use Rattle.wf_farm.proofs.Events.{absent_acts, absent_torn, keeps_torn, member_at, place_acts, unsent_acts, unsent_torn}
+use Rattle.wf_farm.proofs.Steps.{refused_step, stopped_steps, stopped_torn}
 use Rattle.wf_farm.specs.PlaceLaws.{set_same}
 
 module _ (places : List MemoryPlace) (sent : List Message) (i : ℕ) (action : Action Definition ℕ) (members : AreMembers places) where
@@ -28,11 +28,10 @@ module _ (places : List MemoryPlace) (sent : List Message) (i : ℕ) (action : A
 
   idle_at : (there : Option MemoryPlace) (given : Option (Input Definition)) → slice_get places i ≡ there → input_of (map message.view sent) action ≡ given → is_some (running_in there) ≡ false →
       IsActed i action None places sent places sent
-  unfolding Steps
   idle_at None given at is idle = absent_acts places sent i action at
   idle_at (Some (Running node)) given at is idle = absurd (false≢true (sym idle))
   idle_at (Some (Stopped kept)) None at is idle = unsent_acts places sent i action is
-  idle_at (Some (Stopped kept)) (Some input) at is idle = keeps_acts (Stopped kept) input None at is (stopped_steps kept input)
+  idle_at (Some (Stopped kept)) (Some input) at is idle = keeps_acts (Stopped kept) input None at is (λ n j member. stopped_steps n j kept input)
 
   -- If no node runs, nothing happens.
   pub idle_acts : (runs : Bool) → runs ≡ is_some (running_in (slice_get places i)) → runs ≡ false → IsActed i action None places sent places sent
@@ -44,9 +43,7 @@ module _ (places : List MemoryPlace) (sent : List Message) (i : ℕ) (action : A
   torn_at (Some (Running node)) given at is idle = absurd (false≢true (sym idle))
   torn_at (Some (Stopped kept)) None at is idle = unsent_torn places sent i action After is
   torn_at (Some (Stopped kept)) (Some input) at is idle =
-      subst (λ ps. IsTorn i action After None places sent ps sent) (set_same places i (Stopped kept) at)
-      (tear_acts places sent i (Stopped kept) (Stopped kept) action input at members is After
-      (step_stops input (Stopped kept) (Stopped kept) (Stopped kept) [] (stopped_steps kept input) (same_member (Stopped kept)) (still_stopped kept)))
+      keeps_torn places sent i (Stopped kept) (Stopped kept) action input at members is After None (λ n j member. stopped_torn After n j kept input)
 
   -- Nor does a crash within a step.
   pub idle_torn : (runs : Bool) → runs ≡ is_some (running_in (slice_get places i)) → runs ≡ false → IsTorn i action After None places sent places sent

@@ -25,3 +25,6 @@ mod CutTapes
 mod Tried
 mod TriedEvents
 mod Faring
+mod Asked
+mod Level
+mod Changes

@@ -1,16 +1,19 @@
 -- The result of a farm's pump.
-use Rattle.std.proofs.Common.{◌≡◌, ℕ, ◌+◌, ◌≤◌, Bool, List, length, Result, IfOk, IfErr, inr, sym, subst, ◌∙◌}
+use Rattle.std.proofs.Common.{◌≡◌, ℕ, ◌+◌, ◌≤◌, Bool, List, length, Option, None, Result, IfOk, IfErr, inr, sym, subst, ◌∙◌}
 use Rattle.wf_farm.specs.declared.carrier.CarrierFault.TheVariants as carrier
 use Rattle.wf_farm.specs.declared.fault.FarmFault.{FarmFault}
 use Rattle.wf_farm.specs.declared.progress.End.{End}
 use Rattle.wf_farm.specs.declared.progress.End.TheVariants.{Done, Stopped, Failed}
 use Rattle.wf_farm.specs.declared.progress.Progress.{Progress}
 use Rattle.wf_farm.specs.Farm.{MemoryFarm, size}
-use Rattle.wf_farm.specs.Progress.{HasCome, IsEnd, MayEnd, outcome}
-use Rattle.wf_farm.specs.Pump.{AreTargets, begun, Pumps, IsPumped, IsPumpedPart, most_deliveries}
+use Rattle.wf_model.specs.declared.kept.Kept.{Kept}
+use Rattle.wf_farm.specs.Fused.{HasFaredTo}
+use Rattle.wf_farm.specs.Progress.{IsEnd, MayEnd, outcome}
+use Rattle.wf_farm.specs.Pump.{AreTargets, begun, deliveries, Pumps, IsPumped, IsPumpedPart, most_deliveries}
+use Rattle.wf_farm.proofs.Faring.{whole_moves}
 
 module _ (names : List ℕ) (before after : MemoryFarm) (n : ℕ) (targets items : List ℕ) (p : Progress) (many : n ≡ size before) (same : targets ≡ items) (are : AreTargets n names items)
-    (come : HasCome targets before.pumped p before.places before.sent after.places after.sent) (pumped : after.pumped ≡ before.pumped + p.whole + begun p.some) where
+    (watched : Option ℕ) (none : watched ≡ None) (torn : Option (ℕ × Kept)) (come : HasFaredTo watched targets before.pumped p torn before.places before.sent after.places after.sent) (pumped : after.pumped ≡ before.pumped + p.whole + begun p.some) where
   abbrev a_pump : Pumps names before after
   a_pump = record {
     targets = targets;
@@ -18,7 +21,7 @@ module _ (names : List ℕ) (before after : MemoryFarm) (n : ℕ) (targets items
     whole = p.whole;
     some = p.some;
     part = come.part;
-    runs = come.moves;
+    runs = whole_moves watched (deliveries targets before.pumped p.whole p.some) torn before.places after.places before.sent after.sent none come.fared;
     pumped = pumped;
     within = subst (λ k. k ≤ length after.sent) (sym pumped) come.within;
   }

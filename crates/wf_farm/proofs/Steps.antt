@@ -1,18 +1,16 @@
 -- One entry: what its node does is the turn of the farm's model.
-use Rattle.std.proofs.Common.{◌≡◌, ◌≢◌, ℕ, ◌≤◌, Bool, true, false, List, [], map, length, take, drop, slice_get, Option, Some, None, Result, Ok, Err, IfOk, IfErr, refl, sym, ap, subst, ◌∙◌, arith, Vec}
-use Rattle.std.proofs.lemmas.Bool.{both_ways}
-use Rattle.std.proofs.lemmas.List.{append-nil, length-map, take-append-drop}
+use Rattle.std.proofs.Common.{◌≡◌, ℕ, Bool, true, false, List, [], map, take, drop, slice_get, Option, Some, None, refl, sym, ap, subst, ◌∙◌}
+use Rattle.std.proofs.lemmas.List.{append-nil, take-append-drop}
 use Rattle.std.proofs.lemmas.Option.{none-some, same_Some}
 use Rattle.wf_codec.specs.Message as message
 use Rattle.wf_codec.specs.declared.message.Message.{Message}
 use Rattle.wf_def.specs.Definition.{Definition}
 use Rattle.wf_def.specs.Equality.{definition_eq}
-use Rattle.wf_model.specs.Fits.{RowsAreShort}
 use Rattle.wf_model.specs.Message as model
 use Rattle.wf_model.specs.Stored.{Stored, fold, fold_from, nothing_stored}
 use Rattle.wf_model.specs.Working.{Working, at_start}
 use Rattle.wf_model.specs.Table as table
-use Rattle.wf_model.specs.Table.{Input, Refusal, most_told, refusal, refuse_proposal, refuse_retry, row}
+use Rattle.wf_model.specs.Table.{Input, Refusal, refusal, refuse_proposal, refuse_retry}
 use Rattle.wf_model.specs.World as world
 use Rattle.wf_model.specs.World.{refusal_of, stored_after, kept_part, input_of, delivered}
 use Rattle.wf_node.specs.Fault as fault
@@ -24,7 +22,7 @@ use Rattle.wf_node.specs.declared.fault.NodeFault.{NodeFault}
 use Rattle.wf_node.specs.declared.fault.NodeFault.TheVariants as fault_case
 use Rattle.wf_journal.specs.Journal.{Follows, ReadsSame}
 use Rattle.wf_tape.specs.MemoryTape as tape
-use Rattle.wf_tape.specs.MemoryTape.{IsImageOf, NeverFails}
+use Rattle.wf_tape.specs.MemoryTape.{IsImageOf}
 use Rattle.wf_journal.specs.Records.{AreReadOneWay, IsReadAsNone}
 use Rattle.wf_tape.specs.Tape.{IsBeginning}
 use Rattle.wf_farm.specs.declared.rejection.Rejection.{Rejection}
@@ -32,7 +30,7 @@ use Rattle.wf_farm.specs.declared.place.Place.TheVariants.{Running, Stopped}
 use Rattle.wf_farm.specs.Fault.{rejection_of, told}
 use Rattle.wf_farm.specs.Leading.{IsFresh}
 use Rattle.wf_farm.specs.Reopening.{HasStoredAgain, IsReopened}
-use Rattle.wf_farm.specs.Place.{MemoryPlace, IsNode, IsMember, IsChanged, Stays, turn_at, IsStepped, IsTornAt, rejection_in, IsDenied, IsDeniedTorn, KeepsMember, Stops, Restarts, Steps, DeniesStep, Tears, DeniesTear, TellsWhyNot}
+use Rattle.wf_farm.specs.Place.{MemoryPlace, IsNode, IsMember, IsChanged, Stays, turn_at, IsStepped, IsTornAt, rejection_in, KeepsMember, Stops, Restarts, TellsWhyNot}
 use Rattle.wf_farm.specs.Start.{fresh_node}
 use Rattle.wf_farm.specs.Turn.{node_after, messages_of, node_torn, node_stopped, working_restarted, node_restarted}
 use Rattle.wf_farm.proofs.Turns.{turn_goes, turn_refused, turn_stopped, running_refusal, stopped_refusal}
@@ -80,17 +78,6 @@ step_done n i node after input said member goes is =
     subst (λ m. IsStepped m i input (Running node) (Running after) (map message.view said) None) member.1
     (subst (λ j. IsStepped node.n j input (Running node) (Running after) (map message.view said) None) member.0 (done_here node after input said goes is))
 
--- its node is still a member
-pub done_member : (node after : Node tape.TapeValue) (input : Input Definition) (said : List Message) → (NeverFails node.tape → NeverFails after.tape) → IsRow node (row_of node input) said after →
-    KeepsMember (Running node) (Running after)
-unfolding KeepsMember
-done_member node after input said sturdy is = λ n i member. (is.id ∙ member.0, is.n ∙ member.1, is.running, sturdy member.3)
-
--- No step sends more than eight messages.
-pub said_few : (node after : Node tape.TapeValue) (input : Input Definition) (said : List Message) → RowsAreShort Definition → IsRow node (row_of node input) said after → length said ≤ most_told
-said_few node after input said short is =
-    omega (arith, length-map said message.view, ap length is.messages, short definition_eq node.n node.id (stored_of node) (working_of node) input)
-
 module _ (node : Node tape.TapeValue) (input : Input Definition) (why : Refusal) (refused : refusal_at node input ≡ Some why) where
   refused_here : IsStepped node.n node.id input (Running node) (Running node) [] (Some (rejection_of why))
   unfolding node_after messages_of
@@ -124,91 +111,26 @@ rejection_why fault_case.Halted rejection e = absurd (none-some rejection e)
 rejection_why fault_case.TapeFailed rejection e = absurd (none-some rejection e)
 rejection_why fault_case.Nothing rejection e = (table.NothingToRetry, refl, same_Some (rejection_of table.NothingToRetry) rejection e)
 
--- the table's rejections are neither allocation failure nor a failure of the tape
-unchanged_by : (f : NodeFault) (why : Refusal) → fault.refusal_of f ≡ Some why → (f ≢ fault_case.Memory) × (f ≢ fault_case.TapeFailed)
-unchanged_by f why e = (
-  λ is. none-some why (ap fault.refusal_of (sym is) ∙ e),
-  λ is. none-some why (ap fault.refusal_of (sym is) ∙ e),
-)
-
--- After an error the node is still a member: its tape hasn't failed, since a tape in memory without a fuse doesn't.
-module _ (node after : Node tape.TapeValue) (sturdy : NeverFails node.tape → NeverFails after.tape) (same : IsSameNode node after) where
-  kept_member : after.halted ≡ false → KeepsMember (Running node) (Running after)
-  unfolding KeepsMember
-  kept_member runs = λ n i member. (ap (λ x. x.id) same ∙ member.0, ap (λ x. x.n) same ∙ member.1, runs, sturdy member.3)
-
-  unchanged_member : (f : NodeFault) (why : Refusal) → fault.refusal_of f ≡ Some why → (f ≢ fault_case.Memory → f ≢ fault_case.TapeFailed → after ≡ node) → KeepsMember (Running node) (Running after)
-  unfolding KeepsMember
-  unchanged_member f why e unchanged =
-      let other = unchanged_by f why e in
-      subst (λ x. KeepsMember (Running node) (Running x)) (sym (unchanged other.0 other.1)) (λ n i member. member)
-
-  pub denied_member : (f : NodeFault) → (f ≡ fault_case.Memory → after.halted ≡ false) → (NeverFails node.tape → f ≢ fault_case.TapeFailed) → (f ≡ fault_case.Halted → node.halted ≡ true) →
-      (f ≢ fault_case.Memory → f ≢ fault_case.TapeFailed → after ≡ node) → KeepsMember (Running node) (Running after)
-  unfolding KeepsMember
-  denied_member fault_case.Memory runs sound halted unchanged = kept_member (runs refl)
-  denied_member fault_case.Busy runs sound halted unchanged = unchanged_member fault_case.Busy table.Busy refl unchanged
-  denied_member fault_case.SequenceFull runs sound halted unchanged = unchanged_member fault_case.SequenceFull table.SequenceFull refl unchanged
-  denied_member fault_case.RoundsFull runs sound halted unchanged = unchanged_member fault_case.RoundsFull table.RoundsFull refl unchanged
-  denied_member fault_case.Halted runs sound halted unchanged = λ n i member. absurd (both_ways node.halted member.2 (halted refl))
-  denied_member fault_case.TapeFailed runs sound halted unchanged = λ n i member. absurd (sound member.3 refl)
-  denied_member fault_case.Nothing runs sound halted unchanged = unchanged_member fault_case.Nothing table.NothingToRetry refl unchanged
-
--- A step that ends in an error: the node is unchanged, and the table's rejection is that of the farm's model.
-pub step_denied : (n i : ℕ) (node after : Node tape.TapeValue) (input : Input Definition) (f : NodeFault) → IsMember n i (Running node) → fault.refusal_of f ≡ refusal_at node input →
-    IsSameNode node after → (f ≢ fault_case.Memory → f ≢ fault_case.TapeFailed → after ≡ node) → IsDenied n i input (Running node) (Running after) f
-step_denied n i node after input f member refused same unchanged = record {
-  stays = same_stays node after same;
-  refused = λ rejection e.
-      let why = rejection_why f rejection e in
-      let other = unchanged_by f why.0 why.1 in
-      subst (λ k. IsStepped n i input (Running node) (Running after) [] (Some k)) why.2
-      (subst (λ x. IsStepped n i input (Running node) (Running x) [] (Some (rejection_of why.0))) (sym (unchanged other.0 other.1))
-      (step_refused n i node input why.0 member (sym refused ∙ why.1)));
-}
-
--- ---- a step, whatever it returns
-
-module _ {A : Type 0} (node after : Node tape.TapeValue) (input : Input Definition) where
-  pub any_done : (result : Result (Vec Message A) NodeFault) → (node.halted ≡ false → fault.refused_by result ≡ refusal_at node input) →
-      IfOk result (λ said. IsRow node (row_of node input) said.items after) → IfOk result (λ said. Steps input (Running node) (Running after) (map message.view said.items))
-  unfolding Steps
-  any_done (Ok said) refused is = λ n i member. step_done n i node after input said.items member (sym (refused member.2)) is
-  any_done (Err f) refused is = tt
-
-  pub any_denied : (result : Result (Vec Message A) NodeFault) → (node.halted ≡ false → fault.refused_by result ≡ refusal_at node input) → IfErr result (λ f. IsSameNode node after) →
-      IfErr result (λ f. f ≢ fault_case.Memory → f ≢ fault_case.TapeFailed → after ≡ node) → IfErr result (DeniesStep input (Running node) (Running after))
-  unfolding DeniesStep
-  any_denied (Ok said) refused same unchanged = tt
-  any_denied (Err f) refused same unchanged = λ n i member. step_denied n i node after input f member (refused member.2) same unchanged
-
-  pub any_few : RowsAreShort Definition → (result : Result (Vec Message A) NodeFault) → IfOk result (λ said. IsRow node (row_of node input) said.items after) → IfOk result (λ said. length said.items ≤ most_told)
-  any_few short (Ok said) is = said_few node after input said.items short is
-  any_few short (Err f) is = tt
-
-  pub any_member : (result : Result (Vec Message A) NodeFault) → IfOk result (λ said. IsRow node (row_of node input) said.items after) →
-      (result ≡ Err fault_case.Memory → after.halted ≡ false) → (NeverFails node.tape → NeverFails after.tape) → (NeverFails node.tape → IfErr result (λ f. f ≢ fault_case.TapeFailed)) →
-      (result ≡ Err fault_case.Halted → node.halted ≡ true) → IfErr result (λ f. IsSameNode node after) → IfErr result (λ f. f ≢ fault_case.Memory → f ≢ fault_case.TapeFailed → after ≡ node) →
-      KeepsMember (Running node) (Running after)
-  any_member (Ok said) is runs sturdy sound halted same unchanged = done_member node after input said.items sturdy is
-  any_member (Err f) is runs sturdy sound halted same unchanged = denied_member node after sturdy same f (λ e. runs (ap Err e)) sound (λ e. halted (ap Err e)) unchanged
-
 -- A stopped node takes no step.
-pub stopped_steps : (kept : tape.TapeValue) (input : Input Definition) → Steps input (Stopped kept) (Stopped kept) []
-unfolding Steps node_after messages_of
-stopped_steps kept input = λ n i member. record {
+pub stopped_steps : (n i : ℕ) (kept : tape.TapeValue) (input : Input Definition) → IsStepped n i input (Stopped kept) (Stopped kept) [] None
+unfolding node_after messages_of
+stopped_steps n i kept input = record {
   node = λ x is. subst (λ t. IsNode (Stopped kept) (node_after t x)) (sym (turn_stopped definition_eq n i x input is.0)) is;
   messages = λ x is. sym (ap messages_of (turn_stopped definition_eq n i x input is.0));
+  refusal = λ x is. sym (ap told (stopped_refusal x input is.0));
+}
+
+-- Nor does it crash within one.
+pub stopped_torn : (kept : world.Kept) (n i : ℕ) (left : tape.TapeValue) (input : Input Definition) → IsTornAt kept n i input (Stopped left) (Stopped left) None
+unfolding node_torn
+stopped_torn kept n i left input = record {
+  node = λ x is. subst (λ t. IsNode (Stopped left) (node_torn kept t x)) (sym (turn_stopped definition_eq n i x input is.0)) is;
   refusal = λ x is. sym (ap told (stopped_refusal x input is.0));
 }
 
 pub same_member : (place : MemoryPlace) → KeepsMember place place
 unfolding KeepsMember
 same_member place = λ n i member. member
-
-pub member_twice : (before middle after : MemoryPlace) → KeepsMember before middle → KeepsMember middle after → KeepsMember before after
-unfolding KeepsMember
-member_twice before middle after first second = λ n i member. second n i (first n i member)
 
 -- ---- a stop
 
@@ -221,10 +143,9 @@ pub still_stopped : (kept : tape.TapeValue) → Stops (Stopped kept) (Stopped ke
 unfolding Stops node_stopped
 still_stopped kept = λ n i member x is. (refl, is.1)
 
--- The tape of a node that was closed is still without a fuse.
-pub closed_member : (node : Node tape.TapeValue) (left : tape.TapeValue) → left ≡ node.tape → KeepsMember (Running node) (Stopped left)
+pub closed_member : (node : Node tape.TapeValue) (left : tape.TapeValue) → KeepsMember (Running node) (Stopped left)
 unfolding KeepsMember
-closed_member node left same = λ n i member. subst NeverFails (sym same) member.3
+closed_member node left = λ n i member. tt
 
 -- ---- a restart
 
@@ -257,13 +178,8 @@ opened one kept node fold_of idle = λ x is.
     ap (λ working. node_of x.stored (working_restarted working)) is.0
     ∙ node_eq _ _ _ _ (one_stand one kept.bytes x.stored (stored_of node) stands found) (ap Some (sym idle))
 
--- A node opened from a tape without a fuse is on such a tape, and a tape that is returned is still one.
-pub opened_member : (n i : ℕ) (before : MemoryPlace) (kept : tape.TapeValue) (node : Node tape.TapeValue) → before ≡ Stopped kept → node.id ≡ i → node.n ≡ n → node.halted ≡ false → (NeverFails kept → NeverFails node.tape) →
-    IsMember n i before → IsMember n i (Running node)
-opened_member n i before kept node was id many runs sturdy member = (id, many, runs, sturdy (subst (IsMember n i) was member))
-
-pub returned_member : (n i : ℕ) (before : MemoryPlace) (kept left : tape.TapeValue) → before ≡ Stopped kept → (NeverFails kept → NeverFails left) → IsMember n i before → IsMember n i (Stopped left)
-returned_member n i before kept left was sturdy member = sturdy (subst (IsMember n i) was member)
+pub opened_member : (n i : ℕ) (node : Node tape.TapeValue) → node.id ≡ i → node.n ≡ n → node.halted ≡ false → IsMember n i (Running node)
+opened_member n i node id many runs = (id, many, runs)
 
 pub still_running : (node : Node tape.TapeValue) → Restarts (Running node) (Running node)
 unfolding Restarts node_restarted working_restarted
@@ -386,15 +302,6 @@ no_turn_parts n i input stored (Some working) rejection is =
 pub no_turn : (n i : ℕ) (input : Input Definition) (x : world.Node Definition) (rejection : Rejection) → Some rejection ≡ told (refusal_of (Some x) (Some input)) → turn_at n i input x ≡ None
 no_turn n i input x rejection is = no_turn_parts n i input x.stored x.working rejection is
 
--- A step that ends in an error likewise: nothing has changed.
-pub torn_denied : (kept : world.Kept) (n i : ℕ) (input : Input Definition) (before after : MemoryPlace) (f : NodeFault) → IsDenied n i input before after f → IsDeniedTorn kept n i input before after f
-torn_denied kept n i input before after f denied = record {
-  stays = denied.stays;
-  refused = λ rejection e.
-      let stepped = denied.refused rejection e in
-      torn_refused kept n i input before after rejection stepped denied.stays (λ x is. no_turn n i input x rejection (stepped.refusal x is));
-}
-
 -- If no error reports why not, the table doesn't reject.
 pub free_where_none : (why : Option Refusal) → fault.IsWhyNot why None → None ≡ told why
 free_where_none why none = sym (ap told none)
@@ -456,21 +363,11 @@ why_not_stopped kept x input is = stopped_refusal x input is.0
 
 -- ---- crashes within a step, whichever node is there
 
--- A step, and then a stop.
-pub step_stops : (input : Input Definition) (before middle after : MemoryPlace) (said : List (model.Message Definition)) → Steps input before middle said → KeepsMember before middle → Stops middle after →
-    Tears world.After input before after
-unfolding Steps Stops Tears KeepsMember
-step_stops input before middle after said steps keeps stops = λ n i member. torn_after n i input before middle after said (steps n i member) (stops n i (keeps n i member))
-
-pub denied_tears : (kept : world.Kept) (input : Input Definition) (before after : MemoryPlace) (f : NodeFault) → DeniesStep input before after f → DeniesTear kept input before after f
-unfolding DeniesStep DeniesTear
-denied_tears kept input before after f denies = λ n i member. torn_denied kept n i input before after f (denies n i member)
-
 -- A stop alone, if the table has no rejection.
-pub stops_before : (action : table.Action Definition ℕ) (sent : List (model.Message Definition)) (input : Input Definition) (before after : MemoryPlace) → TellsWhyNot before action None →
-    input_of sent action ≡ Some input → Stops before after → Tears world.Before input before after
-unfolding TellsWhyNot Stops Tears
-stops_before action sent input before after free given stops = λ n i member.
+pub stops_before : (n i : ℕ) (action : table.Action Definition ℕ) (sent : List (model.Message Definition)) (input : Input Definition) (before after : MemoryPlace) → TellsWhyNot before action None →
+    input_of sent action ≡ Some input → Stops before after → IsMember n i before → IsTornAt world.Before n i input before after None
+unfolding TellsWhyNot Stops
+stops_before n i action sent input before after free given stops member =
     torn_before n i input before after (λ x is. free_where_none (refusal_of (Some x) (Some input)) (free n i x sent input member is given)) (stops n i member)
 
 -- Nothing, if it has one.

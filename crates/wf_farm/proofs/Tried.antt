@@ -1,7 +1,5 @@
 -- A step of a node whose tape may fail, and the opening of one.
-use Rattle.std.proofs.Common.{◌≡◌, ◌≢◌, ℕ, false, List, [], map, length, Option, Some, None, Result, Ok, Err, IfOk, IfErr, OnOk, IsSome, refl, sym, ap, subst, ◌∙◌, Vec}
-use Rattle.std.proofs.lemmas.Bool.{false≢true}
-use Rattle.std.proofs.lemmas.Option.{none-some}
+use Rattle.std.proofs.Common.{◌≡◌, ◌≢◌, ℕ, false, List, [], map, length, Option, Some, None, Result, Ok, Err, IfOk, IfErr, refl, sym, ap, subst, ◌∙◌, Vec}
 use Rattle.std.specs.declared.alloc.Global.{Global}
 use Rattle.wf_codec.specs.Message as message
 use Rattle.wf_codec.specs.declared.message.Message.{Message}
@@ -30,15 +28,15 @@ use Rattle.wf_farm.specs.declared.fate.Fate.TheVariants as fate
 use Rattle.wf_farm.specs.declared.place.Place.TheVariants.{Running, Stopped}
 use Rattle.wf_model.specs.Kept.{view as view_kept}
 use Rattle.wf_farm.specs.Fault.{rejection_of, told}
-use Rattle.wf_farm.specs.Fused.{Fares, IsCutTape, IsTornTo, IsTried, stored_by}
-use Rattle.wf_farm.specs.Place.{MemoryPlace, IsNode, IsMember, IsStepped, Restarts, Stays, Steps, rejection_in, turn_at}
+use Rattle.wf_farm.specs.Fused.{Fares, IsCutTape, IsFew, IsTornTo, IsTried, TearsFrom, fate_in, stored_by}
+use Rattle.wf_farm.specs.Place.{MemoryPlace, IsNode, IsMember, IsStepped, KeepsSturdy, Restarts, Stays, rejection_in, tape_in, turn_at, with_fuse_in}
 use Rattle.wf_farm.specs.Turn.{node_torn, node_restarted, working_restarted}
 use Rattle.wf_farm.proofs.Steps.{goes_of, node_eq, node_of, not_opened, rejection_why, one_stored, opened, same_stays, shown, step_done, step_refused, stopped_steps}
 use Rattle.wf_farm.proofs.Turns.{running_refusal}
 
--- ---- the fuse on the tape, and taken away
+-- ---- a failure that is set, and taken away
 
--- the node with this fuse on its tape
+-- the node with this failure set of its tape
 abbrev armed : ℕ → ℕ → Node TapeValue → Node TapeValue
 armed call kept node = record node { tape = with_fuse call kept node.tape }
 
@@ -50,83 +48,90 @@ pub no_fuse_on : (node laid : Node TapeValue) → laid ≡ armed 0 0 node → Ne
 unfolding fuse_at
 no_fuse_on node laid is = ap (λ (x : Node TapeValue). x.tape.fuse) is
 
-module _ {A : Type 0} (input : Input Definition) where
-  -- A fuse that is put on the tape changes nothing of a step but that it may fail.
-  from_armed : (call kept : ℕ) (before after : Node TapeValue) (result : Result (Vec Message A) NodeFault) → IsTried (armed call kept before) input result after → IsTried before input result after
-  from_armed call kept before after (Ok said) is = record {
-    refused = is.refused;
-    done = record { id = is.done.id; n = is.done.n; running = is.done.running; stored = is.done.stored; working = is.done.working; messages = is.done.messages };
-    same = tt;
-    running = λ runs. tt;
-    cut = is.cut;
-  }
-  from_armed call kept before after (Err why) is = record { refused = is.refused; done = tt; same = is.same; running = is.running; cut = is.cut }
+-- It changes no node and no member.
+pub fused_stays : (call kept : ℕ) (place : MemoryPlace) → Stays place (with_fuse_in call kept place)
+unfolding Stays
+fused_stays call kept (Running node) = λ x is. is
+fused_stays call kept (Stopped tape) = λ x is. is
 
-  -- So does one that is taken away after it.
-  to_laid : (before after : Node TapeValue) (result : Result (Vec Message A) NodeFault) → IsTried before input result after → IsTried before input result (armed 0 0 after)
-  to_laid before after (Ok said) is = record {
-    refused = is.refused;
-    done = record { id = is.done.id; n = is.done.n; running = is.done.running; stored = is.done.stored; working = is.done.working; messages = is.done.messages };
-    same = tt;
-    running = λ runs. tt;
-    cut = is.cut;
-  }
-  to_laid before after (Err why) is = record {
-    refused = is.refused;
-    done = tt;
-    same = ap (armed 0 0) is.same;
-    running = is.running;
-    cut = is.cut;
-  }
+pub fused_member : (call kept n i : ℕ) (place : MemoryPlace) → IsMember n i place → IsMember n i (with_fuse_in call kept place)
+fused_member call kept n i (Running node) member = member
+fused_member call kept n i (Stopped tape) member = tt
 
-  pub tried : (call kept : ℕ) (before there after laid : Node TapeValue) (result : Result (Vec Message A) NodeFault) → there ≡ armed call kept before → laid ≡ armed 0 0 after →
-      IsTried there input result after → IsTried before input result laid
-  tried call kept before there after laid result is_there is_laid is =
-      subst (IsTried before input result) (sym is_laid) (to_laid before after result (from_armed call kept before after result (subst (λ x. IsTried x input result after) is_there is)))
+pub unfused_sturdy : (place : MemoryPlace) → NeverFails (tape_in (with_fuse_in 0 0 place))
+unfolding fuse_at
+unfused_sturdy (Running node) = refl
+unfused_sturdy (Stopped tape) = refl
 
-  running_still : (before after : Node TapeValue) (result : Result (Vec Message A) NodeFault) → IfErr result (λ why. why ≢ fault_case.Memory → why ≢ fault_case.TapeFailed → after ≡ before) →
-      before.halted ≡ false → IfErr result (λ why. why ≢ fault_case.Memory → why ≢ fault_case.TapeFailed → after.halted ≡ false)
-  running_still before after (Ok said) unchanged runs = tt
-  running_still before after (Err why) unchanged runs = λ other than. ap (λ (x : Node TapeValue). x.halted) (unchanged other than) ∙ runs
+-- ---- a step
+
+-- A failure that is taken away after it changes nothing of a failed step.
+pub laid_cut : (entry : Option (Record Definition)) (before after : Stored Definition) (images : List ℕ → Type 0) (node laid : Node TapeValue) → laid ≡ armed 0 0 node → EachIsCut entry before after images (IsImageOf node.tape) →
+    EachIsCut entry before after images (IsImageOf laid.tape)
+laid_cut entry before after images node laid is cut = subst (λ (x : Node TapeValue). EachIsCut entry before after images (IsImageOf x.tape)) (sym is) cut
+
+module _ (before after : Node TapeValue) where
+  still_running : (why : NodeFault) → (why ≡ fault_case.Memory → after.halted ≡ false) → (why ≢ fault_case.Memory → why ≢ fault_case.TapeFailed → after ≡ before) → before.halted ≡ false → why ≢ fault_case.TapeFailed → after.halted ≡ false
+  still_running fault_case.Memory spares unchanged runs other = spares refl
+  still_running fault_case.TapeFailed spares unchanged runs other = absurd (other refl)
+  still_running fault_case.Busy spares unchanged runs other = ap (λ (x : Node TapeValue). x.halted) (unchanged (λ e. cc) (λ e. cc)) ∙ runs
+  still_running fault_case.SequenceFull spares unchanged runs other = ap (λ (x : Node TapeValue). x.halted) (unchanged (λ e. cc) (λ e. cc)) ∙ runs
+  still_running fault_case.RoundsFull spares unchanged runs other = ap (λ (x : Node TapeValue). x.halted) (unchanged (λ e. cc) (λ e. cc)) ∙ runs
+  still_running fault_case.Halted spares unchanged runs other = ap (λ (x : Node TapeValue). x.halted) (unchanged (λ e. cc) (λ e. cc)) ∙ runs
+  still_running fault_case.Nothing spares unchanged runs other = ap (λ (x : Node TapeValue). x.halted) (unchanged (λ e. cc) (λ e. cc)) ∙ runs
+
+module _ {A : Type 0} (input : Input Definition) (before after : Node TapeValue) where
+  running_still : (result : Result (Vec Message A) NodeFault) → (result ≡ Err fault_case.Memory → after.halted ≡ false) → IfErr result (λ why. why ≢ fault_case.Memory → why ≢ fault_case.TapeFailed → after ≡ before) →
+      before.halted ≡ false → IfErr result (λ why. why ≢ fault_case.TapeFailed → after.halted ≡ false)
+  running_still (Ok said) spares unchanged runs = tt
+  running_still (Err why) spares unchanged runs = λ other. still_running before after why (λ e. spares (ap Err e)) unchanged runs other
 
   -- What a step promises, as far as it counts here.
-  pub stepped : (before after : Node TapeValue) (result : Result (Vec Message A) NodeFault) → (before.halted ≡ false → fault.refused_by result ≡ refusal_at before input) →
+  pub stepped : (result : Result (Vec Message A) NodeFault) → (before.halted ≡ false → fault.refused_by result ≡ refusal_at before input) →
       IfOk result (λ said. IsRow before (row_of before input) said.items after) → IfErr result (λ why. IsSameNode before after) →
-      IfErr result (λ why. why ≢ fault_case.Memory → why ≢ fault_case.TapeFailed → after ≡ before) →
+      IfErr result (λ why. why ≢ fault_case.Memory → why ≢ fault_case.TapeFailed → after ≡ before) → (result ≡ Err fault_case.Memory → after.halted ≡ false) →
       (result ≡ Err fault_case.TapeFailed → EachIsCut (row_of before input).entry (stored_of before) (store (stored_of before) (row_of before input).entry) (IsImageOf before.tape) (IsImageOf after.tape)) →
       IsTried before input result after
-  stepped before after result refused done same unchanged cut = record { refused = refused; done = done; same = same; running = running_still before after result unchanged; cut = cut }
+  stepped result refused done same unchanged spares cut = record { refused = refused; done = done; same = same; running = running_still result spares unchanged; cut = cut }
 
 -- ---- opening
 
--- A node that is opened with a fuse on its tape is the one that restarts, and the fuse is taken away.
-pub opened_tried : AreReadOneWay → (call kept : ℕ) (tape there : TapeValue) (node : Node TapeValue) (place : MemoryPlace) → there ≡ with_fuse call kept tape → place ≡ Running (armed 0 0 node) →
-    IsFoldOf (stored_of node) there.bytes → working_of node ≡ at_start → Restarts (Stopped tape) place
-opened_tried one call kept tape there node place is_there is fold_of idle =
-    subst (Restarts (Stopped tape)) (sym is) (opened one tape (armed 0 0 node) (subst (λ (t : TapeValue). IsFoldOf (stored_of node) t.bytes) is_there fold_of) idle)
+pub opened_laid : AreReadOneWay → (tape laid : TapeValue) (node : Node TapeValue) → laid ≡ with_fuse 0 0 tape → IsFoldOf (stored_of node) laid.bytes → working_of node ≡ at_start → Restarts (Stopped tape) (Running node)
+opened_laid one tape laid node is fold_of idle = opened one tape node (subst (λ (t : TapeValue). IsFoldOf (stored_of node) t.bytes) is fold_of) idle
 
-pub opened_fits : (n i : ℕ) (node : Node TapeValue) (place : MemoryPlace) → place ≡ Running (armed 0 0 node) → node.id ≡ i → node.n ≡ n → node.halted ≡ false → IsMember n i place
-unfolding fuse_at
-opened_fits n i node place is id many runs = subst (IsMember n i) (sym is) (id, many, runs, refl)
+pub not_opened_laid : (tape laid left : TapeValue) → laid ≡ with_fuse 0 0 tape → Follows ReadsSame (IsImageOf laid) (IsImageOf left) → Stays (Stopped tape) (Stopped left)
+not_opened_laid tape laid left is follows = not_opened tape left (subst (λ (t : TapeValue). Follows ReadsSame (IsImageOf t) (IsImageOf left)) is follows)
 
 -- An entry that is opened from a tape that reads as another's is that one's.
 after_same : (before middle after : MemoryPlace) → Stays before middle → Restarts middle after → Restarts before after
 unfolding Stays Restarts
 after_same before middle after stays restarts = λ x is. restarts x (stays x is)
 
-pub opened_after : {E : Type 0} (call kept : ℕ) (tape there left : TapeValue) (result : Result MemoryPlace E) → there ≡ with_fuse call kept tape → Follows ReadsSame (IsImageOf there) (IsImageOf left) →
-    IfOk result (Restarts (Stopped left)) → IfOk result (Restarts (Stopped tape))
-opened_after call kept tape there left (Ok place) is_there follows restarts =
-    after_same (Stopped tape) (Stopped left) place (not_opened tape left (subst (λ (t : TapeValue). Follows ReadsSame (IsImageOf t) (IsImageOf left)) is_there follows)) restarts
-opened_after call kept tape there left (Err e) is_there follows restarts = tt
-
-same_images : (call kept : ℕ) (tape : TapeValue) → Stays (Stopped tape) (Stopped (with_fuse call kept tape))
+stays_twice : (before middle after : MemoryPlace) → Stays before middle → Stays middle after → Stays before after
 unfolding Stays
-same_images call kept tape = λ x is. is
+stays_twice before middle after first second = λ x is. second x (first x is)
 
-pub opened_laid : {E : Type 0} (tape laid : TapeValue) (result : Result MemoryPlace E) → laid ≡ with_fuse 0 0 tape → IfOk result (Restarts (Stopped laid)) → IfOk result (Restarts (Stopped tape))
-opened_laid tape laid (Ok place) is restarts = after_same (Stopped tape) (Stopped laid) place (subst (λ (t : TapeValue). Stays (Stopped tape) (Stopped t)) (sym is) (same_images 0 0 tape)) restarts
-opened_laid tape laid (Err e) is restarts = tt
+pub stays_itself : (place : MemoryPlace) → Stays place place
+unfolding Stays
+stays_itself place = λ x is. is
+
+module _ (place : MemoryPlace) (tape left : TapeValue) (is : place ≡ Stopped tape) (follows : Follows ReadsSame (IsImageOf tape) (IsImageOf left)) where
+  pub opened_after : {E : Type 0} (result : Result MemoryPlace E) → IfOk result (Restarts (Stopped left)) → IfOk result (Restarts place)
+  opened_after (Ok after) restarts = subst (λ p. Restarts p after) (sym is) (after_same (Stopped tape) (Stopped left) after (not_opened tape left follows) restarts)
+  opened_after (Err e) restarts = tt
+
+  pub stays_after : {A : Type 0} (result : Result A MemoryPlace) → IfErr result (Stays (Stopped left)) → IfErr result (Stays place)
+  stays_after (Ok x) stays = tt
+  stays_after (Err after) stays = subst (λ p. Stays p after) (sym is) (stays_twice (Stopped tape) (Stopped left) after (not_opened tape left follows) stays)
+
+module _ (place : MemoryPlace) (tape left : TapeValue) (is : place ≡ Stopped tape) (sturdy : NeverFails tape → NeverFails left) where
+  pub sturdy_after : {E : Type 0} (result : Result MemoryPlace E) → IfOk result (KeepsSturdy (Stopped left)) → IfOk result (KeepsSturdy place)
+  sturdy_after (Ok after) keeps = subst (λ p. KeepsSturdy p after) (sym is) (λ never. keeps (sturdy never))
+  sturdy_after (Err e) keeps = tt
+
+  pub sturdy_after_err : {A : Type 0} (result : Result A MemoryPlace) → IfErr result (KeepsSturdy (Stopped left)) → IfErr result (KeepsSturdy place)
+  sturdy_after_err (Ok x) keeps = tt
+  sturdy_after_err (Err after) keeps = subst (λ p. KeepsSturdy p after) (sym is) (λ never. keeps (sturdy never))
 
 -- ---- what becomes of a step
 
@@ -135,19 +140,12 @@ changed_on : (n i : ℕ) (input : Input Definition) (before middle last : Memory
 unfolding Stays
 changed_on n i input before middle last said rejection is stays = record { node = λ x e. stays _ (is.node x e); messages = is.messages; refusal = is.refusal }
 
-some_rejection : (rejection : Option Rejection) → IsSome rejection → (k : Rejection) × (rejection ≡ Some k)
-some_rejection None some = absurd (false≢true some)
-some_rejection (Some k) some = (k, refl)
-
-not_memory : (why : NodeFault) (rejection : Rejection) → rejection_in why ≡ Some rejection → (why ≢ fault_case.Memory) × (why ≢ fault_case.TapeFailed)
-not_memory why rejection e = (λ is. none-some rejection (ap rejection_in (sym is) ∙ e), λ is. none-some rejection (ap rejection_in (sym is) ∙ e))
-
 module _ {A : Type 0} (n i : ℕ) (input : Input Definition) (node after : Node TapeValue) (member : IsMember n i (Running node)) where
   pub done_fares : (said : Vec Message A) → IsTried node input (Ok said) after → IsStepped n i input (Running node) (Running after) (map message.view said.items) None
   done_fares said is = step_done n i node after input said.items member (sym (is.refused member.2)) is.done
 
-  pub done_fits : (said : Vec Message A) → IsTried node input (Ok said) after → NeverFails after.tape → IsMember n i (Running after)
-  done_fits said is fuse = (is.done.id ∙ member.0, is.done.n ∙ member.1, is.done.running, fuse)
+  pub done_fits : (said : Vec Message A) → IsTried node input (Ok said) after → IsMember n i (Running after)
+  done_fits said is = (is.done.id ∙ member.0, is.done.n ∙ member.1, is.done.running)
 
   -- A rejected step: the node is as it was.
   rejected_as : (why : NodeFault) → IsTried {A = A} node input (Err why) after → (rejection : Rejection) → rejection_in why ≡ Some rejection → IsStepped n i input (Running node) (Running after) [] (Some rejection)
@@ -157,32 +155,37 @@ module _ {A : Type 0} (n i : ℕ) (input : Input Definition) (node after : Node 
       subst (λ k. IsStepped n i input (Running node) (Running after) [] (Some k)) which.2
       (changed_on n i input (Running node) (Running node) (Running after) [] (Some (rejection_of which.0)) (step_refused n i node input which.0 member refused) (same_stays node after is.same))
 
-  pub rejected_fares : (why : NodeFault) → IsTried {A = A} node input (Err why) after → IsSome (rejection_in why) → (rejection : Rejection) × IsStepped n i input (Running node) (Running after) [] (Some rejection)
-  rejected_fares why is some = let rejection = some_rejection (rejection_in why) some in (rejection.0, rejected_as why is rejection.0 rejection.1)
+  refused_at_last : (why : NodeFault) → IsTried {A = A} node input (Err why) after → (rejection : Option Rejection) → rejection_in why ≡ rejection → Fares n i input (fate_in rejection) (Running node) (Running after)
+  refused_at_last why is None e = λ never. same_stays node after is.same
+  refused_at_last why is (Some rejection) e = rejected_as why is rejection e
 
-  pub rejected_fits : (why : NodeFault) → IsTried {A = A} node input (Err why) after → IsSome (rejection_in why) → NeverFails after.tape → IsMember n i (Running after)
-  rejected_fits why is some fuse =
-      let rejection = some_rejection (rejection_in why) some in
-      let other = not_memory why rejection.0 rejection.1 in
-      (ap (λ (x : Node TapeValue). x.id) is.same ∙ member.0, ap (λ (x : Node TapeValue). x.n) is.same ∙ member.1, is.running member.2 other.0 other.1, fuse)
+  -- The entry of a node whose step ended in an error, while its tape didn't fail.
+  pub refused_fares : (why : NodeFault) (what : Fate) (place : MemoryPlace) → IsTried {A = A} node input (Err why) after → place ≡ Running after → what ≡ fate_in (rejection_in why) → Fares n i input what (Running node) place
+  refused_fares why what place is at told =
+      subst (λ p. Fares n i input what (Running node) p) (sym at) (subst (λ f. Fares n i input f (Running node) (Running after)) (sym told) (refused_at_last why is (rejection_in why) refl))
 
-  -- The entry of a node that rejected the step.
-  pub reject_fares : {E : Type 0} (result : Result (MemoryPlace × Fate) E) (why : NodeFault) → IsTried {A = A} node input (Err why) after → IfOk result (λ x. x.0 ≡ Running after) → IfOk result (λ x. x.1 ≡ fate.Rejected) →
-      OnOk result (IsSome (rejection_in why)) → IfOk result (λ x. Fares n i input x.1 (Running node) x.0)
-  reject_fares (Ok x) why is place what some =
-      subst (λ p. Fares n i input x.1 (Running node) p) (sym place) (subst (λ f. Fares n i input f (Running node) (Running after)) (sym what) (rejected_fares why is some))
-  reject_fares (Err e) why is place what some = tt
+  pub refused_fits : (why : NodeFault) (place : MemoryPlace) → IsTried {A = A} node input (Err why) after → why ≢ fault_case.TapeFailed → place ≡ Running after → IsMember n i place
+  refused_fits why place is other at =
+      subst (IsMember n i) (sym at) (ap (λ (x : Node TapeValue). x.id) is.same ∙ member.0, ap (λ (x : Node TapeValue). x.n) is.same ∙ member.1, is.running member.2 other)
 
-  pub reject_fits : {E : Type 0} (result : Result (MemoryPlace × Fate) E) (why : NodeFault) → IsTried {A = A} node input (Err why) after → IfOk result (λ x. x.0 ≡ Running after) → OnOk result (IsSome (rejection_in why)) → NeverFails after.tape →
-      IfOk result (λ x. IsMember n i x.0)
-  reject_fits (Ok x) why is place some fuse = subst (IsMember n i) (sym place) (rejected_fits why is some fuse)
-  reject_fits (Err e) why is place some fuse = tt
+tears_by : (rejection : Option Rejection) (place : MemoryPlace) → TearsFrom (fate_in rejection) place
+tears_by None place = tt
+tears_by (Some why) place = tt
+
+few_by : (rejection : Option Rejection) → IsFew (fate_in rejection)
+few_by None = tt
+few_by (Some why) = tt
+
+pub refused_tears : (rejection : Option Rejection) (what : Fate) (place : MemoryPlace) → what ≡ fate_in rejection → TearsFrom what place
+refused_tears rejection what place is = subst (λ f. TearsFrom f place) (sym is) (tears_by rejection place)
+
+pub refused_few : (rejection : Option Rejection) (what : Fate) → what ≡ fate_in rejection → IsFew what
+refused_few rejection what is = subst IsFew (sym is) (few_by rejection)
 
 -- A stopped node sends nothing.
-pub stopped_fares : (n i : ℕ) (input : Input Definition) (tape : TapeValue) (said : Vec Message Global) → said.items ≡ [] → IsMember n i (Stopped tape) → Fares n i input (fate.Done said) (Stopped tape) (Stopped tape)
-unfolding Steps
-stopped_fares n i input tape said none member =
-    subst (λ ms. IsStepped n i input (Stopped tape) (Stopped tape) (map message.view ms) None) (sym none) (stopped_steps tape input n i member)
+pub stopped_fares : (n i : ℕ) (input : Input Definition) (tape : TapeValue) (said : Vec Message Global) → said.items ≡ [] → Fares n i input (fate.Done said) (Stopped tape) (Stopped tape)
+stopped_fares n i input tape said none =
+    subst (λ ms. IsStepped n i input (Stopped tape) (Stopped tape) (map message.view ms) None) (sym none) (stopped_steps n i tape input)
 
 -- ---- a crash within a step
 
@@ -202,7 +205,7 @@ tape_cut long entry before after tape left settled is_long each = record {
   cut = each_only entry before after tape.bytes (IsImageOf tape) (IsImageOf left) settled.1.only.no_other each;
 }
 
-module _ (one : AreReadOneWay) (n i : ℕ) (input : Input Definition) (node : Node TapeValue) (member : IsMember n i (Running node)) (goes : refusal_at node input ≡ None) where
+module _ (one : AreReadOneWay) (n i : ℕ) (input : Input Definition) (node : Node TapeValue) (member : IsMember n i (Running node)) (goes : refusal_at node input ≡ None) (fails : NeverFails node.tape → ⊥) where
   goes_here : turn_at n i input (shown node) ≡ Some (record { stored = stored_of node; row = row_of node input })
   goes_here =
       subst (λ m. turn_at m i input (shown node) ≡ Some (record { stored = stored_of node; row = row_of node input })) member.1
@@ -233,13 +236,16 @@ module _ (one : AreReadOneWay) (n i : ℕ) (input : Input Definition) (node : No
     )
 
   -- What the crash leaves, as it is returned.
-  torn_to : (what : Fate) (place : MemoryPlace) → IsTornTo (stored_of node) (store (stored_of node) (row_of node input).entry) what place → Fares n i input what (Running node) place
+  pub torn_to : (what : Fate) (place : MemoryPlace) → IsTornTo (stored_of node) (store (stored_of node) (row_of node input).entry) what place → Fares n i input what (Running node) place
   torn_to (fate.Torn kept) (Running again) is = torn_fares kept again is.0 is.1 is.2
   torn_to (fate.Torn kept) (Stopped left) is = absurd is
   torn_to (fate.Done said) place is = absurd is
-  torn_to fate.Rejected place is = absurd is
+  torn_to (fate.Rejected why) place is = absurd is
+  torn_to fate.Lost place is = λ never. absurd (fails never)
 
-pub crash_fares : {E : Type 0} → AreReadOneWay → (n i : ℕ) (input : Input Definition) (node : Node TapeValue) → IsMember n i (Running node) → refusal_at node input ≡ None → (result : Result (MemoryPlace × Fate) E) →
-    IfOk result (λ x. IsTornTo (stored_of node) (store (stored_of node) (row_of node input).entry) x.1 x.0) → IfOk result (λ x. Fares n i input x.1 (Running node) x.0)
-crash_fares one n i input node member goes (Ok x) is = torn_to one n i input node member goes x.1 x.0 is
-crash_fares one n i input node member goes (Err e) is = tt
+-- Only a tape that could fail tears a step.
+pub failed_tears : (what : Fate) (place : MemoryPlace) → (NeverFails (tape_in place) → ⊥) → TearsFrom what place
+failed_tears (fate.Done said) place fails = tt
+failed_tears (fate.Rejected why) place fails = tt
+failed_tears (fate.Torn kept) place fails = fails
+failed_tears fate.Lost place fails = tt

@@ -1,37 +1,37 @@
 -- Events while a node's tape may fail: what happens to its entry is what happens to the farm.
-use Rattle.std.proofs.Common.{◌≡◌, ℕ, zero, suc, ◌+◌, ◌≤◌, ◌<◌, Bool, true, false, List, [], ◌∷◌, ◌++◌, map, length, take, drop, slice_get, slice_set, Option, Some, None, option_map, Result, Ok, Err, IfOk, OnOk, Vec, inl, inr, refl, sym, ap, subst, ◌∙◌, arith, length-append}
+use Rattle.std.proofs.Common.{◌≡◌, ℕ, zero, suc, ◌≤◌, ◌<◌, Bool, true, false, List, [], ◌∷◌, ◌++◌, map, length, slice_get, slice_set, Option, Some, None, Result, Ok, Err, IfOk, Vec, inl, inr, refl, sym, ap, subst, ◌∙◌, arith, length-append}
+use Rattle.std.proofs.lemmas.Bool.{cases_eq}
 use Rattle.std.proofs.lemmas.List.{append-nil}
-use Rattle.std.proofs.lemmas.Option.{none-some, same_Some, slice_get-map}
+use Rattle.std.proofs.lemmas.Option.{none-some, same_Some, slice_get_within}
 use Rattle.std.specs.declared.alloc.Global.{Global}
 use Rattle.wf_codec.specs.Message as message
 use Rattle.wf_codec.specs.declared.message.Message.{Message}
 use Rattle.wf_def.specs.Definition.{Definition}
 use Rattle.wf_def.specs.Equality.{definition_eq}
-use Rattle.wf_model.specs.Message as model
 use Rattle.wf_model.specs.StepsLaws.{steps_in_turn}
 use Rattle.wf_model.specs.Table.{Action, Input}
 use Rattle.wf_model.specs.World as world
-use Rattle.wf_model.specs.World.{World, Event, after_torn, happens, input_of, steps, turn}
+use Rattle.wf_model.specs.World.{World, Event, after_torn, happens, input_of, refused, refused_at, steps, turn}
 use Rattle.wf_farm.specs.declared.rejection.Rejection.{Rejection}
-use Rattle.wf_farm.specs.declared.event.Event as declared
 use Rattle.wf_model.specs.declared.kept.Kept.{Kept}
 use Rattle.wf_farm.specs.declared.fate.Fate.{Fate}
 use Rattle.wf_farm.specs.declared.fate.Fate.TheVariants as fate
-use Rattle.wf_farm.specs.declared.place.Place.TheVariants.{Running, Stopped}
+use Rattle.wf_farm.specs.declared.fate.Happened.{Happened}
 use Rattle.wf_tape.specs.MemoryTape.{NeverFails}
-use Rattle.wf_farm.specs.Cluster.{AreMembers, KeepMembers, Moves, Shows, Turns}
+use Rattle.wf_farm.specs.Carrying.{ChangesByEvent, ChangesByStep}
+use Rattle.wf_farm.specs.Cluster.{AreMembers, Happens, IsActed, IsTorn, KeepMembers, Moves, Shows, StayShown}
 use Rattle.wf_model.specs.Kept.{view as view_kept}
-use Rattle.wf_farm.specs.Event.{view}
 use Rattle.wf_farm.specs.Farm.{MemoryFarm, Runs}
 use Rattle.wf_farm.specs.declared.fault.FarmFault.{FarmFault}
 use Rattle.wf_farm.specs.declared.fault.FarmFault.TheVariants.{Memory}
-use Rattle.wf_farm.specs.Fused.{FailsWithin, Fares, GivesInput, HappensOrTears, IsDoneOrTorn, IsInputOf, IsNotBefore, IsStepOf, IsStepOfNode, IsTold, NoneFails, Step, crash_at, crash_if, is_heard, step_of, tape_in, torn_at, with_torn}
-use Rattle.wf_farm.specs.Place.{MemoryPlace, IsMember, IsNode, IsStepped, IsTornAt, KeepsMember, Restarts, Stays, Stops, turn_at}
-use Rattle.wf_farm.specs.PlaceLaws.{set_there}
-use Rattle.wf_farm.proofs.Events.{place_acts, place_keeps, place_members, place_restarts, place_tears}
-use Rattle.wf_farm.proofs.Runs.{keep_twice, steps_more, take_all, take_more}
+use Rattle.wf_farm.specs.Allocating.{may_allocate}
+use Rattle.wf_farm.specs.Fused.{FailsOnly, FailsWithin, Fares, HappensAs, IsDoneOrTorn, IsHappened, IsTold, IsTriedStep, NoneFails, TearsAt, TearsFrom, TearsOnly, TellsUnless, step_of}
+use Rattle.wf_farm.specs.Place.{MemoryPlace, IsMember, IsNode, IsStepped, IsTornAt, KeepsMember, KeepsSturdy, Restarts, Stays, Stops, tape_in, turn_at, with_fuse_in}
+use Rattle.wf_farm.specs.PlaceLaws.{get_set_other, get_set_same, set_there}
+use Rattle.wf_farm.proofs.Events.{place_acts, place_keeps, place_members, place_restarts, place_stays, place_tears, set_members, keep_twice}
 use Rattle.wf_farm.specs.Turn.{node_after}
 use Rattle.wf_farm.proofs.Steps.{no_turn, torn_after, torn_refused}
+use Rattle.wf_farm.proofs.Tried.{fused_member, fused_stays, unfused_sturdy}
 
 -- setting an entry twice
 set_twice : {A : Type 0} (xs : List A) (i : ℕ) (x y : A) → slice_set (slice_set xs i x) i y ≡ slice_set xs i y
@@ -86,101 +86,129 @@ module _ (places : List MemoryPlace) (sent : List Message) (i : ℕ) (place : Me
       (λ w shows. restarted.leads (after_torn w i (view_kept kept) (turn definition_eq w i action)) (tears.leads w shows))
 
   -- What became of the step, and, if it was done, what was told of it.
-  pub fares_rejected : (heard : Bool) (after : MemoryPlace) → Fares (length places) i input fate.Rejected place after → IsDoneOrTorn None heard i action places sent (slice_set places i after) sent
-  fares_rejected heard after is = rejected_done heard after is.0 is.1
+  pub fares_rejected : (heard : Bool) (why : Rejection) (after : MemoryPlace) → Fares (length places) i input (fate.Rejected why) place after →
+      IsTriedStep heard i action (record { why = Some why; torn = None }) places sent (slice_set places i after) sent
+  fares_rejected heard why after is = record { leads = rejected_done heard after why is; why = (place_acts places sent i place after [] action input (Some why) at given is).why }
 
-  pub fares_torn : (heard : Bool) (kept : Kept) (after : MemoryPlace) → Fares (length places) i input (fate.Torn kept) place after → IsDoneOrTorn (Some kept) heard i action places sent (slice_set places i after) sent
-  fares_torn heard kept after is = torn_done heard kept is.0 after is.1 is.2
+  pub fares_torn : (heard : Bool) (kept : Kept) (after : MemoryPlace) → Fares (length places) i input (fate.Torn kept) place after →
+      IsTriedStep heard i action (record { why = None; torn = Some kept }) places sent (slice_set places i after) sent
+  fares_torn heard kept after is = record { leads = torn_done heard kept is.0 after is.1 is.2; why = refl }
 
-  pub fares_told : {E : Type 0} (heard : Bool) (middle : MemoryPlace) (said : Vec Message Global) (result : Result (Option Kept) E) (after : List MemoryPlace) (more : List Message) →
-      Fares (length places) i input (fate.Done said) place middle → IsMember (length places) i middle → OnOk result (IsTold heard i said.items (slice_set places i middle) sent after more) →
-      IfOk result (λ torn. torn ≡ None) → IfOk result (λ torn. IsDoneOrTorn torn heard i action places sent after more)
-  fares_told heard middle said (Ok torn) after more stepped member told none =
-      subst (λ t. IsDoneOrTorn t heard i action places sent after more) (sym none) (told_done heard middle said.items after more stepped told member)
-  fares_told heard middle said (Err e) after more stepped member told none = tt
+  pub fares_told : (heard : Bool) (middle : MemoryPlace) (said : Vec Message Global) (after : List MemoryPlace) (more : List Message) → Fares (length places) i input (fate.Done said) place middle → IsMember (length places) i middle →
+      IsTold heard i said.items (slice_set places i middle) sent after more → IsTriedStep heard i action (record { why = None; torn = None }) places sent after more
+  fares_told heard middle said after more stepped member told =
+      record { leads = told_done heard middle said.items after more stepped told member; why = (place_acts places sent i place middle said.items action input None at given stepped).why }
 
--- what became of a step, where the rejection of nodes and the node's rejection are given by other names
+-- what became of a step, where the number of nodes and the node's number are given by other names
 pub cast_fares : (n m id i : ℕ) (input : Input Definition) (what : Fate) (place after : MemoryPlace) → n ≡ m → id ≡ i → Fares n id input what place after → Fares m i input what place after
 cast_fares n m id i input what place after many is fares = subst (λ k. Fares m k input what place after) is (subst (λ k. Fares k id input what place after) many fares)
 
 pub cast_member : (n m id i : ℕ) (place : MemoryPlace) → n ≡ m → id ≡ i → IsMember n id place → IsMember m i place
 cast_member n m id i place many is member = subst (λ k. IsMember m k place) is (subst (λ k. IsMember k id place) many member)
 
--- A member is set, and may stop.
-pub set_member : (places : List MemoryPlace) (i : ℕ) (place after : MemoryPlace) → slice_get places i ≡ Some place → IsMember (length places) i after → KeepMembers places (slice_set places i after)
-set_member places i place after at member = place_members places i place after at (λ was. member)
+pub told_members : (places : List MemoryPlace) (i : ℕ) (place middle : MemoryPlace) (heard : Bool) (said sent : List Message) (after : List MemoryPlace) (more : List Message) → slice_get places i ≡ Some place →
+    IsMember (length places) i middle → KeepsSturdy place middle → IsTold heard i said (slice_set places i middle) sent after more → KeepMembers places after
+told_members places i place middle true said sent after more at member sturdy told = subst (KeepMembers places) (sym told.0) (place_members places i place middle at (λ was. member) sturdy)
+told_members places i place middle false said sent after more at member sturdy told =
+    keep_twice places (slice_set places i middle) after (place_members places i place middle at (λ was. member) sturdy)
+    (subst (KeepMembers (slice_set places i middle)) (sym told.1.3) (place_keeps (slice_set places i middle) i told.1.0 told.1.1 told.1.2 told.1.5 told.1.6))
 
-pub told_members : {A E : Type 0} (places : List MemoryPlace) (i : ℕ) (place middle : MemoryPlace) (heard : Bool) (said sent : List Message) (result : Result A E) (after : List MemoryPlace) (more : List Message) →
-    slice_get places i ≡ Some place → IsMember (length places) i middle → OnOk result (IsTold heard i said (slice_set places i middle) sent after more) → OnOk result (KeepMembers places after)
-told_members places i place middle heard said sent (Err e) after more at member told = tt
-told_members places i place middle true said sent (Ok x) after more at member told = subst (KeepMembers places) (sym told.0) (set_member places i place middle at member)
-told_members places i place middle false said sent (Ok x) after more at member told =
-    keep_twice places (slice_set places i middle) after (set_member places i place middle at member)
-    (subst (KeepMembers (slice_set places i middle)) (sym told.1.3) (place_keeps (slice_set places i middle) i told.1.0 told.1.1 told.1.2 told.1.5))
-
-pub told_grows : {A E : Type 0} (i : ℕ) (heard : Bool) (said sent : List Message) (result : Result A E) (places after : List MemoryPlace) (more : List Message) → OnOk result (IsTold heard i said places sent after more) →
-    OnOk result (length sent ≤ length more)
-told_grows i heard said sent (Err e) places after more told = tt
-told_grows i true said sent (Ok x) places after more told = omega (arith, ap length told.1, length-append sent said)
-told_grows i false said sent (Ok x) places after more told = omega (arith, ap length told.0)
+pub told_grows : (i : ℕ) (heard : Bool) (said sent : List Message) (places after : List MemoryPlace) (more : List Message) → IsTold heard i said places sent after more → length sent ≤ length more
+told_grows i true said sent places after more told = omega (arith, ap length told.1, length-append sent said)
+told_grows i false said sent places after more told = omega (arith, ap length told.0)
 
 pub stopped_told : (heard : Bool) (i : ℕ) (said sent : List Message) (places : List MemoryPlace) (before after : MemoryPlace) → heard ≡ false → slice_get places i ≡ Some before → Stops before after → KeepsMember before after →
-    IsTold heard i said places sent (slice_set places i after) sent
-stopped_told heard i said sent places before after unheard at stops keeps =
-    subst (λ h. IsTold h i said places sent (slice_set places i after) sent) (sym unheard) (refl, (before, after, at, refl, stops, keeps))
+    KeepsSturdy before after → IsTold heard i said places sent (slice_set places i after) sent
+stopped_told heard i said sent places before after unheard at stops keeps sturdy =
+    subst (λ h. IsTold h i said places sent (slice_set places i after) sent) (sym unheard) (refl, (before, after, at, refl, stops, keeps, sturdy))
 
 pub sent_told : (heard : Bool) (i : ℕ) (said sent more : List Message) (places : List MemoryPlace) → heard ≡ true → more ≡ sent ++ said → IsTold heard i said places sent places more
 sent_told heard i said sent more places is_heard more_is = subst (λ h. IsTold h i said places sent places more) (sym is_heard) (refl, more_is)
 
+-- where an allocation failed, and no tape fails, nothing has changed
+pub lost_stays : (places : List MemoryPlace) (sent : List Message) (n id i : ℕ) (input : Input Definition) (place after : MemoryPlace) → slice_get places i ≡ Some place → Fares n id input fate.Lost place after → FailsOnly None places →
+    StayShown places sent (slice_set places i after) sent
+unfolding FailsOnly
+lost_stays places sent n id i input place after at fares sturdy = place_stays places sent i place after at (fares (sturdy i place at (λ is. none-some i is)))
+
+-- where a step was torn, its tape could fail
+pub torn_at_place : (kept : Kept) (places : List MemoryPlace) (i : ℕ) (place : MemoryPlace) → slice_get places i ≡ Some place → TearsFrom (fate.Torn kept) place → TearsAt (Some kept) i places
+torn_at_place kept places i place at fails = (place, at, fails)
+
+-- ---- a step that wasn't tried
+
+module _ (places after : List MemoryPlace) (sent more : List Message) (i : ℕ) (action : Action Definition ℕ) (why : Option Rejection) where
+  -- a step and a crash within it, which come to this, by whether the step is heard
+  pub untried : (heard : Bool) → IsActed i action why places sent after more → IsTorn i action world.After why places sent after more → IsTriedStep heard i action (record { why = why; torn = None }) places sent after more
+  untried true acted torn = record { leads = acted.leads; why = acted.why }
+  untried false acted torn = record { leads = torn.leads; why = torn.why }
+
 -- ---- steps are events
 
 module _ (places after : List MemoryPlace) (sent more : List Message) where
-  done_event : (event : Event Definition) (step : Step) → step_of event ≡ Some step → IsNotBefore event → IsDoneOrTorn None (is_heard event) step.node step.action places sent after more →
-      Turns (λ w. happens definition_eq w event) places sent after more
-  unfolding step_of happens
-  done_event (world.Act i action) step is not_before done = subst (λ (s : Step). IsDoneOrTorn None true s.node s.action places sent after more) (sym (same_Some _ step is)) done
-  done_event (world.Stop i) step is not_before done = absurd (none-some step is)
-  done_event (world.Restart i) step is not_before done = absurd (none-some step is)
-  done_event (world.Torn i action world.Before) step is not_before done = absurd not_before
-  done_event (world.Torn i action world.After) step is not_before done = subst (λ (s : Step). IsDoneOrTorn None false s.node s.action places sent after more) (sym (same_Some _ step is)) done
+  module _ (i : ℕ) (action : Action Definition ℕ) where
+    heard_leads : (torn : Option Kept) → IsDoneOrTorn torn true i action places sent after more → HappensAs (world.Act i action) torn places sent after more
+    unfolding happens step_of
+    heard_leads None done = done
+    heard_leads (Some kept) done = done
 
-  event_of : (node : ℕ) (event : Event Definition) (step : Step) (torn : Option Kept) → IsStepOf node event → step_of event ≡ Some step → IsNotBefore event →
-      IsDoneOrTorn torn (is_heard event) step.node step.action places sent after more → HappensOrTears node event torn places sent after more
-  event_of node event step None at is not_before done = done_event event step is not_before done
-  event_of node event step (Some kept) at is not_before done =
-      (at, subst (λ (s : Option Step). Moves (crash_if (view_kept kept) s) places sent after more) (sym is) done)
+    heard_why : (torn : Option Kept) (why : Option Rejection) → TellsUnless (λ w. refused_at w i action) torn why places sent → TellsUnless (λ w. refused w (world.Act i action)) torn why places sent
+    unfolding refused
+    heard_why None why tells = tells
+    heard_why (Some kept) why tells = tells
 
-  -- The event's step, with its input.
-  pub tried_event : {E : Type 0} (node : ℕ) (event : Event Definition) (input : Input Definition) (result : Result (Option Kept) E) → IsStepOf node event → IsInputOf (map message.view sent) event input →
-      ((action : Action Definition ℕ) → input_of (map message.view sent) action ≡ Some input → IfOk result (λ torn. IsDoneOrTorn torn (is_heard event) node action places sent after more)) →
-      IfOk result (λ torn. HappensOrTears node event torn places sent after more)
-  tried_event node event input (Ok torn) at gives done =
-      let same : record { node = node; action = at.0 } ≡ gives.step = same_Some _ gives.step (sym at.1 ∙ gives.is_step) in
-      let here = done gives.step.action gives.given in
-      event_of node event gives.step torn at gives.is_step gives.not_before
-      (subst (λ i. IsDoneOrTorn torn (is_heard event) i gives.step.action places sent after more) (ap (λ (s : Step). s.node) same) here)
-  tried_event node event input (Err e) at gives done = tt
+    pub heard_event : (what : Happened) → IsTriedStep true i action what places sent after more → IsHappened (world.Act i action) what places sent after more
+    heard_event what tried = record { leads = heard_leads what.torn tried.leads; why = heard_why what.torn what.why tried.why }
 
-  -- An event that tears nothing.
-  pub happened : {E : Type 0} (node : ℕ) (event : Event Definition) (result : Result (Option Kept) E) → IfOk result (λ torn. torn ≡ None) → OnOk result (Turns (λ w. happens definition_eq w event) places sent after more) →
-      IfOk result (λ torn. HappensOrTears node event torn places sent after more)
-  happened node event (Ok torn) none leads = subst (λ t. HappensOrTears node event t places sent after more) (sym none) leads
-  happened node event (Err e) none leads = tt
+    unheard_leads : (torn : Option Kept) → IsDoneOrTorn torn false i action places sent after more → HappensAs (world.Torn i action world.After) torn places sent after more
+    unfolding happens step_of
+    unheard_leads None done = done
+    unheard_leads (Some kept) done = done
 
--- ---- the inputs of events
+    unheard_why : (torn : Option Kept) (why : Option Rejection) → TellsUnless (λ w. refused_at w i action) torn why places sent → TellsUnless (λ w. refused w (world.Torn i action world.After)) torn why places sent
+    unfolding refused
+    unheard_why None why tells = tells
+    unheard_why (Some kept) why tells = tells
 
-module _ (sent : List (model.Message Definition)) where
-  given_by : (event : Event Definition) (step : Step) (given : Option (Input Definition)) → step_of event ≡ Some step → IsNotBefore event → given ≡ input_of sent step.action → GivesInput sent event given
-  given_by event step None is not_before same = tt
-  given_by event step (Some input) is not_before same = record { step = step; is_step = is; given = sym same; not_before = not_before }
+    pub unheard_event : (what : Happened) → IsTriedStep false i action what places sent after more → IsHappened (world.Torn i action world.After) what places sent after more
+    unheard_event what tried = record { leads = unheard_leads what.torn tried.leads; why = unheard_why what.torn what.why tried.why }
 
-  pub step_gives : (i : ℕ) (action : Action Definition ℕ) (given : Option (Input Definition)) → given ≡ input_of sent action → GivesInput sent (world.Act i action) given
-  unfolding step_of
-  step_gives i action given same = given_by (world.Act i action) (record { node = i; action = action }) given refl tt same
+    pub torn_before_event : (why : Option Rejection) → IsTorn i action world.Before why places sent after more → IsHappened (world.Torn i action world.Before) (record { why = why; torn = None }) places sent after more
+    unfolding happens refused
+    torn_before_event why torn = record { leads = torn.leads; why = torn.why }
 
-  pub torn_gives : (i : ℕ) (action : Action Definition ℕ) (given : Option (Input Definition)) → given ≡ input_of sent action → GivesInput sent (world.Torn i action world.After) given
-  unfolding step_of
-  torn_gives i action given same = given_by (world.Torn i action world.After) (record { node = i; action = action }) given refl tt same
+    pub heard_tears : (torn : Option Kept) → TearsAt torn i places → TearsOnly torn (world.Act i action) places
+    unfolding step_of
+    heard_tears None tears = tt
+    heard_tears (Some kept) tears = (i, (action, refl), tears)
+
+    pub torn_tears : (kept : world.Kept) (torn : Option Kept) → TearsAt torn i places → TearsOnly torn (world.Torn i action kept) places
+    unfolding step_of
+    torn_tears kept None tears = tt
+    torn_tears kept (Some was) tears = (i, (action, refl), tears)
+
+  -- an event that isn't a step
+  pub plain_event : (event : Event Definition) → Happens event None places sent after more → IsHappened event (record { why = None; torn = None }) places sent after more
+  plain_event event happened = record { leads = happened.leads; why = happened.why }
+
+-- ---- what the carrier does
+
+module _ {C : Type 0} (places : List MemoryPlace) (sent : List Message) (before after : C) where
+  pub same_by_event : (event : Event Definition) → after ≡ before → ChangesByEvent event places sent before after
+  unfolding ChangesByEvent
+  same_by_event event same = λ w shows idle. same
+
+  pub heard_by_event : (i : ℕ) (action : Action Definition ℕ) → ChangesByStep i action places sent before after → ChangesByEvent (world.Act i action) places sent before after
+  unfolding ChangesByEvent ChangesByStep may_allocate
+  heard_by_event i action changes = changes
+
+  pub unheard_by_event : (i : ℕ) (action : Action Definition ℕ) → ChangesByStep i action places sent before after → ChangesByEvent (world.Torn i action world.After) places sent before after
+  unfolding ChangesByEvent ChangesByStep may_allocate
+  unheard_by_event i action changes = changes
+
+  pub step_by_event : (i : ℕ) (action : Action Definition ℕ) → ChangesByEvent (world.Act i action) places sent before after → ChangesByStep i action places sent before after
+  unfolding ChangesByEvent ChangesByStep may_allocate
+  step_by_event i action changes = changes
 
 -- ---- runs
 
@@ -190,57 +218,51 @@ unfolding Moves
 moves_then events rest places middle after sent said more first second =
     λ w shows. subst (Shows after more) (sym (steps_in_turn Definition definition_eq w events rest)) (second (steps definition_eq w events) (first w shows))
 
-pub none_moves : (events : List (Event Definition)) (places : List MemoryPlace) (sent : List Message) → Moves (take 0 events) places sent places sent
-unfolding Moves steps
-none_moves events places sent = λ w shows. shows
+-- ---- a failure that is set
 
--- One more event.
-pub next_moves : (events : List declared.Event) (done more_done : ℕ) (event : declared.Event) (places middle after : List MemoryPlace) (sent said more : List Message) → more_done ≡ suc done → slice_get events done ≡ Some event →
-    Moves (take done (map view events)) places sent middle said → Turns (λ w. happens definition_eq w (view event)) middle said after more → Moves (take more_done (map view events)) places sent after more
-unfolding Moves
-next_moves events done more_done event places middle after sent said more one at ran happened =
-    subst (λ es. Moves es places sent after more) (sym (ap (λ k. take k (map view events)) one ∙ take_more events done event at))
-    (λ w shows. subst (Shows after more) (sym (steps_more w (take done (map view events)) (view event))) (happened (steps definition_eq w (take done (map view events))) (ran w shows)))
+module _ (places : List MemoryPlace) (sent : List Message) (i call kept : ℕ) (place : MemoryPlace) (at : slice_get places i ≡ Some place) where
+  pub fused_shown : StayShown places sent (slice_set places i (with_fuse_in call kept place)) sent
+  fused_shown = place_stays places sent i place (with_fuse_in call kept place) at (fused_stays call kept place)
 
-pub all_moves : (events : List declared.Event) (done : ℕ) (places after : List MemoryPlace) (sent more : List Message) → done ≡ length events → Moves (take done (map view events)) places sent after more →
-    Moves (map view events) places sent after more
-all_moves events done places after sent more all ran = subst (λ es. Moves es places sent after more) (ap (λ k. take k (map view events)) all ∙ take_all events) ran
+  pub fused_members : AreMembers places → AreMembers (slice_set places i (with_fuse_in call kept place))
+  fused_members members = set_members places i place (with_fuse_in call kept place) at (fused_member call kept (length places) i place) members
 
-module _ (events : List declared.Event) (done : ℕ) (event : declared.Event) (at : slice_get events done ≡ Some event) where
-  event_at : slice_get (map view events) done ≡ Some (view event)
-  event_at = slice_get-map view events done ∙ ap (λ x. option_map view x) at
+  -- The tape of this node alone may fail now.
+  pub fused_only : FailsOnly None places → FailsOnly (Some i) (slice_set places i (with_fuse_in call kept place))
+  unfolding FailsOnly
+  fused_only sturdy = λ j p e other. elim (cases_eq j i) [
+    | inl same ↦ absurd (other (ap Some (sym same)))
+    | inr differs ↦ sturdy j p (sym (get_set_other places i j (with_fuse_in call kept place) differs) ∙ e) (λ is. none-some j is)
+  ]
 
-  torn_moves : (kept : Kept) (places middle here after : List MemoryPlace) (sent said heard more : List Message) → Moves (take done (map view events)) places sent middle said →
-      Moves (crash_at (view_kept kept) (Some (view event))) middle said here heard → Moves (drop (done + 1) (map view events)) here heard after more →
-      Moves (torn_at (map view events) done (view_kept kept)) places sent after more
-  torn_moves kept places middle here after sent said heard more before within behind =
-      subst (λ x. Moves (take done (map view events) ++ crash_at (view_kept kept) x ++ drop (done + 1) (map view events)) places sent after more) (sym event_at)
-      (moves_then (take done (map view events) ++ crash_at (view_kept kept) (Some (view event))) (drop (done + 1) (map view events)) places here after sent heard more
-      (moves_then (take done (map view events)) (crash_at (view_kept kept) (Some (view event))) places middle here sent said heard before within) behind)
+-- Without a failure none fails.
+module _ (places : List MemoryPlace) (i : ℕ) (place : MemoryPlace) (at : slice_get places i ≡ Some place) where
+  pub unfused_only : FailsOnly (Some i) places → FailsOnly None (slice_set places i (with_fuse_in 0 0 place))
+  unfolding FailsOnly
+  unfused_only sturdy = λ j p e other. elim (cases_eq j i) [
+    | inl same ↦ subst (λ q. NeverFails (tape_in q)) (get_set_same places i (with_fuse_in 0 0 place) place p at (subst (λ k. slice_get (slice_set places i (with_fuse_in 0 0 place)) k ≡ Some p) same e)) (unfused_sturdy place)
+    | inr differs ↦ sturdy j p (sym (get_set_other places i j (with_fuse_in 0 0 place) differs) ∙ e) (λ is. differs (sym (same_Some i j is)))
+  ]
 
-  -- A crash within the step of the event of this rejection, and the rest of the events.
-  pub went_on : {E : Type 0} (node : ℕ) (kept : Kept) (result : Result (Option (ℕ × Kept)) E) (places middle here after : List MemoryPlace) (sent said heard more : List Message) →
-      Moves (take done (map view events)) places sent middle said → HappensOrTears node (view event) (Some kept) middle said here heard → OnOk result (Moves (drop (done + 1) (map view events)) here heard after more) →
-      IfOk result (λ torn. torn ≡ Some (done, kept)) → IfOk result (λ torn. Moves (with_torn (map view events) torn) places sent after more)
-  went_on node kept (Ok torn) places middle here after sent said heard more before within behind is =
-      subst (λ t. Moves (with_torn (map view events) t) places sent after more) (sym is) (torn_moves kept places middle here after sent said heard more before within.1 behind)
-  went_on node kept (Err e) places middle here after sent said heard more before within behind is = tt
+  pub unfused_members : KeepMembers places (slice_set places i (with_fuse_in 0 0 place))
+  unfused_members = place_members places i place (with_fuse_in 0 0 place) at (fused_member 0 0 (length places) i place) (λ never. unfused_sturdy place)
 
-  pub which_went : {E : Type 0} (node : ℕ) (kept : Kept) (result : Result (Option (ℕ × Kept)) E) → IsStepOf node (view event) → IfOk result (λ torn. torn ≡ Some (done, kept)) →
-      IfOk result (IsStepOfNode node (map view events))
-  which_went node kept (Ok torn) at_node is = subst (IsStepOfNode node (map view events)) (sym is) (view event, event_at, at_node)
-  which_went node kept (Err e) at_node is = tt
+-- A node that isn't there has no tape.
+pub absent_only : (places : List MemoryPlace) (i : ℕ) → length places ≤ i → FailsOnly (Some i) places → FailsOnly None places
+unfolding FailsOnly
+absent_only places i past sturdy = λ j place at other.
+    let within : j < length places = slice_get_within places j place at in
+    sturdy j place at (λ is. let same : i ≡ j = same_Some i j is in absurd (omega (arith, past, within, same)))
+
+pub absent_armed : (places : List MemoryPlace) (watched : Option ℕ) → FailsOnly None places → FailsOnly watched places
+unfolding FailsOnly
+absent_armed places watched sturdy = λ j place at other. sturdy j place at (λ is. none-some j is)
 
 -- ---- farms
 
--- No tape of members has a fuse.
-member_fails : (n i : ℕ) (place : MemoryPlace) → IsMember n i place → NeverFails (tape_in place)
-member_fails n i (Running node) member = member.3
-member_fails n i (Stopped tape) member = member
-
-pub none_fails : (places : List MemoryPlace) → AreMembers places → NoneFails places
-unfolding AreMembers NoneFails
-none_fails places are = λ i place at. member_fails (length places) i place (are i place at)
+pub none_fails : (places : List MemoryPlace) → FailsOnly None places → NoneFails places
+unfolding FailsOnly NoneFails
+none_fails places sturdy = λ i place at. sturdy i place at (λ is. none-some i is)
 
 -- A farm that shows a world, after a run.
 pub run_from : {E F : Type 0} (farm_of : F → MemoryFarm) (events_of : F → List (Event Definition)) (farm : MemoryFarm) (w : World Definition) (result : Result F E) → Shows farm.places farm.sent w →
@@ -254,17 +276,3 @@ fails_at_once n fault is = subst (FailsWithin n) (sym is) (inl refl)
 
 pub fails_at : (n done : ℕ) → done < n → FailsWithin n (Memory done)
 fails_at n done within = inr within
-
--- ---- steps of a node
-
-module _ (i node : ℕ) (same : i ≡ node) where
-  of_node : (event : Event Definition) (action : Action Definition ℕ) → step_of event ≡ Some (record { node = i; action = action }) → IsStepOf node event
-  of_node event action is = subst (λ k. IsStepOf k event) same (action, is)
-
-  pub whole_step : (action : Action Definition ℕ) → IsStepOf node (world.Act i action)
-  unfolding step_of
-  whole_step action = of_node (world.Act i action) action refl
-
-  pub torn_step : (action : Action Definition ℕ) (kept : world.Kept) → IsStepOf node (world.Torn i action kept)
-  unfolding step_of
-  torn_step action kept = of_node (world.Torn i action kept) action refl

@@ -28,8 +28,9 @@ use Rattle.wf_farm.specs.Leading.{IsFresh}
 use Rattle.wf_farm.specs.Nodes.{AllRun, node_in, nodes_of}
 use Rattle.wf_farm.specs.NodesLaws.{nodes_back}
 use Rattle.wf_farm.specs.Farm.{MemoryFarm, IsMemoryFarm, IsReached}
-use Rattle.wf_farm.specs.Place.{MemoryPlace, IsNode, IsMember}
-use Rattle.wf_farm.specs.Start.{fresh_node, AreFresh}
+use Rattle.wf_farm.specs.Fused.{FailsOnly}
+use Rattle.wf_farm.specs.Place.{MemoryPlace, IsNode, IsMember, tape_in}
+use Rattle.wf_farm.specs.Start.{fresh_node, AreFresh, IsFreshAt}
 use Rattle.wf_farm.proofs.Events.{node_at}
 use Rattle.wf_farm.proofs.Steps.{content_is_image, node_of, one_stored}
 use Rattle.wf_farm.proofs.Turns.{world_of}
@@ -39,23 +40,22 @@ use Rattle.wf_farm.proofs.Turns.{world_of}
 pub none_fresh : (n : ℕ) → AreFresh n 0 []
 none_fresh n = tt
 
-fresh_more : (n i : ℕ) (places : List MemoryPlace) (place : MemoryPlace) → AreFresh n i places → IsNode place fresh_node → IsMember n (i + length places) place → AreFresh n i (places ++ place ∷ [])
-fresh_more n i [] place are is member = (is, subst (λ k. IsMember n k place) (omega arith) member, tt)
-fresh_more n i (p ∷ places) place are is member =
-    (are.0, are.1, fresh_more n (suc i) places place are.2 is (subst (λ k. IsMember n k place) (omega arith) member))
+fresh_more : (n i : ℕ) (places : List MemoryPlace) (place : MemoryPlace) → AreFresh n i places → IsFreshAt n (i + length places) place → AreFresh n i (places ++ place ∷ [])
+fresh_more n i [] place are is = (subst (λ k. IsFreshAt n k place) (omega arith) is, tt)
+fresh_more n i (p ∷ places) place are is = (are.0, fresh_more n (suc i) places place are.1 (subst (λ k. IsFreshAt n k place) (omega arith) is))
 
 -- One more fresh node, appended.
-pub one_more_fresh : (n id : ℕ) (places : List MemoryPlace) (place : MemoryPlace) → AreFresh n 0 places → length places ≡ id → IsNode place fresh_node → IsMember n id place → AreFresh n 0 (places ++ place ∷ [])
-one_more_fresh n id places place are long is member = fresh_more n 0 places place are is (subst (λ k. IsMember n k place) (omega (arith, long)) member)
+pub one_more_fresh : (n id : ℕ) (places : List MemoryPlace) (place : MemoryPlace) → AreFresh n 0 places → length places ≡ id → IsNode place fresh_node → IsMember n id place → NeverFails (tape_in place) → AreFresh n 0 (places ++ place ∷ [])
+one_more_fresh n id places place are long is member never = fresh_more n 0 places place are (subst (λ k. IsFreshAt n k place) (omega (arith, long)) (is, member, never))
 
 fresh_nodes : (n i : ℕ) (places : List MemoryPlace) → AreFresh n i places → AreNodes places (replicate (length places) fresh_node)
 fresh_nodes n i [] are = tt
-fresh_nodes n i (p ∷ places) are = (are.0, fresh_nodes n (suc i) places are.2)
+fresh_nodes n i (p ∷ places) are = (are.0.0, fresh_nodes n (suc i) places are.1)
 
-fresh_member : (n i j : ℕ) (places : List MemoryPlace) (place : MemoryPlace) → AreFresh n i places → slice_get places j ≡ Some place → IsMember n (i + j) place
-fresh_member n i j [] place are e = absurd (none-some place e)
-fresh_member n i zero (p ∷ places) place are e = subst (λ q. IsMember n (i + 0) q) (same_Some p place e) (subst (λ k. IsMember n k p) (omega arith) are.1)
-fresh_member n i (suc j) (p ∷ places) place are e = subst (λ k. IsMember n k place) (omega arith) (fresh_member n (suc i) j places place are.2 e)
+fresh_at : (n i j : ℕ) (places : List MemoryPlace) (place : MemoryPlace) → AreFresh n i places → slice_get places j ≡ Some place → IsFreshAt n (i + j) place
+fresh_at n i j [] place are e = absurd (none-some place e)
+fresh_at n i zero (p ∷ places) place are e = subst (λ q. IsFreshAt n (i + 0) q) (same_Some p place e) (subst (λ k. IsFreshAt n k p) (omega arith) are.0)
+fresh_at n i (suc j) (p ∷ places) place are e = subst (λ k. IsFreshAt n k place) (omega arith) (fresh_at n (suc i) j places place are.1 e)
 
 -- n fresh nodes and no message are the start.
 pub start_shown : (n : ℕ) (places : List MemoryPlace) → AreFresh n 0 places → length places ≡ n → cluster.Shows places [] (start n)
@@ -64,30 +64,27 @@ start_shown n places are long = record { nodes = subst (λ k. AreNodes places (r
 
 pub start_members : (n : ℕ) (places : List MemoryPlace) → AreFresh n 0 places → length places ≡ n → AreMembers places
 unfolding AreMembers
-start_members n places are long = λ i place e. subst (λ k. IsMember k i place) (sym long) (subst (λ j. IsMember n j place) (omega arith) (fresh_member n 0 i places place are e))
+start_members n places are long = λ i place e. subst (λ k. IsMember k i place) (sym long) (subst (λ j. IsMember n j place) (omega arith) (fresh_at n 0 i places place are e).1)
+
+pub start_sturdy : (n : ℕ) (places : List MemoryPlace) → AreFresh n 0 places → FailsOnly None places
+unfolding FailsOnly
+start_sturdy n places are = λ i place e other. (fresh_at n 0 i places place are e).2
 
 -- Fresh nodes all run.
-fresh_place : (n i : ℕ) (place : MemoryPlace) → IsNode place fresh_node → IsMember n i place → (node : Node TapeValue) × (place ≡ Running node) × IsFresh node
-fresh_place n i (Running node) is member =
-    (node, refl, record { runs = member.2; stored = sym (ap (λ x. x.stored) is); working = sym (same_Some at_start (working_of node) (ap (λ x. x.working) is)) })
-fresh_place n i (Stopped kept) is member = absurd (none-some at_start (sym is.0))
-
-fresh_at : (n i k : ℕ) (places : List MemoryPlace) (place : MemoryPlace) → AreFresh n i places → slice_get places k ≡ Some place → (node : Node TapeValue) × (place ≡ Running node) × IsFresh node
-fresh_at n i k [] place are e = absurd (none-some place e)
-fresh_at n i zero (p ∷ places) place are e =
-    let is = fresh_place n i p are.0 are.1 in
-    (is.0, sym (same_Some p place e) ∙ is.1, is.2)
-fresh_at n i (suc k) (p ∷ places) place are e = fresh_at n (suc i) k places place are.2 e
+fresh_place : (n i : ℕ) (place : MemoryPlace) → IsFreshAt n i place → (node : Node TapeValue) × (place ≡ Running node) × IsFresh node
+fresh_place n i (Running node) is =
+    (node, refl, record { runs = is.1.2; stored = sym (ap (λ x. x.stored) is.0); working = sym (same_Some at_start (working_of node) (ap (λ x. x.working) is.0)) })
+fresh_place n i (Stopped kept) is = absurd (none-some at_start (sym is.0.0))
 
 pub fresh_run : (n : ℕ) (places : List MemoryPlace) → AreFresh n 0 places → AllRun places
 unfolding AllRun
-fresh_run n places are = λ i place at. let is = fresh_at n 0 i places place are at in (is.0, is.1)
+fresh_run n places are = λ i place at. let is = fresh_place n i place (subst (λ k. IsFreshAt n k place) (omega arith) (fresh_at n 0 i places place are at)) in (is.0, is.1)
 
 pub fresh_are_new : (n : ℕ) (places : List MemoryPlace) → AreFresh n 0 places → leading.AreFresh (nodes_of places)
 unfolding leading.AreFresh
 fresh_are_new n places are = λ i node at.
     let back = nodes_back places i node at in
-    let is = fresh_at n 0 i places back.0 are back.1 in
+    let is = fresh_place n i back.0 (subst (λ k. IsFreshAt n k back.0) (omega arith) (fresh_at n 0 i places back.0 are back.1)) in
     subst (λ (x : Node TapeValue). IsFresh x) (ap (λ (p : MemoryPlace). node_in (length places) i p) (sym is.1) ∙ back.2) is.2
 
 -- The start is reached by no events.
@@ -148,38 +145,59 @@ module _ (complete : Bool) (places : List MemoryPlace) (sent : List Message) (re
 
 -- of a farm in memory
 one_member : (n i : ℕ) (place : MemoryPlace) → entries.IsMember (Unit {0}) IsImageOf NeverFails n i place → IsMember n i place
-one_member n i (Running node) is = (is.0, is.1, (is.2 tt).0, (is.2 tt).1)
-one_member n i (Stopped kept) is = (is tt).0
+one_member n i (Running node) is = (is.0, is.1, (is.2 tt).0)
+one_member n i (Stopped kept) is = tt
 
-its_member : (n i : ℕ) (place : MemoryPlace) → IsMember n i place → entries.IsMember (Unit {0}) IsImageOf NeverFails n i place
-its_member n i (Running node) is = (is.0, is.1, λ honest. (is.2, is.3))
-its_member n i (Stopped kept) is = λ honest. (is, (kept.bytes, content_is_image kept))
+its_tape : (n i : ℕ) (place : MemoryPlace) → entries.IsMember (Unit {0}) IsImageOf NeverFails n i place → NeverFails (tape_in place)
+its_tape n i (Running node) is = (is.2 tt).1
+its_tape n i (Stopped kept) is = (is tt).0
+
+its_member : (n i : ℕ) (place : MemoryPlace) → IsMember n i place → NeverFails (tape_in place) → entries.IsMember (Unit {0}) IsImageOf NeverFails n i place
+its_member n i (Running node) is never = (is.0, is.1, λ honest. (is.2, never))
+its_member n i (Stopped kept) is never = λ honest. (never, (kept.bytes, content_is_image kept))
 
 pub members_of : (places : List MemoryPlace) → entries.AreMembers (Unit {0}) IsImageOf NeverFails places → AreMembers places
 unfolding AreMembers entries.AreMembers
 members_of places are = λ i place at. one_member (length places) i place (are i place at)
 
-pub as_members : (places : List MemoryPlace) → AreMembers places → entries.AreMembers (Unit {0}) IsImageOf NeverFails places
-unfolding AreMembers entries.AreMembers
-as_members places are = λ i place at. its_member (length places) i place (are i place at)
+pub sturdy_of : (places : List MemoryPlace) → entries.AreMembers (Unit {0}) IsImageOf NeverFails places → FailsOnly None places
+unfolding FailsOnly entries.AreMembers
+sturdy_of places are = λ i place at other. its_tape (length places) i place (are i place at)
 
--- A farm after a run is a farm.
-pub farm_moved : StepsInTurn Definition → EarlierMessages Definition → (places after_places : List MemoryPlace) (sent after_sent : List Message) (pumped now : ℕ) (complete : Bool) (more : List (Event Definition)) →
-    IsMemoryFarm places sent pumped complete → KeepMembers places after_places → Moves more places sent after_places after_sent → now ≤ length after_sent → IsMemoryFarm after_places after_sent now complete
-farm_moved in_turn shifts places after_places sent after_sent pumped now complete more farm keeps moves within = record {
-  some = subst (λ k. 1 ≤ k) (sym keeps.as_many) farm.some;
-  most = subst (λ k. k ≤ 64) (sym keeps.as_many) farm.most;
-  members = as_members after_places (keeps.members (members_of places farm.members));
+as_members : (places : List MemoryPlace) → AreMembers places → FailsOnly None places → entries.AreMembers (Unit {0}) IsImageOf NeverFails places
+unfolding AreMembers FailsOnly entries.AreMembers
+as_members places are sturdy = λ i place at. its_member (length places) i place (are i place at) (sturdy i place at (λ is. none-some i is))
+
+-- A farm after a run is a farm, if no tape of it fails.
+pub farm_run : StepsInTurn Definition → EarlierMessages Definition → (places after_places : List MemoryPlace) (sent after_sent : List Message) (pumped now : ℕ) (complete : Bool) (more : List (Event Definition)) →
+    IsMemoryFarm places sent pumped complete → length after_places ≡ length places → AreMembers after_places → FailsOnly None after_places → Moves more places sent after_places after_sent → now ≤ length after_sent →
+    IsMemoryFarm after_places after_sent now complete
+farm_run in_turn shifts places after_places sent after_sent pumped now complete more farm long members sturdy moves within = record {
+  some = subst (λ k. 1 ≤ k) (sym long) farm.some;
+  most = subst (λ k. k ≤ 64) (sym long) farm.most;
+  members = as_members after_places members sturdy;
   pumped_within = within;
-  reached = λ honest. reached_on complete places sent (farm.reached honest) in_turn shifts after_places after_sent more keeps.as_many moves;
+  reached = λ honest. reached_on complete places sent (farm.reached honest) in_turn shifts after_places after_sent more long moves;
 }
 
+-- No tape fails that didn't before.
+pub sturdy_on : (watched : Option ℕ) (places after_places : List MemoryPlace) → KeepMembers places after_places → FailsOnly watched places → FailsOnly watched after_places
+unfolding FailsOnly
+sturdy_on watched places after_places keeps sturdy = λ i place at other. let was = keeps.sturdy i place at in was.2 (sturdy i was.0 was.1 other)
+
+-- So after a run of a farm whose tapes don't fail.
+pub farm_moved : StepsInTurn Definition → EarlierMessages Definition → (places after_places : List MemoryPlace) (sent after_sent : List Message) (pumped now : ℕ) (complete : Bool) (more : List (Event Definition)) →
+    IsMemoryFarm places sent pumped complete → KeepMembers places after_places → Moves more places sent after_places after_sent → now ≤ length after_sent → IsMemoryFarm after_places after_sent now complete
+farm_moved in_turn shifts places after_places sent after_sent pumped now complete more farm keeps moves within =
+    farm_run in_turn shifts places after_places sent after_sent pumped now complete more farm keeps.as_many (keeps.members (members_of places farm.members))
+    (sturdy_on None places after_places keeps (sturdy_of places farm.members)) moves within
+
 -- A new farm is one.
-pub farm_started : (n : ℕ) (places : List MemoryPlace) → 1 ≤ n → n ≤ 64 → length places ≡ n → AreMembers places → cluster.Shows places [] (start n) → IsMemoryFarm places [] 0 true
-farm_started n places some most long members shows = record {
+pub farm_started : (n : ℕ) (places : List MemoryPlace) → 1 ≤ n → n ≤ 64 → length places ≡ n → AreMembers places → FailsOnly None places → cluster.Shows places [] (start n) → IsMemoryFarm places [] 0 true
+farm_started n places some most long members sturdy shows = record {
   some = subst (λ k. 1 ≤ k) (sym long) some;
   most = subst (λ k. k ≤ 64) (sym long) most;
-  members = as_members places members;
+  members = as_members places members sturdy;
   pumped_within = omega arith;
   reached = λ honest. started n places long shows;
 }

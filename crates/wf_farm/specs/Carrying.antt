@@ -3,12 +3,12 @@ use Rattle.std.specs.Prelude.{◌≡◌, ◌⊎◌, ℕ, ⊤, false, List}
 use Rattle.wf_codec.specs.declared.message.Message.{Message}
 use Rattle.wf_def.specs.Definition.{Definition}
 use Rattle.wf_model.specs.Table.{Action}
-use Rattle.wf_model.specs.World.{World}
+use Rattle.wf_model.specs.World.{World, Event}
 use Rattle.wf_farm.specs.declared.carrier.CarrierFault.{CarrierFault}
 use Rattle.wf_farm.specs.declared.carrier.CarrierFault.TheVariants as carrier
 use Rattle.wf_farm.specs.declared.fault.FarmFault.{FarmFault}
 use Rattle.wf_farm.specs.declared.fault.FarmFault.TheVariants.{Memory, NoNode, Carried}
-use Rattle.wf_farm.specs.Allocating.{is_taken}
+use Rattle.wf_farm.specs.Allocating.{is_taken, may_allocate}
 use Rattle.wf_farm.specs.Cluster.{Shows}
 use Rattle.wf_farm.specs.Place.{MemoryPlace}
 
@@ -30,3 +30,7 @@ IsUndelivered fault = (fault ≡ Memory 0) ⊎ (fault ≡ Carried 0)
 -- Only a step that node i takes changes this: it is unchanged from a world in which the node doesn't take the step.
 unfoldable pub ChangesByStep : {C : Type 0} → ℕ → Action Definition ℕ → List MemoryPlace → List Message → C → C → Type 0
 ChangesByStep i action places sent before after = (w : World Definition) → Shows places sent w → is_taken w i action ≡ false → after ≡ before
+
+-- The same of an event: this is unchanged from a world in which the event has no effect that may allocate.
+unfoldable pub ChangesByEvent : {C : Type 0} → Event Definition → List MemoryPlace → List Message → C → C → Type 0
+ChangesByEvent event places sent before after = (w : World Definition) → Shows places sent w → may_allocate w event ≡ false → after ≡ before

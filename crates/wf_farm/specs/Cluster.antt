@@ -12,7 +12,7 @@ use Rattle.wf_farm.specs.declared.rejection.Rejection.{Rejection}
 use Rattle.wf_farm.specs.declared.cluster.Cluster.{Cluster}
 use Rattle.wf_farm.specs.Fault.{told}
 use Rattle.wf_farm.specs.Places as entries
-use Rattle.wf_farm.specs.Place.{MemoryPlace, IsMember}
+use Rattle.wf_farm.specs.Place.{MemoryPlace, IsMember, KeepsSturdy}
 
 -- index by index, these nodes of the model
 abbrev pub AreNodes : List MemoryPlace → List (world.Node Definition) → Type 0
@@ -31,10 +31,11 @@ input_in sent action = input_of (map message.view sent) action
 unfoldable pub AreMembers : List MemoryPlace → Type 0
 AreMembers places = (i : ℕ) (place : MemoryPlace) → slice_get places i ≡ Some place → IsMember (length places) i place
 
--- There are as many members as before, and none has failed.
+-- There are as many members as before, and none has failed; a tape that doesn't fail still doesn't.
 pub record KeepMembers (before after : List MemoryPlace) : Type 0 where
   pub as_many : length after ≡ length before
   pub members : AreMembers before → AreMembers after
+  pub sturdy : (i : ℕ) (place : MemoryPlace) → slice_get after i ≡ Some place → (was : MemoryPlace) × (slice_get before i ≡ Some was) × KeepsSturdy was place
 
 -- The change keeps whatever world was shown.
 abbrev pub Turns : (World Definition → World Definition) → List MemoryPlace → List Message → List MemoryPlace → List Message → Type 0
@@ -44,10 +45,6 @@ Turns change places sent places_after sent_after =
 -- nothing that a world shows has changed
 unfoldable pub StayShown : List MemoryPlace → List Message → List MemoryPlace → List Message → Type 0
 StayShown places sent places_after sent_after = Turns (λ w. w) places sent places_after sent_after
-
--- one event
-abbrev pub Leads : Event Definition → List MemoryPlace → List Message → List MemoryPlace → List Message → Type 0
-Leads event places sent places_after sent_after = Turns (λ w. happens definition_eq w event) places sent places_after sent_after
 
 -- a run of these events
 unfoldable pub Moves : List (Event Definition) → List MemoryPlace → List Message → List MemoryPlace → List Message → Type 0
@@ -75,10 +72,6 @@ unfoldable pub last_refused : World Definition → List (Event Definition) → O
 last_refused w [] = None
 last_refused w (event ∷ []) = refused w event
 last_refused w (event ∷ next ∷ rest) = last_refused (happens definition_eq w event) (next ∷ rest)
-
-pub record HaveRun (events : List (Event Definition)) (rejection : Option Rejection) (places : List MemoryPlace) (sent : List Message) (places_after : List MemoryPlace) (sent_after : List Message) : Type 0 where
-  pub leads : Moves events places sent places_after sent_after
-  pub why : TellsWhy (λ w. last_refused w events) rejection places sent
 
 -- ---- the same of a cluster, as the code has it
 

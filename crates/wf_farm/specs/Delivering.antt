@@ -1,6 +1,6 @@
 -- Delivery of messages to nodes that a caller holds, over any kind of tape: which world of the model the nodes are, and the
 -- effect of the deliveries on it.
-use Rattle.std.specs.Prelude.{◌≡◌, ◌⊎◌, ◌≤◌, ◌<◌, ◌+◌, ℕ, Bool, true, false, ⊤, List, [], ◌∷◌, ◌++◌, length, map, slice_get, slice_set, Some, None}
+use Rattle.std.specs.Prelude.{◌≡◌, ◌⊎◌, ◌≤◌, ◌<◌, ℕ, Bool, true, false, ⊤, List, [], ◌∷◌, ◌++◌, length, map, slice_get, slice_set, Some, None}
 use Rattle.wf_codec.specs.Message as message
 use Rattle.wf_codec.specs.declared.message.Message.{Message}
 use Rattle.wf_def.specs.Definition.{Definition}
@@ -14,11 +14,9 @@ use Rattle.wf_model.specs.World.{World, Event, happens, steps}
 use Rattle.wf_node.specs.Growth.{IsGrown}
 use Rattle.wf_node.specs.Images.{StandsFor}
 use Rattle.wf_node.specs.Node.{Node, stored_of, working_of}
-use Rattle.wf_farm.specs.declared.progress.End.{End}
-use Rattle.wf_farm.specs.declared.progress.End.TheVariants.{Done, Stopped, Failed}
 use Rattle.wf_farm.specs.declared.progress.Progress.{Progress}
 use Rattle.wf_farm.specs.Giving.{Takes}
-use Rattle.wf_farm.specs.Progress.{next}
+use Rattle.wf_farm.specs.Progress.{counted, next}
 use Rattle.wf_farm.specs.Pump.{most_deliveries}
 use Rattle.wf_tape.specs.declared.tape.Tape.{Ghosts as Tape}
 
@@ -105,17 +103,6 @@ abbrev pub IsEnd : Bool → Progress → List Message → Type 0
 IsEnd false p sent = (p.some ≡ 0) × (p.whole ≡ length sent)
 IsEnd true p sent = p.whole < length sent
 
--- whether the deliveries ended before each message was delivered to each node
-abbrev pub is_early : End → Bool
-is_early Done = false
-is_early Stopped = true
-is_early (Failed fault) = true
-
--- the count of lost deliveries after one more delivery, by whether that is lost
-abbrev pub counted : ℕ → Bool → ℕ
-counted lost true = lost + 1
-counted lost false = lost
-
 module _ {T : Type 0} (tapes : Tape T) where
   -- Message k was delivered to node i, and the node's messages were sent; or an allocation failed, and the delivery was lost.
   pub record IsHanded (i k : ℕ) (lost : Bool) (nodes : List (Node T)) (sent : List Message) (nodes_after : List (Node T)) (sent_after : List Message) : Type 0 where
@@ -165,14 +152,6 @@ pub record KeepTurn {T : Type 0} (before after : List (Node T)) : Type 0 where
   pub as_many : length after ≡ length before
   pub in_turn : StandInTurn before → StandInTurn after
   pub lists : EachGrows before after
-
--- for the crate's own contracts: a delivery that wasn't made
-abbrev pub AreKept : {T : Type 0} → ℕ → ℕ → List (Node T) → List Message → List (Node T) → List Message → Type 0
-AreKept i k nodes sent nodes_after sent_after = nodes_after ≡ nodes
-
--- for the crate's own contracts: a message can be delivered to node i
-abbrev pub CanTake : {T : Type 0} → List (Node T) → ℕ → Type 0
-CanTake nodes i = StandInTurn nodes × (i < length nodes)
 
 module _ {T : Type 0} (tapes : Tape T) where
   -- for the crate's own contracts: one delivery to one of the nodes, or none

@@ -1,5 +1,5 @@
 -- An exchange: a node of a farm is asked to do something, and its messages are delivered, and those sent in reply.
-use Rattle.std.specs.Prelude.{◌≡◌, ◌<◌, ℕ, Bool, false, List, length, slice_get, slice_set, Some, Vec}
+use Rattle.std.specs.Prelude.{◌≡◌, ℕ, Bool, false, List, slice_get, slice_set, Some, Vec}
 use Rattle.std.specs.declared.alloc.Global.{Global}
 use Rattle.wf_codec.specs.declared.message.Message.{Message}
 use Rattle.wf_node.specs.Node.{Node}
@@ -9,7 +9,6 @@ use Rattle.wf_farm.specs.declared.place.Place.TheVariants.{Running}
 use Rattle.wf_farm.specs.Delivering.{AreHandedOut, IsDelivered, IsGiven, StandInTurn}
 use Rattle.wf_farm.specs.Leading.{AreLedSaying}
 use Rattle.wf_farm.specs.Nodes.{KeepPlaces, nodes_of}
-use Rattle.wf_farm.specs.Places.{AreMembers}
 use Rattle.wf_tape.specs.declared.tape.Tape.{Ghosts as Tape}
 
 -- The client may ask node `number`, if it runs.
@@ -46,14 +45,6 @@ module _ {T : Type 0} (tapes : Tape T) where
 
   -- ---- for the crate's own contracts
 
-  -- a message can be delivered to entry i
-  abbrev pub CanTake : List (Place T) → ℕ → Type 0
-  CanTake places i = AreMembers tapes.honest tapes.images tapes.never_fails places × (i < length places)
-
   -- one delivery to an entry, as the world and its node see it
   abbrev pub IsGivenTo : ℕ → ℕ → Bool → List (Place T) → List Message → List (Place T) → List Message → Type 0
   IsGivenTo i k lost places sent places_after sent_after = IsGiven tapes i k lost (nodes_of places) sent (nodes_of places_after) sent_after × KeepPlaces places places_after
-
--- a delivery that wasn't made
-abbrev pub IsNotGiven : {T : Type 0} → ℕ → ℕ → List (Place T) → List Message → List (Place T) → List Message → Type 0
-IsNotGiven i k places sent places_after sent_after = places_after ≡ places

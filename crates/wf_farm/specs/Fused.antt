@@ -5,12 +5,11 @@ use Rattle.wf_codec.specs.Message as message
 use Rattle.wf_codec.specs.declared.message.Message.{Message}
 use Rattle.wf_def.specs.Definition.{Definition}
 use Rattle.wf_def.specs.Equality.{definition_eq}
-use Rattle.wf_model.specs.Message as model
 use Rattle.wf_model.specs.Stored.{Stored, Record}
-use Rattle.wf_model.specs.Table.{Action, Input, store}
+use Rattle.wf_model.specs.Table.{Action, Input, Refusal, most_told, store}
 use Rattle.wf_model.specs.Working.{at_start}
 use Rattle.wf_model.specs.World as world
-use Rattle.wf_model.specs.World.{Event, turn, after_turn, after_torn, happens, input_of, refused}
+use Rattle.wf_model.specs.World.{World, Event, turn, after_turn, after_torn, happens, refused, refused_at}
 use Rattle.wf_node.specs.Fault.{refused_by}
 use Rattle.wf_node.specs.Images.{AllStandFor, EachIsCut}
 use Rattle.wf_node.specs.Node.{Node, stored_of, working_of}
@@ -25,15 +24,18 @@ use Rattle.wf_model.specs.declared.kept.Kept.TheVariants as kept
 use Rattle.wf_farm.specs.declared.rejection.Rejection.{Rejection}
 use Rattle.wf_farm.specs.declared.fate.Fate.{Fate}
 use Rattle.wf_farm.specs.declared.fate.Fate.TheVariants as fate
+use Rattle.wf_farm.specs.declared.fate.Happened.{Happened}
 use Rattle.wf_farm.specs.declared.fault.FarmFault.{FarmFault}
 use Rattle.wf_farm.specs.declared.fault.FarmFault.TheVariants.{Memory, NoNode, Carried}
 use Rattle.wf_farm.specs.declared.place.Place.TheVariants.{Running, Stopped}
-use Rattle.wf_farm.specs.Cluster.{Turns, Moves, TellsWhy}
+use Rattle.wf_farm.specs.Cluster.{Turns, Moves, TellsWhy, last_refused}
 use Rattle.wf_model.specs.Kept.{view as view_kept}
 use Rattle.wf_farm.specs.Farm.{MemoryFarm, Runs, size}
+use Rattle.wf_farm.specs.Progress.{IsMade}
 use Rattle.wf_farm.specs.Pump.{AreTargets, begun, deliveries, most_deliveries}
+use Rattle.wf_farm.specs.declared.progress.End.{End}
 use Rattle.wf_farm.specs.declared.progress.Progress.{Progress}
-use Rattle.wf_farm.specs.Place.{MemoryPlace, IsStepped, IsTornAt, KeepsMember, Restarts, Stops}
+use Rattle.wf_farm.specs.Place.{MemoryPlace, IsStepped, IsTornAt, KeepsMember, KeepsSturdy, Restarts, Stays, Stops, tape_in}
 
 -- ---- the events of such a run
 
@@ -113,11 +115,6 @@ pub record PumpsOrTears (i : ℕ) (names : List ℕ) (torn : Option (ℕ × Kept
   pub within : after.pumped ≤ length after.sent
   pub end : IsPumpEnd stopped (length (deliveries targets before.pumped whole some)) (before.pumped + whole) some (length after.sent)
 
--- the tape in an entry
-abbrev pub tape_in : MemoryPlace → tape.TapeValue
-tape_in (Running node) = node.tape
-tape_in (Stopped kept) = kept
-
 -- no tape has a fuse
 unfoldable pub NoneFails : List MemoryPlace → Type 0
 NoneFails places = (i : ℕ) (place : MemoryPlace) → slice_get places i ≡ Some place → NeverFails (tape_in place)
@@ -128,31 +125,26 @@ FailsWithin n (Memory done) = (done ≡ 0) ⊎ (done < n)
 FailsWithin n NoNode = ⊥
 FailsWithin n (Carried done) = ⊥
 
--- ---- used only in this crate's contracts
+-- ---- for the crate's own contracts: one event
 
--- The event happened, or it is a step of this node, which crashed within it and restarted.
-abbrev pub HappensOrTears : ℕ → Event Definition → Option Kept → List MemoryPlace → List Message → List MemoryPlace → List Message → Type 0
-HappensOrTears i event None places sent places_after sent_after = Turns (λ w. happens definition_eq w event) places sent places_after sent_after
-HappensOrTears i event (Some kept) places sent places_after sent_after = IsStepOf i event × Moves (crash_at (view_kept kept) (Some event)) places sent places_after sent_after
+-- no tape may fail but that of the watched node
+unfoldable pub FailsOnly : Option ℕ → List MemoryPlace → Type 0
+FailsOnly watched places = (i : ℕ) (place : MemoryPlace) → slice_get places i ≡ Some place → (watched ≡ Some i → ⊥) → NeverFails (tape_in place)
 
--- The same of a farm's nodes and messages.
-pub record HaveFared (i : ℕ) (events : List (Event Definition)) (torn : Option (ℕ × Kept)) (places : List MemoryPlace) (sent : List Message) (places_after : List MemoryPlace) (sent_after : List Message) : Type 0 where
-  pub moves : Moves (with_torn events torn) places sent places_after sent_after
-  pub step : IsStepOfNode i events torn
+-- If a step of node i was torn, its tape could fail.
+abbrev pub TearsAt : Option Kept → ℕ → List MemoryPlace → Type 0
+TearsAt None i places = ⊤
+TearsAt (Some kept) i places = (place : MemoryPlace) × (slice_get places i ≡ Some place) × (NeverFails (tape_in place) → ⊥)
 
--- One more event of a run, number k: it happened, or it is a step of node i, within which the node crashed. That comes once in a run.
-abbrev pub GoesOn : (i k : ℕ) → Event Definition → Option (ℕ × Kept) → Option (ℕ × Kept) → List MemoryPlace → List Message → List MemoryPlace → List Message → Type 0
-GoesOn i k event (Some torn) now places sent places_after sent_after = (now ≡ Some torn) × Turns (λ w. happens definition_eq w event) places sent places_after sent_after
-GoesOn i k event None None places sent places_after sent_after = HappensOrTears i event None places sent places_after sent_after
-GoesOn i k event None (Some now) places sent places_after sent_after = (now.0 ≡ k) × HappensOrTears i event (Some now.1) places sent places_after sent_after
+-- If an event was torn, it is a step of a node whose tape could fail.
+abbrev pub TearsOnly : Option Kept → Event Definition → List MemoryPlace → Type 0
+TearsOnly None event places = ⊤
+TearsOnly (Some kept) event places = (i : ℕ) × IsStepOf i event × TearsAt (Some kept) i places
 
--- The deliveries of a pump so far.
-pub record HasFaredTo (i : ℕ) (targets : List ℕ) (first : ℕ) (p : Progress) (torn : Option (ℕ × Kept)) (places : List MemoryPlace) (sent : List Message) (places_after : List MemoryPlace) (sent_after : List Message) : Type 0 where
-  pub fared : HaveFared i (deliveries targets first p.whole p.some) torn places sent places_after sent_after
-  pub count : length (deliveries targets first p.whole p.some) ≡ p.done
-  pub part : p.some < length targets
-  pub within : first + p.whole + begun p.some ≤ length sent_after
-  pub most : p.done ≤ most_deliveries
+-- why a step was rejected, if it was; one that was torn wasn't
+abbrev pub TellsUnless : (World Definition → Option Refusal) → Option Kept → Option Rejection → List MemoryPlace → List Message → Type 0
+TellsUnless why None rejection places sent = TellsWhy why rejection places sent
+TellsUnless why (Some kept) rejection places sent = rejection ≡ None
 
 -- A step of node i was done: if it is heard its messages were sent, else the node stopped after it. Or the node crashed within it and
 -- restarted.
@@ -161,51 +153,109 @@ IsDoneOrTorn None true i action places sent places_after sent_after = Turns (λ 
 IsDoneOrTorn None false i action places sent places_after sent_after = Turns (λ w. after_torn w i world.After (turn definition_eq w i action)) places sent places_after sent_after
 IsDoneOrTorn (Some kept) heard i action places sent places_after sent_after = Moves (crash_within (view_kept kept) (record { node = i; action = action })) places sent places_after sent_after
 
+pub record IsTriedStep (heard : Bool) (i : ℕ) (action : Action Definition ℕ) (what : Happened) (places : List MemoryPlace) (sent : List Message) (places_after : List MemoryPlace) (sent_after : List Message) : Type 0 where
+  pub leads : IsDoneOrTorn what.torn heard i action places sent places_after sent_after
+  pub why : TellsUnless (λ w. refused_at w i action) what.torn what.why places sent
+
+-- The event happened, or its node crashed within its step and restarted.
+abbrev pub HappensAs : Event Definition → Option Kept → List MemoryPlace → List Message → List MemoryPlace → List Message → Type 0
+HappensAs event None places sent places_after sent_after = Turns (λ w. happens definition_eq w event) places sent places_after sent_after
+HappensAs event (Some kept) places sent places_after sent_after = Moves (crash_at (view_kept kept) (Some event)) places sent places_after sent_after
+
+pub record IsHappened (event : Event Definition) (what : Happened) (places : List MemoryPlace) (sent : List Message) (places_after : List MemoryPlace) (sent_after : List Message) : Type 0 where
+  pub leads : HappensAs event what.torn places sent places_after sent_after
+  pub why : TellsUnless (λ w. refused w event) what.torn what.why places sent
+
 -- The messages were sent, if the step is heard; else its node stopped.
 abbrev pub IsTold : Bool → ℕ → List Message → List MemoryPlace → List Message → List MemoryPlace → List Message → Type 0
 IsTold true i said places sent places_after sent_after = (places_after ≡ places) × (sent_after ≡ sent ++ said)
 IsTold false i said places sent places_after sent_after =
-    (sent_after ≡ sent) × ((before after : MemoryPlace) × (slice_get places i ≡ Some before) × (places_after ≡ slice_set places i after) × Stops before after × KeepsMember before after)
+    (sent_after ≡ sent) × ((before after : MemoryPlace) × (slice_get places i ≡ Some before) × (places_after ≡ slice_set places i after) × Stops before after × KeepsMember before after × KeepsSturdy before after)
 
--- whether the messages of the event's step are sent
-abbrev pub is_heard : Event Definition → Bool
-is_heard (world.Torn i action kept) = false
-is_heard (world.Act i action) = true
-is_heard (world.Stop i) = true
-is_heard (world.Restart i) = true
+-- ---- events in turn, of which one may be torn
 
--- the event isn't a crash before a step's record
-abbrev pub IsNotBefore : Event Definition → Type 0
-IsNotBefore (world.Torn i action world.Before) = ⊥
-IsNotBefore (world.Torn i action world.After) = ⊤
-IsNotBefore (world.Act i action) = ⊤
-IsNotBefore (world.Stop i) = ⊤
-IsNotBefore (world.Restart i) = ⊤
+-- the event is a step of the watched node
+abbrev pub IsWatchedStep : Option ℕ → Event Definition → Type 0
+IsWatchedStep None event = ⊥
+IsWatchedStep (Some i) event = IsStepOf i event
 
--- The event's step is done with this input.
-pub record IsInputOf (sent : List (model.Message Definition)) (event : Event Definition) (input : Input Definition) : Type 0 where
-  pub step : Step
-  pub is_step : step_of event ≡ Some step
-  pub given : input_of sent step.action ≡ Some input
-  pub not_before : IsNotBefore event
+abbrev pub IsStepOfWatched : Option ℕ → List (Event Definition) → Option (ℕ × Kept) → Type 0
+IsStepOfWatched watched events None = ⊤
+IsStepOfWatched watched events (Some torn) = (event : Event Definition) × (slice_get events torn.0 ≡ Some event) × IsWatchedStep watched event
 
-abbrev pub GivesInput : List (model.Message Definition) → Event Definition → Option (Input Definition) → Type 0
-GivesInput sent event None = ⊤
-GivesInput sent event (Some input) = IsInputOf sent event input
+-- The events have happened, or one of them was torn.
+pub record HaveFared (watched : Option ℕ) (events : List (Event Definition)) (torn : Option (ℕ × Kept)) (places : List MemoryPlace) (sent : List Message) (places_after : List MemoryPlace) (sent_after : List Message) : Type 0 where
+  pub moves : Moves (with_torn events torn) places sent places_after sent_after
+  pub step : IsStepOfWatched watched events torn
+
+-- the tape of the watched node may fail until a step was torn
+abbrev pub IsArmed : Option ℕ → Option (ℕ × Kept) → List MemoryPlace → Type 0
+IsArmed watched None places = FailsOnly watched places
+IsArmed watched (Some torn) places = FailsOnly None places
+
+-- One more event of a run, number k: it happened, or it was torn. That comes once in a run.
+abbrev pub GoesOn : Option ℕ → ℕ → Event Definition → Option (ℕ × Kept) → Option (ℕ × Kept) → List MemoryPlace → List Message → List MemoryPlace → List Message → Type 0
+GoesOn watched k event (Some torn) now places sent places_after sent_after = (now ≡ Some torn) × HappensAs event None places sent places_after sent_after
+GoesOn watched k event None None places sent places_after sent_after = HappensAs event None places sent places_after sent_after
+GoesOn watched k event None (Some now) places sent places_after sent_after = (now.0 ≡ k) × IsWatchedStep watched event × HappensAs event (Some now.1) places sent places_after sent_after
+
+-- why the last event was rejected, unless one was torn
+abbrev pub TellsLast : List (Event Definition) → Option (ℕ × Kept) → Option Rejection → List MemoryPlace → List Message → Type 0
+TellsLast events None rejection places sent = TellsWhy (λ w. last_refused w events) rejection places sent
+TellsLast events (Some torn) rejection places sent = ⊤
+
+pub record HaveRun (watched : Option ℕ) (events : List (Event Definition)) (torn : Option (ℕ × Kept)) (rejection : Option Rejection) (places : List MemoryPlace) (sent : List Message) (places_after : List MemoryPlace) (sent_after : List Message) : Type 0 where
+  pub fared : HaveFared watched events torn places sent places_after sent_after
+  pub why : TellsLast events torn rejection places sent
+
+-- The deliveries of a pump so far.
+pub record HasFaredTo (watched : Option ℕ) (targets : List ℕ) (first : ℕ) (p : Progress) (torn : Option (ℕ × Kept)) (places : List MemoryPlace) (sent : List Message) (places_after : List MemoryPlace) (sent_after : List Message) : Type 0 where
+  pub fared : HaveFared watched (deliveries targets first p.whole p.some) torn places sent places_after sent_after
+  pub count : length (deliveries targets first p.whole p.some) ≡ p.done
+  pub part : p.some < length targets
+  pub within : first + p.whole + begun p.some ≤ length sent_after
+  pub most : p.done ≤ most_deliveries
+
+-- Where a tape may fail, nothing is known of the farm after a delivery that wasn't made.
+abbrev pub Stands : Option ℕ → End → Type 0
+Stands None end = ⊤
+Stands (Some i) end = IsMade end
+
+-- ---- one node
 
 -- What became of a step of node i of n whose tape may fail: it was done, or rejected; or its node crashed within it, which left it
--- in the middle, and restarted.
+-- in the middle, and restarted; or an allocation failed.
 abbrev pub Fares : ℕ → ℕ → Input Definition → Fate → MemoryPlace → MemoryPlace → Type 0
 Fares n i input (fate.Done said) before after = IsStepped n i input before after (map message.view said.items) None
-Fares n i input fate.Rejected before after = (rejection : Rejection) × IsStepped n i input before after [] (Some rejection)
+Fares n i input (fate.Rejected why) before after = IsStepped n i input before after [] (Some why)
 Fares n i input (fate.Torn kept) before after = (middle : MemoryPlace) × IsTornAt (view_kept kept) n i input before middle None × Restarts middle after
+Fares n i input fate.Lost before after = NeverFails (tape_in before) → Stays before after
 
--- A step of a node whose tape may fail; afterwards the tape doesn't fail.
+-- if it was torn, its tape could fail
+abbrev pub TearsFrom : Fate → MemoryPlace → Type 0
+TearsFrom (fate.Done said) before = ⊤
+TearsFrom (fate.Rejected why) before = ⊤
+TearsFrom (fate.Torn kept) before = NeverFails (tape_in before) → ⊥
+TearsFrom fate.Lost before = ⊤
+
+-- it sends no more messages than a step may
+abbrev pub IsFew : Fate → Type 0
+IsFew (fate.Done said) = length said.items ≤ most_told
+IsFew (fate.Rejected why) = ⊤
+IsFew (fate.Torn kept) = ⊤
+IsFew fate.Lost = ⊤
+
+-- a step that ended in an error, by the table's rejection that this is; else an allocation failed
+abbrev pub fate_in : Option Rejection → Fate
+fate_in None = fate.Lost
+fate_in (Some why) = fate.Rejected why
+
+-- A step of a node whose tape may fail.
 pub record IsTried {A : Type 0} (before : Node tape.TapeValue) (input : Input Definition) (result : Result (Vec Message A) NodeFault) (after : Node tape.TapeValue) : Type 0 where
   pub refused : before.halted ≡ false → refused_by result ≡ refusal_at before input
   pub done : IfOk result (λ said. IsRow before (row_of before input) said.items after)
   pub same : IfErr result (λ why. IsSameNode before after)
-  pub running : before.halted ≡ false → IfErr result (λ why. why ≢ fault.Memory → why ≢ fault.TapeFailed → after.halted ≡ false)
+  pub running : before.halted ≡ false → IfErr result (λ why. why ≢ fault.TapeFailed → after.halted ≡ false)
   pub cut : result ≡ Err fault.TapeFailed → EachIsCut (row_of before input).entry (stored_of before) (store (stored_of before) (row_of before input).entry) (IsImageOf before.tape) (IsImageOf after.tape)
 
 -- what a crash keeps of two stored parts
@@ -217,12 +267,14 @@ stored_by world.After before after = after
 abbrev pub kept_beyond : ℕ → ℕ → Kept
 kept_beyond long now = if nat_lt long now then kept.After else kept.Before
 
--- The node crashed and was opened again, with what was kept of these two stored parts, and its tape stands for that.
+-- The node crashed and was opened again, with what was kept of these two stored parts, and its tape stands for that; unless an
+-- allocation failed.
 abbrev pub IsTornTo : Stored Definition → Stored Definition → Fate → MemoryPlace → Type 0
 IsTornTo before after (fate.Torn kept) (Running node) = (stored_of node ≡ stored_by (view_kept kept) before after) × (working_of node ≡ at_start) × AllStandFor (stored_of node) (IsImageOf node.tape)
 IsTornTo before after (fate.Torn kept) (Stopped left) = ⊥
 IsTornTo before after (fate.Done said) place = ⊥
-IsTornTo before after fate.Rejected place = ⊥
+IsTornTo before after (fate.Rejected why) place = ⊥
+IsTornTo before after fate.Lost place = ⊤
 
 -- A tape after a step that failed: before it the tape had these records alone, as many bytes long, and each image is cut within the
 -- step's record or behind it.

@@ -14,13 +14,13 @@ pub mod Progress
 pub mod Answering
 pub mod Giving
 pub mod Delivering
-pub mod Round
 pub mod PlaceLaws
 pub mod DeliveringLaws
 pub mod Leading
 pub mod Nodes
 pub mod NodesLaws
 pub mod Exchange
+pub mod CatchUp
 pub mod ExchangeLaws
 pub mod Reopening
 pub mod Fused

@@ -1,5 +1,5 @@
 -- The entry of a node in the farm: which node of the model it is, and the effect of an event on it.
-use Rattle.std.specs.Prelude.{◌≡◌, ℕ, false, List, [], Option, Some, None}
+use Rattle.std.specs.Prelude.{◌≡◌, ℕ, ⊤, false, List, Option, Some}
 use Rattle.wf_def.specs.Definition.{Definition}
 use Rattle.wf_def.specs.Equality.{definition_eq}
 use Rattle.wf_model.specs.Message as model
@@ -8,7 +8,7 @@ use Rattle.wf_model.specs.World as world
 use Rattle.wf_model.specs.World.{Turn, input_of, refusal_of, turn_of}
 use Rattle.wf_node.specs.Fault as fault
 use Rattle.wf_node.specs.declared.fault.NodeFault.{NodeFault}
-use Rattle.wf_tape.specs.MemoryTape.{TapeValue, IsImageOf, NeverFails}
+use Rattle.wf_tape.specs.MemoryTape.{TapeValue, IsImageOf, NeverFails, with_fuse}
 use Rattle.wf_farm.specs.declared.rejection.Rejection.{Rejection}
 use Rattle.wf_farm.specs.declared.place.Place.{Place}
 use Rattle.wf_farm.specs.declared.place.Place.TheVariants.{Running, Stopped}
@@ -24,10 +24,24 @@ MemoryPlace = Place TapeValue
 abbrev pub IsNode : MemoryPlace → world.Node Definition → Type 0
 IsNode place shown = entries.IsNode IsImageOf place shown
 
--- The entry has node i of n. Its tape has no fuse and hasn't failed.
+-- The entry has node i of n, and its tape hasn't failed.
 abbrev pub IsMember : ℕ → ℕ → MemoryPlace → Type 0
-IsMember n i (Running node) = (node.id ≡ i) × (node.n ≡ n) × (node.halted ≡ false) × NeverFails node.tape
-IsMember n i (Stopped tape) = NeverFails tape
+IsMember n i (Running node) = (node.id ≡ i) × (node.n ≡ n) × (node.halted ≡ false)
+IsMember n i (Stopped tape) = ⊤
+
+-- the tape in an entry
+abbrev pub tape_in : MemoryPlace → TapeValue
+tape_in (Running node) = node.tape
+tape_in (Stopped tape) = tape
+
+-- a tape that doesn't fail still doesn't
+abbrev pub KeepsSturdy : MemoryPlace → MemoryPlace → Type 0
+KeepsSturdy before after = NeverFails (tape_in before) → NeverFails (tape_in after)
+
+-- the entry with this failure set of its tape
+abbrev pub with_fuse_in : ℕ → ℕ → MemoryPlace → MemoryPlace
+with_fuse_in call kept (Running node) = Running (record node { tape = with_fuse call kept node.tape })
+with_fuse_in call kept (Stopped tape) = Stopped (with_fuse call kept tape)
 
 -- A node is changed so: whichever it was, `change` maps it to what it is now.
 abbrev pub IsChanged : (world.Node Definition → world.Node Definition) → MemoryPlace → MemoryPlace → Type 0
@@ -66,28 +80,6 @@ pub record IsTornAt (kept : world.Kept) (n i : ℕ) (input : Input Definition) (
 -- The table's rejection that an error is; none for an allocation failure.
 abbrev pub rejection_in : NodeFault → Option Rejection
 rejection_in f = told (fault.refusal_of f)
-
--- A step that ends in an error leaves the node unchanged. If the error is the table's rejection, that is the step.
-pub record IsDenied (n i : ℕ) (input : Input Definition) (before after : MemoryPlace) (f : NodeFault) : Type 0 where
-  pub stays : Stays before after
-  pub refused : (rejection : Rejection) → rejection_in f ≡ Some rejection → IsStepped n i input before after [] (Some rejection)
-
-pub record IsDeniedTorn (kept : world.Kept) (n i : ℕ) (input : Input Definition) (before after : MemoryPlace) (f : NodeFault) : Type 0 where
-  pub stays : Stays before after
-  pub refused : (rejection : Rejection) → rejection_in f ≡ Some rejection → IsTornAt kept n i input before after (Some rejection)
-
--- The same for whichever node the entry has, of whatever number of nodes.
-unfoldable pub Steps : Input Definition → MemoryPlace → MemoryPlace → List (model.Message Definition) → Type 0
-Steps input before after said = (n i : ℕ) → IsMember n i before → IsStepped n i input before after said None
-
-unfoldable pub DeniesStep : Input Definition → MemoryPlace → MemoryPlace → NodeFault → Type 0
-DeniesStep input before after f = (n i : ℕ) → IsMember n i before → IsDenied n i input before after f
-
-unfoldable pub Tears : world.Kept → Input Definition → MemoryPlace → MemoryPlace → Type 0
-Tears kept input before after = (n i : ℕ) → IsMember n i before → IsTornAt kept n i input before after None
-
-unfoldable pub DeniesTear : world.Kept → Input Definition → MemoryPlace → MemoryPlace → NodeFault → Type 0
-DeniesTear kept input before after f = (n i : ℕ) → IsMember n i before → IsDeniedTorn kept n i input before after f
 
 -- Why the node in the entry would reject an action's step: the error of the table's rejection, None if there is none.
 unfoldable pub TellsWhyNot : MemoryPlace → Action Definition ℕ → Option NodeFault → Type 0

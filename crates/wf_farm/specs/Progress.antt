@@ -1,16 +1,13 @@
 -- The progress of a pump, and how it ended.
-use Rattle.std.specs.Prelude.{◌≡◌, ◌<◌, ◌≤◌, ◌+◌, ℕ, Bool, true, false, List, length, Option, Result, Ok, Err, if◌then◌else◌, ◌==◌}
+use Rattle.std.specs.Prelude.{◌≡◌, ◌<◌, ◌≤◌, ◌+◌, ℕ, ⊤, Bool, true, false, List, Result, Ok, Err, if◌then◌else◌, ◌==◌}
 use Rattle.wf_codec.specs.declared.message.Message.{Message}
-use Rattle.wf_farm.specs.declared.rejection.Rejection.{Rejection}
 use Rattle.wf_farm.specs.declared.fault.FarmFault.{FarmFault}
 use Rattle.wf_farm.specs.declared.progress.End.{End}
 use Rattle.wf_farm.specs.declared.progress.End.TheVariants.{Done, Stopped, Failed}
 use Rattle.wf_farm.specs.declared.progress.Progress.{Progress}
-use Rattle.wf_farm.specs.Allocating.{TakesStep}
+use Rattle.wf_farm.specs.declared.carrier.CarrierFault.TheVariants as carrier
 use Rattle.wf_farm.specs.Carrying.{fault_after}
-use Rattle.wf_farm.specs.Cluster.{AreMembers, IsActed, KeepMembers, Moves, StayShown}
-use Rattle.wf_model.specs.Table as table
-use Rattle.wf_farm.specs.Pump.{NextMayAllocate, begun, deliveries, most_deliveries}
+use Rattle.wf_farm.specs.Pump.{NextMayAllocate, begun, most_deliveries}
 use Rattle.wf_farm.specs.Place.{MemoryPlace}
 
 -- one more delivery: on to the next of `round` targets, or the round is complete
@@ -19,31 +16,34 @@ next targets p = if p.some + 1 == targets
     then record { whole = p.whole + 1; some = 0; done = p.done + 1 }
     else record { whole = p.whole; some = p.some + 1; done = p.done + 1 }
 
--- These deliveries have led from one world to the other.
-pub record HasCome (targets : List ℕ) (first : ℕ) (p : Progress) (places : List MemoryPlace) (sent : List Message) (places_after : List MemoryPlace) (sent_after : List Message) : Type 0 where
-  pub moves : Moves (deliveries targets first p.whole p.some) places sent places_after sent_after
-  pub count : length (deliveries targets first p.whole p.some) ≡ p.done
-  pub part : p.some < length targets
-  pub within : first + p.whole + begun p.some ≤ length sent_after
+-- the counts of the deliveries, where this many messages are sent by now
+pub record AreCounted (round first : ℕ) (p : Progress) (lost sent : ℕ) : Type 0 where
+  pub part : p.some < round
+  pub within : first + p.whole + begun p.some ≤ sent
   pub most : p.done ≤ most_deliveries
+  pub fewer : lost ≤ p.done
 
--- a message can be delivered to whatever number
-abbrev pub CanTake : List MemoryPlace → ℕ → Type 0
-CanTake places i = AreMembers places
+-- the count of lost deliveries after one more delivery, by whether that is lost
+abbrev pub counted : ℕ → Bool → ℕ
+counted lost true = lost + 1
+counted lost false = lost
 
--- Message k was delivered to node i, if both exist and the node runs; nothing is lost.
-pub record IsGiven (i k : ℕ) (lost : Bool) (places : List MemoryPlace) (sent : List Message) (places_after : List MemoryPlace) (sent_after : List Message) : Type 0 where
-  pub rejection : Option Rejection
-  pub acted : IsActed i (table.Deliver k) rejection places sent places_after sent_after
-  pub members : KeepMembers places places_after
-  pub grows : length sent ≤ length sent_after
+-- the end once the limit of deliveries is reached, by whether some are left
+abbrev pub last_end : Bool → End
+last_end true = Stopped
+last_end false = Done
 
--- Message k wasn't delivered to node i, which would take the step.
-pub record IsWithheld (i k : ℕ) (places : List MemoryPlace) (sent : List Message) (places_after : List MemoryPlace) (sent_after : List Message) : Type 0 where
-  pub stays : StayShown places sent places_after sent_after
-  pub taken : TakesStep i (table.Deliver k) places sent
-  pub members : KeepMembers places places_after
-  pub grows : length sent ≤ length sent_after
+-- each delivery was made
+abbrev pub IsMade : End → Type 0
+IsMade Done = ⊤
+IsMade Stopped = ⊤
+IsMade (Failed fault) = ⊥
+
+-- if a delivery wasn't made, an allocation failed
+abbrev pub IsForMemory : End → Type 0
+IsForMemory Done = ⊤
+IsForMemory Stopped = ⊤
+IsForMemory (Failed fault) = fault ≡ carrier.Memory
 
 -- nothing is left; the limit of deliveries is reached, and some are left; or one wasn't made before that
 abbrev pub IsEnd : ℕ → ℕ → Progress → End → Type 0

@@ -4,15 +4,14 @@ ghost use Rattle.std.specs.Prelude.{◌≡◌, ◌<◌, ◌≤◌, ℕ, false, L
 ghost use Rattle.wf_codec.specs.Message.{view as view_message};
 ghost use Rattle.wf_model.specs.Table.{most_told, Deliver};
 ghost use Rattle.wf_node.specs.Input.{view};
-ghost use Rattle.wf_farm.specs.Delivering.{AnyPart, AreDelivered, AreHandedOut, EachGrows, IsDelivered, IsHanded, IsOne, KeepHalted, MayLeave, StandFor, StandInTurn, is_early};
+ghost use Rattle.wf_farm.specs.Delivering.{AnyPart, AreDelivered, AreHandedOut, EachGrows, HaveCome, IsDelivered, IsHanded, IsOne, KeepHalted, MayLeave, StandFor, StandInTurn};
+ghost use Rattle.wf_farm.specs.Progress.{AreCounted};
 ghost use Rattle.wf_farm.specs.Exchange.{IsSturdy};
 ghost use Rattle.wf_farm.specs.Giving.{Answers, Takes, is_halt, is_memory, tells_halt};
 ghost use Rattle.wf_farm.specs.Pump.{most_deliveries};
 
-use crate::carrier::CarrierFault;
 use crate::happening::{MOST_SAID, send};
-use crate::progress::End;
-use crate::round::{Receiver, Round, deliver_rounds};
+use crate::progress::{Delivered, MOST_DELIVERIES, Progress, count_lost};
 use std::alloc::{AllocError, Global};
 use wf_canon::Canon;
 use wf_codec::Message;
@@ -74,56 +73,48 @@ fn deliver_each<T: Tape>(alloc: Global, nodes: &mut [Node<T>], messages: Vec<Mes
     ensures handed { AreHandedOut T.Tape nodes.old messages.items result.deliveries result.lost
         result.stopped nodes.new }
 {
-    let mut nothing = ();
     let mut sent = messages;
-    let round = nodes.len();
-    let Round {
-        progress,
-        lost,
-        end,
-    } = deliver_rounds(alloc, &mut nothing, nodes, &mut sent, &[], round, 0);
+    let Delivered { progress, lost } = deliver_rounds(alloc, nodes, &mut sent);
+    let stopped = progress.whole < sent.len();
     drop(sent);
     Pumped {
         deliveries: progress.done,
         lost,
-        stopped: is_early(end),
+        stopped,
     }
 }
 
-/// Whether the deliveries ended before each message was delivered to each node.
-pub(crate) fn is_early(end: End) -> bool
-    ensures { result ≡ is_early end }
+/// Delivers the messages, and those sent meanwhile, to each node in turn, until none is left, the limit of deliveries is reached, or there
+/// is no room for the messages of the next one.
+fn deliver_rounds<T: Tape>(
+    alloc: Global,
+    nodes: &mut [Node<T>],
+    sent: &mut Vec<Message>,
+) -> Delivered
+    requires some { 0 < length nodes.old }
+    requires in_turn { StandInTurn nodes.old }
+    ensures come { HaveCome T.Tape nodes.old sent.old.items result.progress result.lost
+        nodes.new sent.new.items }
+    ensures counts { AreCounted (length nodes.old) 0 result.progress result.lost
+        (length sent.new.items) }
 {
-    match end {
-        End::Done => false,
-        End::Stopped | End::Failed(_) => true,
-    }
-}
-
-impl<T: Tape> Receiver<()> for Node<T> {
-    ghost use Rattle.wf_farm.specs.Delivering.{AreKept, CanTake, IsGiven};
-
-    ghost takes = { CanTake };
-
-    ghost delivered = { IsGiven T.Tape };
-
-    ghost stays = { AreKept };
-
-    ghost certain = { Unit {0} };
-
-    fn deliver(
-        alloc: Global,
-        _carrier: &mut (),
-        receivers: &mut [Node<T>],
-        sent: &mut Vec<Message>,
-        node: usize,
-        number: usize,
-    ) -> Result<bool, CarrierFault> {
-        match deliver_one(alloc, receivers, sent, node, number) {
-            Ok(lost) => Ok(lost),
-            Err(_) => Err(CarrierFault::Memory),
+    let round = nodes.len();
+    let mut progress = Progress::start();
+    let mut lost = 0;
+    while progress.done < MOST_DELIVERIES {
+        let number = progress.whole;
+        if number >= sent.len() {
+            return Delivered { progress, lost };
+        }
+        match deliver_one(alloc, nodes, sent, progress.some, number) {
+            Ok(loses) => {
+                lost = count_lost(lost, loses);
+                progress = progress.next(round);
+            }
+            Err(_) => return Delivered { progress, lost },
         }
     }
+    Delivered { progress, lost }
 }
 
 /// Delivers a message to a node, and appends the messages that the node sends; returns whether the delivery was lost. Room is
@@ -142,6 +133,7 @@ fn deliver_one<T: Tape>(
     ensures handed { IfOk result (λ lost.
         IsHanded T.Tape node number lost nodes.old sent.old.items nodes.new sent.new.items) }
     ensures none { OnErr result (nodes.new ≡ nodes.old) }
+    ensures same { OnErr result (sent.new.items ≡ sent.old.items) }
     ensures grows { length sent.old.items ≤ length sent.new.items }
 {
     if sent.reserve(MOST_SAID).is_err() {
@@ -218,7 +210,7 @@ fn wants_memory(fault: NodeFault) -> bool
 }
 
 /// Whether the node is halted. Allocates nothing.
-fn is_halted<T: Tape>(node: &Node<T>) -> bool
+pub(crate) fn is_halted<T: Tape>(node: &Node<T>) -> bool
     ensures { result ≡ node.now.halted }
 {
     is_halt_told(node.proposal_refusal())

@@ -6,21 +6,21 @@ ghost use Rattle.wf_codec.specs.Message.{view as view_message};
 ghost use Rattle.wf_codec.specs.declared.message.Message.{Message};
 ghost use Rattle.wf_model.specs.Table.{most_told, Deliver};
 ghost use Rattle.wf_node.specs.Node.{Node};
-ghost use Rattle.wf_farm.specs.Delivering.{AnyPart, AreHandedOut, IsDelivered, StandInTurn};
+ghost use Rattle.wf_farm.specs.Delivering.{AnyPart, AreHandedOut, HaveCome, IsDelivered, StandInTurn};
 ghost use Rattle.wf_farm.specs.Exchange.{IsAsked, IsExchange, IsGivenTo, IsReadyFor, IsSturdy, LeadsOn};
 ghost use Rattle.wf_farm.specs.Giving.{Takes};
 ghost use Rattle.wf_farm.specs.Leading.{AreLedOn, AreLedSaying, AreReached, HaveOneHistory};
 ghost use Rattle.wf_farm.specs.Nodes.{KeepPlaces, KeepsPlace, RunsAt, node_in, nodes_in, nodes_of};
 ghost use Rattle.wf_farm.specs.Places.{AreMembers, IsMember};
+ghost use Rattle.wf_farm.specs.Progress.{AreCounted};
 
-use crate::carrier::CarrierFault;
 use crate::cluster::Cluster;
-use crate::delivering::{Pumped, Said, hand, is_early, quiet};
+use crate::delivering::{Pumped, Said, hand, quiet};
 use crate::farm::Farm;
 use crate::happening::{MOST_SAID, send};
 use crate::leading::deliveries_lead_on;
 use crate::place::Place;
-use crate::round::{Receiver, Round, deliver_rounds};
+use crate::progress::{Delivered, MOST_DELIVERIES, Progress, count_lost};
 use std::alloc::{AllocError, Global};
 use std::mem::replace;
 use wf_codec::Message;
@@ -168,46 +168,49 @@ fn deliver_round<T: Tape>(alloc: Global, places: &mut [Place<T>], messages: Vec<
     ensures members { AreMembers T.honest T.images T.never_fails places.new }
     ensures kept { KeepPlaces places.old places.new }
 {
-    let mut nothing = ();
     let mut sent = messages;
-    let round = places.len();
-    let Round {
-        progress,
-        lost,
-        end,
-    } = deliver_rounds(alloc, &mut nothing, places, &mut sent, &[], round, 0);
+    let Delivered { progress, lost } = deliver_rounds(alloc, places, &mut sent);
+    let stopped = progress.whole < sent.len();
     drop(sent);
     Pumped {
         deliveries: progress.done,
         lost,
-        stopped: is_early(end),
+        stopped,
     }
 }
 
-impl<T: Tape> Receiver<()> for Place<T> {
-    ghost use Rattle.wf_farm.specs.Exchange.{CanTake, IsGivenTo, IsNotGiven};
-
-    ghost takes = { CanTake T.Tape };
-
-    ghost delivered = { IsGivenTo T.Tape };
-
-    ghost stays = { IsNotGiven };
-
-    ghost certain = { Unit {0} };
-
-    fn deliver(
-        alloc: Global,
-        _carrier: &mut (),
-        receivers: &mut [Place<T>],
-        sent: &mut Vec<Message>,
-        node: usize,
-        number: usize,
-    ) -> Result<bool, CarrierFault> {
-        match deliver_in(alloc, receivers, sent, node, number) {
-            Ok(lost) => Ok(lost),
-            Err(_) => Err(CarrierFault::Memory),
+/// The same, with the messages sent by then.
+fn deliver_rounds<T: Tape>(
+    alloc: Global,
+    places: &mut [Place<T>],
+    sent: &mut Vec<Message>,
+) -> Delivered
+    requires some { 0 < length places.old }
+    requires members { AreMembers T.honest T.images T.never_fails places.old }
+    ensures come { HaveCome T.Tape (nodes_of places.old) sent.old.items result.progress result.lost
+        (nodes_of places.new) sent.new.items }
+    ensures counts { AreCounted (length places.old) 0 result.progress result.lost
+        (length sent.new.items) }
+    ensures members { AreMembers T.honest T.images T.never_fails places.new }
+    ensures kept { KeepPlaces places.old places.new }
+{
+    let round = places.len();
+    let mut progress = Progress::start();
+    let mut lost = 0;
+    while progress.done < MOST_DELIVERIES {
+        let number = progress.whole;
+        if number >= sent.len() {
+            return Delivered { progress, lost };
+        }
+        match deliver_in(alloc, places, sent, progress.some, number) {
+            Ok(loses) => {
+                lost = count_lost(lost, loses);
+                progress = progress.next(round);
+            }
+            Err(_) => return Delivered { progress, lost },
         }
     }
+    Delivered { progress, lost }
 }
 
 /// Delivers a message to an entry, and appends the messages that its node sends; returns whether the delivery was lost. Room is
@@ -225,6 +228,7 @@ fn deliver_in<T: Tape>(
     ensures given { IfOk result (λ lost. IsGivenTo T.Tape node number lost
         places.old sent.old.items places.new sent.new.items) }
     ensures none { OnErr result (places.new ≡ places.old) }
+    ensures same { OnErr result (sent.new.items ≡ sent.old.items) }
     ensures members { AreMembers T.honest T.images T.never_fails places.new }
     ensures size { length places.new ≡ length places.old }
     ensures grows { length sent.old.items ≤ length sent.new.items }

@@ -1,7 +1,9 @@
 //! Farms in memory.
 
+use crate::carrier::Copies;
 use crate::cluster::Cluster;
 use crate::event::Event;
+use crate::fate::{Ran, Watch};
 use crate::fault::FarmFault;
 use crate::rejection::Rejection;
 use std::alloc::Global;
@@ -136,7 +138,7 @@ impl Farm<MemoryTape> {
     /// Applies the events in order: the farm becomes the model's world after them. Err: F1 with the number of events done if an
     /// allocation fails; the farm is then the world after these, and the next event would have an effect. In either case each
     /// node's published list before is a prefix of its list afterwards.
-    #[tactic(auto, using(crate::proofs::Worlds::members_of))]
+    #[tactic(auto, using(crate::proofs::Worlds::members_of, crate::proofs::Worlds::sturdy_of))]
     pub fn run(&mut self, alloc: Global, events: &[Event]) -> Result<(), FarmFault>
         ensures done { OnOk result (Runs (map view events.now) self.old self.new) }
         ensures refused { OnOk result
@@ -158,12 +160,17 @@ impl Farm<MemoryTape> {
         earlier_messages::<Canon>();
         crate::law::agreement();
         records_are_read_one_way();
-        match self.cluster.run(alloc, events) {
-            Ok(why) => {
+        let watch = Watch {
+            node: None,
+            keep: 0,
+        };
+        let mut copies = Copies;
+        match self.cluster.run(alloc, &mut copies, events, watch) {
+            Ok(Ran { why, torn: _ }) => {
                 self.refused = why;
                 Ok(())
             }
-            Err(done) => {
+            Err((done, _)) => {
                 self.refused = None;
                 Err(FarmFault::Memory(done))
             }

@@ -1,6 +1,6 @@
-//! A run of a farm in which one call of a node's tape fails.
+//! Runs of a farm in which one call of a node's tape fails.
 
-ghost use Rattle.std.specs.Prelude.{◌≡◌, ◌<◌, ◌≤◌, [], ◌∷◌, None, length, map, IfOk, IfErr};
+ghost use Rattle.std.specs.Prelude.{◌≡◌, ◌<◌, ◌≤◌, [], ◌∷◌, length, map, IfOk, IfErr};
 ghost use Rattle.wf_def.specs.Equality.{definition_eq};
 ghost use Rattle.wf_model.specs.World.{deliver, start, steps};
 ghost use Rattle.wf_farm.specs.Agreement.{HistoriesGrow};
@@ -9,11 +9,12 @@ ghost use Rattle.wf_farm.specs.Farm.{IsAtOnce, Shows, Runs, size};
 ghost use Rattle.wf_farm.specs.Fused.{FailsWithin, IsStepOfNode, NoneFails, PumpsOrTears, RunsOrTears, TellsUnlessTorn, with_torn};
 ghost use Rattle.wf_farm.specs.declared.carrier.CarrierFault.TheVariants as carriers;
 
-use crate::carrier::{Carrier, CarrierFault};
+use crate::carrier::{Carrier, CarrierFault, Copies};
 use crate::event::{Event, Kept};
 use crate::farm::Farm;
+use crate::fate::{Ran, Watch};
 use crate::fault::FarmFault;
-use crate::fuse::Fuse;
+use crate::progress::{Pumping, made};
 use crate::targets::targets_of;
 use std::alloc::Global;
 use wf_canon::Canon;
@@ -21,6 +22,17 @@ use wf_journal::records_are_read_one_way;
 use wf_law::earlier_messages;
 use wf_model::steps_in_turn;
 use wf_tape::MemoryTape;
+
+/// The fuse of a node's tape, while it isn't on the tape: it is put there for each run, and what is left of it is taken away after that.
+#[derive(Clone, Copy)]
+pub struct Fuse {
+    /// The tape's call that fails, counted from 1 from now; 0 if none does.
+    pub call: usize,
+    /// The number of bytes that a failing append keeps; 0 if a failing replace keeps the old content.
+    pub kept: usize,
+    /// The number of unsynced bytes that the crash after it keeps.
+    pub crash: usize,
+}
 
 /// What a run leaves in which one call of a node's tape fails.
 #[derive(Drop)]
@@ -41,13 +53,13 @@ pub struct FusedPump {
     pub stopped: bool,
 }
 
-/// Applies one event to a farm, with the fuse on the tape of node `node` if it is about that node; what is left of the fuse is in `fuse`
-/// afterwards. If the tape fails within the event's step, the node crashes there, which keeps `fuse.crash` of the bytes that aren't
-/// synced, and is opened again: the farm is then the model's world after a crash within the step and a restart of the node, and `torn`
-/// has 0 and what was kept. Otherwise the farm is the world after the event. It tells why the event was rejected, if it was. Err: F1 with 0
-/// if an allocation fails; the farm is lost then.
-#[tactic(auto, using(crate::proofs::TriedEvents::none_fails, crate::proofs::Worlds::members_of))]
-pub fn happen_fused(
+/// Applies one event to a farm, with the fuse on the tape of node `node`; what is left of the fuse is in `fuse` afterwards. If the tape
+/// fails within the event's step, the node crashes there, which keeps `fuse.crash` of the bytes that aren't synced, and is opened again:
+/// the farm is then the model's world after a crash within the step and a restart of the node, and `torn` has 0 and what was kept.
+/// Otherwise the farm is the world after the event. It tells why the event was rejected, if it was. Err: F1 with 0 if an allocation
+/// fails; the farm is lost then.
+#[tactic(auto, using(crate::proofs::TriedEvents::none_fails, crate::proofs::Worlds::members_of, crate::proofs::Worlds::sturdy_of))]
+pub fn happen_failing(
     alloc: Global,
     farm: Farm<MemoryTape>,
     event: &Event,
@@ -77,8 +89,17 @@ pub fn happen_fused(
         refused: _,
         complete,
     } = farm;
-    match cluster.tell_fused(alloc, event, node, fuse) {
-        Ok((torn, refused)) => {
+    let watch = Watch {
+        node: Some(node),
+        keep: fuse.crash,
+    };
+    let mut copies = Copies;
+    let mut torn = None;
+    cluster.arm(node, fuse.call, fuse.kept);
+    match cluster.go(alloc, &mut copies, event, 0, watch, &mut torn) {
+        Ok(refused) => {
+            fuse.call = cluster.fuse(node);
+            cluster.disarm(Some(node));
             let farm = Farm {
                 cluster,
                 pumped,
@@ -95,11 +116,11 @@ pub fn happen_fused(
 }
 
 /// Delivers the messages to node `to` of a farm by the carrier, one after the other, with the fuse on the tape of node `node`, as
-/// [`happen_fused`] does one event; `torn` has the number of the delivery that was torn, counted from 0, and what was kept. No delivery is
-/// rejected, and the last run's rejection stands. Err, and the farm is lost: an allocation failed; or the carrier failed or brought another
-/// message, which a faithful one never does.
-#[tactic(auto, using(crate::proofs::TriedEvents::none_fails, crate::proofs::Worlds::members_of))]
-pub fn deliver_fused<C: Carrier>(
+/// [`happen_failing`] does one event; `torn` has the number of the delivery that was torn, counted from 0, and what was kept. No delivery
+/// is rejected, and the last run's rejection stands. Err, and the farm is lost: an allocation failed; or the carrier failed or brought
+/// another message, which a faithful one never does.
+#[tactic(auto, using(crate::proofs::TriedEvents::none_fails, crate::proofs::Worlds::members_of, crate::proofs::Worlds::sturdy_of))]
+pub fn deliver_failing<C: Carrier>(
     alloc: Global,
     carrier: &mut C,
     farm: Farm<MemoryTape>,
@@ -129,8 +150,15 @@ pub fn deliver_fused<C: Carrier>(
         refused,
         complete,
     } = farm;
-    match cluster.deliver_fused(alloc, carrier, to, messages, node, fuse) {
+    let watch = Watch {
+        node: Some(node),
+        keep: fuse.crash,
+    };
+    cluster.arm(node, fuse.call, fuse.kept);
+    match cluster.deliver(alloc, carrier, to, messages, watch) {
         Ok(torn) => {
+            fuse.call = cluster.fuse(node);
+            cluster.disarm(Some(node));
             let farm = Farm {
                 cluster,
                 pumped,
@@ -146,11 +174,11 @@ pub fn deliver_fused<C: Carrier>(
     }
 }
 
-/// A pump to the named nodes by the carrier, as [`Farm::pump_by`], with the fuse on the tape of node `node`, as [`happen_fused`] does one
+/// A pump to the named nodes by the carrier, as [`Farm::pump_by`], with the fuse on the tape of node `node`, as [`happen_failing`] does one
 /// event. A delivery that was torn counts, and the pump goes on after it. Err, and the farm is lost: an allocation failed; or the carrier
 /// failed or brought another message, which a faithful one never does.
-#[tactic(auto, using(crate::proofs::TriedEvents::none_fails, crate::proofs::Worlds::members_of))]
-pub fn pump_fused<C: Carrier>(
+#[tactic(auto, using(crate::proofs::TriedEvents::none_fails, crate::proofs::Worlds::members_of, crate::proofs::Worlds::sturdy_of))]
+pub fn pump_failing<C: Carrier>(
     alloc: Global,
     carrier: &mut C,
     farm: Farm<MemoryTape>,
@@ -182,10 +210,22 @@ pub fn pump_fused<C: Carrier>(
         drop(cluster);
         return Err(CarrierFault::Memory);
     };
-    let swept = cluster.pump_fused(alloc, carrier, &targets, pumped, node, fuse);
+    let watch = Watch {
+        node: Some(node),
+        keep: fuse.crash,
+    };
+    cluster.arm(node, fuse.call, fuse.kept);
+    let Pumping {
+        progress,
+        torn,
+        end,
+    } = cluster.pump(alloc, carrier, &targets, pumped, watch);
     drop(targets);
-    match swept {
-        Ok((progress, torn)) => {
+    let ended = made(end);
+    match ended {
+        Ok(()) => {
+            fuse.call = cluster.fuse(node);
+            cluster.disarm(Some(node));
             let stopped = pumped + progress.whole < cluster.sent.len();
             let farm = Farm {
                 cluster,
@@ -240,7 +280,7 @@ pub fn run_fused(
 }
 
 /// The farm after the events, with the fuse on the tape of this node.
-#[tactic(auto, using(crate::proofs::TriedEvents::fails_at, crate::proofs::TriedEvents::none_fails, crate::proofs::Worlds::members_of))]
+#[tactic(auto, using(crate::proofs::TriedEvents::fails_at, crate::proofs::TriedEvents::none_fails, crate::proofs::Worlds::members_of, crate::proofs::Worlds::sturdy_of))]
 fn go(
     alloc: Global,
     farm: Farm<MemoryTape>,
@@ -265,17 +305,24 @@ fn go(
         refused: _,
         complete,
     } = farm;
-    match cluster.run_fused(alloc, events, node, fuse) {
-        Ok(torn) => {
+    let watch = Watch {
+        node: Some(node),
+        keep: fuse.crash,
+    };
+    let mut copies = Copies;
+    cluster.arm(node, fuse.call, fuse.kept);
+    match cluster.run(alloc, &mut copies, events, watch) {
+        Ok(Ran { why, torn }) => {
+            cluster.disarm(Some(node));
             let farm = Farm {
                 cluster,
                 pumped,
-                refused: None,
+                refused: why,
                 complete,
             };
             Ok(Fused { farm, torn })
         }
-        Err(done) => {
+        Err((done, _)) => {
             drop(cluster);
             Err(FarmFault::Memory(done))
         }

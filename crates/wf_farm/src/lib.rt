@@ -15,8 +15,8 @@
 //!   not delivered.
 //! - A run in which one call of a node's tape fails ([`run_fused`]) is the model's run of the same events, but for the event within
 //!   whose step the tape failed a crash within that step and a restart of the node (`specs/Fused.antt`). No other tape of a farm fails.
-//!   [`happen_fused`], [`deliver_fused`] and [`pump_fused`] do likewise one event, deliveries to one node and a pump of a farm that a
-//!   caller holds.
+//!   [`happen_failing`], [`deliver_failing`] and [`pump_failing`] do likewise one event, deliveries to one node and a pump of a farm that
+//!   a caller holds. They are the same steps as those of a farm whose tapes don't fail: there is one way to apply an event.
 //! - What a node published stays a prefix of what it publishes after a run, a pump or a delivery.
 //! - No two nodes, running or stopped, publish different definitions under one sequence, since every farm is reached from the
 //!   start: [`Farm::agree`].
@@ -28,6 +28,9 @@
 //! - [`Farm::open`] makes a farm of nodes that a caller has opened on tapes that aren't known to be honest, as files aren't.
 //! - [`Farm::exchange`] lets a [`Client`] ask a node, delivers the node's messages to every node, and those sent meanwhile, and forgets
 //!   them then. Some events of the model lead from what the nodes were to what they are afterwards (`specs/Exchange.antt`).
+//! - [`Farm::catch_up`] lets each node that is behind ask one that has published the most, which answers to it alone, until all that
+//!   run have published equally many maps; an error tells that an allocation failed for one, which is behind still. Some events of the
+//!   model lead to what the nodes are afterwards (`specs/CatchUp.antt`, [`a_catch_up_leads_on`]).
 //! - [`Farm::nodes_agree`]: over honest tapes some events led to the farm from the start, so no two of its nodes publish different
 //!   definitions under one sequence; over others, if some events did.
 //!
@@ -54,17 +57,14 @@
 
 mod answering;
 mod carrier;
+mod catch_up;
 mod cluster;
-mod crashing;
 mod delivering;
-mod delivery;
 mod event;
 mod exchange;
-mod failing;
 mod farm;
 mod fate;
 mod fault;
-mod fuse;
 mod fused;
 mod happening;
 mod law;
@@ -74,24 +74,22 @@ mod place;
 mod progress;
 mod publishing;
 mod pump;
-mod receiving;
+mod refusing;
 mod rejection;
-mod round;
 mod running;
 mod same;
 mod starting;
 mod stepping;
 mod targets;
-mod tearing;
 
 pub use carrier::{Carrier, CarrierFault, Copies};
+pub use catch_up::a_catch_up_leads_on;
 pub use delivering::{Pumped, deliver_all};
 pub use event::{Action, Event, Kept};
 pub use exchange::Client;
 pub use farm::Farm;
 pub use fault::FarmFault;
-pub use fuse::Fuse;
-pub use fused::{Fused, FusedPump, deliver_fused, happen_fused, pump_fused, run_fused};
+pub use fused::{Fuse, Fused, FusedPump, deliver_failing, happen_failing, pump_failing, run_fused};
 pub use law::{agreement, kept_promises, limits_are_as_defined, own_ballots, promised_majority};
 pub use leading::{
     a_step_leads_on, deliveries_lead_on, fresh_nodes_are_reached, leading_goes_on,

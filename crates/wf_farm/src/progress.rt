@@ -1,9 +1,14 @@
-ghost use Rattle.std.specs.Prelude.{◌≡◌, ◌+◌, ◌<◌, ◌^◌};
-ghost use Rattle.wf_farm.specs.Progress.{next, outcome};
+ghost use Rattle.std.specs.Prelude.{◌≡◌, ◌+◌, ◌<◌, ◌^◌, IfErr, OnOk};
+ghost use Rattle.wf_farm.specs.Progress.{IsMade, counted, last_end, next, outcome};
+ghost use Rattle.wf_farm.specs.declared.progress.End.TheVariants.{Failed};
 ghost use Rattle.wf_farm.specs.Pump.{begun};
 
 use crate::carrier::CarrierFault;
+use crate::event::Kept;
 use crate::fault::{FarmFault, fault_after};
+
+/// The most deliveries of one call.
+pub(crate) const MOST_DELIVERIES: usize = 100_000;
 
 /// The progress of a pump: whole rounds, deliveries of the next round, and deliveries in total.
 #[derive(Clone, Copy)]
@@ -22,6 +27,21 @@ pub enum End {
     Stopped,
     /// A delivery wasn't made, for this reason.
     Failed(CarrierFault),
+}
+
+/// How far deliveries have come, and how many of them were lost.
+#[derive(Clone, Copy)]
+pub struct Delivered {
+    pub progress: Progress,
+    pub lost: usize,
+}
+
+/// How far a pump has come, which delivery was torn, and how it ended.
+#[derive(Clone, Copy)]
+pub struct Pumping {
+    pub progress: Progress,
+    pub torn: Option<(usize, Kept)>,
+    pub end: End,
 }
 
 impl Progress {
@@ -80,5 +100,32 @@ impl Progress {
             End::Stopped => Ok(true),
             End::Failed(fault) => Err(fault_after(fault, self.done)),
         }
+    }
+}
+
+/// The end once the limit is reached, by whether some deliveries are left.
+pub(crate) fn last_end(left: bool) -> End
+    ensures { result ≡ last_end left }
+{
+    if left { End::Stopped } else { End::Done }
+}
+
+/// The count of lost deliveries after one more delivery.
+pub(crate) fn count_lost(lost: usize, loses: bool) -> usize
+    requires { lost + 1 < 2 ^ 64 }
+    ensures { result ≡ counted lost loses }
+{
+    if loses { lost + 1 } else { lost }
+}
+
+/// Whether each delivery was made; else why one wasn't.
+pub(crate) fn made(end: End) -> Result<(), CarrierFault>
+    ensures made { OnOk result (IsMade end) }
+    ensures failed { IfErr result (λ fault. end ≡ Failed fault) }
+{
+    match end {
+        End::Done => Ok(()),
+        End::Stopped => Ok(()),
+        End::Failed(fault) => Err(fault),
     }
 }

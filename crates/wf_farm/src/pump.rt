@@ -1,20 +1,24 @@
-//! A pump: each message that isn't pumped yet is delivered to each named node.
+//! A pump: each message that isn't pumped yet is delivered to each named node. And a delivery by a carrier.
 
-ghost use Rattle.std.specs.Prelude.{◌≡◌, ◌<◌, ◌≤◌, length, IfOk, IfErr};
+ghost use Rattle.std.specs.Prelude.{◌≡◌, ◌<◌, ◌≤◌, [], ◌∷◌, length, None, IfOk, IfErr, OnOk, OnErr};
+ghost use Rattle.wf_model.specs.Table as table;
+ghost use Rattle.wf_model.specs.World.{deliver};
 ghost use Rattle.wf_farm.specs.Agreement.{HistoriesGrow};
-ghost use Rattle.wf_farm.specs.Carrying.{IsMemory};
+ghost use Rattle.wf_farm.specs.Allocating.{TakesStep};
+ghost use Rattle.wf_farm.specs.Carrying.{ChangesByStep, IsMemory, IsUndelivered};
 ghost use Rattle.wf_farm.specs.Cluster.{AreMembers, Between, KeepMembers};
-ghost use Rattle.wf_farm.specs.Farm.{size};
-ghost use Rattle.wf_farm.specs.Progress.{HasCome, IsEnd, MayEnd};
+ghost use Rattle.wf_farm.specs.Farm.{IsAtOnce, Runs, size};
+ghost use Rattle.wf_farm.specs.Fused.{FailsOnly, HasFaredTo, IsArmed, Stands};
+ghost use Rattle.wf_farm.specs.Progress.{IsEnd, IsForMemory, MayEnd};
 ghost use Rattle.wf_farm.specs.Pump.{IsPumped, IsPumpedPart};
-ghost use Rattle.wf_farm.specs.Round.{IsForMemory};
 
 use crate::carrier::{Carrier, Copies};
 use crate::cluster::Cluster;
+use crate::event::{Action, Event};
 use crate::farm::Farm;
-use crate::fault::FarmFault;
-use crate::progress::{End, Progress};
-use crate::round::{Round, deliver_rounds};
+use crate::fate::Watch;
+use crate::fault::{FarmFault, fault_after};
+use crate::progress::{End, MOST_DELIVERIES, Progress, Pumping, last_end};
 use crate::targets::targets_of;
 use std::alloc::Global;
 use wf_canon::Canon;
@@ -24,6 +28,48 @@ use wf_model::steps_in_turn;
 use wf_tape::MemoryTape;
 
 impl Farm<MemoryTape> {
+    /// Delivers message `number` to the node, as the carrier brings it: one event of the model, whatever the carrier. A delivery
+    /// without effect (the message isn't sent, or the node is absent or stopped) is made without the carrier. No delivery is
+    /// rejected, and the last run's rejection stands. Err: F1 with 0 if an allocation fails, F3 with 0 if the carrier fails or
+    /// brings another message; the world is then unchanged, and the delivery would have an effect. Of a faithful carrier, F1 is the
+    /// only error. Each node's published list before is a prefix of its list afterwards.
+    #[tactic(auto, using(crate::proofs::Carried::stays_moves, crate::proofs::Carried::undelivered, crate::proofs::Carried::at_once, crate::proofs::Worlds::members_of, crate::proofs::Worlds::sturdy_of))]
+    pub fn deliver_by<C: Carrier>(
+        &mut self,
+        alloc: Global,
+        carrier: &mut C,
+        node: usize,
+        number: usize,
+    ) -> Result<(), FarmFault>
+        ensures done { OnOk result (Runs (deliver node number ∷ []) self.old self.new) }
+        ensures fault { IfErr result IsUndelivered }
+        ensures stays { OnErr result (Runs [] self.old self.new) }
+        ensures taken { OnErr result
+            (TakesStep node (table.Deliver number) self.old.places self.old.sent) }
+        ensures idle { ChangesByStep node (table.Deliver number) self.old.places self.old.sent
+            carrier.old carrier.new }
+        ensures faithful { C.faithful → IfErr result IsAtOnce }
+        ensures refused { self.new.refused ≡ self.old.refused }
+        ensures grows { HistoriesGrow self.old self.new }
+        ensures size { size self.new ≡ size self.old }
+        ensures pumped { self.new.pumped ≡ self.old.pumped }
+        ensures complete { self.new.complete ≡ self.old.complete }
+    {
+        // Theorems of the model and of the tape: applying two lists of events in turn is applying their concatenation, messages sent
+        // earlier only shift message numbers, lists only grow, and a tape stands for exactly one stored part.
+        steps_in_turn::<Canon>();
+        earlier_messages::<Canon>();
+        crate::law::agreement();
+        records_are_read_one_way();
+        let event = Event::Act(node, Action::Deliver(number));
+        let happened = self.cluster.happen(alloc, carrier, &event, 0);
+        drop(event);
+        match happened {
+            Ok(_) => Ok(()),
+            Err(fault) => Err(fault_after(fault, 0)),
+        }
+    }
+
     /// Delivers each message not pumped yet, in order of number and including new ones, once to each named node, ascending; to
     /// every node if none is named. A delivery without effect counts too, even to a node that doesn't exist. A message counts as
     /// pumped from its first delivery on. Returns Ok(true) iff it stopped after 100,000 deliveries with some left. Err: F1 with
@@ -45,7 +91,7 @@ impl Farm<MemoryTape> {
     /// A pump by the carrier: each delivery that has an effect is made of what it brings. Err: F1 as for a pump; F3 with the number of
     /// deliveries done if the carrier fails or brings another message: the farm is then the world after these, and the next
     /// delivery would have an effect. Of a faithful carrier, F1 is the only error.
-    #[tactic(auto, using(crate::proofs::Carried::pump_for_memory, crate::proofs::Worlds::members_of))]
+    #[tactic(auto, using(crate::proofs::Carried::pump_for_memory, crate::proofs::Worlds::members_of, crate::proofs::Worlds::sturdy_of))]
     pub fn pump_by<C: Carrier>(
         &mut self,
         alloc: Global,
@@ -69,7 +115,17 @@ impl Farm<MemoryTape> {
         let Ok(targets) = targets_of(alloc, nodes, self.cluster.places.len()) else {
             return Err(FarmFault::Memory(0));
         };
-        let (progress, end) = self.cluster.pump(alloc, carrier, &targets, self.pumped);
+        let watch = Watch {
+            node: None,
+            keep: 0,
+        };
+        let Pumping {
+            progress,
+            torn: _,
+            end,
+        } = self
+            .cluster
+            .pump(alloc, carrier, &targets, self.pumped, watch);
         self.pumped = progress.pumped(self.pumped);
         progress.told(end)
     }
@@ -78,36 +134,61 @@ impl Farm<MemoryTape> {
 impl Cluster<MemoryTape> {
     /// Delivers the messages from number `first` on to each target by the carrier, until none is left, the limit of deliveries is
     /// reached, or one isn't made.
-    fn pump<C: Carrier>(
+    #[tactic(auto, using(crate::proofs::Events::same_members))]
+    pub(crate) fn pump<C: Carrier>(
         &mut self,
         alloc: Global,
         carrier: &mut C,
         targets: &[usize],
         first: usize,
-    ) -> (Progress, End)
+        watch: Watch,
+    ) -> Pumping
         requires members { AreMembers self.old.places.items }
+        requires size { length self.old.places.items ≤ 64 }
         requires some { 0 < length targets.now }
         requires within { first ≤ length self.old.sent.items }
-        ensures come { Between (HasCome targets.now first result.0) self.old self.new }
-        ensures end { IsEnd first (length self.new.sent.items) result.0 result.1 }
-        ensures may { MayEnd targets.now first result.0 self.old.places.items self.old.sent.items
-            result.1 }
-        ensures memory { C.faithful → IsForMemory result.1 }
+        requires armed { FailsOnly watch.node self.old.places.items }
+        ensures come { Stands watch.node result.end → Between
+            (HasFaredTo watch.node targets.now first result.progress result.torn)
+            self.old self.new }
+        ensures end { IsEnd first (length self.new.sent.items) result.progress result.end }
+        ensures may { watch.node ≡ None → MayEnd targets.now first result.progress
+            self.old.places.items self.old.sent.items result.end }
+        ensures armed { Stands watch.node result.end →
+            IsArmed watch.node result.torn self.new.places.items }
+        ensures memory { C.faithful → IsForMemory result.end }
         ensures members { KeepMembers self.old.places.items self.new.places.items }
     {
-        let Round {
+        let mut progress = Progress::start();
+        let mut torn = None;
+        while progress.done < MOST_DELIVERIES {
+            let number = first + progress.whole;
+            if number >= self.sent.len() {
+                return Pumping {
+                    progress,
+                    torn,
+                    end: End::Done,
+                };
+            }
+            let event = Event::Act(targets[progress.some], Action::Deliver(number));
+            let gone = self.go(alloc, carrier, &event, progress.done, watch, &mut torn);
+            drop(event);
+            match gone {
+                Ok(_) => progress = progress.next(targets.len()),
+                Err(fault) => {
+                    return Pumping {
+                        progress,
+                        torn,
+                        end: End::Failed(fault),
+                    };
+                }
+            }
+        }
+        let end = last_end(first + progress.whole < self.sent.len());
+        Pumping {
             progress,
-            lost: _,
+            torn,
             end,
-        } = deliver_rounds(
-            alloc,
-            carrier,
-            &mut self.places,
-            &mut self.sent,
-            targets,
-            targets.len(),
-            first,
-        );
-        (progress, end)
+        }
     }
 }

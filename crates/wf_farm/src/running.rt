@@ -1,44 +1,172 @@
-//! A run of events.
+//! Runs of events and lists of deliveries, of which one may be torn.
 
-ghost use Rattle.std.specs.Prelude.{◌<◌, ◌≤◌, length, map, take, IfOk, IfErr};
-ghost use Rattle.wf_farm.specs.Allocating.{MayAllocateAt};
-ghost use Rattle.wf_farm.specs.Cluster.{AreMembers, Between, HaveRun, HoldsIn, KeepMembers, Moves};
+ghost use Rattle.std.specs.Prelude.{◌≡◌, ◌<◌, ◌≤◌, length, map, take, None, Some, IfOk, IfErr, OnErr, OnOk};
+ghost use Rattle.wf_model.specs.World.{deliver};
+ghost use Rattle.wf_farm.specs.Allocating.{MayAllocate, MayAllocateAt};
+ghost use Rattle.wf_farm.specs.Carrying.{ChangesByEvent};
+ghost use Rattle.wf_farm.specs.Cluster.{AreMembers, Between, HoldsIn, KeepMembers, Moves, StayShown};
 ghost use Rattle.wf_farm.specs.Event.{view};
+ghost use Rattle.wf_farm.specs.Fused.{FailsOnly, GoesOn, HaveFared, HaveRun, IsArmed, TellsWhyUnlessTorn};
+ghost use Rattle.wf_farm.specs.declared.carrier.CarrierFault.TheVariants as carriers;
 
+use crate::carrier::{Carrier, CarrierFault};
 use crate::cluster::Cluster;
-use crate::event::Event;
+use crate::event::{Action, Event, Kept};
+use crate::fate::{Ran, Watch};
 use crate::rejection::Rejection;
 use std::alloc::Global;
 use wf_tape::MemoryTape;
 
 impl Cluster<MemoryTape> {
-    /// Applies the events in order, and returns the last one's rejection, if it is rejected. Err: the number of events that were
-    /// applied before an allocation failed, at an event that would have an effect.
+    /// Applies the events in order. Err: the number of events that were applied before one wasn't, which would have an effect, and why.
     #[tactic(auto, using(crate::proofs::Events::same_members))]
-    pub(crate) fn run(
+    pub(crate) fn run<C: Carrier>(
         &mut self,
         alloc: Global,
+        carrier: &mut C,
         events: &[Event],
-    ) -> Result<Option<Rejection>, usize>
+        watch: Watch,
+    ) -> Result<Ran, (usize, CarrierFault)>
         requires members { AreMembers self.old.places.items }
         requires size { length self.old.places.items ≤ 64 }
-        ensures done { IfOk result (λ why.
-            Between (HaveRun (map view events.now) why) self.old self.new) }
-        ensures most { IfErr result (λ done. done < length events.now) }
-        ensures part { IfErr result (λ done.
-            Between (Moves (take done (map view events.now))) self.old self.new) }
-        ensures may { IfErr result (λ done.
-            HoldsIn (MayAllocateAt done (map view events.now)) self.old) }
+        requires armed { FailsOnly watch.node self.old.places.items }
+        ensures done { IfOk result (λ ran.
+            Between (HaveRun watch.node (map view events.now) ran.torn ran.why)
+            self.old self.new) }
+        ensures armed { IfOk result (λ ran. IsArmed watch.node ran.torn self.new.places.items) }
+        ensures most { IfErr result (λ e. e.0 < length events.now) }
+        ensures part { watch.node ≡ None → IfErr result (λ e.
+            Between (Moves (take e.0 (map view events.now))) self.old self.new) }
+        ensures may { watch.node ≡ None → IfErr result (λ e.
+            HoldsIn (MayAllocateAt e.0 (map view events.now)) self.old) }
+        ensures whole { watch.node ≡ None → FailsOnly None self.new.places.items }
+        ensures memory { C.faithful → IfErr result (λ e. e.1 ≡ carriers.Memory) }
         ensures members { KeepMembers self.old.places.items self.new.places.items }
         ensures grows { length self.old.sent.items ≤ length self.new.sent.items }
     {
-        let mut refused = None;
+        let mut why = None;
+        let mut torn = None;
         for done in 0..events.len() {
-            match self.happen(alloc, &events[done]) {
-                Ok(why) => refused = why,
-                Err(_) => return Err(done),
+            match self.go(alloc, carrier, &events[done], done, watch, &mut torn) {
+                Ok(rejection) => why = rejection,
+                Err(fault) => return Err((done, fault)),
             }
         }
-        Ok(refused)
+        Ok(Ran { why, torn })
+    }
+
+    /// Delivers the messages to node `to` by the carrier, in turn. Returns the number of the delivery within whose step the tape failed,
+    /// and what the crash left.
+    #[tactic(auto, using(crate::proofs::Events::same_members))]
+    pub(crate) fn deliver<C: Carrier>(
+        &mut self,
+        alloc: Global,
+        carrier: &mut C,
+        to: usize,
+        messages: &[usize],
+        watch: Watch,
+    ) -> Result<Option<(usize, Kept)>, CarrierFault>
+        requires members { AreMembers self.old.places.items }
+        requires size { length self.old.places.items ≤ 64 }
+        requires armed { FailsOnly watch.node self.old.places.items }
+        ensures done { IfOk result (λ torn. Between
+            (HaveFared watch.node (map (deliver to) messages.now) torn) self.old self.new) }
+        ensures armed { IfOk result (λ torn. IsArmed watch.node torn self.new.places.items) }
+        ensures memory { C.faithful → IfErr result (λ fault. fault ≡ carriers.Memory) }
+        ensures members { KeepMembers self.old.places.items self.new.places.items }
+        ensures grows { length self.old.sent.items ≤ length self.new.sent.items }
+    {
+        let mut torn = None;
+        for done in 0..messages.len() {
+            let event = Event::Act(to, Action::Deliver(messages[done]));
+            let gone = self.go(alloc, carrier, &event, done, watch, &mut torn);
+            drop(event);
+            match gone {
+                Ok(_) => (),
+                Err(fault) => return Err(fault),
+            }
+        }
+        Ok(torn)
+    }
+
+    /// Applies the event, as number `number` of a run, and returns its rejection, if its node rejects. If the tape of the watched node
+    /// fails within its step, the tape doesn't fail any more.
+    pub(crate) fn go<C: Carrier>(
+        &mut self,
+        alloc: Global,
+        carrier: &mut C,
+        event: &Event,
+        number: usize,
+        watch: Watch,
+        torn: &mut Option<(usize, Kept)>,
+    ) -> Result<Option<Rejection>, CarrierFault>
+        requires members { AreMembers self.old.places.items }
+        requires size { length self.old.places.items ≤ 64 }
+        requires armed { IsArmed watch.node torn.old self.old.places.items }
+        ensures on { OnOk result (Between
+            (GoesOn watch.node number (view event.now) torn.old torn.new) self.old self.new) }
+        ensures why { torn.old ≡ None → IfOk result (λ why.
+            HoldsIn (TellsWhyUnlessTorn (view event.now) torn.new why) self.old) }
+        ensures armed { OnOk result (IsArmed watch.node torn.new self.new.places.items) }
+        ensures same { OnErr result (torn.new ≡ torn.old) }
+        ensures err { FailsOnly None self.old.places.items →
+            OnErr result (Between StayShown self.old self.new) }
+        ensures may { OnErr result (HoldsIn (MayAllocate (view event.now)) self.old) }
+        ensures idle { ChangesByEvent (view event.now) self.old.places.items self.old.sent.items
+            carrier.old carrier.new }
+        ensures memory { C.faithful → IfErr result (λ fault. fault ≡ carriers.Memory) }
+        ensures members { KeepMembers self.old.places.items self.new.places.items }
+        ensures grows { length self.old.sent.items ≤ length self.new.sent.items }
+    {
+        match self.happen(alloc, carrier, event, watch.keep) {
+            Ok(happened) => match happened.torn {
+                None => Ok(happened.why),
+                Some(kept) => {
+                    self.disarm(watch.node);
+                    *torn = Some((number, kept));
+                    Ok(None)
+                }
+            },
+            Err(fault) => Err(fault),
+        }
+    }
+
+    /// Sets a failure of a node's tape, if the node exists.
+    pub(crate) fn arm(&mut self, node: usize, call: usize, kept: usize)
+        requires members { AreMembers self.old.places.items }
+        ensures only { FailsOnly None self.old.places.items →
+            FailsOnly (Some node) self.new.places.items }
+        ensures stays { Between StayShown self.old self.new }
+        ensures members { AreMembers self.new.places.items }
+        ensures size { length self.new.places.items ≡ length self.old.places.items }
+        ensures sent { self.new.sent ≡ self.old.sent }
+    {
+        if node < self.places.len() {
+            self.places[node].set_fuse(call, kept);
+        }
+    }
+
+    /// Of this node's tape no failure is set any more.
+    pub(crate) fn disarm(&mut self, node: Option<usize>)
+        ensures only { FailsOnly node self.old.places.items →
+            FailsOnly None self.new.places.items }
+        ensures stays { Between StayShown self.old self.new }
+        ensures members { KeepMembers self.old.places.items self.new.places.items }
+        ensures sent { self.new.sent ≡ self.old.sent }
+    {
+        let Some(node) = node else {
+            return;
+        };
+        if node < self.places.len() {
+            self.places[node].set_fuse(0, 0);
+        }
+    }
+
+    /// The number of the call of a node's tape that will fail, counted from 1 from now; 0 if none will.
+    pub(crate) fn fuse(&self, node: usize) -> usize {
+        match self.places.get(node) {
+            Some(place) => place.fuse(),
+            None => 0,
+        }
     }
 }

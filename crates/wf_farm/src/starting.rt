@@ -1,13 +1,14 @@
 //! The initial nodes of a farm, and a node that stops and restarts.
 
-ghost use Rattle.std.specs.Prelude.{◌≡◌, ◌<◌, ◌≤◌, ◌+◌, false, [], length, IfOk, IfErr, OnOk};
+ghost use Rattle.std.specs.Prelude.{◌≡◌, ◌<◌, ◌≤◌, ◌+◌, false, [], length, None, IfOk, IfErr, OnOk};
 ghost use Rattle.wf_model.specs.World.{start};
 ghost use Rattle.wf_node.specs.Images.{AllStandFor};
 ghost use Rattle.wf_node.specs.Node.{stored_of};
 ghost use Rattle.wf_tape.specs.MemoryTape.{IsImageOf, NeverFails};
 ghost use Rattle.wf_farm.specs.Cluster.{AreMembers, Shows};
 ghost use Rattle.wf_farm.specs.Leading.{IsFresh};
-ghost use Rattle.wf_farm.specs.Place.{IsMember, IsNode};
+ghost use Rattle.wf_farm.specs.Fused.{FailsOnly};
+ghost use Rattle.wf_farm.specs.Place.{IsMember, IsNode, tape_in};
 ghost use Rattle.wf_farm.specs.Reopening.{IsReopened};
 ghost use Rattle.wf_farm.specs.Start.{fresh_node, AreFresh};
 
@@ -21,7 +22,7 @@ use wf_tape::MemoryTape;
 
 impl Cluster<MemoryTape> {
     /// Returns n nodes, all running, with all parts empty, and no message.
-    #[tactic(auto, using(crate::proofs::Worlds::start_shown, crate::proofs::Worlds::start_members, crate::proofs::Worlds::none_fresh))]
+    #[tactic(auto, using(crate::proofs::Worlds::start_shown, crate::proofs::Worlds::start_members, crate::proofs::Worlds::start_sturdy, crate::proofs::Worlds::none_fresh))]
     pub(crate) fn new(alloc: Global, n: u8) -> Result<Cluster<MemoryTape>, AllocError>
         requires { n ≤ 64 }
         ensures size { IfOk result (λ cluster. length cluster.places.items ≡ n) }
@@ -30,6 +31,7 @@ impl Cluster<MemoryTape> {
             Shows cluster.places.items cluster.sent.items (start n)) }
         ensures sent { IfOk result (λ cluster. cluster.sent.items ≡ []) }
         ensures fresh { IfOk result (λ cluster. AreFresh n 0 cluster.places.items) }
+        ensures sturdy { IfOk result (λ cluster. FailsOnly None cluster.places.items) }
     {
         let mut places = Vec::new(alloc);
         for number in 0..n {
@@ -75,6 +77,7 @@ fn first_node(alloc: Global, id: NodeId, n: u8) -> Result<Place<MemoryTape>, All
     requires member { id < n }
     ensures node { IfOk result (λ place. IsNode place fresh_node) }
     ensures member { IfOk result (IsMember n id) }
+    ensures fuse { IfOk result (λ place. NeverFails (tape_in place)) }
 {
     match open_fresh(alloc, id, n) {
         Ok(node) => Ok(Place::Running(node)),

@@ -1,57 +1,33 @@
 -- The moments inside two calls of a tape in turn.
-use Rattle.std.proofs.Common.{◌≡◌, ◌⊎◌, ℕ, List, ◌++◌, Result, Err, IsErrOf, subst, inl, inr, le_refl, le_trans}
+use Rattle.std.proofs.Common.{◌≡◌, ◌⊎◌, ℕ, List, ◌++◌, Result, Err, IsErrOf, subst, inl, inr}
 use Rattle.wf_def.specs.Definition.{Definition}
 use Rattle.wf_model.specs.Stored.{Record}
 use Rattle.wf_canon.specs.Saying.{OneTextOneMap}
 use Rattle.wf_tape.specs.declared.fault.TapeFault.{TapeFault}
 use Rattle.wf_tape.specs.declared.fault.TapeFault.TheVariants.{Device, Memory}
-use Rattle.wf_tape.specs.Tape.{IsBeginning, IsUnchanged, IsExtended, IsCutShort, IsNotMemory, LeavesNoOther, LeavesOldOrCut, LeavesOldOrNew, Elapses, IsNow, AreNested}
+use Rattle.wf_tape.specs.Tape.{IsBeginning, IsUnchanged, IsExtended, IsNotMemory, LeavesNoOther, LeavesOldOrCut, LeavesOldOrNew, Elapses, IsNow}
 use Rattle.wf_journal.specs.MomentLaws.{inside_two}
 use Rattle.wf_journal.specs.Spelling.{Encodes}
 use Rattle.wf_journal.specs.Journal.{IsSettled, Follows, ReadsSameOrOneMore}
 use Rattle.wf_journal.proofs.Settling.{cut_shorter, same_or_more}
 
--- ---- any tape
-
--- no call was made
-pub time_stays : (now : ℕ) (since : ℕ → List ℕ → Type 0) → Elapses now now since since
-time_stays now since = record {
-  later = le_refl now;
-  kept = λ moment image before left. left;
-  nothing_else = λ moment image before left. inl left;
-}
-
--- two calls in turn
-pub time_on : (a b c : ℕ) (first second third : ℕ → List ℕ → Type 0) → AreNested third → Elapses a b first second → Elapses b c second third → Elapses a c first third
-time_on a b c first second third nested one two = record {
-  later = le_trans one.later two.later;
-  kept = λ moment image before left. two.kept moment image (le_trans before one.later) (one.kept moment image before left);
-  nothing_else = λ moment image before left. elim (two.nothing_else moment image (le_trans before one.later) left) [
-    | inl earlier ↦ elim (one.nothing_else moment image before earlier) [
-      | inl past ↦ inl past
-      | inr inside ↦ inr (two.kept a image one.later inside)
-    ]
-    | inr inside ↦ inr (nested a b image one.later inside)
-  ];
-}
-
 -- ---- appending
 
 -- Inside an append and the sync after it a crash leaves what it could before, or a prefix of what is there at the end.
-pub inside_written : (a b c : ℕ) (content bytes new : List ℕ) (old mid : List ℕ → Type 0) (first second third : ℕ → List ℕ → Type 0) → new ≡ content ++ bytes → IsCutShort new old mid →
+pub inside_written : (a b c : ℕ) (content bytes new : List ℕ) (old mid : List ℕ → Type 0) (first second third : ℕ → List ℕ → Type 0) → new ≡ content ++ bytes → LeavesOldOrCut new old mid →
     Elapses a b first second → Elapses b c second third → LeavesOldOrNew old mid (second a) → LeavesNoOther mid (third b) → LeavesOldOrCut (content ++ bytes) old (third a)
 inside_written a b c content bytes new old mid first second third is cut one two in_first in_second =
-    let short : IsCutShort (content ++ bytes) old mid = subst (λ (t : List ℕ). IsCutShort t old mid) is cut in
+    let short : LeavesOldOrCut (content ++ bytes) old mid = subst (λ (t : List ℕ). LeavesOldOrCut t old mid) is cut in
     inside_two a b c second third (λ image. old image ⊎ (IsBeginning image (content ++ bytes) × ((earlier : List ℕ) × old earlier × IsBeginning earlier image))) one.later two
-    (λ image left. elim (in_first image left) [ inl was ↦ inl was | inr is_new ↦ inr (short image is_new) ])
-    (λ image left. inr (short image (in_second image left)))
+    (λ image left. elim (in_first image left) [ inl was ↦ inl was | inr is_new ↦ short image is_new ])
+    (λ image left. short image (in_second image left))
 
 -- So does an append that failed.
 pub inside_failed : {A : Type 0} (content bytes new : List ℕ) (old mid inside : List ℕ → Type 0) (result : Result A TapeFault) (fault : TapeFault) → result ≡ Err fault → IsExtended content bytes new →
-    (IsNotMemory result → IsCutShort new old mid) → (IsErrOf result Memory → IsUnchanged content new old mid) → LeavesOldOrNew old mid inside → LeavesOldOrCut (content ++ bytes) old inside
+    (IsNotMemory result → LeavesOldOrCut new old mid) → (IsErrOf result Memory → IsUnchanged content new old mid) → LeavesOldOrNew old mid inside → LeavesOldOrCut (content ++ bytes) old inside
 inside_failed content bytes new old mid inside result Device is extended cut same leaves image left = elim (leaves image left) [
   | inl was ↦ inl was
-  | inr is_new ↦ inr (cut_shorter content bytes new old mid extended (cut (λ e. absurd (cc (is, e)))) image is_new)
+  | inr is_new ↦ cut_shorter content bytes new old mid extended (cut (λ e. absurd (cc (is, e)))) image is_new
 ]
 inside_failed content bytes new old mid inside result Memory is extended cut same leaves image left = elim (leaves image left) [
   | inl was ↦ inl was

@@ -7,7 +7,7 @@ use Rattle.wf_canon.specs.Saying.{OneTextOneMap}
 use Rattle.wf_model.specs.Stored.{Record}
 use Rattle.wf_journal.specs.declared.opening.OpenFault.{OpenFault}
 use Rattle.wf_journal.specs.declared.opening.OpenFault.TheVariants.{TapeFailed, BadRecord, Memory}
-use Rattle.wf_tape.specs.Tape.{IsBeginning, IsOnlyImage, IsUnchanged, LeavesNoOther, IsExtended, IsCutShort, LeavesOldOr, HasRisen}
+use Rattle.wf_tape.specs.Tape.{IsBeginning, IsOnlyImage, IsUnchanged, LeavesNoOther, IsExtended, IsCutShort, LeavesOldOr, LeavesOldOrCut, HasRisen}
 use Rattle.wf_journal.specs.Spelling.{Encodes}
 use Rattle.wf_journal.specs.Records.{ReadsAs, AreRecords, AreWritten}
 use Rattle.wf_journal.specs.Front.{HasRead}
@@ -17,18 +17,21 @@ use Rattle.wf_journal.proofs.Lists.{one_more, cut_reads, whole_reads, reads_only
 -- ---- appending
 
 -- an image after a part of the bytes was appended is one after all of them were
-pub cut_shorter : (content bytes new : List ℕ) (old images : List ℕ → Type 0) → IsExtended content bytes new → IsCutShort new old images → IsCutShort (content ++ bytes) old images
-cut_shorter content bytes new old images extended cut image left =
-    let begins = (cut image left).0 in
-    let front : List ℕ = extended.0 in
-    ((begins.0 ++ extended.1.0, ap (λ (t : List ℕ). content ++ t) extended.1.1 ∙ sym (append_assoc content front extended.1.0) ∙ ap (λ (t : List ℕ). t ++ extended.1.0) (sym extended.2 ∙ begins.1) ∙ append_assoc image begins.0 extended.1.0), (cut image left).1)
+pub cut_shorter : (content bytes new : List ℕ) (old images : List ℕ → Type 0) → IsExtended content bytes new → LeavesOldOrCut new old images → LeavesOldOrCut (content ++ bytes) old images
+cut_shorter content bytes new old images extended leaves image left = elim (leaves image left) [
+  | inl was ↦ inl was
+  | inr cut ↦
+      let begins = cut.0 in
+      let front : List ℕ = extended.0 in
+      inr ((begins.0 ++ extended.1.0, ap (λ (t : List ℕ). content ++ t) extended.1.1 ∙ sym (append_assoc content front extended.1.0) ∙ ap (λ (t : List ℕ). t ++ extended.1.0) (sym extended.2 ∙ begins.1) ∙ append_assoc image begins.0 extended.1.0), cut.1)
+]
 
 -- appending all of the bytes is appending a prefix of them
 pub extended_whole : (content bytes new : List ℕ) → new ≡ content ++ bytes → IsExtended content bytes new
 extended_whole content bytes new is = (bytes, ([], sym (append-nil bytes)), is)
 
 -- a sync after it adds no image
-pub cut_synced : (content : List ℕ) (old mid new : List ℕ → Type 0) → IsCutShort content old mid → LeavesNoOther mid new → IsCutShort content old new
+pub cut_synced : (content : List ℕ) (old mid new : List ℕ → Type 0) → LeavesOldOrCut content old mid → LeavesNoOther mid new → LeavesOldOrCut content old new
 cut_synced content old mid new cut no_other image left = cut image (no_other image left)
 
 -- ---- opening

@@ -71,8 +71,8 @@ impl<T: Tape> Found<T> {
         }
     }
 
-    /// The journal of the tape. A torn record after the whole ones is removed, and what is kept is synced. An error returns the
-    /// tape, unchanged unless the tape itself failed. A tape that won't fail still won't, and doesn't.
+    /// The journal of the tape. A torn record after the whole ones is removed, and what is kept is synced; a doubtful tape is
+    /// replaced by it, so that no bytes stay unsynced that an earlier failed sync left. One call of the tape. An error returns the tape, unchanged unless the tape itself failed. A tape that won't fail still won't, and doesn't.
     pub fn settle(self) -> Result<Journal<T>, (T, OpenFault)>
         ensures running { IfOk result (λ journal. journal.halted ≡ false) }
         ensures synced { T.honest → (records : _) → HasRead self.bytes records self.front →
@@ -121,7 +121,8 @@ impl<T: Tape> Found<T> {
     }
 }
 
-/// Keeps the first bytes of the content, and syncs them.
+/// Keeps the first bytes of the content, and syncs them. A doubtful tape is replaced by them, since a sync of it may leave bytes
+/// unsynced.
 fn settle<T: Tape>(tape: &mut T, bytes: &[u8], front: usize) -> Result<(), TapeFault>
     requires within { front ≤ length bytes.now }
     ensures ok { T.honest →
@@ -136,8 +137,9 @@ fn settle<T: Tape>(tape: &mut T, bytes: &[u8], front: usize) -> Result<(), TapeF
     ensures cause { HasCause (T.failed tape.old) (T.failed tape.new) result }
     ensures sturdy { T.never_fails tape.old → T.never_fails tape.new }
     ensures sound { T.never_fails tape.old → IfErr result (λ fault. fault ≢ TapeFault.Device) }
+    ensures sure { OnOk result (T.doubtful tape.new ≡ false) }
 {
-    if front < bytes.len() {
+    if tape.is_doubtful() || front < bytes.len() {
         tape.replace(bytes.split_at(front).0)
     } else {
         tape.sync()

@@ -5,7 +5,7 @@ ghost use Rattle.wf_tape.specs.declared.fault.TapeFault.TheVariants.{Memory};
 ghost use Rattle.wf_journal.specs.Record.{view};
 ghost use Rattle.wf_journal.specs.Records.{IsTapeOf};
 ghost use Rattle.wf_journal.specs.Spelling.{spelling};
-ghost use Rattle.wf_tape.specs.Tape.{IsOnlyImage, IsExtended, IsCutShort, LeavesOldOrCut, HasCause, IsNotMemory};
+ghost use Rattle.wf_tape.specs.Tape.{IsOnlyImage, IsExtended, LeavesOldOrCut, HasCause, IsNotMemory};
 ghost use Rattle.wf_tape.specs.Change.{inside, Stays, GoesOn, HasFailed};
 ghost use Rattle.wf_tape.specs.MemoryTape.{with_fuse};
 ghost use Rattle.wf_journal.specs.Journal.{TapeHolds, TapeIsSettled, TapeGrows, LeavesBy, LeavesInsideBy, ReadsSame, ReadsOneMore, ReadsSameOrOneMore, IsWhereBad, IsWhyFailed};
@@ -20,7 +20,7 @@ use wf_canon::one_text_one_map;
 use wf_tape::{MemoryTape, Tape, TapeFault};
 
 /// The records of a node on its tape. Model: the tape, and whether the journal is halted; if it isn't, an honest tape holds only
-/// whole records, all of them synced.
+/// whole records, all of them synced, and a sync of the tape can be relied on.
 #[derive(Drop)]
 pub struct Journal<T: Tape> {
     pub(crate) tape: T,
@@ -35,7 +35,7 @@ impl<T: Tape> Model for Journal<T> {
 
     ghost view = { λ j. record { tape = j.tape; halted = j.halted } };
 
-    ghost invariant = { λ j. T.honest → j.halted ≡ false → TapeIsSettled T.Tape j.tape };
+    ghost invariant = { λ j. (T.honest → j.halted ≡ false → TapeIsSettled T.Tape j.tape) × (j.halted ≡ false → T.doubtful j.tape ≡ false) };
 }
 
 impl<T: Tape> Journal<T> {
@@ -77,9 +77,10 @@ impl<T: Tape> Journal<T> {
         }
     }
 
-    /// The journal of a tape that holds only whole records, all of them synced.
+    /// The journal of a tape that holds only whole records, all of them synced, and whose syncs can be relied on.
     pub(crate) fn over(tape: T) -> Journal<T>
-        requires { T.honest → TapeIsSettled T.Tape tape }
+        requires settled { T.honest → TapeIsSettled T.Tape tape }
+        requires sure { T.doubtful tape ≡ false }
         ensures { result ≡ record { tape = tape; halted = false } }
     {
         Journal {
@@ -91,7 +92,7 @@ impl<T: Tape> Journal<T> {
     /// Adds a record: after Ok it is on the tape and synced. After a failure of the tape the journal is halted until it is opened
     /// again, since a prefix of the record's bytes may be on the tape, after what was there. A crash at each moment inside the call
     /// leaves what reads as the records from before, or with the new one. A tape that won't fail still won't, and doesn't.
-    #[tactic(auto, using(crate::proofs::Settling::same_or_more, crate::proofs::Settling::same_kept, crate::proofs::Settling::now_more, crate::proofs::Settling::settled_more, crate::proofs::Settling::settled_same))]
+    #[tactic(auto, using(crate::proofs::Settling::same_kept, crate::proofs::Settling::now_more, crate::proofs::Settling::settled_more, crate::proofs::Settling::settled_same))]
     pub fn add(&mut self, alloc: Global, entry: &Record) -> Result<(), AddFault>
         requires { self.old.halted ≡ false }
         ensures ok { T.honest →
@@ -170,11 +171,12 @@ impl Journal<MemoryTape> {
 #[tactic(auto, using(crate::proofs::Settling::cut_shorter, crate::proofs::Settling::cut_synced, crate::proofs::Settling::extended_whole))]
 fn write<T: Tape>(tape: &mut T, bytes: &[u8]) -> Result<(), TapeFault>
     ensures ok { T.honest → OnOk result (T.content tape.new ≡ T.content tape.old ++ bytes.now) }
-    ensures only { T.honest → OnOk result (IsOnlyImage (T.content tape.new) (T.images tape.new)) }
+    ensures only { T.honest → T.doubtful tape.old ≡ false →
+        OnOk result (IsOnlyImage (T.content tape.new) (T.images tape.new)) }
     ensures part { T.honest →
         OnErr result (IsExtended (T.content tape.old) bytes.now (T.content tape.new)) }
     ensures images { T.honest → IsNotMemory result →
-        IsCutShort (T.content tape.old ++ bytes.now) (T.images tape.old) (T.images tape.new) }
+        LeavesOldOrCut (T.content tape.old ++ bytes.now) (T.images tape.old) (T.images tape.new) }
     ensures memory { T.honest → IsErrOf result Memory → Stays T.Tape tape.old tape.new }
     ensures time { T.honest → GoesOn T.Tape tape.old tape.new }
     ensures inside { T.honest → LeavesOldOrCut
@@ -182,6 +184,8 @@ fn write<T: Tape>(tape: &mut T, bytes: &[u8]) -> Result<(), TapeFault>
     ensures cause { HasCause (T.failed tape.old) (T.failed tape.new) result }
     ensures sturdy { T.never_fails tape.old → T.never_fails tape.new }
     ensures sound { T.never_fails tape.old → IfErr result (λ fault. fault ≢ TapeFault.Device) }
+    ensures doubt { OnOk result (T.doubtful tape.new ≡ T.doubtful tape.old) }
+    ensures doubt_memory { IsErrOf result Memory → T.doubtful tape.new ≡ T.doubtful tape.old }
 {
     match tape.append(bytes) {
         Ok(()) => tape.sync(),

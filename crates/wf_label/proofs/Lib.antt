@@ -6,6 +6,7 @@ pub mod ColoredLemmas
 pub mod BitLemmas
 pub mod InkLemmas
 pub mod TakenLemmas
+pub mod OverlapLemmas
 pub mod SaidLemmas
 pub mod SortedLemmas
 pub mod OrderLemmas

@@ -9,5 +9,6 @@ pub mod Ink
 pub mod Colored
 pub mod Walk
 pub mod Taken
+pub mod Overlap
 pub mod Order
 pub mod Letters

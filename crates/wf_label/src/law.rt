@@ -1,6 +1,7 @@
 //! Theorems about the label order, the placed set and the letters' ink.
 ghost use Rattle.wf_label.specs.Letters.{LettersInkTheirSetBits, LettersStayInTheirBox, PixelsOutsideBoxesStay};
 ghost use Rattle.wf_label.specs.Order.{CandidatesAreSorted};
+ghost use Rattle.wf_label.specs.Overlap.{BoxesOverlapWhereTheyShare};
 ghost use Rattle.wf_label.specs.Placing.{EachListHasOnePlacedSet, EachListHasOnePlacing, PlacedIsThePlacing};
 
 /// Any list of labels has exactly one placed set in any view. So its members in label order are one list, which the definitions
@@ -9,6 +10,12 @@ pub fn there_is_one_placed_set()
     ensures one_set { EachListHasOnePlacedSet }
     ensures one_list { EachListHasOnePlacing }
     ensures computed { PlacedIsThePlacing }
+{}
+
+/// Two boxes that have pixels overlap exactly where a pixel lies in both: so a label that isn't forced is placed exactly where no
+/// pixel of its widened box is one of a label placed before it. A theorem: the call does nothing.
+pub fn boxes_overlap_where_they_share()
+    ensures { BoxesOverlapWhereTheyShare }
 {}
 
 /// `candidates` lists every label of the listed layers once and no other, sorted: the higher priority first; within a priority,

@@ -1,6 +1,6 @@
 -- From the parsed arguments to the line that they ask for.
 use Rattle.std.proofs.Common.{◌≡◌, ◌∙◌, ◌≤◌, ℕ, List, [], true, inl, inr, sym, ap, subst, refl, codes, arith}
-use Rattle.std.specs.Prelude.{Box, Option, Some, None, option_map, IfNone}
+use Rattle.std.specs.Prelude.{Box, Option, Some, None, option_map, IfNone, IfSome}
 use Rattle.std.specs.Box.{box_value}
 use Rattle.std.specs.Str.{bytes_eq}
 use Rattle.std.proofs.lemmas.Bool.{false≢true}
@@ -19,7 +19,8 @@ use Rattle.clap.specs.declared.parser.matches.ArgMatches.TheViews.{out-SubComman
 use Rattle.clap.specs.declared.parser.matches.ArgMatches.{ArgMatches}
 use Rattle.clap.specs.declared.parser.matches.Found.{Found}
 use Rattle.clap.specs.declared.parser.matches.SubCommand.{SubCommand}
-use Rattle.wf_line.specs.CommandLine.{Asks, IsCacheBy, IsCapsOf, IsDrawOf, IsRejection, IsServeOf, IsServiceOf, IsTapeOf, program, rejections}
+use Rattle.wf_line.specs.CommandLine.{Asks, IsCacheBy, IsCapsOf, IsDrawOf, IsMapBy, IsRejection, IsServeOf, IsServiceOf, IsTapeOf, program, rejections}
+use Rattle.wf_ballot.specs.Sequence.{last_sequence}
 use Rattle.wf_line.specs.Line.{IsInRange}
 use Rattle.wf_line.specs.declared.line.Line.{Line}
 use Rattle.wf_service.specs.Service.{IsService}
@@ -41,7 +42,8 @@ asks_of : (p : Text × List Row) (rows : List Row) → p.1 ≡ rows → p.0 ≡ 
 asks_of p rows has named none (lines.Caps seq query) asks = none (lines.Caps seq query) (rw has at asks.1)
 asks_of p rows has named none (lines.Draw query) asks = false≢true (sym (ap (bytes_eq (codes "caps")) (sym named ∙ asks.0)))
 asks_of p rows has named none lines.Canon asks = let clash : codes "caps" ≡ codes "canon" = sym named ∙ asks in cc
-asks_of p rows has named none (lines.Tape file) asks = false≢true (sym (ap (bytes_eq (codes "caps")) (sym named ∙ asks.0)))
+asks_of p rows has named none lines.Check asks = false≢true (sym (ap (bytes_eq (codes "caps")) (sym named ∙ asks)))
+asks_of p rows has named none (lines.Tape file map) asks = false≢true (sym (ap (bytes_eq (codes "caps")) (sym named ∙ asks.0)))
 asks_of p rows has named none lines.Run asks = let clash : codes "caps" ≡ codes "run" = sym named ∙ asks in cc
 asks_of p rows has named none lines.Wire asks = false≢true (sym (ap (bytes_eq (codes "caps")) (sym named ∙ asks)))
 asks_of p rows has named none (lines.Serve service) asks = false≢true (sym (ap (bytes_eq (codes "caps")) (sym named ∙ asks.0)))
@@ -51,7 +53,8 @@ serve_asks_of : (p : Text × List Row) (rows : List Row) → p.1 ≡ rows → p.
 serve_asks_of p rows has named none (lines.Caps seq query) asks = false≢true (sym (ap (bytes_eq (codes "serve")) (sym named ∙ asks.0)))
 serve_asks_of p rows has named none (lines.Draw query) asks = false≢true (sym (ap (bytes_eq (codes "serve")) (sym named ∙ asks.0)))
 serve_asks_of p rows has named none lines.Canon asks = false≢true (sym (ap (bytes_eq (codes "serve")) (sym named ∙ asks)))
-serve_asks_of p rows has named none (lines.Tape file) asks = false≢true (sym (ap (bytes_eq (codes "serve")) (sym named ∙ asks.0)))
+serve_asks_of p rows has named none lines.Check asks = false≢true (sym (ap (bytes_eq (codes "serve")) (sym named ∙ asks)))
+serve_asks_of p rows has named none (lines.Tape file map) asks = false≢true (sym (ap (bytes_eq (codes "serve")) (sym named ∙ asks.0)))
 serve_asks_of p rows has named none lines.Run asks = false≢true (sym (ap (bytes_eq (codes "serve")) (sym named ∙ asks)))
 serve_asks_of p rows has named none lines.Wire asks = false≢true (sym (ap (bytes_eq (codes "serve")) (sym named ∙ asks)))
 serve_asks_of p rows has named none (lines.Serve service) asks = none (lines.Serve service) (rw has at asks.1)
@@ -67,7 +70,8 @@ draw_asks_of : (p : Text × List Row) (rows : List Row) → p.1 ≡ rows → p.0
 draw_asks_of p rows has named none (lines.Caps seq query) asks = false≢true (sym (ap (bytes_eq (codes "draw")) (sym named ∙ asks.0)))
 draw_asks_of p rows has named none (lines.Draw query) asks = none (lines.Draw query) (rw has at asks.1)
 draw_asks_of p rows has named none lines.Canon asks = false≢true (sym (ap (bytes_eq (codes "draw")) (sym named ∙ asks)))
-draw_asks_of p rows has named none (lines.Tape file) asks = false≢true (sym (ap (bytes_eq (codes "draw")) (sym named ∙ asks.0)))
+draw_asks_of p rows has named none lines.Check asks = false≢true (sym (ap (bytes_eq (codes "draw")) (sym named ∙ asks)))
+draw_asks_of p rows has named none (lines.Tape file map) asks = false≢true (sym (ap (bytes_eq (codes "draw")) (sym named ∙ asks.0)))
 draw_asks_of p rows has named none lines.Run asks = false≢true (sym (ap (bytes_eq (codes "draw")) (sym named ∙ asks)))
 draw_asks_of p rows has named none lines.Wire asks = false≢true (sym (ap (bytes_eq (codes "draw")) (sym named ∙ asks)))
 draw_asks_of p rows has named none (lines.Serve service) asks = false≢true (sym (ap (bytes_eq (codes "draw")) (sym named ∙ asks.0)))
@@ -83,7 +87,8 @@ tape_asks_of : (p : Text × List Row) (rows : List Row) → p.1 ≡ rows → p.0
 tape_asks_of p rows has named none (lines.Caps seq query) asks = false≢true (sym (ap (bytes_eq (codes "tape")) (sym named ∙ asks.0)))
 tape_asks_of p rows has named none (lines.Draw query) asks = false≢true (sym (ap (bytes_eq (codes "tape")) (sym named ∙ asks.0)))
 tape_asks_of p rows has named none lines.Canon asks = false≢true (sym (ap (bytes_eq (codes "tape")) (sym named ∙ asks)))
-tape_asks_of p rows has named none (lines.Tape file) asks = none (lines.Tape file) (rw has at asks.1)
+tape_asks_of p rows has named none lines.Check asks = false≢true (sym (ap (bytes_eq (codes "tape")) (sym named ∙ asks)))
+tape_asks_of p rows has named none (lines.Tape file map) asks = none (lines.Tape file map) (rw has at asks.1)
 tape_asks_of p rows has named none lines.Run asks = false≢true (sym (ap (bytes_eq (codes "tape")) (sym named ∙ asks)))
 tape_asks_of p rows has named none lines.Wire asks = false≢true (sym (ap (bytes_eq (codes "tape")) (sym named ∙ asks)))
 tape_asks_of p rows has named none (lines.Serve service) asks = false≢true (sym (ap (bytes_eq (codes "tape")) (sym named ∙ asks.0)))
@@ -104,12 +109,17 @@ service_in_range rows service is =
     let cache = cache_in_range (first_of (codes "cache") rows) service.cache is.cache in
     record { some = is.nodes.2.low; nodes = is.nodes.2.high; port = is.port.2.high; requests = is.requests.2.high; cache = cache.0; cache_most = cache.1 }
 
+map_in_range : (word : Option Text) (map : Option ℕ) → IsMapBy word map → IfSome map (λ seq. (1 ≤ seq) × (seq ≤ last_sequence))
+map_in_range None map none = subst (λ m. IfSome m (λ seq. (1 ≤ seq) × (seq ≤ last_sequence))) (sym none) tt
+map_in_range (Some word) map (seq, is, number) = subst (λ m. IfSome m (λ s. (1 ≤ s) × (s ≤ last_sequence))) (sym is) (number.low, number.high)
+
 pub asked_in_range : (met : Option (Text × List Row)) (line : Line) → Asks met line → IsInRange line
 asked_in_range None line asks = absurd asks
 asked_in_range (Some named) (lines.Caps seq query) (is, (word, text, first, second, (sequence, same))) = sequence.most
 asked_in_range (Some named) (lines.Draw query) asks = tt
 asked_in_range (Some named) lines.Canon asks = tt
-asked_in_range (Some named) (lines.Tape file) asks = tt
+asked_in_range (Some named) lines.Check asks = tt
+asked_in_range (Some named) (lines.Tape file map) (is, (word, first, (same, by))) = map_in_range (first_of (codes "map") named.1) map by
 asked_in_range (Some named) lines.Run asks = tt
 asked_in_range (Some named) lines.Wire asks = tt
 asked_in_range (Some named) (lines.Serve service) asks = service_in_range named.1 service asks.1

@@ -15,7 +15,7 @@ use Rattle.clap.specs.Takes.{bundle_passes, default_passes, flag_word_passes, is
 use Rattle.clap.specs.ValueTests.{accepts}
 use Rattle.clap.specs.declared.builder.value_parser.ValueParser.TheVariants.{Signed}
 use Rattle.clap.specs.Walk.{Held, Row, finished, nothing_held, pushed, settled, walk, Rule, Text, Walk, after_step, arg_by_index, first_of, idle, long_or_other, short_or_plain, trailing, to_positional, value, walk_from, walked, word_met}
-use Rattle.wf_line.specs.CommandLine.{caps_shape, draw_shape, tape_shape, PlainCapsIsAsked, PlainDrawIsAsked, PlainCanonIsAsked, PlainRunIsAsked, PlainTapeIsAsked, PlainWireIsAsked, is_plain, program}
+use Rattle.wf_line.specs.CommandLine.{caps_shape, draw_shape, tape_shape, PlainCapsIsAsked, PlainDrawIsAsked, PlainCanonIsAsked, PlainRunIsAsked, PlainTapeIsAsked, PlainWireIsAsked, IsMapBy, is_plain, program, PlainCheckIsAsked}
 use Rattle.wf_line.specs.Line.{IsSequence}
 use Rattle.wf_line.specs.declared.line.Line.TheVariants as lines
 
@@ -134,7 +134,8 @@ caps_asked word query (lines.Caps seq asked) plain_word plain_query is =
     (caps_taken word query plain_word plain_query (sequence_accepted word seq plain_word is.0), rw found.1 (refl, (word, query, found.2, found.3, is)))
 caps_asked word query (lines.Draw asked) plain_word plain_query is = absurd is
 caps_asked word query lines.Canon plain_word plain_query is = absurd is
-caps_asked word query (lines.Tape asked) plain_word plain_query is = absurd is
+caps_asked word query lines.Check plain_word plain_query is = absurd is
+caps_asked word query (lines.Tape asked map) plain_word plain_query is = absurd is
 caps_asked word query lines.Run plain_word plain_query is = absurd is
 caps_asked word query lines.Wire plain_word plain_query is = absurd is
 caps_asked word query (lines.Serve service) plain_word plain_query is = absurd is
@@ -175,7 +176,8 @@ draw_asked query (lines.Draw asked) plain is =
     let found = draw_rows query plain in
     (draw_taken query plain, rw found.1 (refl, (query, found.2, is)))
 draw_asked query lines.Canon plain is = absurd is
-draw_asked query (lines.Tape asked) plain is = absurd is
+draw_asked query lines.Check plain is = absurd is
+draw_asked query (lines.Tape asked map) plain is = absurd is
 draw_asked query lines.Run plain is = absurd is
 draw_asked query lines.Wire plain is = absurd is
 draw_asked query (lines.Serve service) plain is = absurd is
@@ -192,9 +194,9 @@ unfolding clap_on_literals
 found_file file plain = plain_walked tape_built.rules nothing_held 1 file plain
 
 tape_rows : (file : Text) → is_plain file ≡ true
-    → (rows : List Row) × (subcommand_of program (codes "tape" ∷ file ∷ []) ≡ Some (codes "tape", rows)) × (first_of (codes "FILE") rows ≡ Some file)
+    → (rows : List Row) × (subcommand_of program (codes "tape" ∷ file ∷ []) ≡ Some (codes "tape", rows)) × (first_of (codes "FILE") rows ≡ Some file) × (first_of (codes "map") rows ≡ None)
 unfolding clap_on_literals
-tape_rows file plain = (_, ap (λ w. Some (codes "tape", finished tape_built.rules w.held)) (found_file file plain), refl)
+tape_rows file plain = (_, ap (λ w. Some (codes "tape", finished tape_built.rules w.held)) (found_file file plain), refl, refl)
 
 file_walked : (file : Text) → is_plain file ≡ true → walk_passes tape_built [] (walk_from nothing_held) (file ∷ []) ≡ true
 unfolding clap_on_literals
@@ -214,9 +216,10 @@ pub tape_asked : PlainTapeIsAsked
 tape_asked file (lines.Caps seq asked) plain is = absurd is
 tape_asked file (lines.Draw asked) plain is = absurd is
 tape_asked file lines.Canon plain is = absurd is
-tape_asked file (lines.Tape asked) plain is =
+tape_asked file lines.Check plain is = absurd is
+tape_asked file (lines.Tape asked map) plain is =
     let found = tape_rows file plain in
-    (tape_taken file plain, rw found.1 (refl, (file, found.2, is)))
+    (tape_taken file plain, rw found.1 (refl, (file, found.2, (is.0, subst (λ word. IsMapBy word map) (sym found.3) is.1))))
 tape_asked file lines.Run plain is = absurd is
 tape_asked file lines.Wire plain is = absurd is
 tape_asked file (lines.Serve service) plain is = absurd is
@@ -224,6 +227,10 @@ tape_asked file (lines.Serve service) plain is = absurd is
 pub canon_asked : PlainCanonIsAsked
 unfolding clap_on_literals
 canon_asked = (refl, refl)
+
+pub check_asked : PlainCheckIsAsked
+unfolding clap_on_literals
+check_asked = (refl, refl)
 
 pub run_asked : PlainRunIsAsked
 unfolding clap_on_literals

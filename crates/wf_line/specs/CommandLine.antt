@@ -11,7 +11,9 @@ use Rattle.clap.specs.declared.builder.command.Command.TheViews.{out-Command}
 use Rattle.clap.specs.declared.parser.matches.ArgMatches.{ArgMatches}
 use Rattle.clap.specs.declared.error.kind.ErrorKind.{ErrorKind}
 use Rattle.clap.specs.declared.error.kind.ErrorKind.TheVariants.{OutOfMemory, ValueValidation}
+use Rattle.clap.specs.declared.builder.action.ArgAction.TheVariants.{SetTrue}
 use Rattle.clap.specs.declared.builder.value_parser.ValueParser.TheVariants.{Signed}
+use Rattle.std.specs.Str.{bytes_eq}
 use Rattle.wf_ballot.specs.Sequence.{last_sequence}
 use Rattle.wf_line.specs.Line.{IsNumber, IsSequence}
 use Rattle.wf_line.specs.declared.line.Line.{Line}
@@ -46,13 +48,21 @@ draw_shape = record (new_shape (codes "draw")) { rules = query_rule ∷ [] }
 abbrev pub file_rule : Rule
 file_rule = record (new_rule (codes "FILE")) { required = true }
 
--- `tape FILE`
+-- `--map S`: a number from 1 to the last update sequence
+abbrev pub map_rule : Rule
+map_rule = record (new_rule (codes "map")) { long = Some (codes "map"); value_names = 1; parser = Some (Signed (pos 1) (pos last_sequence)) }
+
+-- `tape FILE --map S`
 abbrev pub tape_shape : Shape
-tape_shape = record (new_shape (codes "tape")) { rules = file_rule ∷ [] }
+tape_shape = record (new_shape (codes "tape")) { rules = file_rule ∷ map_rule ∷ [] }
 
 -- `canon`
 abbrev pub canon_shape : Shape
 canon_shape = new_shape (codes "canon")
+
+-- `check`
+abbrev pub check_shape : Shape
+check_shape = new_shape (codes "check")
 
 -- `run`
 abbrev pub run_shape : Shape
@@ -95,15 +105,19 @@ cache_rule = record (new_rule (codes "cache")) { long = Some (codes "cache"); va
 abbrev pub state_rule : Rule
 state_rule = record (new_rule (codes "state")) { long = Some (codes "state"); value_names = 1 }
 
+-- `--log`: a flag
+abbrev pub log_rule : Rule
+log_rule = record (new_rule (codes "log")) { long = Some (codes "log"); action = Some SetTrue }
+
 -- `serve`, without its optional arguments
 abbrev pub required_serve_shape : Shape
 required_serve_shape = record (new_shape (codes "serve")) { rules = nodes_rule ∷ port_rule ∷ requests_rule ∷ [] }
 
 -- `serve`
 abbrev pub serve_shape : Shape
-serve_shape = record (new_shape (codes "serve")) { rules = nodes_rule ∷ port_rule ∷ requests_rule ∷ cache_rule ∷ state_rule ∷ [] }
+serve_shape = record (new_shape (codes "serve")) { rules = nodes_rule ∷ port_rule ∷ requests_rule ∷ cache_rule ∷ state_rule ∷ log_rule ∷ [] }
 
--- The program's command, as data for the parser: it takes one of seven commands, or asks for the version or help.
+-- The program's command, as data for the parser: it takes one of eight commands, or asks for the version or help.
 abbrev pub program : App
 program = record {
   top = record (new_shape (codes "wfarm")) {
@@ -112,7 +126,7 @@ program = record {
     has_version = true;
     subcommand_required = true;
   };
-  subs = caps_shape ∷ draw_shape ∷ canon_shape ∷ run_shape ∷ wire_shape ∷ tape_shape ∷ serve_shape ∷ [];
+  subs = caps_shape ∷ draw_shape ∷ canon_shape ∷ check_shape ∷ run_shape ∷ wire_shape ∷ tape_shape ∷ serve_shape ∷ [];
 }
 
 -- ---- the commands as they are built
@@ -136,7 +150,8 @@ abbrev pub IsCapsLine : Text → Text → Line → Type 0
 IsCapsLine word query (lines.Caps seq asked) = IsSequence word seq × (asked.now ≡ query)
 IsCapsLine word query (lines.Draw asked) = ⊥
 IsCapsLine word query lines.Canon = ⊥
-IsCapsLine word query (lines.Tape file) = ⊥
+IsCapsLine word query lines.Check = ⊥
+IsCapsLine word query (lines.Tape file map) = ⊥
 IsCapsLine word query lines.Run = ⊥
 IsCapsLine word query lines.Wire = ⊥
 IsCapsLine word query (lines.Serve service) = ⊥
@@ -151,7 +166,8 @@ abbrev pub IsDrawLine : Text → Line → Type 0
 IsDrawLine query (lines.Caps seq asked) = ⊥
 IsDrawLine query (lines.Draw asked) = asked.now ≡ query
 IsDrawLine query lines.Canon = ⊥
-IsDrawLine query (lines.Tape file) = ⊥
+IsDrawLine query lines.Check = ⊥
+IsDrawLine query (lines.Tape file map) = ⊥
 IsDrawLine query lines.Run = ⊥
 IsDrawLine query lines.Wire = ⊥
 IsDrawLine query (lines.Serve service) = ⊥
@@ -160,19 +176,29 @@ IsDrawLine query (lines.Serve service) = ⊥
 abbrev pub IsDrawOf : List Row → Line → Type 0
 IsDrawOf rows line = (query : Text) × (first_of (codes "QUERY") rows ≡ Some query) × IsDrawLine query line
 
--- The line is `tape` with this file.
-abbrev pub IsTapeLine : Text → Line → Type 0
-IsTapeLine file (lines.Caps seq asked) = ⊥
-IsTapeLine file (lines.Draw asked) = ⊥
-IsTapeLine file lines.Canon = ⊥
-IsTapeLine file (lines.Tape asked) = asked.now ≡ file
-IsTapeLine file lines.Run = ⊥
-IsTapeLine file lines.Wire = ⊥
-IsTapeLine file (lines.Serve service) = ⊥
+-- the sequence of the map that is asked for, by an argument if there is one
+abbrev pub IsMapBy : Option Text → Option ℕ → Type 0
+IsMapBy None map = map ≡ None
+IsMapBy (Some word) map = (seq : ℕ) × (map ≡ Some seq) × IsNumber word 1 last_sequence seq
 
--- The line is `tape` with the argument parsed for FILE.
+-- the same by the parsed arguments
+abbrev pub IsMapOf : List Row → Option ℕ → Type 0
+IsMapOf rows map = IsMapBy (first_of (codes "map") rows) map
+
+-- The line is `tape` with this file, and the map that an argument asks for if there is one.
+abbrev pub IsTapeLine : Text → Option Text → Line → Type 0
+IsTapeLine file word (lines.Caps seq query) = ⊥
+IsTapeLine file word (lines.Draw query) = ⊥
+IsTapeLine file word lines.Canon = ⊥
+IsTapeLine file word lines.Check = ⊥
+IsTapeLine file word (lines.Tape asked map) = (asked.now ≡ file) × IsMapBy word map
+IsTapeLine file word lines.Run = ⊥
+IsTapeLine file word lines.Wire = ⊥
+IsTapeLine file word (lines.Serve service) = ⊥
+
+-- The line is `tape` with the arguments parsed for FILE and `--map`.
 abbrev pub IsTapeOf : List Row → Line → Type 0
-IsTapeOf rows line = (file : Text) × (first_of (codes "FILE") rows ≡ Some file) × IsTapeLine file line
+IsTapeOf rows line = (file : Text) × (first_of (codes "FILE") rows ≡ Some file) × IsTapeLine file (first_of (codes "map") rows) line
 
 -- the argument parsed for a number spells it
 abbrev pub IsNumberOf : List Row → Text → ℕ → ℕ → ℕ → Type 0
@@ -191,6 +217,11 @@ IsCacheBy (Some word) kept = IsNumber word 1 most_kept kept
 abbrev pub IsCacheOf : List Row → ℕ → Type 0
 IsCacheOf rows kept = IsCacheBy (first_of (codes "cache") rows) kept
 
+-- the argument parsed for a flag says that it was given
+abbrev pub is_set : Option Text → Bool
+is_set None = false
+is_set (Some word) = bytes_eq word (codes "true")
+
 -- The service is that of the parsed arguments.
 pub record IsServiceOf (rows : List Row) (service : Service) : Type 0 where
   pub nodes : IsNumberOf rows (codes "nodes") 1 most_nodes service.nodes
@@ -198,13 +229,15 @@ pub record IsServiceOf (rows : List Row) (service : Service) : Type 0 where
   pub requests : IsNumberOf rows (codes "requests") 0 most_requests service.requests
   pub cache : IsCacheOf rows service.cache
   pub state : option_map (λ s. s.now) service.state ≡ first_of (codes "state") rows
+  pub log : service.log ≡ is_set (first_of (codes "log") rows)
 
 -- The line is `serve` with the service of the parsed arguments.
 abbrev pub IsServeOf : List Row → Line → Type 0
 IsServeOf rows (lines.Caps seq query) = ⊥
 IsServeOf rows (lines.Draw query) = ⊥
 IsServeOf rows lines.Canon = ⊥
-IsServeOf rows (lines.Tape file) = ⊥
+IsServeOf rows lines.Check = ⊥
+IsServeOf rows (lines.Tape file map) = ⊥
 IsServeOf rows lines.Run = ⊥
 IsServeOf rows lines.Wire = ⊥
 IsServeOf rows (lines.Serve service) = IsServiceOf rows service
@@ -215,7 +248,8 @@ Asks None line = ⊥
 Asks (Some named) (lines.Caps seq query) = (named.0 ≡ codes "caps") × IsCapsOf named.1 (lines.Caps seq query)
 Asks (Some named) (lines.Draw query) = (named.0 ≡ codes "draw") × IsDrawOf named.1 (lines.Draw query)
 Asks (Some named) lines.Canon = named.0 ≡ codes "canon"
-Asks (Some named) (lines.Tape file) = (named.0 ≡ codes "tape") × IsTapeOf named.1 (lines.Tape file)
+Asks (Some named) lines.Check = named.0 ≡ codes "check"
+Asks (Some named) (lines.Tape file map) = (named.0 ≡ codes "tape") × IsTapeOf named.1 (lines.Tape file map)
 Asks (Some named) lines.Run = named.0 ≡ codes "run"
 Asks (Some named) lines.Wire = named.0 ≡ codes "wire"
 Asks (Some named) (lines.Serve service) = (named.0 ≡ codes "serve") × IsServeOf named.1 (lines.Serve service)
@@ -249,14 +283,18 @@ abbrev pub PlainDrawIsAsked : Type 0
 PlainDrawIsAsked = (query : Text) (line : Line) → is_plain query ≡ true → IsDrawLine query line
     → (takes program (codes "draw" ∷ query ∷ []) ≡ true) × Asks (subcommand_of program (codes "draw" ∷ query ∷ [])) line
 
--- The parser accepts `tape` and any argument without a leading hyphen as the file. They ask for exactly the line of that file.
+-- The parser accepts `tape` and any argument without a leading hyphen as the file. They ask for exactly the line of that file, without a map.
 abbrev pub PlainTapeIsAsked : Type 0
-PlainTapeIsAsked = (file : Text) (line : Line) → is_plain file ≡ true → IsTapeLine file line
+PlainTapeIsAsked = (file : Text) (line : Line) → is_plain file ≡ true → IsTapeLine file None line
     → (takes program (codes "tape" ∷ file ∷ []) ≡ true) × Asks (subcommand_of program (codes "tape" ∷ file ∷ [])) line
 
 -- The parser accepts `canon` alone; it asks for the canonical text.
 abbrev pub PlainCanonIsAsked : Type 0
 PlainCanonIsAsked = (takes program (codes "canon" ∷ []) ≡ true) × Asks (subcommand_of program (codes "canon" ∷ [])) lines.Canon
+
+-- The parser accepts `check` alone; it asks to check the mapfile.
+abbrev pub PlainCheckIsAsked : Type 0
+PlainCheckIsAsked = (takes program (codes "check" ∷ []) ≡ true) × Asks (subcommand_of program (codes "check" ∷ [])) lines.Check
 
 -- The parser accepts `run` alone; it asks to play a script.
 abbrev pub PlainRunIsAsked : Type 0

@@ -1,5 +1,5 @@
 -- The range of a command line's numbers, and the kinds of command.
-use Rattle.std.specs.Prelude.{◌≡◌, ◌≤◌, ℕ, List, ⊤}
+use Rattle.std.specs.Prelude.{◌≡◌, ◌≤◌, ℕ, List, IfSome, ⊤}
 use Rattle.std.specs.Str.Parse.{IsNumeral, digits_value, without_leading_plus}
 use Rattle.wf_ballot.specs.Sequence.{last_sequence}
 use Rattle.wf_line.specs.declared.line.Line.{Line}
@@ -11,7 +11,8 @@ abbrev pub IsInRange : Line → Type 0
 IsInRange (lines.Caps seq query) = seq ≤ last_sequence
 IsInRange (lines.Draw query) = ⊤
 IsInRange lines.Canon = ⊤
-IsInRange (lines.Tape file) = ⊤
+IsInRange lines.Check = ⊤
+IsInRange (lines.Tape file map) = IfSome map (λ seq. (1 ≤ seq) × (seq ≤ last_sequence))
 IsInRange lines.Run = ⊤
 IsInRange lines.Wire = ⊤
 IsInRange (lines.Serve service) = IsService service
@@ -21,7 +22,8 @@ abbrev pub IsOfInput : Line → Type 0
 IsOfInput (lines.Caps seq query) = ⊤
 IsOfInput (lines.Draw query) = ⊤
 IsOfInput lines.Canon = ⊤
-IsOfInput (lines.Tape file) = ⊥
+IsOfInput lines.Check = ⊤
+IsOfInput (lines.Tape file map) = ⊥
 IsOfInput lines.Run = ⊤
 IsOfInput lines.Wire = ⊤
 IsOfInput (lines.Serve service) = ⊥

@@ -1,17 +1,17 @@
 //! Parses the command line.
-ghost use Rattle.std.specs.Prelude.{◌≡◌, ◌∷◌, [], ℕ, IfErr, IfNone, IfOk, IfSome, false, map};
+ghost use Rattle.std.specs.Prelude.{◌≡◌, ◌∷◌, [], ℕ, IfErr, IfNone, IfOk, IfSome, Option, false, map};
 ghost use Rattle.clap.specs.Simple.{app_of, shape_of, subcommand_of, subcommand_rows_of};
 ghost use Rattle.clap.specs.Values.{kind_of};
-ghost use Rattle.clap.specs.Walk.{rule_of};
+ghost use Rattle.clap.specs.Walk.{first_of, rule_of};
 ghost use Rattle.clap.specs.declared.builder.command.Command.TheViews.{out-Command};
-ghost use Rattle.wf_line.specs.CommandLine.{Asks, HasSubcommands, IsCacheOf, IsCapsOf, IsDrawOf, IsNumberOf, IsOfShape, IsRejection, IsServeOf, IsServiceOf, IsTapeOf, IsWhyRejected, PlainCanonIsAsked, PlainCapsIsAsked, PlainDrawIsAsked, PlainRunIsAsked, PlainTapeIsAsked, PlainWireIsAsked, program, caps_shape, draw_shape, canon_shape, run_shape, wire_shape, tape_shape, required_serve_shape, serve_shape, rows_in, sequence_rule, query_rule, file_rule, nodes_rule, port_rule, requests_rule, cache_rule, state_rule};
+ghost use Rattle.wf_line.specs.CommandLine.{Asks, HasSubcommands, IsCacheOf, IsCapsOf, IsDrawOf, IsNumberOf, IsOfShape, IsRejection, IsServeOf, IsServiceOf, IsTapeOf, IsWhyRejected, PlainCanonIsAsked, PlainCapsIsAsked, PlainDrawIsAsked, PlainRunIsAsked, PlainTapeIsAsked, PlainWireIsAsked, program, caps_shape, draw_shape, canon_shape, run_shape, wire_shape, tape_shape, required_serve_shape, serve_shape, rows_in, is_set, IsMapOf, map_rule, log_rule, sequence_rule, query_rule, file_rule, nodes_rule, port_rule, requests_rule, cache_rule, state_rule, PlainCheckIsAsked, check_shape};
 ghost use Rattle.wf_line.specs.Line.{IsInRange, IsNumber, IsSequence};
 ghost use Rattle.wf_line.specs.declared.line.Line.{Line};
 ghost use Rattle.wf_service.specs.declared.service.Service.{Service};
 
 use crate::line::Line;
 use clap::error::ErrorKind;
-use clap::{Arg, ArgMatches, Command, Error};
+use clap::{Arg, ArgAction, ArgMatches, Command, Error};
 use std::alloc::{AllocError, Global};
 use std::convert::AsStr;
 use wf_ballot::SEQUENCES;
@@ -38,6 +38,13 @@ const CANON_HELP: &str =
 
 Limits: a mapfile has at most 131,072 bytes, a canonical text 65,536
 Errors (status 1): map fault M1 to M12, canon fault K1 and K3, read fault";
+
+const CHECK_HELP: &str =
+    "Nothing is written where a farm would publish the map. Else the first error: its line, column and number, the line itself
+with a mark under the place, what was found there and what is allowed there; the status is 1 then, with no other line.
+
+Limits: a mapfile has at most 131,072 bytes, a canonical text 65,536
+Errors (status 1): map fault M1, read fault";
 
 const RUN_HELP: &str = "The first line is nodes N; each later line is an order or a question.
 Orders: map NAME, the lines of a mapfile, endmap; fuse I C KEPT CRASH; propose I NAME, retry I, catchup I,
@@ -69,9 +76,13 @@ OFFSET published SEQ text BYTES
 OFFSET end, OFFSET torn record, N bytes, or OFFSET P2 bad record, N bytes
 A torn record is removed when a node opens its tape; a tape with a bad one opens no node.
 The file isn't changed, and needn't be whole: the status is 0 for any that can be read.
+Of a folder, each tape in it is listed after a line with its name, and the last line says whether the folder is whole, the
+tapes of one farm with equal maps under equal sequences.
+With --map S the canonical text of the map that the tape has as published under sequence S is written, and nothing else.
 
 Limits: a tape has at most 8 GB
-Errors (status 1): tape fault P1 (the file can't be read, or is too long), tape fault P3 (out of memory)";
+Errors (status 1): tape fault P1 (the file can't be read, or is too long), tape fault P3 (out of memory), tape fault P4 (no such
+map)";
 
 /// The most pictures that a node may keep.
 const MOST_CACHE: i64 = 64;
@@ -84,7 +95,8 @@ const SERVE_HELP: &str =
 Node c mod N serves connection c, counted from 0.
 A kept picture takes 3 MB.
 With --state the nodes' tapes are the files node-0.tape, node-1.tape and so on of the folder DIR, which must
-exist; without it the tapes are lost when the program ends.
+exist; without it the tapes are lost when the program ends. The folder belongs to its first N: its file farm says so.
+With --log a line on standard error tells each event: TIME LEVEL EVENT KEY=VALUE ..
 
 Errors (status 1): serve fault";
 
@@ -115,9 +127,9 @@ fn file_argument<'a>(alloc: Global) -> Arg<'a>
     ensures rule { rule_of result ≡ file_rule }
     ensures local { result.global ≡ false }
 {
-    Arg::new(alloc, "FILE")
-        .required(true)
-        .help("The file of the tape, such as node-0.tape")
+    Arg::new(alloc, "FILE").required(true).help(
+        "The file of the tape, such as node-0.tape, or the folder of a farm",
+    )
 }
 
 // `caps SEQ QUERY`.
@@ -151,6 +163,16 @@ fn canon_command<'a>(alloc: Global) -> Command<'a>
         .after_help(CANON_HELP)
 }
 
+// `check`.
+fn check_command<'a>(alloc: Global) -> Command<'a>
+    ensures shape { shape_of result ≡ check_shape }
+    ensures local { (out-Command result).has_globals ≡ false }
+{
+    Command::new(alloc, "check")
+        .about("Checks the mapfile on standard input, and shows its first error with the line")
+        .after_help(CHECK_HELP)
+}
+
 // `run`.
 fn run_command<'a>(alloc: Global) -> Command<'a>
     ensures shape { shape_of result ≡ run_shape }
@@ -171,14 +193,29 @@ fn wire_command<'a>(alloc: Global) -> Command<'a>
         .after_help(WIRE_HELP)
 }
 
-// `tape FILE`.
+// `--map S`.
+fn map_argument<'a>(alloc: Global) -> Arg<'a>
+    ensures rule { rule_of result ≡ map_rule }
+    ensures local { result.global ≡ false }
+{
+    Arg::new(alloc, "map")
+        .long("map")
+        .value_name("S")
+        .value_parser(clap::value_parser!(u16).range(1..=4_096))
+        .help("Writes the map published under this sequence, 1 to 4096")
+}
+
+// `tape FILE --map S`.
 fn tape_command<'a>(alloc: Global) -> Result<Command<'a>, AllocError>
     ensures { IfOk result (IsOfShape tape_shape) }
 {
     Command::new(alloc, "tape")
-        .about("Lists the records of a node's tape, and where it is torn or bad")
+        .about(
+            "Lists the records of a node's tape or of a farm's folder, and where a tape is torn or bad",
+        )
         .after_help(TAPE_HELP)
-        .arg(file_argument(alloc))
+        .arg(file_argument(alloc))?
+        .arg(map_argument(alloc))
 }
 
 // `--nodes N`.
@@ -243,6 +280,17 @@ fn state_argument<'a>(alloc: Global) -> Arg<'a>
         .help("The folder of the nodes' tapes")
 }
 
+// `--log`.
+fn log_argument<'a>(alloc: Global) -> Arg<'a>
+    ensures rule { rule_of result ≡ log_rule }
+    ensures local { result.global ≡ false }
+{
+    Arg::new(alloc, "log")
+        .long("log")
+        .action(ArgAction::SetTrue)
+        .help("Writes a line about each event on standard error")
+}
+
 // `serve`, without its optional arguments.
 fn farm_command<'a>(alloc: Global) -> Result<Command<'a>, AllocError>
     ensures { IfOk result (IsOfShape required_serve_shape) }
@@ -255,13 +303,14 @@ fn farm_command<'a>(alloc: Global) -> Result<Command<'a>, AllocError>
         .arg(requests_argument(alloc))
 }
 
-// `serve --nodes N --port P --requests K --cache C --state DIR`.
+// `serve --nodes N --port P --requests K --cache C --state DIR --log`.
 fn serve_command<'a>(alloc: Global) -> Result<Command<'a>, AllocError>
     ensures { IfOk result (IsOfShape serve_shape) }
 {
     farm_command(alloc)?
         .arg(cache_argument(alloc))?
-        .arg(state_argument(alloc))
+        .arg(state_argument(alloc))?
+        .arg(log_argument(alloc))
 }
 
 // The program with its first command only.
@@ -279,18 +328,19 @@ fn first_command<'a>(alloc: Global) -> Result<Command<'a>, AllocError>
 
 // The commands about a mapfile.
 fn mapfile_commands<'a>(alloc: Global) -> Result<Command<'a>, AllocError>
-    ensures { IfOk result (HasSubcommands (caps_shape ∷ draw_shape ∷ canon_shape ∷ [])) }
+    ensures { IfOk result (HasSubcommands (caps_shape ∷ draw_shape ∷ canon_shape ∷ check_shape ∷ [])) }
 {
     let draw = draw_command(alloc)?;
     first_command(alloc)?
         .subcommand(draw)?
-        .subcommand(canon_command(alloc))
+        .subcommand(canon_command(alloc))?
+        .subcommand(check_command(alloc))
 }
 
 // The commands about an input.
 fn input_commands<'a>(alloc: Global) -> Result<Command<'a>, AllocError>
     ensures { IfOk result (HasSubcommands
-        (caps_shape ∷ draw_shape ∷ canon_shape ∷ run_shape ∷ wire_shape ∷ [])) }
+        (caps_shape ∷ draw_shape ∷ canon_shape ∷ check_shape ∷ run_shape ∷ wire_shape ∷ [])) }
 {
     mapfile_commands(alloc)?
         .subcommand(run_command(alloc))?
@@ -300,7 +350,8 @@ fn input_commands<'a>(alloc: Global) -> Result<Command<'a>, AllocError>
 // The commands about an input or a file.
 fn reading_commands<'a>(alloc: Global) -> Result<Command<'a>, AllocError>
     ensures { IfOk result (HasSubcommands
-        (caps_shape ∷ draw_shape ∷ canon_shape ∷ run_shape ∷ wire_shape ∷ tape_shape ∷ [])) }
+        (caps_shape ∷ draw_shape ∷ canon_shape ∷ check_shape ∷ run_shape ∷ wire_shape ∷
+        tape_shape ∷ [])) }
 {
     let tape = tape_command(alloc)?;
     input_commands(alloc)?.subcommand(tape)
@@ -363,6 +414,21 @@ fn draw<'a>(found: &ArgMatches<'a>) -> Option<Line<'a>>
     Some(Line::Draw { query: word })
 }
 
+// The sequence of the map that `tape` is to write, by the parsed arguments.
+#[tactic(auto, using(crate::proofs::Named::word_in_row))]
+fn map<'a>(found: &ArgMatches<'a>) -> Option<Option<u16>>
+    ensures some { IfSome result (IsMapOf (rows_in found.now)) }
+    ensures none { IfNone result ((map : Option ℕ) → ¬ (IsMapOf (rows_in found.now) map)) }
+{
+    match found.get_str("map") {
+        Some(word) => {
+            let number = number(word, 1, 4_096)?;
+            Some(Some(number as u16))
+        }
+        None => Some(None),
+    }
+}
+
 // The `tape` line of the parsed arguments.
 #[tactic(auto, using(crate::proofs::Named::word_in_row))]
 fn tape<'a>(found: &ArgMatches<'a>) -> Option<Line<'a>>
@@ -370,7 +436,8 @@ fn tape<'a>(found: &ArgMatches<'a>) -> Option<Line<'a>>
     ensures none { IfNone result ((line : Line) → ¬ (IsTapeOf (rows_in found.now) line)) }
 {
     let word = found.get_str("FILE")?;
-    Some(Line::Tape { file: word })
+    let map = map(found)?;
+    Some(Line::Tape { file: word, map })
 }
 
 // The number in least..=most that an argument spells.
@@ -407,6 +474,17 @@ fn cache<'a>(found: &ArgMatches<'a>) -> Option<u32>
     }
 }
 
+// Whether a flag was given.
+#[tactic(auto, using(crate::proofs::Named::word_in_row))]
+fn is_set<'a>(found: &ArgMatches<'a>, id: &str) -> bool
+    ensures { result ≡ is_set (first_of id.now (rows_in found.now)) }
+{
+    match found.get_str(id) {
+        Some(word) => word == "true",
+        None => false,
+    }
+}
+
 // What to serve, by the parsed arguments.
 #[tactic(auto, using(crate::proofs::Named::word_in_row))]
 fn service<'a>(found: &ArgMatches<'a>) -> Option<Service<'a>>
@@ -424,6 +502,7 @@ fn service<'a>(found: &ArgMatches<'a>) -> Option<Service<'a>>
         requests,
         cache: cache as u8,
         state: found.get_str("state"),
+        log: is_set(found, "log"),
     })
 }
 
@@ -445,6 +524,7 @@ fn asked<'a>(matches: &ArgMatches<'a>) -> Option<Line<'a>>
         Some(("caps", found)) => caps(found),
         Some(("draw", found)) => draw(found),
         Some(("canon", _)) => Some(Line::Canon),
+        Some(("check", _)) => Some(Line::Check),
         Some(("run", _)) => Some(Line::Run),
         Some(("wire", _)) => Some(Line::Wire),
         Some(("tape", found)) => tape(found),
@@ -478,13 +558,14 @@ pub fn line<'a, S: AsStr>(alloc: Global, words: &'a [S]) -> Result<Line<'a>, Err
     }
 }
 
-/// `caps` with an update sequence and a query, `draw` with a query, `tape` with a file, and `canon`, `run` and `wire` alone ask for
-/// these lines, if no argument begins with a hyphen. A theorem: the call does nothing.
+/// `caps` with an update sequence and a query, `draw` with a query, `tape` with a file, and `canon`, `check`, `run` and `wire` alone ask
+/// for these lines, if no argument begins with a hyphen. A theorem: the call does nothing.
 pub fn plain_words_are_taken()
     ensures caps { PlainCapsIsAsked }
     ensures draw { PlainDrawIsAsked }
     ensures tape { PlainTapeIsAsked }
     ensures canon { PlainCanonIsAsked }
+    ensures check { PlainCheckIsAsked }
     ensures run { PlainRunIsAsked }
     ensures wire { PlainWireIsAsked }
 {}

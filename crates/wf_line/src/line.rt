@@ -11,8 +11,11 @@ pub enum Line<'a> {
     Draw { query: &'a str },
     /// Write the canonical text of the mapfile on standard input.
     Canon,
-    /// List what the tape in a file holds.
-    Tape { file: &'a str },
+    /// Check the mapfile on standard input.
+    Check,
+    /// List what the tape in a file holds, or the tapes in a folder; with a sequence, write the map that the tape in the file has
+    /// as published under it.
+    Tape { file: &'a str, map: Option<u16> },
     /// Play the script on standard input.
     Run,
     /// Play the script on standard input, and let its messages cross a connection.

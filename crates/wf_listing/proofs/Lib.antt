@@ -1,2 +1,3 @@
 mod Lines
+mod Published
 mod Splits

@@ -1,7 +1,7 @@
 //! What a tape holds, as text for an operator: one line for each record and one for what follows them.
 //!
 //! [`list`] lists the bytes of a tape, whatever wrote them: it reads them as a node does when it opens, and changes nothing.
-//! [`read_tape`] reads such bytes from any reader.
+//! [`read_tape`] reads such bytes from any reader, and [`text_of_map`] returns the text of a map that is published on it.
 //!
 //! Promises: the text is exactly the listing of the bytes (`specs/Listing.antt`). Its lines are those of the whole records that
 //! the bytes begin with, in order, each with the byte offset at which it begins; the last line says whether nothing follows them, a
@@ -17,10 +17,12 @@ mod finding;
 mod law;
 mod line;
 mod listing;
+mod map;
 mod reading;
 mod rest;
 
 pub use fault::TapeReadFault;
 pub use law::bytes_have_one_listing;
 pub use listing::list;
+pub use map::text_of_map;
 pub use reading::{MOST_TAPE_BYTES, read_tape};

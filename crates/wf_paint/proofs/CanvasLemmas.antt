@@ -1,16 +1,18 @@
 -- A canvas as a picture: the index of a column of a row, and the effect on a canvas in terms of its pixels.
 use Rattle.std.proofs.Common.{◌≡◌, ◌≢◌, ℕ, ◌+◌, ◌-◌, ◌*◌, ◌/◌, ◌%◌, ◌^◌, ◌<◌, ◌≤◌, inl, inr, Bool, true, false, nat_lt, List, length, Option, Some, None, is_some, refl, sym, ap, ◌∙◌, arith}
-use Rattle.std.specs.Option.{option_or}
+use Rattle.std.specs.Option.{option_or, unwrap_or}
 use Rattle.std.proofs.Math.Nat.{div-lt_iff_lt-mul, div-add-mod, mul_comm}
 use Rattle.std.proofs.lemmas.Nat.{div-mul-add, mod-mul-add}
-use Rattle.std.proofs.lemmas.Bool.{cases_lt, cases_eq, false≢true, lt-ltb, le-ltb}
+use Rattle.std.proofs.lemmas.Bool.{cases_Bool, cases_lt, cases_eq, false≢true, lt-ltb, le-ltb}
 use Rattle.std.proofs.lemmas.Bool.Decides.{nat_tests}
 use Rattle.wf_def.specs.declared.color.Color.{Color}
+use Rattle.wf_paint.specs.Limit.{most_pixels}
 use Rattle.wf_paint.specs.Pixmap.{column_of, row_of}
-use Rattle.wf_paint.specs.Cells.{IsCells, HasFreeBit, IsRangePainted, IsFilled, is_free, painted_in}
+use Rattle.wf_paint.specs.Cells.{IsCells, HasFreeBit, IsPlain, IsRangePainted, is_free, painted_in}
 use Rattle.wf_paint.specs.Canvas.{CanvasValue, IsCanvas, IsBlank, IsFull, HasFree, IsAlike, IsFinished, painted_at}
 use Rattle.wf_paint.specs.Shown.{IsColored, is_in_run, color_where}
-use Rattle.wf_paint.proofs.CellsLemmas.{range_keeps, cells_kept, painted_in-free, painted_in-painted}
+use Rattle.wf_paint.proofs.PlainLemmas.{area_most}
+use Rattle.wf_paint.proofs.CellsLemmas.{range_keeps, range_was_free, cells_kept, painted_in-free, painted_in-painted}
 
 -- ---- the index of a pixel
 
@@ -69,7 +71,7 @@ or_none (Some color) = refl
 
 -- the same canvas with other pixels
 abbrev pub with_cells : CanvasValue → List ℕ → List ℕ → CanvasValue
-with_cells c free bytes = record { width = c.width; height = c.height; bytes = bytes; free = free; known = c.known }
+with_cells c free bytes = record { width = c.width; height = c.height; background = c.background; bytes = bytes; free = free; known = c.known }
 
 module _ (c : CanvasValue) (row from to : ℕ) (color : Color) (free bytes : List ℕ) where
   -- how many pixels lie in the rows above
@@ -88,6 +90,7 @@ module _ (c : CanvasValue) (row from to : ℕ) (color : Color) (free bytes : Lis
       record {
         width = refl;
         height = refl;
+        background = refl;
         pixels = λ i area.
             let column : ℕ = column_of c.width i in
             elim (cases_eq (row_of c.width c.height i) row) [
@@ -125,6 +128,7 @@ module _ (c : CanvasValue) (row from to : ℕ) (color : Color) (free bytes : Lis
     size = range.bytes_size ∙ is.size;
     words = range.free_size ∙ is.words;
     cells = cells_kept start end color c.free c.bytes free bytes range is.cells;
+    unpainted = λ i still. range.unpainted i still ∙ is.unpainted i (range_was_free start end color c.free c.bytes free bytes range i still);
     known_within = omega (arith, is.known_within, range.free_size);
     known_painted = λ i before. range_keeps start end color c.free c.bytes free bytes range i (is.known_painted i before);
   }
@@ -134,6 +138,7 @@ module _ (c : CanvasValue) (row from to : ℕ) (color : Color) (free bytes : Lis
   run_empty none = record {
     width = refl;
     height = refl;
+    background = refl;
     pixels = λ i area.
         let column : ℕ = column_of c.width i in
         let outside : is_in_run row from to column (row_of c.width c.height i) ≡ false =
@@ -146,12 +151,13 @@ module _ (c : CanvasValue) (row from to : ℕ) (color : Color) (free bytes : Lis
 
 -- ---- the whole canvas
 
-pub blank_pixels : (width height : ℕ) (bytes free : List ℕ) → ((i : ℕ) → is_free free i ≡ nat_lt i (width * height)) →
-    IsBlank width height (record { width = width; height = height; bytes = bytes; free = free; known = 0 })
+pub blank_pixels : (width height : ℕ) (background : Color) (bytes free : List ℕ) → ((i : ℕ) → is_free free i ≡ nat_lt i (width * height)) →
+    IsBlank width height background (record { width = width; height = height; background = background; bytes = bytes; free = free; known = 0 })
 unfolding painted_at
-blank_pixels width height bytes free all = record {
+blank_pixels width height background bytes free all = record {
   wide = refl;
   high = refl;
+  under = refl;
   pixels = λ i area. painted_in-free free bytes i (all i ∙ lt-ltb i (width * height) area);
 }
 
@@ -166,15 +172,35 @@ blank_cells area bytes free small sized words all = record {
   ];
 }
 
+-- a canvas begins as it has to be: all pixels of the picture are free and have the background
+pub canvas_begins : (width height : ℕ) (background : Color) (bytes free : List ℕ) → 1 ≤ width → width ≤ most_pixels → 1 ≤ height → height ≤ most_pixels →
+    IsPlain (width * height) background bytes → length free ≡ width * height / 64 + 1 → ((i : ℕ) → is_free free i ≡ nat_lt i (width * height)) →
+    IsCanvas (record { width = width; height = height; background = background; bytes = bytes; free = free; known = 0 })
+canvas_begins width height background bytes free wide_least wide_most high_least high_most plain words all = record {
+  width_least = wide_least;
+  width_most = wide_most;
+  height_least = high_least;
+  height_most = high_most;
+  size = plain.size;
+  words = words;
+  cells = blank_cells (width * height) bytes free (area_most width height wide_most high_most) plain.size words all;
+  unpainted = λ i is. elim (cases_lt i (width * height)) [
+    | inl inside ↦ plain.pixels i inside
+    | inr outside ↦ absurd (false≢true (sym (le-ltb i (width * height) outside) ∙ sym (all i) ∙ is))
+  ];
+  known_within = omega arith;
+  known_painted = λ i before. absurd (omega arith);
+}
+
 -- the same canvas, of whose first words so many are known to have no free pixel
 abbrev pub with_known : CanvasValue → ℕ → CanvasValue
-with_known c known = record { width = c.width; height = c.height; bytes = c.bytes; free = c.free; known = known }
+with_known c known = record { width = c.width; height = c.height; background = c.background; bytes = c.bytes; free = c.free; known = known }
 
 module _ (c : CanvasValue) (known : ℕ) where
   -- to know more changes no pixel
   pub canvas_alike : IsAlike c (with_known c known)
   unfolding painted_at
-  canvas_alike = record { width = refl; height = refl; pixels = λ i area. refl }
+  canvas_alike = record { width = refl; height = refl; background = refl; pixels = λ i area. refl }
 
   pub canvas_known : IsCanvas c → known ≤ length c.free → ((i : ℕ) → i < 64 * known → is_free c.free i ≡ false) → IsCanvas (with_known c known)
   canvas_known is within painted = record {
@@ -185,6 +211,7 @@ module _ (c : CanvasValue) (known : ℕ) where
     size = is.size;
     words = is.words;
     cells = is.cells;
+    unpainted = is.unpainted;
     known_within = within;
     known_painted = painted;
   }
@@ -202,12 +229,14 @@ module _ (c : CanvasValue) (known : ℕ) where
       let i : ℕ = 64 * word + some.bit in
       record { free = i; within = omega (arith, is.size, is.cells.within i some.unpainted); unpainted = painted_in-free c.free c.bytes i some.unpainted }
 
--- the background in the free pixels
-pub canvas_finished : (background : Color) (c : CanvasValue) (bytes : List ℕ) → IsCanvas c → IsFilled (64 * length c.free) background c.free c.bytes bytes →
-    IsFinished background c (record { width = c.width; height = c.height; bytes = bytes })
+-- a canvas as it stands is its picture: free pixels have the background
+pub canvas_finished : (c : CanvasValue) → IsCanvas c → IsFinished c (record { width = c.width; height = c.height; bytes = c.bytes })
 unfolding painted_at
-canvas_finished background c bytes is filled = record {
+canvas_finished c is = record {
   width = refl;
   height = refl;
-  pixels = λ i area. filled.filled i (omega (arith, is.words));
+  pixels = λ i area. elim (cases_Bool (is_free c.free i)) [
+    | inl unpainted ↦ is.unpainted i unpainted ∙ sym (ap (λ (o : Option Color). unwrap_or o c.background) (painted_in-free c.free c.bytes i unpainted))
+    | inr painted ↦ sym (ap (λ (o : Option Color). unwrap_or o c.background) (painted_in-painted c.free c.bytes i painted))
+  ];
 }

@@ -1,14 +1,14 @@
 -- Words of free pixels: what a write to the free pixels of a word does, and walks from word to word.
 use Rattle.std.proofs.Common.{◌≡◌, ℕ, ◌+◌, ◌-◌, ◌*◌, ◌/◌, ◌%◌, ◌^◌, ◌<◌, ◌≤◌, inl, inr, Bool, true, false, eqb, cond, nat_lt, min, List, length, slice_index, set, replicate, bit_and, Option, Some, None, w64, refl, sym, ap, ◌∙◌, arith}
 use Rattle.std.specs.Int.{bit_at, bit_not, trailing_zeros}
-use Rattle.std.specs.Option.{option_or, unwrap_or}
+use Rattle.std.specs.Option.{option_or}
 use Rattle.std.proofs.lemmas.List.{get_or-set_same, get_or-set_other, get_or-replicate, get_or_past, length-set, length-replicate}
 use Rattle.std.proofs.lemmas.Bool.{cases_Bool, cases_lt, cases_eq, false≢true, lt-ltb, le-ltb}
 use Rattle.std.proofs.lemmas.Nat.{shr-shr, shr_le, one_shl}
 use Rattle.std.proofs.lemmas.Nat.Bits.{bit_at-lt, bit_at-zero, bit_at_ones, bit_at_ones_above, bit_at_mask_below, bit_at_mask_inside, ones_shl, ones_shr, bit_at_and, bit_at_not, bit_at_above, bit_at-trailing_zeros}
 use Rattle.wf_def.specs.declared.color.Color.{Color}
 use Rattle.wf_paint.specs.Pixmap.{pixel_at}
-use Rattle.wf_paint.specs.Cells.{IsCells, HasFreeBit, IsWritten, AreWritten, IsRangePainted, IsFilled, is_free, painted_in}
+use Rattle.wf_paint.specs.Cells.{IsCells, HasFreeBit, IsWritten, AreWritten, IsRangePainted, is_free, painted_in}
 
 -- ---- free and painted pixels
 
@@ -210,6 +210,7 @@ painted_already start end color free bytes painted = record {
       was ∙ ap (λ (o : Option Color). option_or o (Some color)) (sym was);
   before = λ i earlier. refl;
   after = λ i later. refl;
+  unpainted = λ i is. refl;
 }
 
 module _ (free bytes : List ℕ) (from to mask : ℕ) (color : Color) (last : to ≤ 64 * (from / 64) + 64) (is : IsMask (from % 64) (to - 64 * (from / 64)) mask) where
@@ -285,6 +286,18 @@ module _ (free bytes : List ℕ) (from to mask : ℕ) (color : Color) (last : to
               ∙ ap (λ (o : Option Color). option_or o (Some color)) (sym (painted_in-painted free bytes i (is_free-clear free i (before ∙ zero_bit))))
         ]
 
+    -- a pixel that is still free has its bytes
+    still_free : (i : ℕ) → is_free cleared i ≡ true → pixel_at new i ≡ pixel_at bytes i
+    still_free i is = written.others i (λ k below this at.
+        let word_of : i / 64 ≡ word = omega arith in
+        let index : i % 64 ≡ k = omega arith in
+        let in_it : bit_at mask k ≡ 1 = omega (arith, this, bit_at_and left mask k, bit_at-lt mask k) in
+        let bit : bit_at mask (i % 64) ≡ 1 = rw index in_it in
+        let now : slice_index cleared (i / 64) ≡ bit_and left (bit_not w64 mask) = rw word_of (get_or-set_same free word (bit_and left (bit_not w64 mask)) 0 within) in
+        let clear : is_free cleared i ≡ false =
+        is_free-clear cleared i (ap (λ (n : ℕ). bit_at n (i % 64)) now ∙ cleared_in left mask (i % 64) fits (omega arith) bit) in
+        false≢true (sym clear ∙ is))
+
     pub word_covered : IsRangePainted from to color free bytes cleared new
     word_covered = record {
       free_size = length-set free word (bit_and left (bit_not w64 mask));
@@ -292,6 +305,7 @@ module _ (free bytes : List ℕ) (from to mask : ℕ) (color : Color) (last : to
       painted = now_painted;
       before = λ i earlier. kept i (λ same. out_of_mask i same earlier);
       after = λ i later. kept i (λ same. past_mask i same later);
+      unpainted = still_free;
     }
 
 -- a pixel whose bit is set has three bytes
@@ -311,6 +325,34 @@ set_have_bytes free bytes word mask k cells fits both =
 
 -- ---- from word to word
 
+module _ (start end : ℕ) (color : Color) (old_free old_bytes free bytes : List ℕ) (range : IsRangePainted start end color old_free old_bytes free bytes) where
+  -- what was painted stays painted
+  pub range_keeps : (i : ℕ) → is_free old_free i ≡ false → is_free free i ≡ false
+  range_keeps i painted =
+      let was : painted_in old_free old_bytes i ≡ Some (pixel_at old_bytes i) = painted_in-painted old_free old_bytes i painted in
+      elim (cases_lt i start) [
+        | inl earlier ↦ is_free-by_color free bytes i (pixel_at old_bytes i) (range.before i earlier ∙ was)
+        | inr from ↦ elim (cases_lt i end) [
+          | inl before ↦
+              let some : (c : Color) × (option_or (painted_in old_free old_bytes i) (Some color) ≡ Some c) = some_or (painted_in old_free old_bytes i) color in
+              is_free-by_color free bytes i some.0 (range.painted i from before ∙ some.1)
+          | inr later ↦ is_free-by_color free bytes i (pixel_at old_bytes i) (range.after i later ∙ was)
+        ]
+      ]
+
+  -- what is free was free
+  pub range_was_free : (i : ℕ) → is_free free i ≡ true → is_free old_free i ≡ true
+  range_was_free i is = elim (cases_Bool (is_free old_free i)) [
+    | inl was ↦ was
+    | inr painted ↦ absurd (false≢true (sym (range_keeps i painted) ∙ is))
+  ]
+
+  pub cells_kept : IsCells old_free old_bytes → IsCells free bytes
+  cells_kept cells = record {
+    most = omega (arith, cells.most, range.free_size);
+    within = λ i is. omega (arith, cells.within i (range_was_free i is), range.bytes_size);
+  }
+
 module _ (start : ℕ) (color : Color) (old_free old_bytes : List ℕ) where
   pub range_begins : IsRangePainted start start color old_free old_bytes old_free old_bytes
   range_begins = painted_already start start color old_free old_bytes (λ i from before. absurd (omega arith))
@@ -327,33 +369,11 @@ module _ (start : ℕ) (color : Color) (old_free old_bytes : List ℕ) where
     ];
     before = λ i earlier. range.before i (omega arith) ∙ earlier_range.before i earlier;
     after = λ i later. range.after i later ∙ earlier_range.after i (omega arith);
+    unpainted = λ i is. range.unpainted i is
+        ∙ earlier_range.unpainted i (range_was_free here next color free bytes new_free new_bytes range i is);
   }
 
-module _ (start end : ℕ) (color : Color) (old_free old_bytes free bytes : List ℕ) (range : IsRangePainted start end color old_free old_bytes free bytes) where
-  -- what was painted stays painted
-  pub range_keeps : (i : ℕ) → is_free old_free i ≡ false → is_free free i ≡ false
-  range_keeps i painted =
-      let was : painted_in old_free old_bytes i ≡ Some (pixel_at old_bytes i) = painted_in-painted old_free old_bytes i painted in
-      elim (cases_lt i start) [
-        | inl earlier ↦ is_free-by_color free bytes i (pixel_at old_bytes i) (range.before i earlier ∙ was)
-        | inr from ↦ elim (cases_lt i end) [
-          | inl before ↦
-              let some : (c : Color) × (option_or (painted_in old_free old_bytes i) (Some color) ≡ Some c) = some_or (painted_in old_free old_bytes i) color in
-              is_free-by_color free bytes i some.0 (range.painted i from before ∙ some.1)
-          | inr later ↦ is_free-by_color free bytes i (pixel_at old_bytes i) (range.after i later ∙ was)
-        ]
-      ]
-
-  pub cells_kept : IsCells old_free old_bytes → IsCells free bytes
-  cells_kept cells = record {
-    most = omega (arith, cells.most, range.free_size);
-    within = λ i is. elim (cases_Bool (is_free old_free i)) [
-      | inl was ↦ omega (arith, cells.within i was, range.bytes_size)
-      | inr painted ↦ absurd (false≢true (sym (range_keeps i painted) ∙ is))
-    ];
-  }
-
--- ---- the first word with a free pixel, and the background
+-- ---- the first word with a free pixel
 
 -- a word without a set bit has no free pixel
 pub passed_word : (free : List ℕ) (word : ℕ) → slice_index free word ≡ 0 → ((i : ℕ) → i < 64 * word → is_free free i ≡ false) → (i : ℕ) → i < 64 * (word + 1) → is_free free i ≡ false
@@ -376,36 +396,3 @@ word_free free word some fits =
       below = below;
       unpainted = is_free-set free (64 * word + bit) (ap (λ (w : ℕ). bit_at (slice_index free w) ((64 * word + bit) % 64)) word_of ∙ ap (bit_at (slice_index free word)) index ∙ found.1);
     }
-
-pub filled_none : (background : Color) (free bytes : List ℕ) → IsFilled 0 background free bytes bytes
-filled_none background free bytes = record { size = refl; filled = λ i before. absurd (omega arith); left = λ i later. refl }
-
-module _ (background : Color) (free old bytes new : List ℕ) (word : ℕ) where
-  pub word_filled : IsFilled (64 * word) background free old bytes → AreWritten 64 (64 * word) (slice_index free word) background bytes new →
-      IsFilled (64 * (word + 1)) background free old new
-  word_filled filled written =
-      let apart : (i : ℕ) → (i / 64 ≡ word → bit_at (slice_index free word) (i % 64) ≡ 0) → pixel_at new i ≡ pixel_at bytes i = λ i clear. written.others i (λ k below this at.
-      let word_of : i / 64 ≡ word = omega arith in
-      let index : i % 64 ≡ k = omega arith in
-      let none : bit_at (slice_index free word) k ≡ 0 = rw index at (clear word_of) in
-      omega (arith, this, none)) in
-      record {
-        size = written.size ∙ filled.size;
-        filled = λ i before. elim (cases_lt i (64 * word)) [
-          | inl earlier ↦ apart i (λ same. absurd (omega arith)) ∙ filled.filled i earlier
-          | inr from ↦
-              let same : i / 64 ≡ word = omega arith in
-              let index : 64 * word + i % 64 ≡ i = omega arith in
-              let here : bit_at (slice_index free (i / 64)) (i % 64) ≡ bit_at (slice_index free word) (i % 64) = ap (λ (w : ℕ). bit_at (slice_index free w) (i % 64)) same in
-              elim (cases_eq (bit_at (slice_index free word) (i % 64)) 1) [
-                | inl is ↦
-                    let colored : pixel_at new i ≡ background = rw index at (written.changed (i % 64) (omega arith) is) in
-                    colored ∙ ap (λ (o : Option Color). unwrap_or o background) (sym (painted_in-free free old i (is_free-set free i (here ∙ is))))
-                | inr not_free ↦
-                    let clear : bit_at (slice_index free word) (i % 64) ≡ 0 = omega (arith, bit_at-lt (slice_index free word) (i % 64)) in
-                    apart i (λ this. clear) ∙ filled.left i from
-                    ∙ ap (λ (o : Option Color). unwrap_or o background) (sym (painted_in-painted free old i (is_free-clear free i (here ∙ clear))))
-              ]
-        ];
-        left = λ i later. apart i (λ same. absurd (omega arith)) ∙ filled.left i (omega arith);
-      }

@@ -41,6 +41,7 @@ pub IsColored-none : (shown : ℕ → ℕ → Bool) (color : Color) (c : CanvasV
 IsColored-none shown color c none = record {
   width = refl;
   height = refl;
+  background = refl;
   pixels = λ i within.
       let column = column_of c.width i in
       let row = row_of c.width c.height i in
@@ -54,6 +55,7 @@ pub IsColored-either : (first second : ℕ → ℕ → Bool) (color : Color) (a 
 IsColored-either first second color a b c before after = record {
   width = after.width ∙ before.width;
   height = after.height ∙ before.height;
+  background = after.background ∙ before.background;
   pixels = λ i within.
       let column = column_of a.width i in
       let row = row_of a.width a.height i in
@@ -72,6 +74,7 @@ pub IsColored-alike : (shown other : ℕ → ℕ → Bool) (color : Color) (a b 
 IsColored-alike shown other color a b same colored = record {
   width = colored.width;
   height = colored.height;
+  background = colored.background;
   pixels = λ i within.
       let column = column_of a.width i in
       let row = row_of a.width a.height i in
@@ -97,6 +100,7 @@ pub IsShown-from_colored : (shape : ShapeValue) (color : Color) (a b : CanvasVal
 IsShown-from_colored shape color a b colored = record {
   width = colored.width;
   height = colored.height;
+  background = colored.background;
   pixels = λ i within.
       let column = pos (column_of a.width i) in
       let row = pos (row_of a.width a.height i) in

@@ -2,11 +2,13 @@ pub mod QuotientLemmas
 pub mod StepsLemmas
 pub mod OperationLemmas
 pub mod PixelLemmas
+pub mod PlainLemmas
 pub mod CellsLemmas
 pub mod WindowLemmas
 pub mod CanvasLemmas
 pub mod ShownLemmas
 pub mod ColoredLemmas
+pub mod EdgesLemmas
 pub mod WidthLemmas
 pub mod StylesLemmas
 pub mod SpanLemmas
@@ -22,3 +24,4 @@ pub mod GridLemmas
 pub mod MovedLemmas
 pub mod DrawingLemmas
 pub mod DirectionLemmas
+pub mod FittingLemmas

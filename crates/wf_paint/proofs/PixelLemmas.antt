@@ -2,10 +2,10 @@
 use Rattle.std.proofs.Common.{◌≡◌, ◌≢◌, ℕ, ◌+◌, ◌*◌, ◌<◌, List, length, get_or, set, refl, ◌∙◌, arith}
 use Rattle.std.proofs.lemmas.List.{get_or-set_same, get_or-set_other, length-set}
 use Rattle.wf_def.specs.declared.color.Color.{Color}
-use Rattle.wf_paint.specs.Pixmap.{PixmapValue, IsPixmap, IsSet, pixel_at}
+use Rattle.wf_paint.specs.Pixmap.{PixmapValue, IsSet, pixel_at}
 use Rattle.wf_paint.specs.Cells.{IsWritten}
 
-color-same : (a b : Color) → a.r ≡ b.r → a.g ≡ b.g → a.b ≡ b.b → a ≡ b
+pub color-same : (a b : Color) → a.r ≡ b.r → a.g ≡ b.g → a.b ≡ b.b → a ≡ b
 color-same a b red green blue i = record { r = red i; g = green i; b = blue i }
 
 -- the bytes with the three from this index on replaced
@@ -56,11 +56,11 @@ pixel_written bytes index color within = record {
 }
 
 -- the picture with these three bytes written is the picture with the pixel set
-pub pixel_set : (p : PixmapValue) (index : ℕ) (color : Color) → IsPixmap p → index < p.width * p.height →
-    IsSet index color p (record { width = p.width; height = p.height; bytes = with_pixel p.bytes (3 * index) color })
-pixel_set p index color is within = record {
+pub pixel_set : (p : PixmapValue) (index : ℕ) (color : Color) (bytes : List ℕ) → IsWritten index color p.bytes bytes →
+    IsSet index color p (record { width = p.width; height = p.height; bytes = bytes })
+pixel_set p index color bytes written = record {
   width = refl;
   height = refl;
-  changed = pixel_at-written p.bytes index color (omega (arith, is.size));
-  others = λ i inside apart. pixel_at-other p.bytes index color i apart;
+  changed = written.changed;
+  others = λ i inside apart. written.others i apart;
 }

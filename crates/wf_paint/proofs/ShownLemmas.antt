@@ -56,13 +56,14 @@ seen-none column row = refl
 -- without operations a canvas is unchanged
 pub IsShown-none : (c : CanvasValue) → IsShown [] c c
 unfolding seen
-IsShown-none c = record { width = refl; height = refl; pixels = λ i within. sym (or_none (painted_at c i)) }
+IsShown-none c = record { width = refl; height = refl; background = refl; pixels = λ i within. sym (or_none (painted_at c i)) }
 
 -- the later operations first, then the earlier ones
 pub IsShown-append : (xs ys : List OperationValue) (a b c : CanvasValue) → IsShown ys a b → IsShown xs b c → IsShown (xs ++ ys) a c
 IsShown-append xs ys a b c later earlier = record {
   width = earlier.width ∙ later.width;
   height = earlier.height ∙ later.height;
+  background = earlier.background ∙ later.background;
   pixels = λ i within.
       let here = λ (width height : ℕ). seen xs (pos (column_of width i)) (pos (row_of width height i)) in
       earlier.pixels i (rw (later.width, later.height) within)
@@ -78,6 +79,7 @@ pub IsShown-full : (ops : List OperationValue) (c : CanvasValue) → IsFull c �
 IsShown-full ops c full = record {
   width = refl;
   height = refl;
+  background = refl;
   pixels = λ i within. sym (or-some (painted_at c i) (seen ops (pos (column_of c.width i)) (pos (row_of c.width c.height i))) (full.pixels i within));
 }
 
@@ -86,6 +88,7 @@ pub IsShown-alike : (ops : List OperationValue) (a b c : CanvasValue) → IsShow
 IsShown-alike ops a b c shown alike = record {
   width = alike.width ∙ shown.width;
   height = alike.height ∙ shown.height;
+  background = alike.background ∙ shown.background;
   pixels = λ i within. alike.pixels i (rw (shown.width, shown.height) within) ∙ shown.pixels i within;
 }
 
@@ -104,6 +107,7 @@ pub IsShown-hidden : (under ops : List OperationValue) (a b : CanvasValue) → I
 IsShown-hidden under ops a b hidden shown = record {
   width = shown.width;
   height = shown.height;
+  background = shown.background;
   pixels = λ i within.
       let column = pos (column_of a.width i) in
       let row = pos (row_of a.width a.height i) in
@@ -196,7 +200,7 @@ color_at-seen ops background column row = color_of-free (find (λ (op : Operatio
 
 -- on a blank canvas the operations are seen, and the background where there are none
 pub IsPicture-shown : (ops : List OperationValue) (background : Color) (width height : ℕ) (blank shown : CanvasValue) (p : PixmapValue) →
-    IsBlank width height blank → IsShown ops blank shown → IsFinished background shown p → IsPicture width height (color_at ops background) p
+    IsBlank width height background blank → IsShown ops blank shown → IsFinished shown p → IsPicture width height (color_at ops background) p
 IsPicture-shown ops background width height blank shown p begun over finished = record {
   wide = finished.width ∙ over.width ∙ begun.wide;
   high = finished.height ∙ over.height ∙ begun.high;
@@ -209,6 +213,7 @@ IsPicture-shown ops background width height blank shown p begun over finished = 
       ∙ ap (λ (o : Option Color). option_or o (here blank.width blank.height)) (begun.pixels i within)
       ∙ ap (λ (w : ℕ). here w blank.height) begun.wide ∙ ap (here width) begun.high in
       finished.pixels i (rw (wide, high) within)
+      ∙ ap (unwrap_or (painted_at shown i)) (over.background ∙ begun.under)
       ∙ ap (λ (o : Option Color). unwrap_or o background) colored
       ∙ color_at-seen ops background (pos (column_of width i)) (pos (row_of width height i));
 }

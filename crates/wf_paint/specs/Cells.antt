@@ -1,7 +1,7 @@
 -- The pixels of a canvas, index by index: three bytes each, and a bit, 1 where the pixel is free. A word has the bits of 64 pixels.
 use Rattle.std.specs.Prelude.{◌≡◌, ◌≢◌, ℕ, ◌+◌, ◌*◌, ◌/◌, ◌%◌, ◌^◌, ◌<◌, ◌≤◌, ◌==◌, Bool, true, List, length, slice_index, Option, Some, None, if◌then◌else◌}
 use Rattle.std.specs.Int.{bit_at}
-use Rattle.std.specs.Option.{option_or, unwrap_or}
+use Rattle.std.specs.Option.{option_or}
 use Rattle.wf_def.specs.declared.color.Color.{Color}
 use Rattle.wf_paint.specs.Pixmap.{pixel_at}
 
@@ -24,6 +24,11 @@ pub record HasFreeBit (free : List ℕ) (word : ℕ) : Type 0 where
   pub below : bit < 64
   pub unpainted : is_free free (64 * word + bit) ≡ true
 
+-- so many pixels, all of one colour
+pub record IsPlain (count : ℕ) (color : Color) (bytes : List ℕ) : Type 0 where
+  pub size : length bytes ≡ 3 * count
+  pub pixels : (i : ℕ) → i < count → pixel_at bytes i ≡ color
+
 -- the pixel's three bytes are the colour's; every other pixel has its old ones
 pub record IsWritten (index : ℕ) (color : Color) (old new : List ℕ) : Type 0 where
   pub size : length new ≡ length old
@@ -36,16 +41,11 @@ pub record AreWritten (count first bits : ℕ) (color : Color) (old new : List �
   pub changed : (k : ℕ) → k < count → bit_at bits k ≡ 1 → pixel_at new (first + k) ≡ color
   pub others : (i : ℕ) → ((k : ℕ) → k < count → bit_at bits k ≡ 1 → i ≢ first + k) → pixel_at new i ≡ pixel_at old i
 
--- the pixels from `start` on and before `end` are painted: those that were free have the colour
+-- the pixels from `start` on and before `end` are painted: those that were free have the colour; those still free have their old bytes
 pub record IsRangePainted (start end : ℕ) (color : Color) (old_free old_bytes free bytes : List ℕ) : Type 0 where
   pub free_size : length free ≡ length old_free
   pub bytes_size : length bytes ≡ length old_bytes
   pub painted : (i : ℕ) → start ≤ i → i < end → painted_in free bytes i ≡ option_or (painted_in old_free old_bytes i) (Some color)
   pub before : (i : ℕ) → i < start → painted_in free bytes i ≡ painted_in old_free old_bytes i
   pub after : (i : ℕ) → end ≤ i → painted_in free bytes i ≡ painted_in old_free old_bytes i
-
--- the pixels before `end` have their colour, free ones the background; the others are unchanged
-pub record IsFilled (end : ℕ) (background : Color) (free old new : List ℕ) : Type 0 where
-  pub size : length new ≡ length old
-  pub filled : (i : ℕ) → i < end → pixel_at new i ≡ unwrap_or (painted_in free old i) background
-  pub left : (i : ℕ) → end ≤ i → pixel_at new i ≡ pixel_at old i
+  pub unpainted : (i : ℕ) → is_free free i ≡ true → pixel_at bytes i ≡ pixel_at old_bytes i

@@ -20,4 +20,5 @@ pub mod Marks
 pub mod Grid
 pub mod Tile
 pub mod Drawing
+pub mod Edges
 pub mod Direction

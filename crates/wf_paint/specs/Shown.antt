@@ -23,6 +23,7 @@ is_in_run row from to column r = (r == row) && (not (nat_lt column from) && nat_
 pub record IsShown (ops : List OperationValue) (old new : CanvasValue) : Type 0 where
   pub width : new.width ≡ old.width
   pub height : new.height ≡ old.height
+  pub background : new.background ≡ old.background
   pub pixels : (i : ℕ) → i < old.width * old.height →
       painted_at new i ≡ option_or (painted_at old i) (seen ops (pos (column_of old.width i)) (pos (row_of old.width old.height i)))
 
@@ -30,5 +31,6 @@ pub record IsShown (ops : List OperationValue) (old new : CanvasValue) : Type 0 
 pub record IsColored (shown : ℕ → ℕ → Bool) (color : Color) (old new : CanvasValue) : Type 0 where
   pub width : new.width ≡ old.width
   pub height : new.height ≡ old.height
+  pub background : new.background ≡ old.background
   pub pixels : (i : ℕ) → i < old.width * old.height →
       painted_at new i ≡ option_or (painted_at old i) (color_where (shown (column_of old.width i) (row_of old.width old.height i)) color)

@@ -46,3 +46,12 @@ tile_view e cell = record {
 pub record IsViewOf (e box : ExtentValue) (width height : ℕ) (view : ViewValue) : Type 0 where
   pub tile : (cell : GridCell) → fits e box width height cell ≡ true → view ≡ tile_view e cell
   pub plain : ((cell : GridCell) → fits e box width height cell ≡ false) → view ≡ box_view box width height
+
+-- a request of this box at this size has a view
+pub record HasView (e box : ExtentValue) (width height : ℕ) : Type 0 where
+  pub view : ViewValue
+  pub is : IsViewOf e box width height view
+
+-- each has one
+abbrev pub EachRequestHasAView : Type 0
+EachRequestHasAView = (e box : ExtentValue) (width height : ℕ) → HasView e box width height

@@ -12,6 +12,7 @@ ghost use Rattle.wf_paint.specs.Span.{IsSpanOf};
 
 use crate::canvas::Canvas;
 use crate::coverage::{deviation, is_steep, margin, rise, run};
+use crate::edges::Edges;
 use crate::exact::is_less;
 use crate::level::centres_between;
 use crate::levels::Levels;
@@ -24,11 +25,11 @@ use crate::strip::{draw_strip, draw_upright};
 use wf_def::color::Color;
 
 /// Paints a line of `width` pixels along each segment; nothing if `color` is None.
-pub(crate) fn draw_along(canvas: &mut Canvas, width: u8, segments: &[Segment], color: Option<Color>)
-    ensures { IsShown (in_color (LineOf width segments.now) color) canvas.old canvas.new }
+pub(crate) fn draw_along(canvas: &mut Canvas, width: u8, edges: &Edges, color: Option<Color>)
+    ensures { IsShown (in_color (LineOf width edges.now) color) canvas.old canvas.new }
 {
     match color {
-        Some(color) => draw_segments(canvas, width, segments, color),
+        Some(color) => draw_segments(canvas, width, edges.drawn(), color),
         None => {}
     }
 }

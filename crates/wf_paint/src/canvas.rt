@@ -3,21 +3,24 @@
 ghost use Rattle.std.specs.Prelude.{◌≡◌, ◌≤◌, ◌<◌, ◌*◌, ◌+◌, ◌/◌, ◌-◌, ◌^◌, ℕ, true, false, length, slice_index, nat_lt, IfOk};
 ghost use Rattle.std.specs.Int.{bit_at};
 ghost use Rattle.wf_paint.specs.Limit.{most_pixels};
-ghost use Rattle.wf_paint.specs.Cells.{IsCells, HasFreeBit, IsRangePainted, IsWritten, AreWritten, IsFilled, is_free};
+ghost use Rattle.wf_paint.specs.Cells.{IsCells, HasFreeBit, IsRangePainted, AreWritten, is_free};
 ghost use Rattle.wf_paint.specs.Canvas.{IsCanvas, IsBlank, IsFull, HasFree, IsAlike, IsFinished};
 ghost use Rattle.wf_paint.specs.Shown.{IsColored, is_in_run};
 
+use crate::pixels::Pixels;
 use crate::pixmap::Pixmap;
 use std::alloc::{AllocError, Global};
 use std::marker::Model;
 use wf_def::color::Color;
 
-/// A picture that records which pixels are painted. A painted pixel keeps its colour; a free one has none yet.
+/// A picture that records which pixels are painted. A painted pixel keeps its colour; the bytes of a free one are the
+/// background's, so that a canvas is a picture at any time.
 #[derive(Drop)]
 pub(crate) struct Canvas {
     width: u32,
     height: u32,
-    bytes: Vec<u8>,
+    background: Color,
+    pixels: Pixels,
     /// A bit for each pixel, set where it is free, from the lowest bit of a word on. Bits after the last pixel are clear.
     free: Vec<u64>,
     /// So many of the first words have no free pixel.
@@ -32,7 +35,8 @@ impl Model for Canvas {
     ghost view = { λ c. record {
       width = c.width;
       height = c.height;
-      bytes = c.bytes.items;
+      background = c.background;
+      bytes = c.pixels;
       free = c.free.items;
       known = c.known;
     } };
@@ -40,26 +44,35 @@ impl Model for Canvas {
     ghost invariant = { λ c. IsCanvas (record {
       width = c.width;
       height = c.height;
-      bytes = c.bytes.items;
+      background = c.background;
+      bytes = c.pixels;
       free = c.free.items;
       known = c.known;
     }) };
 }
 
 impl Canvas {
-    /// A canvas of this size, 1 to 1,024 pixels on each side, with all pixels free. Returns Ok unless allocation fails.
-    pub(crate) fn blank(alloc: Global, width: u32, height: u32) -> Result<Self, AllocError>
+    /// A canvas of this size, 1 to 1,024 pixels on each side, with all pixels free, and with room for so many bytes before the
+    /// picture's. Returns Ok unless allocation fails.
+    pub(crate) fn plain(
+        alloc: Global,
+        room: u8,
+        width: u32,
+        height: u32,
+        background: Color,
+    ) -> Result<Self, AllocError>
         requires width_least { 1 ≤ width }
         requires width_most { width ≤ most_pixels }
         requires height_least { 1 ≤ height }
         requires height_most { height ≤ most_pixels }
-        ensures { IfOk result (λ c. IsBlank width height c) }
+        ensures { IfOk result (λ c. IsBlank width height background c) }
     {
         let area = width * height;
         Ok(Canvas {
             width,
             height,
-            bytes: vec![in alloc; 0; 3 * area as usize]?,
+            background,
+            pixels: Pixels::plain(alloc, room, area, background)?,
             free: free_words(alloc, area)?,
             known: 0,
         })
@@ -97,7 +110,7 @@ impl Canvas {
         if from < to {
             let left = (self.height - 1 - row) * self.width;
             let (start, end) = (left + from, left + to);
-            cover_range(&mut self.bytes, &mut self.free, start, end, color);
+            cover_range(&mut self.pixels, &mut self.free, start, end, color);
         }
     }
 
@@ -112,7 +125,7 @@ impl Canvas {
     {
         let left = (self.height - 1 - row) * self.width;
         let end = left + (from + count);
-        cover_window(&mut self.bytes, &mut self.free, left + from, end, color);
+        cover_window(&mut self.pixels, &mut self.free, left + from, end, color);
     }
 
     /// Whether all pixels are painted. No pixel changes.
@@ -125,20 +138,17 @@ impl Canvas {
         self.known == self.width * self.height / 64 + 1
     }
 
-    /// The picture; free pixels get the background.
-    pub(crate) fn finish(self, background: Color) -> Pixmap
-        ensures { IsFinished background self result }
+    /// The picture as it stands: free pixels have the background.
+    pub(crate) fn finish(self) -> Pixmap
+        ensures { IsFinished self result }
     {
         let Canvas {
             width,
             height,
-            bytes,
-            free,
-            known: _,
+            pixels,
+            ..
         } = self;
-        let mut bytes = bytes;
-        fill_free(&mut bytes, &free, background);
-        Pixmap::of(width, height, bytes)
+        Pixmap::of(width, height, pixels)
     }
 }
 
@@ -154,22 +164,11 @@ fn free_words(alloc: Global, area: u32) -> Result<Vec<u64>, AllocError>
     Ok(free)
 }
 
-/// Writes the three bytes of a pixel.
-fn write(bytes: &mut Vec<u8>, index: u32, color: Color)
-    requires room { 3 * index + 2 < length bytes.old.items }
-    ensures { IsWritten index color bytes.old.items bytes.new.items }
-{
-    let start = 3 * index as usize;
-    bytes[start] = color.r;
-    bytes[start + 1] = color.g;
-    bytes[start + 2] = color.b;
-}
-
 /// Writes the three bytes of those of the 64 pixels from `first` on whose bit is set.
-fn write_set(bytes: &mut Vec<u8>, first: u32, bits: u64, color: Color)
+fn write_set(pixels: &mut Pixels, first: u32, bits: u64, color: Color)
     requires first { first ≤ 2 ^ 20 }
-    requires room { (k : ℕ) → bit_at bits k ≡ 1 → 3 * (first + k) + 2 < length bytes.old.items }
-    ensures { AreWritten 64 first bits color bytes.old.items bytes.new.items }
+    requires within { (k : ℕ) → bit_at bits k ≡ 1 → 3 * (first + k) + 2 < length pixels.old }
+    ensures { AreWritten 64 first bits color pixels.old pixels.new }
 {
     let mut here = 0;
     while here < 64 {
@@ -178,39 +177,39 @@ fn write_set(bytes: &mut Vec<u8>, first: u32, bits: u64, color: Color)
             return;
         }
         let set = here + rest.trailing_zeros();
-        write(bytes, first + set, color);
+        pixels.write(first + set, color);
         here = set + 1;
     }
 }
 
 /// Writes the colour to the free pixels in start..end.
 #[inline(always)]
-fn cover_range(bytes: &mut Vec<u8>, free: &mut Vec<u64>, start: u32, end: u32, color: Color)
-    requires cells { IsCells free.old.items bytes.old.items }
+fn cover_range(pixels: &mut Pixels, free: &mut Vec<u64>, start: u32, end: u32, color: Color)
+    requires cells { IsCells free.old.items pixels.old }
     requires order { start < end }
     requires within { end ≤ 64 * length free.old.items }
     ensures { IsRangePainted
-        start end color free.old.items bytes.old.items free.new.items bytes.new.items }
+        start end color free.old.items pixels.old free.new.items pixels.new }
 {
     if end - start <= 64 {
-        cover_window(bytes, free, start, end, color);
+        cover_window(pixels, free, start, end, color);
     } else {
-        paint_range(bytes, free, start, end, color);
+        paint_range(pixels, free, start, end, color);
     }
 }
 
 /// The same for at most 64 pixels. Most lines that make a picture dear run over painted pixels, so that is tested first.
 #[inline(always)]
-fn cover_window(bytes: &mut Vec<u8>, free: &mut Vec<u64>, start: u32, end: u32, color: Color)
-    requires cells { IsCells free.old.items bytes.old.items }
+fn cover_window(pixels: &mut Pixels, free: &mut Vec<u64>, start: u32, end: u32, color: Color)
+    requires cells { IsCells free.old.items pixels.old }
     requires order { start < end }
     requires most { end ≤ start + 64 }
     requires within { end ≤ 64 * length free.old.items }
     ensures { IsRangePainted
-        start end color free.old.items bytes.old.items free.new.items bytes.new.items }
+        start end color free.old.items pixels.old free.new.items pixels.new }
 {
     if !is_window_painted(free, start, end) {
-        paint_range(bytes, free, start, end, color);
+        paint_range(pixels, free, start, end, color);
     }
 }
 
@@ -239,36 +238,36 @@ fn joined(first: u64, last: u64, bit: u32) -> u64
 
 /// Writes the colour to the free pixels in start..end, word by word.
 #[inline(never)]
-fn paint_range(bytes: &mut Vec<u8>, free: &mut Vec<u64>, start: u32, end: u32, color: Color)
-    requires cells { IsCells free.old.items bytes.old.items }
+fn paint_range(pixels: &mut Pixels, free: &mut Vec<u64>, start: u32, end: u32, color: Color)
+    requires cells { IsCells free.old.items pixels.old }
     requires order { start ≤ end }
     requires within { end ≤ 64 * length free.old.items }
     ensures { IsRangePainted
-        start end color free.old.items bytes.old.items free.new.items bytes.new.items }
+        start end color free.old.items pixels.old free.new.items pixels.new }
 {
     let mut here = start;
     while here < end {
         let next = end.min(64 * (here / 64 + 1));
-        paint_word(bytes, free, here, next, color);
+        paint_word(pixels, free, here, next, color);
         here = next;
     }
 }
 
 /// The same for pixels of one word.
-fn paint_word(bytes: &mut Vec<u8>, free: &mut Vec<u64>, from: u32, to: u32, color: Color)
-    requires cells { IsCells free.old.items bytes.old.items }
+fn paint_word(pixels: &mut Pixels, free: &mut Vec<u64>, from: u32, to: u32, color: Color)
+    requires cells { IsCells free.old.items pixels.old }
     requires order { from < to }
     requires one { to ≤ 64 * (from / 64 + 1) }
     requires within { to ≤ 64 * length free.old.items }
     ensures { IsRangePainted
-        from to color free.old.items bytes.old.items free.new.items bytes.new.items }
+        from to color free.old.items pixels.old free.new.items pixels.new }
 {
     let word = from / 64;
     let mask = ones(from % 64, to - 64 * word);
     let left = word_at(free, word);
     if left & mask != 0 {
         free[word as usize] = left & !mask;
-        write_set(bytes, 64 * word, left & mask, color);
+        write_set(pixels, 64 * word, left & mask, color);
     }
 }
 
@@ -315,17 +314,4 @@ fn first_free(free: &Vec<u64>, known: u32) -> u32
         here += 1;
     }
     here
-}
-
-/// Writes the background to the free pixels.
-fn fill_free(bytes: &mut Vec<u8>, free: &Vec<u64>, background: Color)
-    requires { IsCells free.now.items bytes.old.items }
-    ensures { IsFilled
-        (64 * length free.now.items) background free.now.items bytes.old.items bytes.new.items }
-{
-    let end = free.len() as u32;
-    for word in 0..end {
-        let bits = word_at(free, word);
-        write_set(bytes, 64 * word, bits, background);
-    }
 }

@@ -2,11 +2,18 @@
 ghost use Rattle.wf_paint.specs.Direction.{LinesHaveNoDirection, EdgesHaveNoDirection};
 ghost use Rattle.wf_paint.specs.Drawing.{IsPartOfTheDrawing};
 ghost use Rattle.wf_paint.specs.Grid.{AtMostOneFits};
+ghost use Rattle.wf_paint.specs.Tile.{EachRequestHasAView};
 
 /// At most one cell of the grid fits a request: a cell is at least 1,000 millionths wide, and each side of its box lies within 2 of
 /// its own. So [`GridCell::of`](crate::cell::GridCell::of) returns the only one. A theorem: the call does nothing.
 pub fn there_is_one_cell()
     ensures { AtMostOneFits }
+{}
+
+/// Each request for a box at a size has a view: that of the cell of the grid that fits it, else that of the box itself. A theorem:
+/// the call does nothing.
+pub fn each_request_has_a_view()
+    ensures { EachRequestHasAView }
 {}
 
 /// Each tile's view is a part of one drawing over the whole grid of its level. A pixel has the same colour whichever tile's view

@@ -13,9 +13,9 @@ ghost use Rattle.wf_paint.specs.Shown.{IsShown};
 use crate::about::draw_about;
 use crate::along::draw_along;
 use crate::canvas::Canvas;
+use crate::edges::Edges;
 use crate::inside::draw_inside;
 use crate::pixmap::Pixmap;
-use crate::segment::Segment;
 use crate::segments::{paths, rings};
 use crate::view::View;
 use std::alloc::{AllocError, Global};
@@ -41,9 +41,25 @@ pub fn paint(
     ensures { IfOk result (λ p. IsPicture view.now.width view.now.height
         (color_at (operations map.now layers.now view.now) background) p) }
 {
-    let mut canvas = Canvas::blank(alloc, view.width(), view.height())?;
+    paint_after(alloc, 0, map, layers, view, background)
+}
+
+/// The same picture, with room for so many bytes before its own: [`Pixmap::into_file`] writes a head of that length there.
+pub fn paint_after(
+    alloc: Global,
+    room: u8,
+    map: &MapDef,
+    layers: &[usize],
+    view: &View,
+    background: Color,
+) -> Result<Pixmap, AllocError>
+    requires { All (λ i. i < length map.now.layers) layers.now }
+    ensures { IfOk result (λ p. IsPicture view.now.width view.now.height
+        (color_at (operations map.now layers.now view.now) background) p) }
+{
+    let mut canvas = Canvas::plain(alloc, room, view.width(), view.height(), background)?;
     draw_layers(alloc, &mut canvas, map, layers, view)?;
-    Ok(canvas.finish(background))
+    Ok(canvas.finish())
 }
 
 /// Paints the layers from the last to the first. A layer that is listed again later is painted only there: it would cover the
@@ -142,12 +158,12 @@ fn draw_class(
             Ok(())
         }
         LayerKind::Lines => {
-            let segments = paths(alloc, view, parts)?;
+            let segments = Edges::new(alloc, paths(alloc, view, parts)?)?;
             draw_lines(canvas, &segments, class.styles());
             Ok(())
         }
         LayerKind::Polygons => {
-            let edges = rings(alloc, view, parts)?;
+            let edges = Edges::new(alloc, rings(alloc, view, parts)?)?;
             draw_polygons(alloc, canvas, &edges, class.styles())
         }
     }
@@ -158,7 +174,7 @@ fn draw_class(
 fn draw_polygons(
     alloc: Global,
     canvas: &mut Canvas,
-    edges: &[Segment],
+    edges: &Edges,
     styles: &[Style],
 ) -> Result<(), AllocError>
     ensures { OnOk result
@@ -174,7 +190,7 @@ fn draw_polygons(
         let width = style.width.get();
         let border = line_color(style.outline_color, width, widest);
         draw_along(canvas, width, edges, border);
-        draw_inside(alloc, canvas, edges, inner_color(style, filled))?;
+        draw_inside(alloc, canvas, edges.as_slice(), inner_color(style, filled))?;
         filled |= style.color.is_some();
         widest = widest_line(style.outline_color, width, widest);
     }
@@ -210,7 +226,7 @@ fn widest_line(color: Option<Color>, width: u8, widest: u8) -> u8
 
 /// Paints lines along the segments by the styles from the last to the first, until the canvas is full. A line is painted if it is
 /// wider than the later ones.
-fn draw_lines(canvas: &mut Canvas, segments: &[Segment], styles: &[Style])
+fn draw_lines(canvas: &mut Canvas, segments: &Edges, styles: &[Style])
     ensures { IsShown (flat_map (line_along segments.now) styles.now) canvas.old canvas.new }
 {
     let mut widest = 0;

@@ -1,8 +1,10 @@
 //! Pictures as bytes.
-ghost use Rattle.std.specs.Prelude.{◌≡◌, ◌<◌, ◌*◌};
+ghost use Rattle.std.specs.Prelude.{◌≡◌, ◌<◌, ◌*◌, ◌++◌, IfOk};
 ghost use Rattle.wf_paint.specs.Pixmap.{IsPixmap, IsSet, column_of, row_of};
 
 use crate::operation::Pixel;
+use crate::pixels::Pixels;
+use std::alloc::{AllocError, Global};
 use std::marker::Model;
 use wf_def::color::Color;
 
@@ -11,7 +13,7 @@ use wf_def::color::Color;
 pub struct Pixmap {
     width: u32,
     height: u32,
-    bytes: Vec<u8>,
+    pixels: Pixels,
 }
 
 impl Model for Pixmap {
@@ -19,22 +21,22 @@ impl Model for Pixmap {
 
     ghost Value = { PixmapValue };
 
-    ghost view = { λ p. record { width = p.width; height = p.height; bytes = p.bytes.items } };
+    ghost view = { λ p. record { width = p.width; height = p.height; bytes = p.pixels } };
 
     ghost invariant = { λ p.
-        IsPixmap (record { width = p.width; height = p.height; bytes = p.bytes.items }) };
+        IsPixmap (record { width = p.width; height = p.height; bytes = p.pixels }) };
 }
 
 impl Pixmap {
-    /// The picture of this size with these bytes.
-    pub(crate) fn of(width: u32, height: u32, bytes: Vec<u8>) -> Self
-        requires { IsPixmap (record { width = width; height = height; bytes = bytes.items }) }
-        ensures { result ≡ record { width = width; height = height; bytes = bytes.items } }
+    /// The picture of this size with these pixels.
+    pub(crate) fn of(width: u32, height: u32, pixels: Pixels) -> Self
+        requires { IsPixmap (record { width = width; height = height; bytes = pixels }) }
+        ensures { result ≡ record { width = width; height = height; bytes = pixels } }
     {
         Pixmap {
             width,
             height,
-            bytes,
+            pixels,
         }
     }
 
@@ -59,7 +61,7 @@ impl Pixmap {
         ensures value { result.now ≡ self.now.bytes }
         ensures within { IsPixmap self.now }
     {
-        &self.bytes
+        self.pixels.as_slice()
     }
 
     /// The number of pixels.
@@ -90,9 +92,15 @@ impl Pixmap {
         requires { index < self.old.width * self.old.height }
         ensures { IsSet index color self.old self.new }
     {
-        let start = 3 * index as usize;
-        self.bytes[start] = color.r;
-        self.bytes[start + 1] = color.g;
-        self.bytes[start + 2] = color.b;
+        self.pixels.write(index, color);
+    }
+
+    /// The bytes after a head, in one buffer. A picture that was painted with room for a head of this length isn't copied. Returns
+    /// Ok unless allocation fails.
+    pub fn into_file(self, alloc: Global, head: &[u8]) -> Result<Vec<u8>, AllocError>
+        ensures { IfOk result (λ file. file.items ≡ head.now ++ self.bytes) }
+    {
+        let Pixmap { pixels, .. } = self;
+        pixels.into_file(alloc, head)
     }
 }

@@ -1,11 +1,9 @@
 -- What drawing the placed labels over what is painted leaves of a picture.
 use Rattle.std.proofs.Common.{◌≡◌, ℕ, List, Result, Ok, Err, IfOk, ℤ, sym, ap, subst₂, ◌∙◌}
 use Rattle.wf_def.specs.Definition.{Definition}
-use Rattle.wf_def.specs.Extent.{ExtentValue}
 use Rattle.wf_def.specs.declared.color.Color.{Color}
 use Rattle.wf_paint.specs.Operation.{operations, color_at}
 use Rattle.wf_paint.specs.Pixmap.{PixmapValue, IsPicture}
-use Rattle.wf_paint.specs.Tile.{IsViewOf}
 use Rattle.wf_paint.specs.View.{ViewValue}
 use Rattle.wf_paint.specs.declared.corner.Corner.{Corner}
 use Rattle.wf_label.specs.Ink.{inked, IsInked}

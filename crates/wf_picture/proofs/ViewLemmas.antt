@@ -6,12 +6,12 @@ use Rattle.std.proofs.lemmas.Int.{ints}
 use Rattle.wf_def.specs.Extent.{ExtentValue}
 use Rattle.wf_paint.specs.Grid.{fits}
 use Rattle.wf_paint.specs.Limit.{tile_pixels}
-use Rattle.wf_paint.specs.Tile.{IsViewOf, tile_start}
+use Rattle.wf_paint.specs.Tile.{EachRequestHasAView, IsViewOf, tile_start}
 use Rattle.wf_paint.specs.View.{AxisValue, ViewValue}
 use Rattle.wf_paint.specs.declared.cell.GridCell.{GridCell}
 use Rattle.wf_paint.specs.declared.corner.Corner.{Corner}
 use Rattle.wf_picture.specs.Image.{image}
-use Rattle.wf_picture.specs.Picture.{picture, corner_of, EachRequestHasOneView, EachRequestHasOneImage}
+use Rattle.wf_picture.specs.Picture.{picture, corner_of, EachRequestHasOneView, EachRequestHasOneImage, EachRequestHasAnImage}
 
 -- ---- a request is a tile's or it isn't: what holds in both cases holds
 
@@ -95,6 +95,15 @@ pub one_image : EachRequestHasOneImage
 one_image map request bytes others is also =
     let same : also.view ≡ is.view = one_view map.extent request is.view also.view is.is also.is in
     also.file ∙ ap (λ (view : ViewValue). image request.size.width request.size.height (picture map request.layers view request.background)) same ∙ sym is.file
+
+-- an image in the request's view
+pub an_image : EachRequestHasAView → EachRequestHasAnImage
+an_image views map request =
+    let found = views map.extent request.bbox request.size.width request.size.height in
+    record {
+      bytes = image request.size.width request.size.height (picture map request.layers found.view request.background);
+      is = record { view = found.view; is = found.is; file = refl };
+    }
 
 -- ---- where the picture lies in it
 

@@ -75,3 +75,12 @@ EachRequestHasOneView = (extent : ExtentValue) (request : RequestValue) (view ot
 abbrev pub EachRequestHasOneImage : Type 0
 EachRequestHasOneImage = (map : Definition) (request : RequestValue) (bytes others : List ℕ) →
     IsImageOf map request bytes → IsImageOf map request others → others ≡ bytes
+
+-- the request has an image
+pub record HasImage (map : Definition) (request : RequestValue) : Type 0 where
+  pub bytes : List ℕ
+  pub is : IsImageOf map request bytes
+
+-- each request has one
+abbrev pub EachRequestHasAnImage : Type 0
+EachRequestHasAnImage = (map : Definition) (request : RequestValue) → HasImage map request

@@ -1,5 +1,5 @@
 //! Pictures as files.
-ghost use Rattle.std.specs.Prelude.{◌≡◌, ◌≤◌, ◌<◌, ◌+◌, ◌-◌, ◌*◌, ◌++◌, ℤ, take, drop, IfOk, OnOk};
+ghost use Rattle.std.specs.Prelude.{◌≡◌, ◌≤◌, ◌<◌, ◌+◌, ◌-◌, ◌*◌, ◌++◌, ◌^◌, ℤ, take, drop, IfOk, OnOk};
 ghost use Rattle.wf_def.specs.declared.color.Color.{Color as Pixel};
 ghost use Rattle.wf_paint.specs.Pixmap.{IsPicture, IsPixmap};
 ghost use Rattle.wf_picture.specs.Image.{header, image, pixel_bytes, row_bytes};
@@ -24,24 +24,44 @@ pub(crate) fn image(
     ensures { IfOk result (λ file. (whole : ℤ → ℤ → Pixel) → IsPicture pixmap.now.width
         pixmap.now.height whole pixmap.now → file.items ≡ image width height (crop corner whole)) }
 {
-    let mut file = Vec::with_capacity(alloc, file_size(pixmap, width, height))?;
+    let size = header_size(width, height) as usize + pixels_size(pixmap, width, height);
+    let mut file = Vec::with_capacity(alloc, size)?;
     push_header(&mut file, width, height)?;
     push_rows(&mut file, pixmap, corner, width, height)?;
     Ok(file)
 }
 
-/// How many bytes the file of a part of the picture of this size has.
-fn file_size(pixmap: &Pixmap, width: u32, height: u32) -> usize
+/// The file of a whole picture. One that was painted with room for the header isn't copied.
+#[tactic(auto, unfolding(crate::specs::Image::image))]
+pub(crate) fn file(alloc: Global, pixmap: Pixmap) -> Result<Vec<u8>, AllocError>
+    ensures { IfOk result (λ file. (whole : ℤ → ℤ → Pixel) →
+        IsPicture pixmap.width pixmap.height whole pixmap →
+        file.items ≡ image pixmap.width pixmap.height whole) }
+{
+    let (width, height) = (pixmap.width(), pixmap.height());
+    let mut head = Vec::with_capacity(alloc, header_size(width, height) as usize)?;
+    push_header(&mut head, width, height)?;
+    pixmap.into_file(alloc, &head)
+}
+
+/// How many bytes the pixels of a part of the picture of this size have.
+fn pixels_size(pixmap: &Pixmap, width: u32, height: u32) -> usize
     requires columns { width ≤ pixmap.now.width }
     requires rows { height ≤ pixmap.now.height }
+    ensures { result ≤ 2 ^ 32 }
 {
     // `area` ensures that the picture's sides are within their limit.
     let _ = pixmap.area();
-    "P6\n \n255\n".len() + digits(width) + digits(height) + 3 * (width * height) as usize
+    3 * (width * height) as usize
+}
+
+/// How many bytes the header of a picture of this size has.
+pub(crate) fn header_size(width: u32, height: u32) -> u8 {
+    "P6\n \n255\n".len() as u8 + digits(width) + digits(height)
 }
 
 /// How many digits a side of a picture has.
-fn digits(side: u32) -> usize
+fn digits(side: u32) -> u8
     ensures { result ≤ 4 }
 {
     match side {

@@ -1,9 +1,10 @@
 //! Pictures of a map.
-ghost use Rattle.std.specs.Prelude.{◌≡◌, ◌<◌, length, IfOk};
+ghost use Rattle.std.specs.Prelude.{◌≡◌, ◌<◌, true, length, IfOk};
 ghost use Rattle.std.specs.List.{All};
-ghost use Rattle.wf_picture.specs.Picture.{corner_of, IsCutOut, IsImageOf, IsWholePicture, IsViewFor, LiesIn};
+ghost use Rattle.wf_picture.specs.Image.{image};
+ghost use Rattle.wf_picture.specs.Picture.{corner_of, labelled, IsCutOut, IsImageOf, IsWholePicture, IsViewFor, LiesIn};
 
-use crate::image::image;
+use crate::image::{file, header_size, image};
 use crate::request::PictureRequest;
 use crate::size::Size;
 use std::alloc::{AllocError, Global};
@@ -13,7 +14,7 @@ use wf_label::draw::draw_labels;
 use wf_label::law::there_is_one_placed_set;
 use wf_label::placement::place;
 use wf_paint::corner::Corner;
-use wf_paint::painter::paint;
+use wf_paint::painter::paint_after;
 use wf_paint::pixmap::Pixmap;
 use wf_paint::view::View;
 
@@ -25,8 +26,37 @@ pub fn draw(alloc: Global, map: &MapDef, request: &PictureRequest) -> Result<Vec
     ensures { IfOk result (λ file. IsImageOf map.now request.now file.items) }
 {
     let view = view_of(map, request);
-    let pixmap = labelled(alloc, map, request.layers(), &view, request.background())?;
+    let (layers, background) = (request.layers(), request.background());
+    if is_whole(&view, request.size()) {
+        return file_of(alloc, map, layers, &view, background);
+    }
+    let pixmap = labelled(alloc, map, layers, &view, background)?;
     cut(alloc, &pixmap, &view, request.size())
+}
+
+/// Whether a picture of this size that lies in the view is all of it.
+fn is_whole(view: &View, size: Size) -> bool
+    ensures wide { result ≡ true → view.now.width ≡ size.width }
+    ensures high { result ≡ true → view.now.height ≡ size.height }
+{
+    view.width() == size.width && view.height() == size.height
+}
+
+/// The picture of the whole view, as a file, which is painted behind its header.
+fn file_of(
+    alloc: Global,
+    map: &MapDef,
+    layers: &[usize],
+    view: &View,
+    background: Color,
+) -> Result<Vec<u8>, AllocError>
+    requires { All (λ i. i < length map.now.layers) layers.now }
+    ensures { IfOk result (λ file. file.items ≡ image view.now.width view.now.height
+        (labelled map.now layers.now view.now background)) }
+{
+    let room = header_size(view.width(), view.height());
+    let pixmap = labelled_after(alloc, room, map, layers, view, background)?;
+    file(alloc, pixmap)
 }
 
 /// The view of a request: for a tile of the map's grid the one that sixteen tiles share. The picture of the request lies within
@@ -52,9 +82,24 @@ pub fn labelled(
     requires { All (λ i. i < length map.now.layers) layers.now }
     ensures { IfOk result (λ p. IsWholePicture map.now layers.now view.now background p) }
 {
+    labelled_after(alloc, 0, map, layers, view, background)
+}
+
+/// The same picture, with room for so many bytes before its own.
+fn labelled_after(
+    alloc: Global,
+    room: u8,
+    map: &MapDef,
+    layers: &[usize],
+    view: &View,
+    background: Color,
+) -> Result<Pixmap, AllocError>
+    requires { All (λ i. i < length map.now.layers) layers.now }
+    ensures { IfOk result (λ p. IsWholePicture map.now layers.now view.now background p) }
+{
     there_is_one_placed_set();
     let labels = place(alloc, map, layers, view)?;
-    let mut pixmap = paint(alloc, map, layers, view, background)?;
+    let mut pixmap = paint_after(alloc, room, map, layers, view, background)?;
     draw_labels(&mut pixmap, &labels);
     Ok(pixmap)
 }

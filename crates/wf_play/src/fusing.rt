@@ -11,8 +11,8 @@ use std::alloc::{AllocError, Global};
 use std::fmt::Write;
 use std::mem::replace;
 use wf_farm::{
-    Carrier, CarrierFault, Event, Farm, Fuse, Fused, FusedPump, Kept, deliver_fused, happen_fused,
-    pump_fused,
+    Carrier, CarrierFault, Event, Farm, Fuse, Fused, FusedPump, Kept, deliver_failing,
+    happen_failing, pump_failing,
 };
 use wf_script::Order;
 
@@ -27,7 +27,7 @@ impl<'s> Session<'s> {
 
     /// Performs the order with the fuse on the tape of this node. With an error the farm is lost, unless the order makes no event.
     #[tactic(auto, using(crate::proofs::Tearing::does_whole, crate::proofs::Tearing::tells_whole, crate::proofs::Tearing::left_whole, crate::proofs::Tearing::event_does, crate::proofs::Tearing::event_tells, crate::proofs::Tearing::delivery_does, crate::proofs::Tearing::delivery_tells))]
-    pub(crate) fn obey_fused<C: Carrier>(
+    pub(crate) fn obey_failing<C: Carrier>(
         &mut self,
         alloc: Global,
         carrier: &mut C,
@@ -50,11 +50,11 @@ impl<'s> Session<'s> {
     {
         match order {
             Order::Deliver(to, messages) => {
-                self.deliver_fused(alloc, carrier, *to, messages, node, fuse, out)
+                self.deliver_failing(alloc, carrier, *to, messages, node, fuse, out)
             }
-            Order::Pump(nodes) => self.pump_fused(alloc, carrier, nodes, node, fuse, out),
+            Order::Pump(nodes) => self.pump_failing(alloc, carrier, nodes, node, fuse, out),
             _ => match self.event_of(order) {
-                Ok(Some(event)) => self.make_fused(alloc, event, node, fuse, out),
+                Ok(Some(event)) => self.make_failing(alloc, event, node, fuse, out),
                 Ok(None) => self.obey(alloc, carrier, order, out),
                 Err(_) => Err(CarrierFault::Memory),
             },
@@ -64,7 +64,7 @@ impl<'s> Session<'s> {
     /// Makes the event, and appends its rejection, if it was rejected, or that it was torn. The only error is allocation failure; the
     /// farm is lost then.
     #[tactic(auto, using(crate::proofs::Tearing::event_made, crate::proofs::Tearing::tears_played))]
-    fn make_fused(
+    fn make_failing(
         &mut self,
         alloc: Global,
         event: Event,
@@ -87,7 +87,7 @@ impl<'s> Session<'s> {
             return Err(CarrierFault::Memory);
         };
         let mut left = fuse;
-        let made = happen_fused(alloc, farm, &event, node, &mut left);
+        let made = happen_failing(alloc, farm, &event, node, &mut left);
         drop(event);
         match made {
             Ok(fused) => {
@@ -125,7 +125,7 @@ impl<'s> Session<'s> {
 
     /// The messages go to node `to` by the carrier, one after the other. With an error the farm is lost.
     #[tactic(auto, using(crate::proofs::Tearing::messages_delivered, crate::proofs::Tearing::tears_played))]
-    fn deliver_fused<C: Carrier>(
+    fn deliver_failing<C: Carrier>(
         &mut self,
         alloc: Global,
         carrier: &mut C,
@@ -149,7 +149,7 @@ impl<'s> Session<'s> {
             return Err(CarrierFault::Memory);
         };
         let mut left = fuse;
-        match deliver_fused(alloc, carrier, farm, to, messages, node, &mut left) {
+        match deliver_failing(alloc, carrier, farm, to, messages, node, &mut left) {
             Ok(fused) => {
                 self.take_back(fused, node, left);
                 self.tell_if_torn(out)
@@ -160,7 +160,7 @@ impl<'s> Session<'s> {
 
     /// The messages that aren't pumped yet go to the nodes by the carrier. With an error the farm is lost.
     #[tactic(auto, using(crate::proofs::Tearing::messages_pumped, crate::proofs::Tearing::pump_tells))]
-    fn pump_fused<C: Carrier>(
+    fn pump_failing<C: Carrier>(
         &mut self,
         alloc: Global,
         carrier: &mut C,
@@ -182,7 +182,7 @@ impl<'s> Session<'s> {
             return Err(CarrierFault::Memory);
         };
         let mut left = fuse;
-        match pump_fused(alloc, carrier, farm, nodes, node, &mut left) {
+        match pump_failing(alloc, carrier, farm, nodes, node, &mut left) {
             Ok(FusedPump { fused, stopped }) => {
                 self.take_back(fused, node, left);
                 match tell_pump(stopped, out) {

@@ -217,7 +217,7 @@ impl<'s> Session<'s> {
         ensures whole { self.old.fuse ≡ None → Plays self.old.farm self.new.farm }
     {
         match self.fuse {
-            Some((node, fuse)) => self.obey_fused(alloc, carrier, order, node, fuse, out),
+            Some((node, fuse)) => self.obey_failing(alloc, carrier, order, node, fuse, out),
             None => self.obey(alloc, carrier, order, out),
         }
     }

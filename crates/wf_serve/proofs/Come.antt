@@ -1,27 +1,10 @@
--- One more node that has caught up, and one more connection.
+-- One more connection.
 use Rattle.std.proofs.Common.{◌≡◌, ◌+◌, ◌%◌, ℕ, zero, suc, List, refl, subst, arith}
-use Rattle.wf_model.specs.Table.{CatchUp}
 use Rattle.wf_node.specs.Node.{Node}
 use Rattle.wf_serve.specs.Connections.{HaveCome, MayBeAnswered}
-use Rattle.wf_serve.specs.Serving.{HaveCaughtUp, IsAskedAndHeard}
 use Rattle.wf_tape.specs.declared.tape.Tape.{Ghosts as Tape}
 
 module _ {T : Type 0} (tapes : Tape T) where
-  pub none_caught : (nodes : List (Node T)) → HaveCaughtUp tapes zero nodes nodes
-  unfolding HaveCaughtUp
-  none_caught nodes = refl
-
-  next_caught : (count : ℕ) (nodes middle after : List (Node T)) → HaveCaughtUp tapes count nodes middle →
-      IsAskedAndHeard tapes count CatchUp middle after → HaveCaughtUp tapes (suc count) nodes after
-  unfolding HaveCaughtUp
-  next_caught count nodes middle after so_far next = (middle, so_far, next)
-
-  pub one_more_caught : (count : ℕ) (nodes middle after : List (Node T)) → HaveCaughtUp tapes count nodes middle →
-      IsAskedAndHeard tapes count CatchUp middle after → HaveCaughtUp tapes (count + 1) nodes after
-  one_more_caught count nodes middle after so_far next =
-      let behind : suc count ≡ count + 1 = omega arith in
-      subst (λ k. HaveCaughtUp tapes k nodes after) behind (next_caught count nodes middle after so_far next)
-
   pub none_came : (count : ℕ) (nodes : List (Node T)) → HaveCome tapes count zero nodes nodes
   unfolding HaveCome
   none_came count nodes = refl

@@ -4,6 +4,7 @@ use Rattle.std.proofs.lemmas.Option.{same_Some, slice_get_cases, slice_get_withi
 use Rattle.wf_def.specs.Definition.{Definition}
 use Rattle.wf_model.specs.Stored.{definition_at}
 use Rattle.wf_model.specs.Table.{Retry}
+use Rattle.wf_farm.specs.CatchUp.{CatchUpLeadsOn, LevelRests}
 use Rattle.wf_farm.specs.Delivering.{EachGrows, KeepTurn, StandInTurn}
 use Rattle.wf_farm.specs.DeliveringLaws.{keeps_turn_itself, keeps_turn_twice}
 use Rattle.wf_farm.specs.Leading.{AreFresh, NothingIsSaid, StepLeadsOn}
@@ -40,7 +41,7 @@ module _ {T : Type 0} (first after : List (Node T)) (keeps : KeepTurn first afte
 
 -- ---- connections
 
-module _ {T : Type 0} (tapes : Tape T) (leads : StepLeadsOn tapes) (quiet : NothingIsSaid tapes) where
+module _ {T : Type 0} (tapes : Tape T) (catches : CatchUpLeadsOn tapes) (leads : StepLeadsOn tapes) (quiet : NothingIsSaid tapes) where
   retry_keeps : (place : ℕ) (heard after : List (Node T)) → StandInTurn heard → IsRetried tapes place heard after → KeepTurn heard after
   retry_keeps place heard after turns (inl anew) = asked_turn tapes leads place Retry tt heard after turns anew.anew
   retry_keeps place heard after turns (inr rests) = subst (KeepTurn heard) (sym rests.1) (keeps_turn_itself heard)
@@ -51,7 +52,8 @@ module _ {T : Type 0} (tapes : Tape T) (leads : StepLeadsOn tapes) (quiet : Noth
       let led = moved_leads tapes leads nodes place c.request.before c.request.after c.request.changed.was turns c.said quiet c.request.moves in
       let served : KeepTurn nodes c.served = subst (KeepTurn nodes) (sym c.request.changed.is) led.turn in
       let heard : KeepTurn nodes c.heard = keeps_turn_twice nodes c.served c.heard served c.hearing.delivered.turn in
-      keeps_turn_twice nodes c.heard after heard (retry_keeps place c.heard after (heard.in_turn turns) c.retry)
+      let retried : KeepTurn nodes c.retried = keeps_turn_twice nodes c.heard c.retried heard (retry_keeps place c.heard c.retried (heard.in_turn turns) c.retry) in
+      keeps_turn_twice nodes c.retried after retried (catches c.retried after c.catch_up.lost (retried.in_turn turns) c.catch_up.caught).turn
 
   connection_keeps : (place : ℕ) (nodes after : List (Node T)) → StandInTurn nodes → MayBeAnswered tapes place nodes after → KeepTurn nodes after
   connection_keeps place nodes after turns (inl answered) = answer_keeps place nodes after turns answered
@@ -79,17 +81,16 @@ module _ {T : Type 0} (tapes : Tape T) (leads : StepLeadsOn tapes) (quiet : Noth
         keeps = keeps_turn_twice so_far.first come.0 after so_far.keeps (connection_keeps (suc later % count) come.0 after middle_turns come.2);
       }
 
-  module _ (law : PublishedOnAll tapes) (nodes first after : List (Node T)) (long : length nodes ≡ 3) (turns : StandInTurn nodes) (fresh : AreFresh nodes) (keeps : KeepTurn first after) where
+  module _ (rests : LevelRests tapes) (law : PublishedOnAll tapes) (nodes first after : List (Node T)) (long : length nodes ≡ 3) (turns : StandInTurn nodes) (fresh : AreFresh nodes) (keeps : KeepTurn first after) where
     if_accepted : (answer : MayBeAnswered tapes 0 nodes first) → IfAccepted tapes answer after
     if_accepted (inl answered) = λ accepted lost stopped none.
         let done : HavePublished answered.input first =
-        accepted_is_published tapes law 0 answered.input answered.written answered.written_after nodes first answered.outcome long turns fresh answered.connection accepted lost stopped none in
+        accepted_is_published tapes rests law 0 answered.input answered.written answered.written_after nodes first answered.outcome long turns fresh answered.connection accepted lost stopped none in
         record { request = done.request; received = done.received; map = done.map; is_map = done.is_map; published = still_published first after keeps done.map done.published }
     if_accepted (inr same) = tt
 
-pub first_is_published : {T : Type 0} (tapes : Tape T) → StepLeadsOn tapes → NothingIsSaid tapes →
-    PublishedOnAll tapes → FirstIsPublished tapes
-first_is_published tapes leads quiet law = λ later nodes nodes_after long turns fresh come.
-    let found = first_of tapes leads quiet (length nodes) later nodes nodes_after turns come in
+pub first_is_published : {T : Type 0} (tapes : Tape T) → CatchUpLeadsOn tapes → LevelRests tapes → StepLeadsOn tapes → NothingIsSaid tapes → PublishedOnAll tapes → FirstIsPublished tapes
+first_is_published tapes catches rests leads quiet law = λ later nodes nodes_after long turns fresh come.
+    let found = first_of tapes catches leads quiet (length nodes) later nodes nodes_after turns come in
     let answer = subst (λ n. MayBeAnswered tapes (0 % n) nodes found.first) long found.answer in
-    (found.first, answer, if_accepted tapes leads quiet law nodes found.first nodes_after long turns fresh found.keeps answer)
+    (found.first, answer, if_accepted tapes catches leads quiet rests law nodes found.first nodes_after long turns fresh found.keeps answer)

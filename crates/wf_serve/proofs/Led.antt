@@ -5,8 +5,8 @@ use Rattle.wf_codec.specs.declared.message.Message.{Message}
 use Rattle.wf_def.specs.Definition.{Definition}
 use Rattle.wf_model.specs.Table as table
 use Rattle.wf_edge.specs.Serving.{HandsOut, MovesOnce, Stays, Proposes}
-use Rattle.wf_farm.specs.Delivering.{KeepHalted, KeepTurn, StandInTurn}
-use Rattle.wf_farm.specs.DeliveringLaws.{halted_twice, keeps_turn_twice}
+use Rattle.wf_farm.specs.Delivering.{KeepTurn, StandInTurn}
+use Rattle.wf_farm.specs.DeliveringLaws.{keeps_turn_twice}
 use Rattle.wf_farm.specs.Exchange.{IsSturdy, LeadsOn}
 use Rattle.wf_farm.specs.ExchangeLaws.{same_sturdy, step_sturdy}
 use Rattle.wf_farm.specs.Leading.{AreLedSaying, IsOwn, NothingIsSaid, StepLeadsOn, said_by}
@@ -14,9 +14,6 @@ use Rattle.wf_farm.specs.PlaceLaws.{set_same}
 use Rattle.wf_node.specs.Node.{Node}
 use Rattle.wf_node.specs.declared.fault.NodeFault.{NodeFault}
 use Rattle.wf_serve.specs.Serving.{IsAsked, IsAskedAndHeard}
-use Rattle.wf_serve.specs.Visiting.{own_input}
-use Rattle.wf_serve.specs.declared.visiting.Own.{Own}
-use Rattle.wf_serve.specs.declared.visiting.Own.TheVariants.{CatchUp, Retry}
 use Rattle.wf_tape.specs.declared.tape.Tape.{Ghosts as Tape}
 
 pub hands_said : (answer : Result (Vec Message Global) NodeFault) (said : Vec Message Global) → HandsOut answer said → said_by answer ≡ said.items
@@ -42,11 +39,6 @@ module _ {T : Type 0} (tapes : Tape T) (law : StepLeadsOn tapes)
       subst (λ ms. AreLedSaying tapes nodes ms (slice_set nodes i after)) (hands_said result said hands)
       (law nodes i before after (table.Propose d) result at turns tt proposed.refused proposed.steps)
 
--- What the farm itself asks isn't a delivery.
-pub inputs_are_own : (own : Own) → IsOwn (own_input own)
-inputs_are_own CatchUp = tt
-inputs_are_own Retry = tt
-
 -- A node that was asked leads any nodes on among which it is, and isn't halted where its tape won't fail.
 module _ {T : Type 0} (tapes : Tape T) (law : StepLeadsOn tapes) (before after : Node T) (said : Vec Message Global) where
   pub asked_leads_on : (input : table.Input Definition) → IsOwn input → IsAsked tapes input before said after → LeadsOn tapes before said.items after
@@ -65,17 +57,13 @@ module _ {T : Type 0} (tapes : Tape T) (before after : Node T) (said : Vec Messa
   moved_sturdy (Stays unmoved) = same_sturdy tapes before after unmoved.same
   moved_sturdy (Proposes d result proposed hands) = step_sturdy tapes before after (table.Propose d) result proposed.steps proposed.sturdy proposed.sound
 
--- A node was asked for a step of its own, and its messages were delivered: each node keeps its index and what it published, and one
--- whose tape had failed is unchanged.
+-- A node was asked for a step of its own, and its messages were delivered: each node keeps its index and what it published.
 module _ {T : Type 0} (tapes : Tape T) (law : StepLeadsOn tapes) (place : ℕ) (input : table.Input Definition) (own : IsOwn input)
     (nodes after : List (Node T)) (turns : StandInTurn nodes) (one : IsAskedAndHeard tapes place input nodes after) where
-  pub asked_led : AreLedSaying tapes nodes one.said.items one.asked
+  asked_led : AreLedSaying tapes nodes one.said.items one.asked
   asked_led =
       subst (AreLedSaying tapes nodes one.said.items) (sym one.step.changed.is)
       (asked_leads tapes law nodes place one.step.before one.step.after one.step.changed.was turns one.said input own one.step.asked)
 
   pub asked_turn : KeepTurn nodes after
   asked_turn = keeps_turn_twice nodes one.asked after asked_led.turn one.heard.delivered.turn
-
-  pub asked_halted : KeepHalted nodes after
-  asked_halted = halted_twice nodes one.asked after asked_led.halted one.heard.delivered.halted

@@ -1,6 +1,7 @@
 mod Agreed
 mod Caches
 mod Come
+mod Differing
 mod Ended
 mod Led
 mod Exchanged
@@ -9,4 +10,5 @@ mod Opened
 mod Running
 mod New
 mod Published
+mod Serves
 mod Shortened

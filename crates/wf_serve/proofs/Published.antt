@@ -14,6 +14,7 @@ use Rattle.wf_edge.specs.declared.outcome.Outcome.{Outcome}
 use Rattle.wf_edge.specs.declared.outcome.Outcome.TheVariants as outcome
 use Rattle.wf_edge.specs.declared.publish_fault.PublishFault.{PublishFault}
 use Rattle.wf_edge.specs.declared.publish_fault.PublishFault.TheVariants as publish
+use Rattle.wf_farm.specs.CatchUp.{LevelRests, StandLevel}
 use Rattle.wf_farm.specs.Delivering.{AreHandedOut, StandInTurn}
 use Rattle.wf_farm.specs.Leading.{AreFresh}
 use Rattle.wf_farm.specs.Publishing.{AllPublish, NoneHalted, PublishedOnAll, Rests}
@@ -31,7 +32,7 @@ use Rattle.wf_node.specs.Node.{Node, working_of}
 use Rattle.wf_proposer.specs.Standing.{standing_of}
 use Rattle.wf_proposer.specs.declared.standing.Standing.TheVariants as standing
 use Rattle.wf_serve.specs.Publishing.{WasAccepted, HavePublished, AcceptedIsPublished, accepted_status}
-use Rattle.wf_serve.specs.Serving.{IsConnection, IsRetried, ProposesAt}
+use Rattle.wf_serve.specs.Serving.{HaveCaughtUp, IsConnection, IsRetried, ProposesAt}
 use Rattle.wf_tape.specs.declared.tape.Tape.{Ghosts as Tape}
 
 -- ---- the response
@@ -130,7 +131,15 @@ module _ {T : Type 0} (tapes : Tape T) (place : ℕ) (heard : List (Node T)) (ma
   not_retried after (inl anew) = absurd (not_running anew.runs)
   not_retried after (inr rests) = subst (λ ns. AllPublish ns map) (sym rests.1) published
 
-module _ {T : Type 0} (tapes : Tape T) (law : PublishedOnAll tapes) (place : ℕ) (input old new : Option (List ℕ))
+-- Nodes that all have published the same stand level, so that none of them has to catch up.
+published_level : {T : Type 0} (nodes : List (Node T)) (map : Definition) → AllPublish nodes map → StandLevel nodes
+unfolding AllPublish StandLevel
+published_level nodes map published = λ i j node other at there runs also. ap length (published i node at).0 ∙ sym (ap length (published j other there).0)
+
+published_still : {T : Type 0} (tapes : Tape T) (nodes after : List (Node T)) (map : Definition) → LevelRests tapes → AllPublish nodes map → HaveCaughtUp tapes nodes after → AllPublish after map
+published_still tapes nodes after map rests published caught = subst (λ ns. AllPublish ns map) (sym (rests nodes after caught.lost (published_level nodes map published) caught.caught)) published
+
+module _ {T : Type 0} (tapes : Tape T) (rests : LevelRests tapes) (law : PublishedOnAll tapes) (place : ℕ) (input old new : Option (List ℕ))
     (nodes nodes_after : List (Node T)) (outcome : Outcome) (long : length nodes ≡ 3) (turns : StandInTurn nodes) (fresh : AreFresh nodes)
     (connection : IsConnection tapes place input old new nodes outcome nodes_after) (accepted : WasAccepted outcome) (lost : connection.hearing.lost ≡ 0) (stopped : connection.hearing.stopped ≡ false)
     (none : NoneHalted connection.heard) where
@@ -159,9 +168,10 @@ module _ {T : Type 0} (tapes : Tape T) (law : PublishedOnAll tapes) (place : ℕ
     received = proposal.received;
     map = proposal.map;
     is_map = proposal.is_map;
-    published = not_retried tapes place connection.heard proposal.map heard_published none nodes_after connection.retry;
+    published =
+        published_still tapes connection.retried nodes_after proposal.map rests (not_retried tapes place connection.heard proposal.map heard_published none connection.retried connection.retry) connection.catch_up;
   }
 
-pub accepted_is_published : {T : Type 0} (tapes : Tape T) → PublishedOnAll tapes → AcceptedIsPublished tapes
-accepted_is_published tapes law = λ place input old new nodes nodes_after outcome long turns fresh connection accepted lost stopped none.
-    have_published tapes law place input old new nodes nodes_after outcome long turns fresh connection accepted lost stopped none
+pub accepted_is_published : {T : Type 0} (tapes : Tape T) → LevelRests tapes → PublishedOnAll tapes → AcceptedIsPublished tapes
+accepted_is_published tapes rests law = λ place input old new nodes nodes_after outcome long turns fresh connection accepted lost stopped none.
+    have_published tapes rests law place input old new nodes nodes_after outcome long turns fresh connection accepted lost stopped none

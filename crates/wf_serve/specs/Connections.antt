@@ -35,5 +35,5 @@ module _ {T : Type 0} (tapes : Tape T) where
   pub record IsServing (requests : ℕ) (nodes : List (Node T)) (told : Result (Unit {0}) ServeFault) (nodes_after : List (Node T)) : Type 0 where
     -- the nodes after they caught up
     pub caught : List (Node T)
-    pub catch_up : HaveCaughtUp tapes (length nodes) nodes caught
+    pub catch_up : HaveCaughtUp tapes nodes caught
     pub come : IfTold requests caught told nodes_after

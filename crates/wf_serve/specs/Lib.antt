@@ -1,9 +1,11 @@
 pub mod Caching
+pub mod Differing
 pub mod Fault
 pub mod Listening
 pub mod Serving
 pub mod Visiting
 pub mod Connections
+pub mod Served
 pub mod Folder
 pub mod Opening
 pub mod Agreeing

@@ -41,7 +41,6 @@ module _ {T : Type 0} (tapes : Tape T) where
       length nodes ≡ 3 → StandInTurn nodes → AreFresh nodes → (connection : IsConnection tapes place input old new nodes outcome nodes_after) → WasAccepted outcome →
       connection.hearing.lost ≡ 0 → connection.hearing.stopped ≡ false → NoneHalted connection.heard → HavePublished input nodes_after
 
-  -- New nodes that caught up, and no tape of which failed, are new still, whatever was lost.
+  -- New nodes that caught up are new still.
   abbrev pub CaughtUpAreNew : Type 0
-  CaughtUpAreNew = (nodes nodes_after : List (Node T)) → StandInTurn nodes → AreFresh nodes → HaveCaughtUp tapes (length nodes) nodes nodes_after →
-      NoneHalted nodes_after → AreFresh nodes_after
+  CaughtUpAreNew = (nodes nodes_after : List (Node T)) → AreFresh nodes → HaveCaughtUp tapes nodes nodes_after → AreFresh nodes_after

@@ -1,6 +1,6 @@
 -- The effect of one connection on the nodes: one of them serves a request, its messages are delivered, and if its proposal still
--- runs then, it restarts it.
-use Rattle.std.specs.Prelude.{◌≡◌, ◌≢◌, ◌⊎◌, ◌<◌, ℕ, zero, suc, Bool, List, length, slice_get, slice_set, Option, Some, Result, Vec}
+-- runs then, it restarts it. Then each node that is behind catches up.
+use Rattle.std.specs.Prelude.{◌≡◌, ◌≢◌, ◌⊎◌, ◌<◌, ℕ, Bool, false, List, length, slice_get, slice_set, Option, Some, Result, Vec}
 use Rattle.std.specs.declared.alloc.Global.{Global}
 use Rattle.wf_codec.specs.declared.message.Message.{Message}
 use Rattle.wf_def.specs.Definition.{Definition}
@@ -9,8 +9,10 @@ use Rattle.wf_edge.specs.Page.{standing_at}
 use Rattle.wf_edge.specs.Serving.{HandsOut, IsOutcome, MovesOnce}
 use Rattle.wf_edge.specs.declared.outcome.Outcome.{Outcome}
 use Rattle.wf_edge.specs.declared.outcome.Outcome.TheVariants as outcome
+use Rattle.wf_farm.specs.CatchUp as farm
+use Rattle.wf_farm.specs.CatchUp.{StandLevel}
 use Rattle.wf_farm.specs.Delivering.{AreHandedOut, IsDelivered}
-use Rattle.wf_model.specs.Table.{CatchUp, Input, Retry}
+use Rattle.wf_model.specs.Table.{Input, Retry}
 use Rattle.wf_node.specs.Node.{Node}
 use Rattle.wf_node.specs.declared.fault.NodeFault.{NodeFault}
 use Rattle.wf_proposer.specs.declared.standing.Standing.TheVariants.{Running}
@@ -83,11 +85,13 @@ module _ {T : Type 0} (tapes : Tape T) where
     pub step : IsAskedAt place input nodes said asked
     pub heard : AreHeard asked said nodes_after
 
-  -- The first nodes, this many, were asked to catch up, one after the other, and the messages of each were delivered before the
-  -- next was asked.
-  unfoldable pub HaveCaughtUp : ℕ → List (Node T) → List (Node T) → Type 0
-  HaveCaughtUp zero nodes nodes_after = nodes_after ≡ nodes
-  HaveCaughtUp (suc count) nodes nodes_after = (middle : List (Node T)) × HaveCaughtUp count nodes middle × IsAskedAndHeard count CatchUp middle nodes_after
+  -- Each node that was behind has asked one that had published the most, which answered to it alone. Where no delivery was lost, all
+  -- nodes that run have published equally many maps afterwards.
+  pub record HaveCaughtUp (nodes nodes_after : List (Node T)) : Type 0 where
+    -- an allocation failed, and a delivery was lost
+    pub lost : Bool
+    pub caught : farm.HaveCaughtUp tapes nodes lost nodes_after
+    pub level : lost ≡ false → StandLevel nodes_after
 
   -- The proposal of the node at index `place` was running; the node was asked to restart it, and its messages were delivered.
   pub record IsBegunAnew (place : ℕ) (nodes nodes_after : List (Node T)) : Type 0 where
@@ -99,7 +103,7 @@ module _ {T : Type 0} (tapes : Tape T) where
   IsRetried place nodes nodes_after = IsBegunAnew place nodes nodes_after ⊎ (RestsAt place nodes × (nodes_after ≡ nodes))
 
   -- The effect of one connection: a request was served by the node at index `place`, its messages were delivered, and its
-  -- proposal was restarted if it was still running.
+  -- proposal was restarted if it was still running. Then the nodes caught up.
   pub record IsConnection (place : ℕ) (input old new : Option (List ℕ)) (nodes : List (Node T)) (outcome : Outcome) (nodes_after : List (Node T)) : Type 0 where
     -- the node's messages in serving, and the nodes by then
     pub said : Vec Message Global
@@ -108,7 +112,10 @@ module _ {T : Type 0} (tapes : Tape T) where
     pub heard : List (Node T)
     pub request : IsServedAt place input old new nodes said served outcome
     pub hearing : AreHeard served said heard
-    pub retry : IsRetried place heard nodes_after
+    -- the nodes after the retry
+    pub retried : List (Node T)
+    pub retry : IsRetried place heard retried
+    pub catch_up : HaveCaughtUp retried nodes_after
 
 -- How writing the response ended, of any writer: a failed write is the last call, and some bytes were written without a failure
 -- before it. If the input is empty or the reader failed, the writer isn't called.

@@ -9,8 +9,11 @@ ghost use Rattle.wf_serve.specs.Caching.{AreKept};
 ghost use Rattle.wf_serve.specs.Connections.{HaveCome, IsAnswered, MayBeAnswered};
 
 use crate::limited::Limited;
+use crate::log::Log;
+use crate::noted::Noted;
 use crate::parting::part;
 use crate::serving::{agree_still, serve_connection};
+use crate::watch::Watch;
 use std::net::{TcpListener, TcpStream};
 use std::time::{Clock, Duration};
 use wf_farm::{Farm, leading_goes_on};
@@ -25,10 +28,14 @@ const PEER_SECONDS: u64 = 10;
 /// mod n, with its cache, as by [`serve_connection`]. A connection that can't be accepted counts as one without a request, and
 /// changes nothing.
 ///
-/// A client has ten seconds to send its request and ten to receive the response; then the connection is closed. What it sends
+/// What becomes of requests to publish and of the nodes' tapes is written to the log.
+///
+/// A client has ten seconds to send its request: what it has sent by then is answered. Then it has ten seconds to receive the
+/// response; then the connection is closed. What it sends
 /// after its request is read and dropped, so that it can receive the response, for at most a second and a megabyte.
-pub fn serve_connections<R: Clock + AllocGlobal, T: Tape>(
+pub fn serve_connections<R: Clock + Eprint + AllocGlobal, T: Tape>(
     rt: &R,
+    log: &Log<'_, R>,
     listener: &TcpListener,
     farm: &mut Farm<T>,
     caches: &mut [Cache],
@@ -51,9 +58,18 @@ pub fn serve_connections<R: Clock + AllocGlobal, T: Tape>(
 {
     leading_goes_on::<T>();
     let count = farm.size();
+    let mut watch = Watch::new(rt.alloc(), log, farm);
     for connection in 0..requests {
-        serve_next(rt, listener, farm, caches, turn_of(connection, count));
+        serve_next(
+            rt,
+            &mut watch,
+            listener,
+            farm,
+            caches,
+            turn_of(connection, count),
+        );
     }
+    drop(watch);
     agree_still(farm);
 }
 
@@ -67,8 +83,9 @@ fn turn_of(connection: u32, count: usize) -> usize
 }
 
 /// Serves the next connection by the node at an index. If none can be accepted, nothing happens.
-fn serve_next<R: Clock + AllocGlobal, T: Tape>(
+fn serve_next<R: Clock + Eprint + AllocGlobal, T: Tape>(
     rt: &R,
+    watch: &mut Watch<'_, '_, R>,
     listener: &TcpListener,
     farm: &mut Farm<T>,
     caches: &mut [Cache],
@@ -86,12 +103,13 @@ fn serve_next<R: Clock + AllocGlobal, T: Tape>(
     let Ok((stream, _)) = listener.accept() else {
         return;
     };
-    serve_stream(rt, stream, farm, caches, place);
+    serve_stream(rt, watch, stream, farm, caches, place);
 }
 
 /// Serves an accepted connection by the node at an index, and closes it.
-fn serve_stream<R: Clock + AllocGlobal, T: Tape>(
+fn serve_stream<R: Clock + Eprint + AllocGlobal, T: Tape>(
     rt: &R,
+    watch: &mut Watch<'_, '_, R>,
     stream: TcpStream,
     farm: &mut Farm<T>,
     caches: &mut [Cache],
@@ -106,14 +124,11 @@ fn serve_stream<R: Clock + AllocGlobal, T: Tape>(
     ensures kept { AreKept (nodes_in farm.new) caches.new }
 {
     let time = Duration::from_secs(PEER_SECONDS);
-    let outcome = serve_connection(
-        rt.alloc(),
-        &mut Stream::new(Limited::new(rt, &stream, time)),
-        &mut Stream::new(Limited::new(rt, &stream, time)),
-        farm,
-        caches,
-        place,
-    );
+    let mut source = Stream::new(Noted::new(Limited::new(rt, &stream, time)));
+    let mut sink = Stream::new(Noted::new(Limited::new(rt, &stream, time)));
+    let outcome = serve_connection(rt.alloc(), &mut source, &mut sink, farm, caches, place);
+    watch.hear(place, outcome, source.inner().first(), sink.inner().first());
+    watch.look(farm);
     part(rt, &stream, outcome);
     drop(stream);
 }

@@ -8,19 +8,26 @@
 //! - [`serve_connections`] serves a number of connections.
 //! - [`serve_connection`] serves one, over any reader and writer.
 //!
+//! [`inspect`] looks what is in a folder, [`check_tapes`] reads its tapes, [`examine`] says whether the nodes of its farm would start on
+//! it. A [`Log`] writes each [`Event`] on standard error, a [`Fault`] with its [`Cause`].
+//!
 //! **Promises.**
 //! - A connection is an exchange with the farm's node at the given index (`Farm::exchange` of `wf_farm`). The node serves the request
 //!   with its cache, as `wf_edge`'s `serve_one_cached` does, while each other node is unchanged, and each cache's pictures are of its
 //!   node's maps throughout (`specs/Caching.antt`). Then exactly the messages that the node sent are delivered to all nodes, and those
 //!   sent in reply. Then, if a proposal of that node still runs, the node is asked once to restart it, and the messages that it sends
-//!   are delivered likewise; otherwise nothing happens (`specs/Serving.antt`).
+//!   are delivered likewise; otherwise nothing happens. Then the nodes catch up (`specs/Serving.antt`).
 //! - Many connections: connection c, counted from 0, is served so by node c mod n, or changes nothing if it can't be accepted
 //!   (`specs/Connections.antt`).
-//! - Catching up: each node was asked to, in turn.
+//! - Catching up: each node that is behind asks one that has published the most, which answers to it alone. If no delivery was lost,
+//!   all nodes that run have published equally many maps afterwards.
 //! - A tape: [`open_shortened`] opens a node on its tape and shortens it. On an honest tape the node has stored what the tape's
 //!   records fold to, and the tape holds exactly the records of a shortened one, or is as it was if an allocation failed. If the
 //!   tape fails meanwhile, what a crash leaves of it reads as before, or stands for the same (`specs/Shortening.antt`).
-//! - Node i of n is at index i throughout, and its tape in a folder is `node-i.tape` (`specs/Folder.antt`).
+//! - Node i of n is at index i throughout, and its tape in a folder is `node-i.tape` (`specs/Folder.antt`). Tapes in a folder are
+//!   opened only for a start that `admit` of `wf_folder` returned for what was found in it.
+//! - [`first_difference`] of two histories: the sequence under which they have different definitions, none only if they have no
+//!   different ones (`specs/Differing.antt`).
 //! - The port: the line that is written names it, and it is the requested one unless that is 0. An error reports why the nodes
 //!   aren't served, and what is written of that line by then (`specs/Listening.antt`).
 //! - Of that line and of each response a failed write is the last call of its writer.
@@ -34,32 +41,43 @@
 //!   are new still ([`caught_up_nodes_stay_new`]), and what the first connection published all of them have published after any later
 //!   ones ([`the_first_map_is_published`], `specs/First.antt`).
 //!
-//! **Doesn't.** It doesn't state that memory suffices for a delivery, what a socket receives or sends, that a connection is
+//! **Doesn't.** It doesn't state that memory suffices for a delivery, what a file holds, what the log's lines are, what a socket receives or sends, that a connection is
 //! accepted, which port the system chooses, how long a client is waited for, nor that a proposal is published: sockets and clocks
 //! have no model. Tests cover these, as do runs of the built program that aren't in CI.
 #![tactic(auto)]
 
 mod caching;
+mod check;
 mod connections;
+mod event;
 mod fault;
 mod holding;
 mod limited;
 mod listening;
+mod log;
+mod marking;
+mod noted;
 mod opening;
 mod parting;
 mod port;
 mod publishing;
 mod serving;
 mod shortening;
+mod survey;
 mod visiting;
+mod watch;
 
+pub use check::{check_tapes, examine, first_difference};
 pub use connections::serve_connections;
+pub use event::{Cause, Event, Fault, Level};
 pub use fault::ServeFault;
 pub use listening::{serve, serve_at, serve_nodes};
+pub use log::Log;
 pub use port::listen;
 pub use publishing::{
     an_accepted_map_is_published, caught_up_nodes_stay_new, the_first_map_is_published,
 };
 pub use serving::{catch_up, serve_connection};
 pub use shortening::open_shortened;
+pub use survey::{Survey, inspect};
 pub use wf_service::Service;

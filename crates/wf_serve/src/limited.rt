@@ -1,5 +1,6 @@
 //! A peer with a time limit.
 ghost use Rattle.std.specs.Prelude.{◌<◌, IfOk};
+ghost use Rattle.std.specs.Counts.{IsPrefixLen};
 ghost use Rattle.std.specs.Duration.{as_nanos};
 
 use std::io;
@@ -7,8 +8,9 @@ use std::io::{ErrorKind, Read, Write};
 use std::net::TcpStream;
 use std::time::{Clock, Duration, Instant};
 
-/// One direction of a connection, with one time limit for all its reads or writes together. The time starts with the first call;
-/// a call after its end fails, and a call still waiting at its end is given up.
+/// One direction of a connection, with one time limit for all its reads or writes together. The time starts with the first call,
+/// and a call still waiting at its end is given up. At the end of the time the input counts as ended, so that a client that stays
+/// gets the response to what it has sent; a write after it fails.
 #[derive(Drop)]
 pub(crate) struct Limited<'a, R: Clock> {
     clock: &'a R,
@@ -48,6 +50,23 @@ impl<'a, R: Clock> Limited<'a, R> {
     }
 }
 
+impl<'a, R: Clock> Limited<'a, R> {
+    /// Reads once. `TimedOut` or `WouldBlock` if the time ends before bytes come.
+    fn read_in_time(&mut self, buf: &mut [u8]) -> io::Result<usize>
+        ensures { IfOk result (λ n. IsPrefixLen n buf.new) }
+    {
+        let left = self.left()?;
+        self.stream.set_read_timeout(Some(left))?;
+        let mut stream = self.stream;
+        stream.read(buf)
+    }
+}
+
+/// Whether an error says that the time has ended: the system reports it in one of two ways.
+fn is_timeout(kind: ErrorKind) -> bool {
+    matches!(kind, ErrorKind::TimedOut | ErrorKind::WouldBlock)
+}
+
 /// The time from now to `end`. `TimedOut` if that is reached.
 fn time_between(now: Instant, end: Instant) -> io::Result<Duration>
     ensures { IfOk result (λ left. 0 < as_nanos left) }
@@ -61,10 +80,10 @@ fn time_between(now: Instant, end: Instant) -> io::Result<Duration>
 
 impl<'a, R: Clock> Read for Limited<'a, R> {
     fn read(&mut self, buf: &mut [u8]) -> io::Result<usize> {
-        let left = self.left()?;
-        self.stream.set_read_timeout(Some(left))?;
-        let mut stream = self.stream;
-        stream.read(buf)
+        match self.read_in_time(buf) {
+            Err(error) if is_timeout(error.kind()) => Ok(0),
+            read => read,
+        }
     }
 }
 

@@ -1,5 +1,5 @@
 //! Opens the nodes, lets them catch up, prints their port, and serves the connections.
-ghost use Rattle.std.specs.Prelude.{◌≡◌, Some, None};
+ghost use Rattle.std.specs.Prelude.{◌≡◌, List, Err, IsSome, OnOk, Some, None};
 ghost use Rattle.wf_farm.specs.Delivering.{AnyPart, EachGrows};
 ghost use Rattle.wf_farm.specs.Leading.{AreLedOn, AreReached, HaveOneHistory};
 ghost use Rattle.wf_farm.specs.Nodes.{AllRun, nodes_in};
@@ -7,59 +7,91 @@ ghost use Rattle.wf_serve.specs.Agreeing.{RespondAlike};
 ghost use Rattle.wf_serve.specs.Caching.{AreKept};
 ghost use Rattle.wf_serve.specs.Connections.{IfTold, IsServing};
 ghost use Rattle.wf_serve.specs.Fault.{CountsWrites};
+ghost use Rattle.wf_node.specs.Node.{Node};
 ghost use Rattle.wf_serve.specs.Listening.{IsEnded, IsTold, TellsPort};
+ghost use Rattle.wf_serve.specs.Served.{HaveServed, NewServed, Served};
 ghost use Rattle.wf_service.specs.Service.{IsService};
 
 use crate::caching::caches_for;
 use crate::connections::serve_connections;
+use crate::event::{Cause, Event, Fault};
 use crate::fault::ServeFault;
 use crate::holding::hold;
-use crate::opening::in_files;
+use crate::log::Log;
+use crate::opening::open_folder;
 use crate::port::{listen, tell_port};
 use crate::serving::{agree_still, catch_up};
+use crate::watch::write_caught_up;
 use std::fs::File;
 use std::net::{Net, TcpListener, TcpStream};
 use std::rt::Files;
 use std::time::Clock;
-use wf_farm::{Farm, leading_goes_on};
+use wf_farm::{Farm, fresh_nodes_are_reached, leading_goes_on};
 use wf_service::Service;
 use wf_stream::Sink;
-use wf_tape::Tape;
+use wf_tape::{FileTape, MemoryTape, Tape};
 use wf_wms::cache::Cache;
 
 /// Serves nodes at a port of 127.0.0.1, to the service's number of connections, one after the other: connection c, counted from
 /// 0, by node c mod N. The port is bound first: if that fails, no tape is opened. Then it goes on as [`serve_at`].
 ///
-/// Err: `Start` if the port can't be bound, the folder can't be locked, a tape doesn't open or an allocation fails; the writer
+/// Err: `Start` if the port can't be bound, the folder can't be locked or isn't this farm's, a tape doesn't open or an allocation
+/// fails; the writer
 /// isn't called then. `Write` if the line can't be written; a prefix of it may be, and the failed write is the last call. The
 /// port is the service's, or one chosen by the system if that is 0.
 pub fn serve<
+    'a,
     R: Files<File = File>
         + Eprint
         + Clock
         + Net<Listener = TcpListener, Stream = TcpStream>
         + AllocGlobal,
     K: Sink,
->(rt: &R, service: Service<'_>, sink: &mut K) -> Result<(), ServeFault>
+>(rt: &'a R, service: Service<'_>, sink: &mut K) -> Result<(), ServeFault>
     requires { IsService service }
     ensures told { IsTold service.entry.port (K.written sink.old) (K.written sink.new) result }
     ensures writes { CountsWrites result (K.failures sink.old) (K.failures sink.new) }
     ensures last { IsEnded K.Sink service.entry.port sink.old sink.new result }
+    ensures memory { service.entry.state ≡ None → OnOk result
+        (NewServed ⟦<MemoryTape as Tape>⟧ service.entry.nodes service.entry.requests) }
+    ensures files { IsSome service.entry.state → OnOk result
+        (Served ⟦<FileTape<&'a R> as Tape>⟧ service.entry.nodes service.entry.requests) }
 {
     let Ok(listener) = listen(rt, service.port) else {
-        return Err(ServeFault::Start);
+        return fault(&Log::new(rt, service.log), Cause::Port(service.port), None);
     };
     let outcome = serve_at(rt, &listener, service, sink);
     drop(listener);
     outcome
 }
 
+/// Writes to the log why nodes don't start, and returns that they don't.
+fn fault<R: Clock + Eprint>(
+    log: &Log<'_, R>,
+    cause: Cause,
+    folder: Option<&str>,
+) -> Result<(), ServeFault>
+    ensures { result ≡ Err ServeFault.Start }
+{
+    log.write(&Event::Fault(Fault { cause, folder }));
+    Err(ServeFault::Start)
+}
+
+/// Writes the listener's port to the log.
+fn write_port<R: Clock + Eprint>(log: &Log<'_, R>, listener: &TcpListener) {
+    if let Ok(address) = listener.local_addr() {
+        log.write(&Event::Port {
+            port: address.port(),
+        });
+    }
+}
+
 /// Serves nodes at a listener: opens them from their tapes in the service's folder, or new ones in memory if there is no folder,
-/// and goes on as [`serve_nodes`]. Each tape in the folder is shortened once its node is open, and a line on standard error tells
-/// how many bytes it had and has. The folder is locked first: if another program has locked it, no tape is opened. The errors
-/// are those of [`serve`].
-pub fn serve_at<R: Files<File = File> + Eprint + Clock + AllocGlobal, K: Sink>(
-    rt: &R,
+/// and goes on as [`serve_nodes`]. Each tape in the folder is shortened once its node is open. The folder is locked first: if another
+/// program has locked it, nothing in it changes; nor if it isn't this farm's, a tape is bad or two tapes differ. If the service asks
+/// for a log, each event is written to it. The errors are those of [`serve`].
+pub fn serve_at<'a, R: Files<File = File> + Eprint + Clock + AllocGlobal, K: Sink>(
+    rt: &'a R,
     listener: &TcpListener,
     service: Service<'_>,
     sink: &mut K,
@@ -68,33 +100,44 @@ pub fn serve_at<R: Files<File = File> + Eprint + Clock + AllocGlobal, K: Sink>(
     ensures told { IsTold service.entry.port (K.written sink.old) (K.written sink.new) result }
     ensures writes { CountsWrites result (K.failures sink.old) (K.failures sink.new) }
     ensures last { IsEnded K.Sink service.entry.port sink.old sink.new result }
+    ensures memory { service.entry.state ≡ None → OnOk result
+        (NewServed ⟦<MemoryTape as Tape>⟧ service.entry.nodes service.entry.requests) }
+    ensures files { IsSome service.entry.state → OnOk result
+        (Served ⟦<FileTape<&'a R> as Tape>⟧ service.entry.nodes service.entry.requests) }
 {
+    let log = Log::new(rt, service.log);
+    write_port(&log, listener);
     match service.state {
-        Some(folder) => serve_files(rt, listener, service, folder, sink),
-        None => serve_memory(rt, listener, service, sink),
+        Some(folder) => serve_files(rt, &log, listener, service, folder, sink),
+        None => serve_memory(rt, &log, listener, service, sink),
     }
 }
 
 /// Serves nodes on tapes in memory, where the service has no folder.
-fn serve_memory<R: Clock + AllocGlobal, K: Sink>(
+fn serve_memory<R: Clock + Eprint + AllocGlobal, K: Sink>(
     rt: &R,
+    log: &Log<'_, R>,
     listener: &TcpListener,
     service: Service<'_>,
     sink: &mut K,
 ) -> Result<(), ServeFault>
     requires service { IsService service }
     requires memory { service.state ≡ None }
-    ensures { TellsPort K.Sink service.entry.port sink.old sink.new result }
+    ensures tells { TellsPort K.Sink service.entry.port sink.old sink.new result }
+    ensures served { OnOk result
+        (NewServed ⟦<MemoryTape as Tape>⟧ service.entry.nodes service.entry.requests) }
 {
+    fresh_nodes_are_reached::<MemoryTape>();
     match Farm::new(rt.alloc(), service.nodes) {
-        Ok(farm) => serve_opened(rt, listener, service, farm, sink),
-        Err(_) => Err(ServeFault::Start),
+        Ok(farm) => serve_opened(rt, log, listener, service, farm, sink),
+        Err(_) => fault(log, Cause::Memory, None),
     }
 }
 
 /// Serves nodes on tapes in the files of the service's folder, which is locked meanwhile.
-fn serve_files<R: Files<File = File> + Eprint + Clock + AllocGlobal, K: Sink>(
-    rt: &R,
+fn serve_files<'a, R: Files<File = File> + Eprint + Clock + AllocGlobal, K: Sink>(
+    rt: &'a R,
+    log: &Log<'_, R>,
     listener: &TcpListener,
     service: Service<'_>,
     folder: &str,
@@ -102,19 +145,24 @@ fn serve_files<R: Files<File = File> + Eprint + Clock + AllocGlobal, K: Sink>(
 ) -> Result<(), ServeFault>
     requires service { IsService service }
     requires files { service.state ≡ Some folder }
-    ensures { TellsPort K.Sink service.entry.port sink.old sink.new result }
+    ensures tells { TellsPort K.Sink service.entry.port sink.old sink.new result }
+    ensures served { OnOk result (Served ⟦<FileTape<&'a R> as Tape>⟧
+        service.entry.nodes service.entry.requests) }
 {
-    let Ok(held) = hold(rt, folder) else {
-        return Err(ServeFault::Start);
-    };
-    let outcome = serve_tapes(rt, listener, service, folder, sink);
-    drop(held);
-    outcome
+    match hold(rt, folder) {
+        Ok(held) => {
+            let outcome = serve_tapes(rt, log, listener, service, folder, sink);
+            drop(held);
+            outcome
+        }
+        Err(cause) => fault(log, cause, Some(folder)),
+    }
 }
 
-/// The same once the folder is locked.
-fn serve_tapes<R: Files + Eprint + Clock + AllocGlobal, K: Sink>(
-    rt: &R,
+/// Serves nodes on tapes in the files of the service's folder, once it is locked.
+fn serve_tapes<'a, R: Files + Eprint + Clock + AllocGlobal, K: Sink>(
+    rt: &'a R,
+    log: &Log<'_, R>,
     listener: &TcpListener,
     service: Service<'_>,
     folder: &str,
@@ -122,17 +170,20 @@ fn serve_tapes<R: Files + Eprint + Clock + AllocGlobal, K: Sink>(
 ) -> Result<(), ServeFault>
     requires service { IsService service }
     requires files { service.state ≡ Some folder }
-    ensures { TellsPort K.Sink service.entry.port sink.old sink.new result }
+    ensures tells { TellsPort K.Sink service.entry.port sink.old sink.new result }
+    ensures served { OnOk result (Served ⟦<FileTape<&'a R> as Tape>⟧
+        service.entry.nodes service.entry.requests) }
 {
-    match in_files(rt, service.nodes, folder) {
-        Ok(farm) => serve_opened(rt, listener, service, farm, sink),
-        Err(_) => Err(ServeFault::Start),
+    match open_folder(rt, log, service.nodes, folder) {
+        Ok(farm) => serve_opened(rt, log, listener, service, farm, sink),
+        Err(cause) => fault(log, cause, Some(folder)),
     }
 }
 
 /// Serves open nodes, and closes them.
-fn serve_opened<R: Clock + AllocGlobal, K: Sink, T: Tape + Drop>(
+fn serve_opened<R: Clock + Eprint + AllocGlobal, K: Sink, T: Tape + Drop>(
     rt: &R,
+    log: &Log<'_, R>,
     listener: &TcpListener,
     service: Service<'_>,
     mut farm: Farm<T>,
@@ -140,22 +191,26 @@ fn serve_opened<R: Clock + AllocGlobal, K: Sink, T: Tape + Drop>(
 ) -> Result<(), ServeFault>
     requires service { IsService service }
     requires running { AllRun farm.places }
-    ensures { TellsPort K.Sink service.entry.port sink.old sink.new result }
+    ensures tells { TellsPort K.Sink service.entry.port sink.old sink.new result }
+    ensures served { OnOk result ((after : List (Node T)) ×
+        HaveServed T.Tape service.entry.requests (nodes_in farm) after) }
 {
-    let outcome = serve_nodes(rt, listener, service, &mut farm, sink);
+    farm.nodes_agree();
+    let outcome = serve_nodes(rt, log, listener, service, &mut farm, sink);
     drop(farm);
     outcome
 }
 
 /// Serves a farm that a caller holds at a listener: each node requests the definitions that it missed, and the messages are delivered;
 /// the line `listening P` with the listener's port is written; and then connections are served as by [`serve_connections`]. The
-/// service gives the number of pictures cached for each node; its number of nodes and its folder are ignored.
+/// service gives the number of pictures cached for each node; its number of nodes is ignored. Events are written to the log.
 ///
 /// Err: `Start` if the listener's port isn't the service's, unless that is 0, or an allocation fails; the writer isn't called
 /// then. `Write` if the line can't be written; a prefix of it may be, and the failed write is the last call. In both cases no
 /// connection is served.
-pub fn serve_nodes<R: Clock + AllocGlobal, K: Sink, T: Tape>(
+pub fn serve_nodes<R: Clock + Eprint + AllocGlobal, K: Sink, T: Tape>(
     rt: &R,
+    log: &Log<'_, R>,
     listener: &TcpListener,
     service: Service<'_>,
     farm: &mut Farm<T>,
@@ -179,19 +234,33 @@ pub fn serve_nodes<R: Clock + AllocGlobal, K: Sink, T: Tape>(
 {
     leading_goes_on::<T>();
     catch_up(rt.alloc(), farm);
+    write_caught_up(log, farm);
     let Ok(mut caches) = caches_for(rt.alloc(), farm, service.cache) else {
         agree_still(farm);
+        log.write(&Event::Fault(Fault {
+            cause: Cause::Memory,
+            folder: service.state,
+        }));
         return Err(ServeFault::Start);
     };
-    let outcome = serve_kept(rt, listener, service, farm, caches.as_mut_slice(), sink);
+    let outcome = serve_kept(
+        rt,
+        log,
+        listener,
+        service,
+        farm,
+        caches.as_mut_slice(),
+        sink,
+    );
     drop(caches);
     agree_still(farm);
     outcome
 }
 
 /// Prints the port, and serves the connections.
-fn serve_kept<R: Clock + AllocGlobal, K: Sink, T: Tape>(
+fn serve_kept<R: Clock + Eprint + AllocGlobal, K: Sink, T: Tape>(
     rt: &R,
+    log: &Log<'_, R>,
     listener: &TcpListener,
     service: Service<'_>,
     farm: &mut Farm<T>,
@@ -208,7 +277,10 @@ fn serve_kept<R: Clock + AllocGlobal, K: Sink, T: Tape>(
     leading_goes_on::<T>();
     match tell_port(rt.alloc(), listener, service.port, sink) {
         Ok(()) => {
-            serve_connections(rt, listener, farm, caches, service.requests);
+            serve_connections(rt, log, listener, farm, caches, service.requests);
+            log.write(&Event::Ended {
+                connections: service.requests,
+            });
             Ok(())
         }
         Err(fault) => Err(fault),

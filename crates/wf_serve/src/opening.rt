@@ -2,27 +2,133 @@
 ghost use Rattle.std.specs.Prelude.{◌≡◌, ◌<◌, ◌≤◌, ◌+◌, length, IfOk, IfSome, OnOk, string_bytes};
 ghost use Rattle.wf_farm.specs.Farm.{size};
 ghost use Rattle.wf_farm.specs.Nodes.{AllRun};
+ghost use Rattle.wf_folder.specs.Admission.{IsStart};
 ghost use Rattle.wf_serve.specs.Folder.{tape_path};
 ghost use Rattle.wf_serve.specs.Opening.{AreOpened};
 
-use crate::shortening::{bytes_at, open_shortened, tell};
-use std::alloc::Global;
+use crate::check::{cause_of_rejection, check_tapes};
+use crate::event::{Cause, Event};
+use crate::log::Log;
+use crate::marking::{new_file, write_file};
+use crate::shortening::{bytes_at, open_shortened};
+use crate::survey::{Survey, inspect, tape_path};
 use std::rt::Files;
+use std::time::Clock;
 use wf_ballot::NodeId;
 use wf_farm::{Farm, Place};
+use wf_folder::{Beginning, FarmFile, Start, admit};
 use wf_node::Node;
 use wf_tape::{FileTape, Tape};
 
-/// A tape doesn't open, or an allocation failed.
-#[derive(Clone, Copy)]
-pub(crate) struct Unopened;
-
-/// Returns the farm of n nodes on their tapes in a folder, `node-0.tape` and so on; a missing tape is created.
-pub(crate) fn in_files<'a, R: Files + Eprint + AllocGlobal>(
+/// The farm of n nodes on their tapes in a folder, if the folder is new, this farm's or taken over; then it has its file `farm`. The
+/// folder is looked at and its tapes are read first: if it isn't the farm's, a tape is bad, or two differ, nothing changes in it.
+pub(crate) fn open_folder<'a, R: Files + Eprint + Clock + AllocGlobal>(
     rt: &'a R,
+    log: &Log<'_, R>,
     n: u8,
     folder: &str,
-) -> Result<Farm<FileTape<&'a R>>, Unopened>
+) -> Result<Farm<FileTape<&'a R>>, Cause>
+    requires some { 1 ≤ n }
+    requires most { n ≤ 64 }
+    ensures size { IfOk result (λ farm. size farm ≡ n) }
+    ensures running { IfOk result (λ farm. AllRun farm.places) }
+{
+    let survey = inspect(rt, folder)?;
+    match admit(n, survey.found, survey.tapes.as_slice()) {
+        Ok(start) => open_admitted(rt, log, n, folder, &survey, start),
+        Err(why) => Err(cause_of_rejection(why)),
+    }
+}
+
+/// The farm on a folder on which it may start.
+fn open_admitted<'a, R: Files + Eprint + Clock + AllocGlobal>(
+    rt: &'a R,
+    log: &Log<'_, R>,
+    n: u8,
+    folder: &str,
+    survey: &Survey,
+    start: Start,
+) -> Result<Farm<FileTape<&'a R>>, Cause>
+    requires some { 1 ≤ n }
+    requires most { n ≤ 64 }
+    requires tapes { length survey.now.tapes ≡ 64 }
+    requires start { IsStart n survey.now.found survey.now.tapes start }
+    ensures size { IfOk result (λ farm. size farm ≡ n) }
+    ensures running { IfOk result (λ farm. AllRun farm.places) }
+{
+    check_tapes(rt, folder, n, survey.tapes.as_slice())?;
+    match start {
+        Start::Own(file) => open_own(rt, log, n, folder, &file),
+        Start::New => open_new(rt, log, n, folder, Beginning::Empty),
+        Start::TakenOver => open_new(rt, log, n, folder, Beginning::Found),
+    }
+}
+
+/// The farm on a folder that has its file.
+fn open_own<'a, R: Files + Eprint + Clock + AllocGlobal>(
+    rt: &'a R,
+    log: &Log<'_, R>,
+    n: u8,
+    folder: &str,
+    file: &FarmFile,
+) -> Result<Farm<FileTape<&'a R>>, Cause>
+    requires some { 1 ≤ n }
+    requires most { n ≤ 64 }
+    ensures size { IfOk result (λ farm. size farm ≡ n) }
+    ensures running { IfOk result (λ farm. AllRun farm.places) }
+{
+    write_folder(log, folder, file);
+    in_files(rt, log, n, folder)
+}
+
+/// The farm on a folder that has no file: it gets one once the tapes are open.
+fn open_new<'a, R: Files + Eprint + Clock + AllocGlobal>(
+    rt: &'a R,
+    log: &Log<'_, R>,
+    n: u8,
+    folder: &str,
+    beginning: Beginning,
+) -> Result<Farm<FileTape<&'a R>>, Cause>
+    requires some { 1 ≤ n }
+    requires most { n ≤ 64 }
+    ensures size { IfOk result (λ farm. size farm ≡ n) }
+    ensures running { IfOk result (λ farm. AllRun farm.places) }
+{
+    let file = new_file(rt, n, beginning)?;
+    write_folder(log, folder, &file);
+    let farm = in_files(rt, log, n, folder)?;
+    kept(farm, write_file(rt, folder, &file))
+}
+
+/// The farm, if the file of its folder was written.
+fn kept<T: Tape + Drop>(farm: Farm<T>, written: Result<(), Cause>) -> Result<Farm<T>, Cause>
+    ensures { IfOk result (λ same. same ≡ farm) }
+{
+    match written {
+        Ok(()) => Ok(farm),
+        Err(cause) => {
+            drop(farm);
+            Err(cause)
+        }
+    }
+}
+
+/// Writes to the log whose the folder is.
+fn write_folder<R: Eprint + Clock>(log: &Log<'_, R>, folder: &str, file: &FarmFile) {
+    log.write(&Event::Folder {
+        folder,
+        nodes: file.nodes,
+        beginning: file.beginning,
+    });
+}
+
+/// Returns the farm of n nodes on their tapes in a folder, `node-0.tape` and so on; a missing tape is created.
+fn in_files<'a, R: Files + Eprint + Clock + AllocGlobal>(
+    rt: &'a R,
+    log: &Log<'_, R>,
+    n: u8,
+    folder: &str,
+) -> Result<Farm<FileTape<&'a R>>, Cause>
     requires some { 1 ≤ n }
     requires most { n ≤ 64 }
     ensures size { IfOk result (λ farm. size farm ≡ n) }
@@ -30,11 +136,11 @@ pub(crate) fn in_files<'a, R: Files + Eprint + AllocGlobal>(
 {
     let mut places = Vec::new(rt.alloc());
     for number in 0..n {
-        match add_file(rt, &mut places, number, n, folder) {
+        match add_file(rt, log, &mut places, number, n, folder) {
             Ok(()) => {}
-            Err(_) => {
+            Err(cause) => {
                 drop(places);
-                return Err(Unopened);
+                return Err(cause);
             }
         }
     }
@@ -42,13 +148,14 @@ pub(crate) fn in_files<'a, R: Files + Eprint + AllocGlobal>(
 }
 
 /// Appends the node of this number, of n, opened from its tape in a folder.
-fn add_file<'a, R: Files + Eprint + AllocGlobal>(
+fn add_file<'a, R: Files + Eprint + Clock + AllocGlobal>(
     rt: &'a R,
+    log: &Log<'_, R>,
     places: &mut Vec<Place<FileTape<&'a R>>>,
     number: u8,
     n: u8,
     folder: &str,
-) -> Result<(), Unopened>
+) -> Result<(), Cause>
     requires most { n ≤ 64 }
     requires member { number < n }
     requires next { length places.old.items ≡ number }
@@ -56,33 +163,24 @@ fn add_file<'a, R: Files + Eprint + AllocGlobal>(
     ensures opened { OnOk result (AreOpened n places.new.items) }
     ensures size { OnOk result (length places.new.items ≡ number + 1) }
 {
-    let Some(path) = path_of(rt.alloc(), folder, number) else {
-        return Err(Unopened);
+    let Ok(path) = tape_path(rt.alloc(), folder, number) else {
+        return Err(Cause::Memory);
     };
-    let added = add_at(rt, places, number, n, folder, path.as_str());
+    let added = add_at(rt, log, places, number, n, folder, path.as_str());
     drop(path);
     added
 }
 
-/// The path of a node's tape in a folder. None if an allocation fails.
-fn path_of(alloc: Global, folder: &str, number: u8) -> Option<String>
-    ensures { IfSome result (λ path. string_bytes path ≡ tape_path folder.now number) }
-{
-    match format!(in alloc; "{folder}/node-{number}.tape") {
-        Ok(path) => Some(path),
-        Err(_) => None,
-    }
-}
-
 /// Appends the node of this number, of n, opened from the tape at its path in a folder, which is shortened then.
-fn add_at<'a, R: Files + Eprint + AllocGlobal>(
+fn add_at<'a, R: Files + Eprint + Clock + AllocGlobal>(
     rt: &'a R,
+    log: &Log<'_, R>,
     places: &mut Vec<Place<FileTape<&'a R>>>,
     number: u8,
     n: u8,
     folder: &str,
     path: &str,
-) -> Result<(), Unopened>
+) -> Result<(), Cause>
     requires most { n ≤ 64 }
     requires member { number < n }
     requires next { length places.old.items ≡ number }
@@ -91,18 +189,24 @@ fn add_at<'a, R: Files + Eprint + AllocGlobal>(
     ensures opened { OnOk result (AreOpened n places.new.items) }
     ensures size { OnOk result (length places.new.items ≡ number + 1) }
 {
-    let Ok(tape) = FileTape::open(rt.alloc(), rt, path) else {
-        return Err(Unopened);
-    };
     let before = bytes_at(rt, path);
+    let Ok(tape) = FileTape::open(rt.alloc(), rt, path) else {
+        return Err(Cause::TapeFailed(number as usize));
+    };
     match open_shortened(rt.alloc(), tape, id_of(number), n) {
         Ok((node, is_short)) => {
-            tell(rt, path, before, bytes_at(rt, path), is_short);
+            let after = bytes_at(rt, path);
+            log.write(&Event::Tape {
+                path,
+                before,
+                after,
+                is_short,
+            });
             put(places, node, n)
         }
         Err(tape) => {
             drop(tape);
-            Err(Unopened)
+            Err(Cause::TapeFailed(number as usize))
         }
     }
 }
@@ -116,7 +220,7 @@ fn id_of(number: u8) -> NodeId
 }
 
 /// Appends the next node of n.
-fn put<T: Tape + Drop>(places: &mut Vec<Place<T>>, node: Node<T>, n: u8) -> Result<(), Unopened>
+fn put<T: Tape + Drop>(places: &mut Vec<Place<T>>, node: Node<T>, n: u8) -> Result<(), Cause>
     requires next { node.id ≡ length places.old.items }
     requires of { node.n ≡ n }
     requires opened { AreOpened n places.old.items }
@@ -127,7 +231,7 @@ fn put<T: Tape + Drop>(places: &mut Vec<Place<T>>, node: Node<T>, n: u8) -> Resu
         Ok(()) => Ok(()),
         Err(back) => {
             drop(back);
-            Err(Unopened)
+            Err(Cause::Memory)
         }
     }
 }

@@ -2,7 +2,7 @@
 ghost use Rattle.wf_serve.specs.First.{FirstIsPublished};
 ghost use Rattle.wf_serve.specs.Publishing.{AcceptedIsPublished, CaughtUpAreNew};
 
-use wf_farm::{a_proposal_is_published, a_step_leads_on, leading_goes_on, new_nodes_stay_new};
+use wf_farm::{a_catch_up_leads_on, a_proposal_is_published, a_step_leads_on, leading_goes_on};
 use wf_tape::Tape;
 
 /// If a connection to one of three new nodes, served by [`serve_connection`](crate::serve_connection), was answered with the status
@@ -12,16 +12,16 @@ use wf_tape::Tape;
 pub fn an_accepted_map_is_published<T: Tape>()
     ensures { AcceptedIsPublished T.Tape }
 {
+    a_catch_up_leads_on::<T>();
     a_proposal_is_published::<T>();
 }
 
 /// New nodes that caught up ([`catch_up`](crate::catch_up)), as [`serve_nodes`](crate::serve_nodes) lets them before the first
-/// connection, are new still, if no node is halted afterwards. A theorem: the call does nothing.
+/// connection, are new still. A theorem: the call does nothing.
 pub fn caught_up_nodes_stay_new<T: Tape>()
     ensures { CaughtUpAreNew T.Tape }
 {
-    a_step_leads_on::<T>();
-    new_nodes_stay_new::<T>();
+    a_catch_up_leads_on::<T>();
 }
 
 /// Of the connections that three new nodes served ([`serve_connections`](crate::serve_connections)), at least one, the first is by
@@ -30,6 +30,7 @@ pub fn caught_up_nodes_stay_new<T: Tape>()
 pub fn the_first_map_is_published<T: Tape>()
     ensures { FirstIsPublished T.Tape }
 {
+    a_catch_up_leads_on::<T>();
     a_step_leads_on::<T>();
     leading_goes_on::<T>();
     a_proposal_is_published::<T>();

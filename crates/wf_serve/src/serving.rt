@@ -1,8 +1,10 @@
-//! The effect of a connection on a farm, and the catch-up of its nodes before the first.
-ghost use Rattle.std.specs.Prelude.{◌≡◌, ◌≢◌, ◌<◌, false, true};
+//! The effect of a connection on a farm, and the catch-up of its nodes before the first and after each.
+ghost use Rattle.std.specs.Prelude.{◌≡◌, ◌≢◌, ◌<◌, false, true, IfErr, IfOk, IfSome, OnErr};
 ghost use Rattle.wf_edge.specs.Hearing.{CountsHearing};
 ghost use Rattle.wf_edge.specs.Page.{standing_at};
 ghost use Rattle.wf_edge.specs.Saying.{CountsSaying};
+ghost use Rattle.wf_edge.specs.Serving.{IsPublish};
+ghost use Rattle.wf_http.specs.Request.{BeginsWith};
 ghost use Rattle.wf_farm.specs.Delivering.{AnyPart, EachGrows};
 ghost use Rattle.wf_farm.specs.Farm.{size};
 ghost use Rattle.wf_farm.specs.Leading.{AreLedOn, AreReached, HaveOneHistory};
@@ -10,13 +12,16 @@ ghost use Rattle.wf_farm.specs.Nodes.{AllRun, nodes_in};
 ghost use Rattle.wf_serve.specs.Agreeing.{AgreeStill, RespondAlike};
 ghost use Rattle.wf_serve.specs.Caching.{AreKept, IsKeptAt};
 ghost use Rattle.wf_serve.specs.Serving.{EndsWriting, HaveCaughtUp, IsAskedAndHeard, IsConnection, IsRetried, IsServedAndHeard, RestsAt, ProposesAt};
-ghost use Rattle.wf_serve.specs.Visiting.{own_input};
+ghost use Rattle.wf_serve.specs.Visiting.{IsAnsweredAt, IsReadAt};
+ghost use Rattle.wf_model.specs.Table.{Retry};
 
-use crate::visiting::{Own, Visit};
+use crate::visiting::{Publishing, Restart};
 use std::alloc::Global;
 use wf_edge::law::equal_requests_have_equal_responses;
 use wf_edge::outcome::Outcome;
+use wf_edge::serve::{Served, serve_reading};
 use wf_farm::{Farm, leading_goes_on, reached_stays};
+use wf_http::request::Request;
 use wf_node::Node;
 use wf_proposer::Standing;
 use wf_stream::{Sink, Source};
@@ -24,23 +29,22 @@ use wf_tape::Tape;
 use wf_wms::cache::Cache;
 use wf_wms::law::kept_pictures_outlast_growth;
 
-/// Asks each node in turn to catch up, and delivers its request and the messages sent in reply before the next node is asked.
+/// Lets each node that is behind catch up: it asks one that has published the most, as long as that brings it on. Where no allocation
+/// fails, all nodes that run have published equally many maps afterwards; if none is behind, nothing happens.
 pub fn catch_up<T: Tape>(alloc: Global, farm: &mut Farm<T>)
     requires { AllRun farm.old.places }
-    ensures caught { HaveCaughtUp T.Tape (size farm.old) (nodes_in farm.old) (nodes_in farm.new) }
+    ensures caught { HaveCaughtUp T.Tape (nodes_in farm.old) (nodes_in farm.new) }
     ensures led { AreLedOn T.Tape (nodes_in farm.old) (nodes_in farm.new) }
     ensures running { AllRun farm.new.places }
 {
-    leading_goes_on::<T>();
-    for number in 0..farm.size() {
-        ask(alloc, farm, number, Own::CatchUp);
-    }
+    let _ = farm.catch_up(alloc);
 }
 
 /// Serves one connection, over any reader and writer, by the node at index `place` and its cache, as `serve_one_cached` of
 /// `wf_edge` does. Then the node's messages are delivered, whether or not the response was written; and if its proposal still
-/// runs, the node is asked once to restart it, and its messages are delivered again. A step that the node rejects, or for which
-/// an allocation fails, is skipped. A failed write is the last call of the writer.
+/// runs, the node is asked once to restart it, and its messages are delivered again. Then each node that is behind catches up, as by
+/// [`catch_up`]. A step that the node rejects, or for which an allocation fails, is skipped. A failed write is the last call of the
+/// writer.
 pub fn serve_connection<S: Source, K: Sink, T: Tape>(
     alloc: Global,
     source: &mut S,
@@ -71,6 +75,7 @@ pub fn serve_connection<S: Source, K: Sink, T: Tape>(
     leading_goes_on::<T>();
     let outcome = served_at(alloc, source, sink, farm, &mut caches[place], place);
     retry(alloc, farm, place);
+    catch_up(alloc, farm);
     agree_still(farm);
     outcome
 }
@@ -84,7 +89,7 @@ pub(crate) fn agree_still<T: Tape>(farm: &Farm<T>)
     equal_requests_have_equal_responses::<T>();
 }
 
-/// Serves one request by the node at an index with its cache, and delivers its messages.
+/// Serves one request by the node at an index with its cache. Only a publish changes the node, and its messages are delivered.
 fn served_at<S: Source, K: Sink, T: Tape>(
     alloc: Global,
     source: &mut S,
@@ -105,49 +110,96 @@ fn served_at<S: Source, K: Sink, T: Tape>(
     ensures running { AllRun farm.new.places }
     ensures kept { IsKeptAt (nodes_in farm.new) place cache.new }
 {
-    let mut visit = Visit {
-        source,
+    kept_pictures_outlast_growth();
+    leading_goes_on::<T>();
+    match read_at(alloc, source, sink, farm, cache, place) {
+        Ok(Served { outcome, messages }) => {
+            drop(messages);
+            outcome
+        }
+        Err(request) => {
+            let outcome = publish_at(alloc, sink, farm, place, &request);
+            drop(request);
+            outcome
+        }
+    }
+}
+
+/// Reads a request, and answers it from the node at an index with its cache; or returns the request, if it is a publish.
+fn read_at<S: Source, K: Sink, T: Tape>(
+    alloc: Global,
+    source: &mut S,
+    sink: &mut K,
+    farm: &Farm<T>,
+    cache: &mut Cache,
+    place: usize,
+) -> Result<Served, Request>
+    requires within { place < size farm.now }
+    requires running { AllRun farm.now.places }
+    requires kept { IsKeptAt (nodes_in farm.now) place cache.old }
+    ensures serves { IfOk result (λ served. IsReadAt T.Tape K.Sink S.Source place
+        source.old source.new sink.old sink.new (nodes_in farm.now) served.messages served.outcome) }
+    ensures publish { IfErr result (λ request. IsPublish request.asked) }
+    ensures begins { IfErr result
+        (λ request. IfSome (S.left source.old) (λ input. BeginsWith input request)) }
+    ensures quiet { OnErr result (sink.new ≡ sink.old) }
+    ensures heard { OnErr result (S.failures source.new ≡ S.failures source.old) }
+    ensures kept { IsKeptAt (nodes_in farm.now) place cache.new }
+{
+    match farm.node(place) {
+        Some(node) => serve_reading(alloc, source, sink, node, cache),
+        None => unreachable!(),
+    }
+}
+
+/// Lets the node at an index answer a publish, and delivers its messages.
+fn publish_at<K: Sink, T: Tape>(
+    alloc: Global,
+    sink: &mut K,
+    farm: &mut Farm<T>,
+    place: usize,
+    request: &Request,
+) -> Outcome
+    requires within { place < size farm.old }
+    requires running { AllRun farm.old.places }
+    requires publish { IsPublish request.now.asked }
+    ensures answered { IsAnsweredAt T.Tape K.Sink place request.now sink.old sink.new
+        (nodes_in farm.old) result (nodes_in farm.new) }
+    ensures led { AreLedOn T.Tape (nodes_in farm.old) (nodes_in farm.new) }
+    ensures running { AllRun farm.new.places }
+{
+    let mut publishing = Publishing {
         sink,
-        cache,
+        request,
         outcome: Outcome::NoRequest,
     };
-    receive(alloc, farm, place, &mut visit);
-    let Visit {
-        source: _,
+    exchange_at(alloc, farm, place, &mut publishing);
+    let Publishing {
         sink: _,
-        cache: _,
+        request: _,
         outcome,
-    } = visit;
+    } = publishing;
     outcome
 }
 
-/// Lets a request ask the node at an index, and delivers the node's messages.
-fn receive<S: Source, K: Sink, T: Tape>(
+/// Lets a publish ask the node at an index, and delivers the node's messages.
+fn exchange_at<K: Sink, T: Tape>(
     alloc: Global,
     farm: &mut Farm<T>,
     place: usize,
-    visit: &mut Visit<'_, '_, '_, S, K>,
+    publishing: &mut Publishing<'_, '_, K>,
 )
     requires within { place < size farm.old }
     requires running { AllRun farm.old.places }
-    requires kept { IsKeptAt (nodes_in farm.old) place visit.old.cache.now }
-    ensures served { IsServedAndHeard T.Tape place (S.left visit.old.source.now)
-        (K.written visit.old.sink.now) (K.written visit.new.sink.now)
-        (nodes_in farm.old) visit.new.outcome (nodes_in farm.new) }
-    ensures reads { CountsHearing visit.new.outcome
-        (S.failures visit.old.source.now) (S.failures visit.new.source.now) }
-    ensures writes { CountsSaying visit.new.outcome
-        (K.failures visit.old.sink.now) (K.failures visit.new.sink.now) }
-    ensures last { EndsWriting K.Sink visit.old.sink.now visit.new.sink.now visit.new.outcome }
+    requires publish { IsPublish publishing.old.request.now.asked }
+    ensures answered { IsAnsweredAt T.Tape K.Sink place publishing.old.request.now
+        publishing.old.sink.now publishing.new.sink.now
+        (nodes_in farm.old) publishing.new.outcome (nodes_in farm.new) }
     ensures led { AreLedOn T.Tape (nodes_in farm.old) (nodes_in farm.new) }
     ensures running { AllRun farm.new.places }
-    ensures kept { IsKeptAt (nodes_in farm.new) place visit.new.cache.now }
-    ensures source { visit.new.source.ghost_name ≡ visit.old.source.ghost_name }
-    ensures sink { visit.new.sink.ghost_name ≡ visit.old.sink.ghost_name }
-    ensures cache { visit.new.cache.ghost_name ≡ visit.old.cache.ghost_name }
+    ensures sink { publishing.new.sink.ghost_name ≡ publishing.old.sink.ghost_name }
 {
-    kept_pictures_outlast_growth();
-    let _ = farm.exchange(alloc, place, visit);
+    let _ = farm.exchange(alloc, place, publishing);
 }
 
 /// If the proposal of the node at an index still runs, restarts it and delivers the messages.
@@ -160,7 +212,7 @@ fn retry<T: Tape>(alloc: Global, farm: &mut Farm<T>, place: usize)
 {
     leading_goes_on::<T>();
     if proposes(farm, place) {
-        ask(alloc, farm, place, Own::Retry);
+        restart(alloc, farm, place);
     }
 }
 
@@ -188,15 +240,14 @@ fn runs<T: Tape>(node: &Node<T>) -> bool
     }
 }
 
-/// Asks the node at an index for a step of its own, and delivers its messages.
-fn ask<T: Tape>(alloc: Global, farm: &mut Farm<T>, place: usize, own: Own)
+/// Asks the node at an index to restart its proposal, and delivers its messages.
+fn restart<T: Tape>(alloc: Global, farm: &mut Farm<T>, place: usize)
     requires within { place < size farm.old }
     requires running { AllRun farm.old.places }
-    ensures heard { IsAskedAndHeard T.Tape place (own_input own)
-        (nodes_in farm.old) (nodes_in farm.new) }
+    ensures heard { IsAskedAndHeard T.Tape place Retry (nodes_in farm.old) (nodes_in farm.new) }
     ensures led { AreLedOn T.Tape (nodes_in farm.old) (nodes_in farm.new) }
     ensures running { AllRun farm.new.places }
 {
-    let mut own = own;
-    let _ = farm.exchange(alloc, place, &mut own);
+    let mut restart = Restart;
+    let _ = farm.exchange(alloc, place, &mut restart);
 }

@@ -58,24 +58,3 @@ pub(crate) fn bytes_at<R: Files>(rt: &R, path: &str) -> Option<u64> {
         Err(_) => None,
     }
 }
-
-/// Prints the line about a tape on standard error: how many bytes it had before it was opened, and how many it has now. Nothing is
-/// printed if the system doesn't say; a line that can't be printed is lost.
-pub(crate) fn tell<R: Eprint>(
-    rt: &R,
-    path: &str,
-    before: Option<u64>,
-    after: Option<u64>,
-    is_short: bool,
-) {
-    let (Some(before), Some(after)) = (before, after) else {
-        return;
-    };
-    if !is_short {
-        let _ = eprintln!(rt; "{path}: {before} bytes, not shortened (N1)");
-    } else if after == before {
-        let _ = eprintln!(rt; "{path}: {before} bytes");
-    } else {
-        let _ = eprintln!(rt; "{path}: {before} bytes, shortened to {after}");
-    }
-}

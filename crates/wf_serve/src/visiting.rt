@@ -1,87 +1,61 @@
-//! What asks a node of a farm: a request over a connection, or the farm itself.
+//! What asks a node of a farm: a publish over a connection, or the farm itself.
 ghost use Rattle.std.specs.Prelude.{◌≡◌};
 ghost use Rattle.wf_edge.specs.Asking.{IsAnswer};
+ghost use Rattle.wf_model.specs.Table.{Retry};
 ghost use Rattle.wf_node.specs.Input.{view};
 ghost use Rattle.wf_serve.specs.Serving.{IsAsked};
-ghost use Rattle.wf_serve.specs.Visiting.{own_input};
 
 use std::alloc::Global;
 use wf_codec::Message;
 use wf_edge::outcome::Outcome;
-use wf_edge::serve::{Served, serve_one_cached};
+use wf_edge::serve::{Served, publish_request};
 use wf_farm::{Client, a_step_leads_on, leading_goes_on};
+use wf_http::request::Request;
 use wf_node::{Input, Node, NodeFault};
-use wf_stream::{Sink, Source};
+use wf_stream::Sink;
 use wf_tape::Tape;
-use wf_wms::cache::Cache;
 
-/// A request over a connection, that a node serves with its cache.
+/// A publish over a connection, that a node answers.
 #[derive(Drop)]
-pub(crate) struct Visit<'a, 'b, 'c, S, K> {
-    pub source: &'a mut S,
-    pub sink: &'b mut K,
-    pub cache: &'c mut Cache,
-    // What came of the request, once it is served.
+pub(crate) struct Publishing<'a, 'b, K> {
+    pub sink: &'a mut K,
+    pub request: &'b Request,
+    // What came of the request, once it is answered.
     pub outcome: Outcome,
 }
 
-impl<'a, 'b, 'c, S: Source, K: Sink, T: Tape> Client<T> for Visit<'a, 'b, 'c, S, K> {
-    ghost use Rattle.wf_wms.specs.KeptPictures.{AllKept};
-    ghost use Rattle.wf_serve.specs.Visiting.{IsVisit};
+impl<'a, 'b, K: Sink, T: Tape> Client<T> for Publishing<'a, 'b, K> {
+    ghost use Rattle.wf_edge.specs.Serving.{IsPublish, IsServed};
 
-    ghost ready = { λ visit node. AllKept node.parts.history visit.cache.now };
+    ghost ready = { λ publishing _. IsPublish publishing.request.now.asked };
 
     ghost asks = { λ old before said after new.
-        (new.source.ghost_name ≡ old.source.ghost_name)
-        × (new.sink.ghost_name ≡ old.sink.ghost_name)
-        × (new.cache.ghost_name ≡ old.cache.ghost_name)
-        × IsVisit T.Tape S.Source K.Sink old.source.now new.source.now old.sink.now new.sink.now
-        new.cache.now before said after new.outcome };
+        (new.sink.ghost_name ≡ old.sink.ghost_name)
+        × (new.request ≡ old.request)
+        × IsServed T.Tape K.Sink old.request.now old.sink.now new.sink.now
+        before said after new.outcome };
 
     fn ask(&mut self, alloc: Global, node: &mut Node<T>) -> Vec<Message> {
         a_step_leads_on::<T>();
         leading_goes_on::<T>();
-        let Served { outcome, messages } = serve_one_cached(
-            alloc,
-            self.source,
-            self.sink,
-            node,
-            self.cache,
-        );
+        let Served { outcome, messages } = publish_request(alloc, self.sink, node, self.request);
         self.outcome = outcome;
         messages
     }
 }
 
-/// What the farm itself asks a node.
+/// The farm itself, that asks a node to restart its proposal.
 #[derive(Clone, Copy)]
-pub(crate) enum Own {
-    /// To request the definitions that it missed.
-    CatchUp,
-    /// To restart its proposal.
-    Retry,
-}
+pub(crate) struct Restart;
 
-impl Own {
-    /// The node's input.
-    fn input(self) -> Input
-        ensures { view result ≡ own_input self }
-    {
-        match self {
-            Own::CatchUp => Input::CatchUp,
-            Own::Retry => Input::Retry,
-        }
-    }
-}
-
-impl<T: Tape> Client<T> for Own {
+impl<T: Tape> Client<T> for Restart {
     ghost ready = { λ _ _. Unit {0} };
 
-    ghost asks = { λ own before said after _. IsAsked T.Tape (own_input own) before said after };
+    ghost asks = { λ _ before said after _. IsAsked T.Tape Retry before said after };
 
     fn ask(&mut self, alloc: Global, node: &mut Node<T>) -> Vec<Message> {
         a_step_leads_on::<T>();
-        said(alloc, node, self.input())
+        said(alloc, node, Input::Retry)
     }
 }
 

@@ -11,4 +11,6 @@ pub struct Service<'a> {
     pub cache: u8,
     /// The folder of the nodes' tapes; without one they are in memory.
     pub state: Option<&'a str>,
+    /// Whether a line on standard error tells each event.
+    pub log: bool,
 }

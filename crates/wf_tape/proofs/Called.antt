@@ -7,7 +7,7 @@ use Rattle.wf_tape.specs.declared.fault.TapeFault.{TapeFault}
 use Rattle.wf_tape.specs.declared.fault.TapeFault.TheVariants.{Device, Memory}
 use Rattle.wf_tape.specs.declared.fuse.Fuse.{Fuse}
 use Rattle.wf_tape.specs.Fuse.{counted_down, burning}
-use Rattle.wf_tape.specs.Tape.{Call, Read, Append, Sync, Replace, error_of, IsOnlyImage, IsUnchanged, LeavesNoOther, IsExtended, IsCutShort, LeavesOldOr, LeavesOldOrNew, Elapses, HasRisen, HasCause, IsNotMemory, last_count}
+use Rattle.wf_tape.specs.Tape.{Call, Read, Append, Sync, Replace, error_of, IsOnlyImage, IsUnchanged, LeavesNoOther, IsExtended, LeavesOldOr, LeavesOldOrCut, LeavesOldOrNew, Elapses, HasRisen, HasCause, IsNotMemory, last_count}
 use Rattle.wf_tape.specs.MemoryTape.{TapeValue, IsImageOf, IsLeftSince, state_of, moment_of, NeverFails, counted, risen, failed_once, appended, replaced, settled, done, cut_short, IsLeft, IsCalled}
 use Rattle.wf_tape.proofs.Images.{content_is_image, only_synced, sync_leaves, append_leaves, not_extended, unchanged}
 use Rattle.wf_tape.proofs.Noted.{time_changed, time_same, inside_changed, inside_same, inside_synced, inside_replaced, settled_same}
@@ -142,7 +142,7 @@ pub record IsRead {A : Type 0} (old new : TapeValue) (result : Result A TapeFaul
 pub record IsAppend {A : Type 0} (old new : TapeValue) (bytes : List ℕ) (result : Result A TapeFault) : Type 0 where
   pub ok : OnOk result (new.bytes ≡ old.bytes ++ bytes)
   pub err : OnErr result (IsExtended old.bytes bytes new.bytes)
-  pub images : IsNotMemory result → IsCutShort new.bytes (IsImageOf old) (IsImageOf new)
+  pub images : IsNotMemory result → LeavesOldOrCut new.bytes (IsImageOf old) (IsImageOf new)
   pub memory : IsErrOf result Memory → IsUnchanged old.bytes new.bytes (IsImageOf old) (IsImageOf new)
   pub time : Elapses (moment_of old) (moment_of new) (IsLeftSince old) (IsLeftSince new)
   pub inside : LeavesOldOrNew (IsImageOf old) (IsImageOf new) (IsLeftSince new (moment_of old))

@@ -1,7 +1,7 @@
 -- The images of a tape in memory.
-use Rattle.std.proofs.Common.{◌≡◌, ℕ, ◌≤◌, List, [], ◌++◌, length, take, drop, refl, sym, ap, subst, ◌∙◌, length-append, arith}
+use Rattle.std.proofs.Common.{◌≡◌, ℕ, ◌≤◌, List, [], ◌++◌, length, take, drop, refl, sym, ap, subst, ◌∙◌, length-append, inr, arith}
 use Rattle.std.proofs.lemmas.List.{append-nil, take-append-drop, take-append-le, take_all, nil_from_length}
-use Rattle.wf_tape.specs.Tape.{IsBeginning, IsOnlyImage, IsUnchanged, LeavesNoOther, IsExtended, IsCutShort}
+use Rattle.wf_tape.specs.Tape.{IsBeginning, IsOnlyImage, IsUnchanged, LeavesNoOther, IsExtended, LeavesOldOrCut}
 use Rattle.wf_tape.specs.MemoryTape.{TapeValue, IsImageOf}
 
 begins_itself : (bytes : List ℕ) → IsBeginning bytes bytes
@@ -40,11 +40,11 @@ sync_leaves old new same all image is =
     subst (λ (t : List ℕ). IsImageOf old t) (sym is_content) (content_is_image old)
 
 -- after an append each image is a prefix of the content and begins with one from before
-pub append_leaves : (old new : TapeValue) (more : List ℕ) → old.synced ≤ length old.bytes → new.bytes ≡ old.bytes ++ more → new.synced ≡ old.synced → IsCutShort new.bytes (IsImageOf old) (IsImageOf new)
+pub append_leaves : (old new : TapeValue) (more : List ℕ) → old.synced ≤ length old.bytes → new.bytes ≡ old.bytes ++ more → new.synced ≡ old.synced → LeavesOldOrCut new.bytes (IsImageOf old) (IsImageOf new)
 append_leaves old new more within longer same image is =
     let front : take new.synced new.bytes ≡ take old.synced old.bytes =
     ap (λ (n : ℕ). take n new.bytes) same ∙ ap (λ (t : List ℕ). take old.synced t) longer ∙ take-append-le old.synced old.bytes more within in
-    (is.0, (take old.synced old.bytes, synced_are_image old, subst (λ (t : List ℕ). IsBeginning t image) front is.1))
+    inr (is.0, (take old.synced old.bytes, synced_are_image old, subst (λ (t : List ℕ). IsBeginning t image) front is.1))
 
 -- nothing appended is a case of an append
 pub not_extended : (old new more : List ℕ) → new ≡ old → IsExtended old more new

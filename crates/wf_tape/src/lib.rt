@@ -1,23 +1,30 @@
-//! Tapes: append-only storage of bytes, in memory and in a file.
+//! Tapes: append-only storage of bytes, in memory and on a disk.
 //!
 //! Model: a tape has a content, images (what a crash now may leave), what a crash since a moment could have left, and a count of
-//! failures, and is honest (keeps what was written) or not (`specs/Tape.antt`).
+//! failures, and is honest (keeps what was written) or not (`specs/Tape.antt`). It may be doubtful: a sync that succeeds may then
+//! leave bytes unsynced, until the content is replaced.
 //!
-//! Promises, of an honest tape: after an append and a sync the only image is the content; whatever a call returns, and at each
-//! moment inside it, a crash leaves what its clauses say. Of every tape: a failure is returned only if the tape counted one, and
-//! never of a tape that won't fail. A `MemoryTape` is proved to be honest, and to fail just at the call for which a failure was set.
+//! Promises, of an honest tape: after an append and a sync the only image is the content, unless the tape is doubtful; whatever a
+//! call returns, and at each moment inside it, a crash leaves what its clauses say. Of every tape: a failure is returned only if the
+//! tape counted one, and never of a tape that won't fail. A `MemoryTape` is proved to be honest, and to fail just at the call for
+//! which a failure was set. A `DiskTape` is proved to be honest where its disk is (wf_disk).
 //!
-//! Not here: what a file holds (a `FileTape` declares itself not honest), and what the bytes mean (wf_journal).
+//! Not here: what a file holds (a `FileTape` is on a disk of the system, which declares itself not honest), and what the bytes mean
+//! (wf_journal).
 #![tactic(auto)]
 
+mod calls;
+mod disk_tape;
 mod earlier;
 mod fault;
-mod file;
 mod fuse;
+mod law;
 mod memory;
 mod tape;
 
+pub use disk_tape::{DiskTape, FileTape};
 pub use fault::TapeFault;
-pub use file::{FILE_READS, FileTape};
+pub use law::an_append_cuts_short;
 pub use memory::MemoryTape;
 pub use tape::Tape;
+pub use wf_disk::FILE_READS;

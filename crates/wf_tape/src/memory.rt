@@ -312,6 +312,8 @@ impl Tape for MemoryTape {
 
     ghost honest = { Unit {0} };
 
+    ghost certain = { Unit {0} };
+
     ghost content = { λ t. t.bytes };
 
     ghost images = { IsImageOf };
@@ -325,6 +327,8 @@ impl Tape for MemoryTape {
     ghost never_fails = { NeverFails };
 
     ghost leaves = { IsCalled };
+
+    ghost certain_is_honest = { λ certain. certain };
 
     ghost is_now = { λ _. memory_now };
 
@@ -348,5 +352,9 @@ impl Tape for MemoryTape {
 
     fn failures(&self) -> u64 {
         self.failures
+    }
+
+    fn is_doubtful(&self) -> bool {
+        false
     }
 }

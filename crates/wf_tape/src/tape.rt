@@ -1,7 +1,7 @@
-ghost use Rattle.std.specs.Prelude.{◌≡◌, ◌≢◌, ◌⊎◌, ◌++◌, List, ℕ, Option, IfOk, IfErr, OnOk, OnErr, IsErrOf};
+ghost use Rattle.std.specs.Prelude.{◌≡◌, ◌≢◌, ◌⊎◌, ◌++◌, List, ℕ, Bool, false, Option, IfOk, IfErr, OnOk, OnErr, IsErrOf};
 ghost use Rattle.wf_tape.specs.declared.fault.TapeFault.{TapeFault};
 ghost use Rattle.wf_tape.specs.declared.fault.TapeFault.TheVariants.{Device, Memory};
-ghost use Rattle.wf_tape.specs.Tape.{Call, Read, Append, Sync, Replace, error_of, IsOnlyImage, IsUnchanged, LeavesNoOther, IsExtended, IsCutShort, LeavesOldOr, LeavesOldOrNew, Elapses, IsNow, AreNested, HasCause, IsNotMemory};
+ghost use Rattle.wf_tape.specs.Tape.{Call, Read, Append, Sync, Replace, error_of, IsOnlyImage, IsUnchanged, LeavesNoOther, IsExtended, LeavesOldOr, LeavesOldOrCut, LeavesOldOrNew, Elapses, IsNow, AreNested, HasCause, IsNotMemory};
 
 use crate::fault::TapeFault;
 use std::alloc::Global;
@@ -10,11 +10,14 @@ use std::alloc::Global;
 ///
 /// Model: its content, its images (what a crash now may leave), what a crash at each earlier moment could have left, those inside
 /// a call included, and the count of its failures. The contracts about content, images and moments hold of an honest tape. Honesty
-/// is a property of the type, so no call changes it. Any tape has counted a failure if a call returns `Device`. A tape may promise
+/// is a property of the type, so no call changes it. A tape may be doubtful (`is_doubtful`). Any tape has counted a failure if a call returns `Device`. A tape may promise
 /// that its device won't fail (`never_fails`), and then no call returns `Device`.
 pub trait Tape {
     /// The tape holds what was written.
     ghost honest: { Type 0 };
+
+    /// The tape is honest, and its device fails only where a failure was set. Of a tape that can't promise this it never holds.
+    ghost certain: { Type 0 } = { ⊥ };
 
     /// The bytes that a read returns.
     ghost content: { Self → List ℕ };
@@ -24,6 +27,10 @@ pub trait Tape {
 
     /// The number of times that the device has failed.
     ghost failed: { Self → ℕ };
+
+    /// A sync that succeeds may leave bytes unsynced: an earlier one failed, or who had the tape before isn't known. Then a system may
+    /// have dropped bytes that it didn't write. Only a replacement ends this. It never holds of a tape that loses no bytes so.
+    ghost doubtful: { Self → Bool } = { λ _. false };
 
     /// The moment now, as a number that doesn't fall: each change of the tape ends a moment.
     ghost moment: { Self → ℕ } = { λ _. 0 };
@@ -50,16 +57,17 @@ pub trait Tape {
         ensures cause { HasCause (failed self.old) (failed self.new) result }
         ensures sturdy { never_fails self.old → never_fails self.new }
         ensures sound { never_fails self.old → IfErr result (λ fault. fault ≢ Device) }
+        ensures doubt { doubtful self.new ≡ doubtful self.old }
         ensures exact { leaves Read self.old (error_of result) self.new };
 
-    /// Appends the bytes. Until they are synced a crash may leave any prefix of them; after `Device` a prefix of them may be
-    /// there, and no more. A crash inside the call leaves what one could before it, or what one can after it.
+    /// Appends the bytes. Until they are synced a crash may leave any prefix of them, or what it could leave before; after `Device` a
+    /// prefix of them may be there, and no more. A crash inside the call leaves what one could before it, or what one can after it.
     fn append(&mut self, bytes: &[u8]) -> Result<(), TapeFault>
         ensures ok { honest → OnOk result (content self.new ≡ content self.old ++ bytes.now) }
         ensures err { honest →
             OnErr result (IsExtended (content self.old) bytes.now (content self.new)) }
         ensures images { honest → IsNotMemory result →
-            IsCutShort (content self.new) (images self.old) (images self.new) }
+            LeavesOldOrCut (content self.new) (images self.old) (images self.new) }
         ensures memory { honest → IsErrOf result Memory →
             IsUnchanged (content self.old) (content self.new) (images self.old) (images self.new) }
         ensures time { honest → Elapses
@@ -69,11 +77,13 @@ pub trait Tape {
         ensures cause { HasCause (failed self.old) (failed self.new) result }
         ensures sturdy { never_fails self.old → never_fails self.new }
         ensures sound { never_fails self.old → IfErr result (λ fault. fault ≢ Device) }
+        ensures doubt { doubtful self.new ≡ doubtful self.old }
         ensures exact { leaves (Append bytes.now) self.old (error_of result) self.new };
 
-    /// After it a crash leaves exactly the content; inside it, what one could before. Doesn't allocate.
+    /// After it a crash leaves exactly the content, unless the tape is doubtful; inside it, what one could before. Doesn't allocate.
     fn sync(&mut self) -> Result<(), TapeFault>
-        ensures ok { honest → OnOk result (IsOnlyImage (content self.new) (images self.new)) }
+        ensures ok { honest → doubtful self.old ≡ false →
+            OnOk result (IsOnlyImage (content self.new) (images self.new)) }
         ensures same { honest → content self.new ≡ content self.old }
         ensures images { honest → LeavesNoOther (images self.old) (images self.new) }
         ensures memory { IsNotMemory result }
@@ -84,6 +94,7 @@ pub trait Tape {
         ensures cause { HasCause (failed self.old) (failed self.new) result }
         ensures sturdy { never_fails self.old → never_fails self.new }
         ensures sound { never_fails self.old → IfErr result (λ fault. fault ≢ Device) }
+        ensures doubt { OnOk result (doubtful self.new ≡ doubtful self.old) }
         ensures exact { leaves Sync self.old (error_of result) self.new };
 
     /// Replaces the content by the bytes, all of them synced. After `Device` the content is the bytes, or that of before. A crash
@@ -104,11 +115,20 @@ pub trait Tape {
         ensures cause { HasCause (failed self.old) (failed self.new) result }
         ensures sturdy { never_fails self.old → never_fails self.new }
         ensures sound { never_fails self.old → IfErr result (λ fault. fault ≢ Device) }
+        ensures sure { OnOk result (doubtful self.new ≡ false) }
+        ensures doubt { IsErrOf result Memory → doubtful self.new ≡ doubtful self.old }
         ensures exact { leaves (Replace bytes.now) self.old (error_of result) self.new };
 
     /// The number of times that the device has failed. It saturates.
     fn failures(&self) -> u64
         ensures { result ≡ failed self.now };
+
+    /// Whether a sync can't be relied on, so that a replacement is due.
+    fn is_doubtful(&self) -> bool
+        ensures { result ≡ doubtful self.now };
+
+    /// What is certain is honest.
+    ghost certain_is_honest: { certain → honest };
 
     /// Since this moment there was no other.
     ghost is_now: { honest → (tape : Self) → IsNow (images tape) (left_since tape (moment tape)) };

@@ -1,6 +1,7 @@
 //! The commands on bytes in memory.
 use std::alloc::Global;
 use wf_ballot::Seq;
+use wf_commands::checking::run_check;
 use wf_commands::fault::RunFault;
 use wf_commands::run::{run_canon, run_caps};
 use wf_stream::Stream;
@@ -26,6 +27,22 @@ fn run_canon_on(alloc: Global, input: &[u8], output: &mut Answer) -> Result<(), 
 pub(crate) fn canon(asked: Asked<'_>, answer: &mut Answer) -> Answered {
     let outcome = run_canon_on(asked.alloc, asked.input, answer);
     tell_outcome(outcome, answer);
+    Ok(())
+}
+
+// The command `check` on bytes in memory.
+fn run_check_on(alloc: Global, input: &[u8], output: &mut Answer) -> Result<(), RunFault> {
+    let mut source = Stream::new(input);
+    let mut sink = Stream::new(output.target());
+    run_check(alloc, &mut source, &mut sink)
+}
+
+/// `check`: what the command `check` writes, and its error line or `fine`.
+pub(crate) fn check(asked: Asked<'_>, answer: &mut Answer) -> Answered {
+    match run_check_on(asked.alloc, asked.input, answer) {
+        Ok(()) => answer.line("fine"),
+        Err(fault) => tell_outcome(Err(fault), answer),
+    }
     Ok(())
 }
 

@@ -23,6 +23,9 @@ fn tell_service(service: Service<'_>, answer: &mut Answer) {
     if let Some(folder) = service.state {
         tell_bracketed(folder, answer);
     }
+    if service.log {
+        answer.text(", log");
+    }
     answer.line("");
 }
 
@@ -33,11 +36,16 @@ fn tell_bracketed(text: &str, answer: &mut Answer) {
 fn tell_line(asked_for: Line<'_>, answer: &mut Answer) {
     match asked_for {
         Line::Canon => answer.line("canon"),
+        Line::Check => answer.line("check"),
         Line::Run => answer.line("run"),
         Line::Wire => answer.line("wire"),
-        Line::Tape { file } => {
+        Line::Tape { file, map } => {
             answer.text("tape");
             tell_bracketed(file, answer);
+            if let Some(sequence) = map {
+                answer.text(" map ");
+                answer.value(sequence);
+            }
             answer.line("");
         }
         Line::Serve(service) => tell_service(service, answer),

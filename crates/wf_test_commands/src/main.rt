@@ -3,7 +3,7 @@
 //!
 //! Standard input is a table of cases (`wf_test_table` defines its format). The program compares each answer with the expected one and
 //! writes each difference, with the counts on the last line. [`played`] has the questions about scripts, [`fused`] that about runs in which a
-//! tape fails, [`commands`] those about the commands' output, [`lines`] those about command lines, and [`questions`] all by their
+//! tape fails, [`commands`] those about the commands' output, [`lines`] those about command lines, [`folders`] those about a farm's folder, and [`questions`] all by their
 //! names.
 //!
 //! It has no contract of its own: its answers are those of `wf_play`, `wf_farm` and `wf_commands`.
@@ -11,6 +11,7 @@
 
 mod broken;
 mod commands;
+mod folders;
 mod fused;
 mod lines;
 mod played;

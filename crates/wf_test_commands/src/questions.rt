@@ -1,5 +1,5 @@
 //! The questions by their names.
-use crate::{broken, commands, fused, lines, played};
+use crate::{broken, commands, folders, fused, lines, played};
 use std::net::{Net, TcpListener, TcpStream};
 use wf_farm::Copies;
 use wf_link::Connection;
@@ -12,10 +12,13 @@ pub(crate) struct CommandQuestions<'r, R>(pub(crate) &'r R);
 impl<'r, R: Net<Listener = TcpListener, Stream = TcpStream>> Questions for CommandQuestions<'r, R> {
     fn answer(&self, mut asked: Asked<'_>, answer: &mut Answer) -> Answered {
         match asked.words.word() {
+            "admit" => folders::admitted(asked, answer),
             "canon" => commands::canon(asked, answer),
             "canon_broken" => broken::canon_broken(asked, answer),
             "canon_twice" => commands::canon_twice(asked, answer),
             "caps" => commands::caps(asked, answer),
+            "check" => commands::check(asked, answer),
+            "farm_file" => folders::farm_file(asked, answer),
             "fused" => fused::fused(asked, answer),
             "line" => lines::line_of(asked, answer),
             "run" => lines::run(asked, &mut Connection::new(self.0), answer),

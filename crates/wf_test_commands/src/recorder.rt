@@ -1,22 +1,32 @@
 //! A server that tells what it is asked to serve, and the files that it has.
-ghost use Rattle.std.specs.Prelude.{None};
+ghost use Rattle.std.specs.Prelude.{◌≡◌, None, length};
 ghost use Rattle.wf_commands.specs.Counting.{FailsLast};
 ghost use Rattle.wf_serve.specs.Fault.{CountsWrites};
 
 use std::alloc::Global;
 use wf_commands::server::{ServeFault, Server};
 use wf_commands::tapes::Tapes;
+use wf_folder::{Found, Presence, Start};
 use wf_line::line::Service;
 use wf_listing::TapeReadFault;
+use wf_serve::{Cause, Survey};
 use wf_stream::{Sink, write_all};
 
 /// The port that this server never gets.
 const TAKEN_PORT: u16 = 1;
 
-/// The path of the one file that can be read.
+/// The path of a file that can be read.
 const TAPE_PATH: &str = "node-0.tape";
 
-/// Writes a line with the service in place of serving nodes. Port 1 is taken. The only file is `node-0.tape`.
+/// The path of the one folder, and those of the files in it.
+const FOLDER_PATH: &str = "farm";
+
+const FIRST_PATH: &str = "farm/node-0.tape";
+
+const SECOND_PATH: &str = "farm/node-1.tape";
+
+/// Writes a line with the service in place of serving nodes. Port 1 is taken. The only files are `node-0.tape` and two like it in
+/// the folder `farm`; if they are empty, a third one is missing there.
 #[derive(Drop)]
 pub(crate) struct Recorder<'a> {
     pub(crate) alloc: Global,
@@ -27,13 +37,41 @@ impl<'a> Tapes for Recorder<'a> {
     ghost content = { λ _ _. None };
 
     fn read(&self, alloc: Global, path: &str) -> Result<Vec<u8>, TapeReadFault> {
-        if path != TAPE_PATH {
+        if path != TAPE_PATH && path != FIRST_PATH && path != SECOND_PATH {
             return Err(TapeReadFault::Failed);
         }
         match self.tape.to_vec(alloc) {
             Ok(bytes) => Ok(bytes),
             Err(_) => Err(TapeReadFault::Memory),
         }
+    }
+
+    fn folder(&self, path: &str) -> Option<Survey> {
+        if path == FOLDER_PATH {
+            Some(two_tapes())
+        } else {
+            None
+        }
+    }
+
+    fn examine(&self, _: &str, _: &Survey) -> Result<(u8, Start), Cause> {
+        if self.tape.is_empty() {
+            return Err(Cause::TapeMissing(2));
+        }
+        Ok((2, Start::TakenOver))
+    }
+}
+
+/// What is in the folder `farm`: two tapes, and no file `farm`.
+fn two_tapes() -> Survey
+    ensures { length result.tapes ≡ 64 }
+{
+    let mut tapes = [Presence::Absent; 64];
+    tapes[0] = Presence::Written;
+    tapes[1] = Presence::Written;
+    Survey {
+        found: Found::Nothing,
+        tapes,
     }
 }
 
@@ -65,8 +103,9 @@ fn write_service<K: Sink>(
     };
     let (nodes, port) = (service.nodes, service.port);
     let (requests, cache) = (service.requests, service.cache);
+    let log = if service.log { " log" } else { "" };
     let Ok(line) = format!(in alloc;
-        "nodes {nodes} port {port} requests {requests} cache {cache} state {open}{folder}{close}\n"
+        "nodes {nodes} port {port} requests {requests} cache {cache} state {open}{folder}{close}{log}\n"
     ) else {
         return Err(ServeFault::Start);
     };

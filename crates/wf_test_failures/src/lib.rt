@@ -8,6 +8,10 @@
 #[cfg(test)]
 mod carrier;
 #[cfg(test)]
+mod catch_up;
+#[cfg(test)]
+mod disk;
+#[cfg(test)]
 mod edge;
 #[cfg(test)]
 mod farm;

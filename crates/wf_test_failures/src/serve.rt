@@ -13,6 +13,10 @@ use std::process::Abort;
 use wf_serve::{ServeFault, Service, listen, serve, serve_at};
 use wf_stream::Output;
 
+/// The file `farm` of a folder of two nodes.
+const FILE_OF_TWO: &[u8] =
+    b"wfarm folder 1\nkind serve\nbegan empty\nnodes 02\nmark 0123456789abcdef0123456789abcdef\n";
+
 const STATUS: &[u8] = b"GET /status HTTP/1.1\r\n\r\n";
 
 /// The responses to clients that publish the first map at node 0, and ask nodes 1 and 2 for their status.
@@ -34,6 +38,7 @@ fn three_nodes(port: u16, requests: u32, state: Option<&str>) -> Service<'_>
         requests,
         cache: 1,
         state,
+        log: false,
     }
 }
 
@@ -129,6 +134,8 @@ fn started(rt: &HostRuntime, port: u16, folder: &str) -> (Option<ServeFault>, bo
 fn a_start_where_port_or_folder_is_taken_changes_no_tape(rt: HostRuntime) {
     new_folder(&rt, "taken");
     fs::write(&rt, "taken/node-0.tape", TORN).expect(&rt, "a file");
+    fs::write(&rt, "taken/node-1.tape", b"").expect(&rt, "a file");
+    fs::write(&rt, "taken/node-2.tape", b"").expect(&rt, "a file");
     let listener = listen(&rt, 0).expect(&rt, "a port");
     let address = listener.local_addr().expect(&rt, "its address");
     assert!(&rt; address.ip() == IpAddr::V4(Ipv4Addr::LOCALHOST));
@@ -145,4 +152,19 @@ fn a_start_where_port_or_folder_is_taken_changes_no_tape(rt: HostRuntime) {
             || started(&rt, address.port(), "taken") == served
     );
     assert!(&rt; holds(&rt, "taken/node-0.tape", b""));
+}
+
+/// Three nodes start neither without the other tapes, nor on a folder of two nodes.
+#[test]
+fn a_start_on_a_folder_that_is_not_the_farms_changes_no_file(rt: HostRuntime) {
+    let rejected = (Some(ServeFault::Start), false);
+    new_folder(&rt, "other");
+    fs::write(&rt, "other/node-0.tape", TORN).expect(&rt, "a file");
+    assert!(&rt; started(&rt, 0, "other") == rejected);
+    fs::write(&rt, "other/node-1.tape", b"").expect(&rt, "a file");
+    fs::write(&rt, "other/node-2.tape", b"").expect(&rt, "a file");
+    fs::write(&rt, "other/farm", FILE_OF_TWO).expect(&rt, "a file");
+    assert!(&rt; started(&rt, 0, "other") == rejected);
+    assert!(&rt; holds(&rt, "other/node-0.tape", TORN));
+    assert!(&rt; holds(&rt, "other/farm", FILE_OF_TWO));
 }

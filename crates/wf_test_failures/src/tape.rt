@@ -159,6 +159,8 @@ impl Tape for Unsynced {
 
     ghost failed = { λ t. t.failures };
 
+    ghost certain_is_honest = { λ no. absurd no };
+
     ghost is_now = { λ no. absurd no };
 
     ghost nested = { λ no. absurd no };
@@ -197,6 +199,10 @@ impl Tape for Unsynced {
 
     fn failures(&self) -> u64 {
         self.failures
+    }
+
+    fn is_doubtful(&self) -> bool {
+        false
     }
 }
 

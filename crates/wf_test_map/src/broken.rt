@@ -26,6 +26,8 @@ impl Tape for Broken {
 
     ghost failed = { λ t. t.failures };
 
+    ghost certain_is_honest = { λ no. absurd no };
+
     ghost is_now = { λ no. absurd no };
 
     ghost nested = { λ no. absurd no };
@@ -49,5 +51,9 @@ impl Tape for Broken {
 
     fn failures(&self) -> u64 {
         self.failures
+    }
+
+    fn is_doubtful(&self) -> bool {
+        false
     }
 }

@@ -1,3 +1,4 @@
+pub mod AnswerLaw
 pub mod EntriesLaw
 pub mod HistoryLaw
 pub mod JudgedLaw

@@ -10,7 +10,7 @@ use Rattle.wf_text.specs.Number.{number_of_digits}
 use Rattle.wf_wms.specs.Limit.{most_entries}
 use Rattle.wf_wms.specs.MapRequest.{◌>>=◌, check_layers, check_version, entries, layers_in, listed_names, map_request, map_sequence, named_layers, passed_or, picture_in, request_in, sequence_in, styled_layers}
 use Rattle.wf_wms.specs.Query.{pairs_of, parameter}
-use Rattle.wf_wms.specs.Rejection.{IsRejectedByText, TextsAreRejectedAlike, check_digits, check_names, from_sequence, map_text, metadata_text, operation_text, passed}
+use Rattle.wf_wms.specs.Rejection.{IsRejectedAt, IsRejectedByText, SequencesAreRejectedAlike, TextsAreRejectedAlike, check_digits, check_names, from_sequence, map_text, metadata_text, operation_at, operation_text, passed}
 use Rattle.wf_wms.specs.UpdateSequence.{sequence_rule, comparison_of}
 use Rattle.wf_wms.specs.declared.exception.Exception.{Exception}
 use Rattle.wf_wms.specs.declared.exception.Exception.TheVariants as exception
@@ -122,3 +122,34 @@ pub rejected_alike : TextsAreRejectedAlike
 unfolding IsRejectedByText IsAnswerOf
 rejected_alike s history query e answer fails is =
     by_operation (operation_of (parameter (codes "REQUEST") (pairs_of query))) s history (pairs_of query) e answer fails is
+
+-- ---- at a server's sequence
+
+-- what is rejected there gets no picture of whatever map
+picture_step : (d : Definition) (pairs : List (List ℕ × List ℕ)) (asked : Result ℕ Exception) (e : Exception) →
+    (asked >>= λ _. check_names pairs) ≡ Err e → (asked >>= λ _. picture_in d pairs) ≡ Err e
+picture_step d pairs (Err x) e is = fails_too x e is
+picture_step d pairs (Ok m) e is = no_names d pairs e is
+
+no_picture_at : (s : ℕ) (d : Definition) (pairs : List (List ℕ × List ℕ)) (e : Exception) →
+    (map_sequence s pairs >>= λ _. check_names pairs) ≡ Err e → map_request s d pairs ≡ Err e
+unfolding map_request
+no_picture_at s d pairs e is = picture_step d pairs (map_sequence s pairs) e is
+
+failed_at : (found : Option Exception) (e : Exception) → passed found ≡ Err e → found ≡ Some e
+failed_at None e is = none e is
+failed_at (Some x) e is = ap (λ (x : Exception). Some x) (same x e is)
+
+by_operation_at : (operation : Result Operation Exception) (s : ℕ) (history : List Definition) (pairs : List (List ℕ × List ℕ)) (e : Exception) (answer : AnswerValue) →
+    operation_at operation s pairs ≡ Err e → IsAnswerOn operation s history pairs answer → answer ≡ rejection e
+unfolding metadata_answer
+by_operation_at (Err x) s history pairs e answer fails is = is.is_answer ∙ ap (λ (x : Exception). rejection x) (same x e fails)
+by_operation_at (Ok Capabilities) s history pairs e answer fails is =
+    is.is_answer ∙ ap (λ (f : Option Exception). rejection_or_metadata f s is.map) (failed_at (metadata_fault s pairs) e fails)
+by_operation_at (Ok Map) s history pairs e answer fails is =
+    subst (λ picture. IsMapAnswer is.map picture answer) (no_picture_at s is.map pairs e fails) is.is_answer
+
+pub rejected_at : SequencesAreRejectedAlike
+unfolding IsRejectedAt IsAnswerOf
+rejected_at s history query e answer fails is =
+    by_operation_at (operation_of (parameter (codes "REQUEST") (pairs_of query))) s history (pairs_of query) e answer fails is

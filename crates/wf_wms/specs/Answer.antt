@@ -1,5 +1,5 @@
 -- The answer to a request: the exception of the first check that fails, else what the requested operation returns.
-use Rattle.std.specs.Prelude.{◌≡◌, ◌≢◌, ℕ, List, [], ◌∷◌, bytes_eq, codes, Option, Some, None, Result, Ok, Err, if◌then◌else◌}
+use Rattle.std.specs.Prelude.{◌≡◌, ◌≢◌, ◌≤◌, ℕ, length, List, [], ◌∷◌, bytes_eq, codes, Option, Some, None, Result, Ok, Err, if◌then◌else◌}
 use Rattle.wf_def.specs.Definition.{Definition}
 use Rattle.wf_learner.specs.History.{map_at}
 use Rattle.wf_picture.specs.Picture.{IsImageOf}
@@ -132,6 +132,15 @@ pub record IsAnswerOn (operation : Result Operation Exception) (s : ℕ) (histor
 -- the answer to a query
 unfoldable pub IsAnswerOf : ℕ → List Definition → List ℕ → AnswerValue → Type 0
 IsAnswerOf s history query answer = IsAnswerOn (operation_of (parameter (codes "REQUEST") (pairs_of query))) s history (pairs_of query) answer
+
+-- the query has an answer there
+pub record HasAnswer (s : ℕ) (history : List Definition) (query : List ℕ) : Type 0 where
+  pub answer : AnswerValue
+  pub is : IsAnswerOf s history query answer
+
+-- each query has one, at each sequence that the history has
+abbrev pub EachQueryHasAnAnswer : Type 0
+EachQueryHasAnAnswer = (s : ℕ) (history : List Definition) (query : List ℕ) → s ≤ length history → HasAnswer s history query
 
 -- the sequence of the map that a query is about
 unfoldable pub subject : ℕ → List ℕ → ℕ

@@ -4,9 +4,9 @@ use Rattle.std.specs.Prelude.{◌≡◌, ℕ, nat_le, List, length, codes, Optio
 use Rattle.std.specs.Char.{is_ascii_digit}
 use Rattle.std.specs.List.{list_all}
 use Rattle.wf_def.specs.Definition.{Definition}
-use Rattle.wf_wms.specs.Answer.{AnswerValue, IsAnswerOf, check_service, operation_of, rejection}
+use Rattle.wf_wms.specs.Answer.{AnswerValue, IsAnswerOf, check_service, metadata_fault, operation_of, rejection}
 use Rattle.wf_wms.specs.Limit.{most_entries}
-use Rattle.wf_wms.specs.MapRequest.{◌>>=◌, check_version, entries, listed_names, passed_or}
+use Rattle.wf_wms.specs.MapRequest.{◌>>=◌, check_version, entries, listed_names, map_sequence, passed_or}
 use Rattle.wf_wms.specs.Query.{pairs_of, parameter}
 use Rattle.wf_wms.specs.declared.exception.Exception.{Exception}
 use Rattle.wf_wms.specs.declared.exception.Exception.TheVariants as exception
@@ -62,3 +62,23 @@ IsRejectedByText query e = operation_text (operation_of (parameter (codes "REQUE
 abbrev pub TextsAreRejectedAlike : Type 0
 TextsAreRejectedAlike = (s : ℕ) (history : List Definition) (query : List ℕ) (e : Exception) (answer : AnswerValue) →
     IsRejectedByText query e → IsAnswerOf s history query answer → answer ≡ rejection e
+
+-- ---- the same with the server's sequence
+
+-- REQUEST first, then the checks of the operation that it names, up to the first one that looks at a map: for GetCapabilities these
+-- are all; for GetMap whether this server has published the map of MAPSEQ, and then FORMAT and LAYERS
+abbrev pub operation_at : Result Operation Exception → ℕ → List (List ℕ × List ℕ) → Result ⊤ Exception
+operation_at (Err e) s pairs = Err e
+operation_at (Ok Capabilities) s pairs = passed (metadata_fault s pairs)
+operation_at (Ok Map) s pairs = do
+  _ ← map_sequence s pairs
+  check_names pairs
+
+-- the first check on the query and the server's sequence alone that fails is this exception
+unfoldable pub IsRejectedAt : ℕ → List ℕ → Exception → Type 0
+IsRejectedAt s query e = operation_at (operation_of (parameter (codes "REQUEST") (pairs_of query))) s (pairs_of query) ≡ Err e
+
+-- then it is the answer of every server at that sequence, whatever maps it has published
+abbrev pub SequencesAreRejectedAlike : Type 0
+SequencesAreRejectedAlike = (s : ℕ) (history : List Definition) (query : List ℕ) (e : Exception) (answer : AnswerValue) →
+    IsRejectedAt s query e → IsAnswerOf s history query answer → answer ≡ rejection e

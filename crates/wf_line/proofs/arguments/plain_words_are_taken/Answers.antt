@@ -1,4 +1,4 @@
-use Rattle.wf_line.proofs.PlainWords.{canon_asked, caps_asked, draw_asked, run_asked, tape_asked, wire_asked}
+use Rattle.wf_line.proofs.PlainWords.{canon_asked, caps_asked, check_asked, draw_asked, run_asked, tape_asked, wire_asked}
 use Rattle.wf_line.proofs.arguments.plain_words_are_taken.Goals as goal
 
 pub returns-clause-caps : goal.returns-clause-caps
@@ -12,6 +12,9 @@ returns-clause-tape c = tape_asked
 
 pub returns-clause-canon : goal.returns-clause-canon
 returns-clause-canon c = canon_asked
+
+pub returns-clause-check : goal.returns-clause-check
+returns-clause-check c = check_asked
 
 pub returns-clause-run : goal.returns-clause-run
 returns-clause-run c = run_asked

@@ -5,21 +5,21 @@ use Rattle.wf_paint.proofs.canvas.write_set.Goals as goal
 
 pub returns-then-rest-eq0 : goal.returns-then-rest-eq0
 returns-then-rest-eq0 c =
-    written_to_end c.args.first c.args.bits c.args.color c.args.bytes.now.items c.loop-here.here c.loop-here.bytes.items
+    written_to_end c.args.first c.args.bits c.args.color c.args.pixels.now c.loop-here.here c.loop-here.pixels
     (omega (arith, c.ranges.bits.fits)) (omega arith) c.loop-here.invariant.1
 
 pub write-requires : goal.write-requires
 write-requires c =
-    let found = lowest_set c.args.first c.args.bits c.args.color c.args.bytes.now.items c.loop-here.here (omega (arith, c.ranges.bits.fits)) (omega arith) in
+    let found = lowest_set c.args.first c.args.bits c.args.color c.args.pixels.now c.loop-here.here (omega (arith, c.ranges.bits.fits)) (omega arith) in
     let set : ℕ = c.loop-here.here + trailing_zeros w64 (c.args.bits / 2 ^ c.loop-here.here) in
-    record { room = omega (arith, c.requires.room set found.1, c.loop-here.invariant.1.size) }
+    omega (arith, c.requires.within set found.1, c.loop-here.invariant.1.size)
 
 pub loop-here-preserved : goal.loop-here-preserved
 loop-here-preserved c =
     let here = c.loop-here.here in
-    let found = lowest_set c.args.first c.args.bits c.args.color c.args.bytes.now.items here (omega (arith, c.ranges.bits.fits)) (omega arith) in
+    let found = lowest_set c.args.first c.args.bits c.args.color c.args.pixels.now here (omega (arith, c.ranges.bits.fits)) (omega arith) in
     let set : ℕ = here + trailing_zeros w64 (c.args.bits / 2 ^ here) in (
       omega (arith, found.0),
-      one_written c.args.first c.args.bits c.args.color c.args.bytes.now.items here set c.loop-here.bytes.items c.write.new.bytes.items
+      one_written c.args.first c.args.bits c.args.color c.args.pixels.now here set c.loop-here.pixels c.write.new.self
           (omega arith) found.1 found.2 c.loop-here.invariant.1 c.write.ensures,
     )

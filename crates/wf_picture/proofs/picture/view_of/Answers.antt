@@ -1,4 +1,4 @@
-use Rattle.std.proofs.Common.{◌≡◌, sym, subst₂}
+use Rattle.std.proofs.Common.{◌≡◌, subst₂}
 use Rattle.wf_def.specs.Extent.{ExtentValue}
 use Rattle.wf_paint.specs.Tile.{IsViewOf}
 use Rattle.wf_paint.specs.View.{ViewValue}

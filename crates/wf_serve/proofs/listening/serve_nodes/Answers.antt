@@ -1,15 +1,13 @@
 -- The nodes catch up, and then the connections are served.
-use Rattle.std.proofs.Common.{refl, sym, subst}
+use Rattle.std.proofs.Common.{refl}
 use Rattle.wf_farm.specs.Nodes.{nodes_in}
-use Rattle.wf_farm.specs.NodesLaws.{length-nodes}
-use Rattle.wf_serve.specs.Serving.{HaveCaughtUp}
 use Rattle.wf_serve.proofs.listening.serve_nodes.Goals as goal
 
 pub serve_kept-outcome-requires-clause-running : goal.serve_kept-outcome-requires-clause-running
 serve_kept-outcome-requires-clause-running g c = c.catch_up.ensures.running
 
 pub returns-in_default-clause-served : goal.returns-in_default-clause-served
-returns-in_default-clause-served g c = record { caught = (nodes_in c.catch_up.new.farm); catch_up = subst (λ k. HaveCaughtUp g.T.Tape k (nodes_in c.args.farm.now) (nodes_in c.catch_up.new.farm)) (sym (length-nodes c.args.farm.now.places)) c.catch_up.ensures.caught; come = refl }
+returns-in_default-clause-served g c = record { caught = (nodes_in c.catch_up.new.farm); catch_up = c.catch_up.ensures.caught; come = refl }
 
 pub returns-in_default-clause-led : goal.returns-in_default-clause-led
 returns-in_default-clause-led g c = c.catch_up.ensures.led
@@ -27,7 +25,7 @@ pub returns-in_default-clause-grows : goal.returns-in_default-clause-grows
 returns-in_default-clause-grows g c = c.catch_up.ensures.led.turn.lists
 
 pub returns-clause-served : goal.returns-clause-served
-returns-clause-served g c = record { caught = (nodes_in c.catch_up.new.farm); catch_up = subst (λ k. HaveCaughtUp g.T.Tape k (nodes_in c.args.farm.now) (nodes_in c.catch_up.new.farm)) (sym (length-nodes c.args.farm.now.places)) c.catch_up.ensures.caught; come = c.serve_kept-outcome.ensures.come }
+returns-clause-served g c = record { caught = (nodes_in c.catch_up.new.farm); catch_up = c.catch_up.ensures.caught; come = c.serve_kept-outcome.ensures.come }
 
 pub returns-clause-led : goal.returns-clause-led
 returns-clause-led g c = c.leading_goes_on.ensures.again (nodes_in c.args.farm.now) (nodes_in c.catch_up.new.farm) (nodes_in c.serve_kept-outcome.new.farm) c.catch_up.ensures.led c.serve_kept-outcome.ensures.led

@@ -1,4 +1,4 @@
--- The request, the deliveries and the retry come in turn, each leading the nodes on.
+-- The request, the deliveries, the retry and the catch-up come in turn, each leading the nodes on.
 use Rattle.std.proofs.Common.{◌<◌, length, refl, rules, slice_set, subst, arith}
 use Rattle.std.proofs.lemmas.Option.{slice_get_read}
 use Rattle.wf_farm.specs.Leading.{AreLedOn}
@@ -9,8 +9,11 @@ use Rattle.wf_serve.proofs.Caches.{kept_grown, kept_with}
 use Rattle.wf_serve.proofs.serving.serve_connection.Given as given
 use Rattle.wf_serve.proofs.serving.serve_connection.Goals as goal
 
-led : (g : given.Over) (c : goal.After-agree_still g) → AreLedOn g.T.Tape (nodes_in c.args.farm.now) (nodes_in c.retry.new.farm)
-led g c = c.leading_goes_on.ensures.again (nodes_in c.args.farm.now) (nodes_in c.served_at-outcome.new.farm) (nodes_in c.retry.new.farm) c.served_at-outcome.ensures.led c.retry.ensures.led
+retried : (g : given.Over) (c : goal.After-agree_still g) → AreLedOn g.T.Tape (nodes_in c.args.farm.now) (nodes_in c.retry.new.farm)
+retried g c = c.leading_goes_on.ensures.again (nodes_in c.args.farm.now) (nodes_in c.served_at-outcome.new.farm) (nodes_in c.retry.new.farm) c.served_at-outcome.ensures.led c.retry.ensures.led
+
+led : (g : given.Over) (c : goal.After-agree_still g) → AreLedOn g.T.Tape (nodes_in c.args.farm.now) (nodes_in c.catch_up.new.farm)
+led g c = c.leading_goes_on.ensures.again (nodes_in c.args.farm.now) (nodes_in c.retry.new.farm) (nodes_in c.catch_up.new.farm) (retried g c) c.catch_up.ensures.led
 
 pub retry-requires-clause-within : goal.retry-requires-clause-within
 retry-requires-clause-within g c =
@@ -28,7 +31,9 @@ returns-clause-connection g c =
       heard = nodes_in c.served_at-outcome.new.farm;
       request = served.request;
       hearing = served.hearing;
+      retried = nodes_in c.retry.new.farm;
       retry = c.retry.ensures.retried;
+      catch_up = c.catch_up.ensures.caught;
     }
 
 pub returns-clause-led : goal.returns-clause-led
@@ -68,4 +73,5 @@ returns-clause-kept g c =
     let within : c.args.place < length caches = omega (arith, c.requires.within, c.requires.kept.as_many, length-nodes c.args.farm.now.places) in
     let there = slice_get_read caches (length caches) c.args.place c.index-caches-place.result refl within c.index-caches-place.is in
     let served = kept_with law (nodes_in c.args.farm.now) (nodes_in one.new.farm) caches c.args.place c.index-caches-place.result one.new.cache one.ensures.led.turn.as_many one.ensures.led.turn.lists there one.ensures.kept c.requires.kept in
-    kept_grown law (nodes_in one.new.farm) (nodes_in c.retry.new.farm) (slice_set caches c.args.place one.new.cache) c.retry.ensures.led.turn.as_many c.retry.ensures.led.turn.lists served
+    let again = kept_grown law (nodes_in one.new.farm) (nodes_in c.retry.new.farm) (slice_set caches c.args.place one.new.cache) c.retry.ensures.led.turn.as_many c.retry.ensures.led.turn.lists served in
+    kept_grown law (nodes_in c.retry.new.farm) (nodes_in c.catch_up.new.farm) (slice_set caches c.args.place one.new.cache) c.catch_up.ensures.led.turn.as_many c.catch_up.ensures.led.turn.lists again

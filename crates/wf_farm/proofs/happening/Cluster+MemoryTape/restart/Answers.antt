@@ -23,13 +23,13 @@ pub returns-in-Ok-clause-members : goal.returns-in-Ok-clause-members
 returns-in-Ok-clause-members c =
     let at = slice_get_read c.args.self.now.places.items (length c.args.self.now.places.items) c.args.node c.index_mut.result.now refl (omega (arith, c.if-node-n.false, c.len-n.ensures)) c.index_mut.ensures.value in
     cast_members c.args.self.now.places.items c.args.node c.index_mut.result.now c.restart.new.self c.len-n.result c.unwrap-id.result at
-    (omega (arith, c.len-n.ensures)) (cast_id c.new.result c.unwrap-id.result c.args.node c.args.node c.unwrap-id.ensures c.new.ensures.value refl) c.restart.ensures.member
+    (omega (arith, c.len-n.ensures)) (cast_id c.new.result c.unwrap-id.result c.args.node c.args.node c.unwrap-id.ensures c.new.ensures.value refl) c.restart.ensures.member c.restart.ensures.sturdy
 
 pub returns-in-Err-clause-members : goal.returns-in-Err-clause-members
 returns-in-Err-clause-members c =
     let at = slice_get_read c.args.self.now.places.items (length c.args.self.now.places.items) c.args.node c.index_mut.result.now refl (omega (arith, c.if-node-n.false, c.len-n.ensures)) c.index_mut.ensures.value in
     cast_members c.args.self.now.places.items c.args.node c.index_mut.result.now c.restart.new.self c.len-n.result c.unwrap-id.result at
-    (omega (arith, c.len-n.ensures)) (cast_id c.new.result c.unwrap-id.result c.args.node c.args.node c.unwrap-id.ensures c.new.ensures.value refl) c.restart.ensures.member
+    (omega (arith, c.len-n.ensures)) (cast_id c.new.result c.unwrap-id.result c.args.node c.args.node c.unwrap-id.ensures c.new.ensures.value refl) c.restart.ensures.member c.restart.ensures.sturdy
 
 -- the node is stopped
 pub returns-in-Err-clause-may : goal.returns-in-Err-clause-may

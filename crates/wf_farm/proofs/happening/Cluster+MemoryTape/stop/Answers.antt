@@ -12,7 +12,7 @@ returns-then-node-len-clause-done c =
 pub returns-then-node-len-clause-members : goal.returns-then-node-len-clause-members
 returns-then-node-len-clause-members c =
     let at = slice_get_read c.args.self.now.places.items (length c.args.self.now.places.items) c.args.node c.index_mut.result.now refl (omega (arith, c.if-node-len.true, c.len.ensures)) c.index_mut.ensures.value in
-    place_keeps c.args.self.now.places.items c.args.node c.index_mut.result.now c.stop.new.self at c.stop.ensures.member
+    place_keeps c.args.self.now.places.items c.args.node c.index_mut.result.now c.stop.new.self at c.stop.ensures.member c.stop.ensures.sturdy
 
 pub returns-else-node-len-clause-done : goal.returns-else-node-len-clause-done
 returns-else-node-len-clause-done c =

@@ -1,34 +1,39 @@
--- What the rounds left is what the deliveries of a pump lead to.
-use Rattle.std.proofs.Common.{◌≡◌, ◌++◌, drop, length, take, ap, sym, subst, arith}
+-- One more delivery.
+use Rattle.std.proofs.Common.{◌+◌, ◌<◌, None, length, refl, sym, subst, arith}
+use Rattle.wf_farm.specs.declared.progress.End.TheVariants as end_case
 use Rattle.wf_farm.specs.Cluster.{KeepMembers}
-use Rattle.wf_farm.specs.Progress.{HasCome, MayEnd}
-use Rattle.wf_farm.proofs.Rounds.{come_ended, lent_back, may_ended}
-use Rattle.wf_farm.proofs.pump.Cluster+MemoryTape.pump.Given as given
+use Rattle.wf_farm.specs.Fused.{FailsOnly, HasFaredTo, IsArmed}
+use Rattle.wf_farm.proofs.Events.{keep_twice, same_members}
+use Rattle.wf_farm.proofs.Faring.{armed_on, armed_watched, failed_stands, pump_begins, pump_goes_on, pump_may, pump_stays}
 use Rattle.wf_farm.proofs.pump.Cluster+MemoryTape.pump.Goals as goal
 
--- the entries come back as the rounds left them
-came : (g : given.Over) (c : goal.After-progress-1 g) →
-    HasCome c.args.targets.now c.args.first c.deliver_rounds-end.result.progress c.args.self.now.places.items c.args.self.now.sent.items c.deliver_rounds-end.new.receivers c.deliver_rounds-end.new.sent.items
-    × KeepMembers c.args.self.now.places.items c.deliver_rounds-end.new.receivers
-came g c =
-    subst (λ ps. HasCome c.args.targets.now c.args.first c.deliver_rounds-end.result.progress ps c.args.self.now.sent.items c.deliver_rounds-end.new.receivers c.deliver_rounds-end.new.sent.items × KeepMembers ps c.deliver_rounds-end.new.receivers)
-    c.deref_mut.ensures.value
-    (come_ended c.args.targets.now c.args.first c.deref_mut.result.now c.args.self.now.sent.items c.deliver_rounds-end.result.progress c.deliver_rounds-end.result.lost c.deliver_rounds-end.result.end c.deliver_rounds-end.new.receivers c.deliver_rounds-end.new.sent.items
-    c.deliver_rounds-end.ensures.ended c.requires.some c.requires.within c.deliver_rounds-end.ensures.counts.most)
+pub loop-progress-init : goal.loop-progress-init
+loop-progress-init g c =
+    subst (λ p. HasFaredTo c.args.watch.node c.args.targets.now c.args.first p None c.args.self.now.places.items c.args.self.now.sent.items c.args.self.now.places.items c.args.self.now.sent.items
+    × IsArmed c.args.watch.node None c.args.self.now.places.items × KeepMembers c.args.self.now.places.items c.args.self.now.places.items) (sym c.start-progress.ensures)
+    (pump_begins c.args.watch.node c.args.targets.now c.args.first c.args.self.now.places.items c.args.self.now.sent.items c.requires.some c.requires.within, c.requires.armed, same_members c.args.self.now.places.items)
 
-returned : (g : given.Over) (c : goal.After-progress-1 g) → take c.args.self.now.places.len (c.deliver_rounds-end.new.receivers ++ drop (length c.deliver_rounds-end.new.receivers) c.args.self.now.places.items) ≡ c.deliver_rounds-end.new.receivers
-returned g c =
-    lent_back c.args.self.now.places.items c.deliver_rounds-end.new.receivers c.args.self.now.places.len (omega (arith, c.deref_mut.ensures.len, ap length c.deref_mut.ensures.value)) (came g c).1.as_many
+pub loop-progress-preserved : goal.loop-progress-preserved
+loop-progress-preserved g c =
+    let left : c.args.first + c.loop-progress.progress.whole < length c.loop-progress.self.sent.items = omega (arith, c.if-number-len.false, c.len.ensures) in
+    subst (λ p. HasFaredTo c.args.watch.node c.args.targets.now c.args.first p c.go-gone.new.torn c.args.self.now.places.items c.args.self.now.sent.items c.go-gone.new.self.places.items c.go-gone.new.self.sent.items
+    × IsArmed c.args.watch.node c.go-gone.new.torn c.go-gone.new.self.places.items × KeepMembers c.args.self.now.places.items c.go-gone.new.self.places.items) (sym c.next-progress.ensures) (
+      pump_goes_on c.args.watch.node c.args.targets.now c.args.first c.args.self.now.places.items c.args.self.now.sent.items c.loop-progress.progress c.loop-progress.torn c.go-gone.new.torn c.loop-progress.self.places.items c.go-gone.new.self.places.items
+          c.loop-progress.self.sent.items c.go-gone.new.self.sent.items c.loop-progress.invariant.0 left (omega (arith, c.loop-progress-test.true)) c.in-Ok.ensures.on c.go-gone.ensures.grows,
+      c.in-Ok.ensures.armed,
+      keep_twice c.args.self.now.places.items c.loop-progress.self.places.items c.go-gone.new.self.places.items c.loop-progress.invariant.2 c.go-gone.ensures.members,
+    )
 
-pub returns-clause-come : goal.returns-clause-come
-returns-clause-come g c =
-    subst (λ ps. HasCome c.args.targets.now c.args.first c.deliver_rounds-end.result.progress c.args.self.now.places.items c.args.self.now.sent.items ps c.deliver_rounds-end.new.sent.items) (sym (returned g c)) (came g c).0
+pub returns-in-Err-clause-come : goal.returns-in-Err-clause-come
+returns-in-Err-clause-come g c = λ stands.
+    let none = failed_stands c.args.watch.node (end_case.Failed c.in-Err.fault) c.in-Err.fault refl stands in
+    subst (λ t. HasFaredTo c.args.watch.node c.args.targets.now c.args.first c.loop-progress.progress t c.args.self.now.places.items c.args.self.now.sent.items c.go-gone.new.self.places.items c.go-gone.new.self.sent.items) (sym c.in-Err.ensures.same)
+    (pump_stays c.args.watch.node c.args.targets.now c.args.first c.loop-progress.progress c.loop-progress.torn c.args.self.now.places.items c.loop-progress.self.places.items c.go-gone.new.self.places.items c.args.self.now.sent.items c.loop-progress.self.sent.items c.go-gone.new.self.sent.items none c.loop-progress.invariant.0 (c.in-Err.ensures.err (subst (λ w. FailsOnly w c.loop-progress.self.places.items) none (armed_watched c.args.watch.node c.loop-progress.torn c.loop-progress.self.places.items c.loop-progress.invariant.1))) c.go-gone.ensures.grows)
 
-pub returns-clause-may : goal.returns-clause-may
-returns-clause-may g c =
-    subst (λ ps. MayEnd c.args.targets.now c.args.first c.deliver_rounds-end.result.progress ps c.args.self.now.sent.items c.deliver_rounds-end.result.end) c.deref_mut.ensures.value
-    (may_ended c.args.targets.now c.args.first c.deref_mut.result.now c.args.self.now.sent.items c.deliver_rounds-end.result.progress c.deliver_rounds-end.result.lost c.deliver_rounds-end.result.end c.deliver_rounds-end.new.receivers c.deliver_rounds-end.new.sent.items
-    c.deliver_rounds-end.ensures.ended c.requires.some c.requires.within c.deliver_rounds-end.ensures.counts.most)
+pub returns-in-Err-clause-may : goal.returns-in-Err-clause-may
+returns-in-Err-clause-may g c = λ none.
+    pump_may c.args.watch.node c.args.targets.now c.args.first c.loop-progress.progress c.loop-progress.torn c.args.self.now.places.items c.loop-progress.self.places.items c.go-gone.new.self.places.items c.args.self.now.sent.items c.loop-progress.self.sent.items c.go-gone.new.self.sent.items none c.loop-progress.invariant.0 c.in-Err.ensures.may
 
-pub returns-clause-members : goal.returns-clause-members
-returns-clause-members g c = subst (KeepMembers c.args.self.now.places.items) (sym (returned g c)) (came g c).1
+pub returns-in-Err-clause-armed : goal.returns-in-Err-clause-armed
+returns-in-Err-clause-armed g c = λ stands.
+    subst (λ t. IsArmed c.args.watch.node t c.go-gone.new.self.places.items) (sym c.in-Err.ensures.same) (armed_on c.args.watch.node c.loop-progress.torn c.loop-progress.self.places.items c.go-gone.new.self.places.items c.go-gone.ensures.members c.loop-progress.invariant.1)

@@ -4,8 +4,8 @@ use Rattle.wf_journal.specs.Journal.{HoldsRecords, AllReadAs, Follows, ReadsSame
 use Rattle.wf_journal.proofs.Settling.{holds_found, reads_held, same_found}
 use Rattle.wf_journal.proofs.found.Found.settle.Goals as goal
 
-pub over-requires : goal.over-requires
-over-requires g c = λ honest.
+pub over-requires-clause-settled : goal.over-requires-clause-settled
+over-requires-clause-settled g c = λ honest.
     let now = c.in-Ok.ensures.ok honest (sym (c.self.invariant.1 honest).same ∙ sym c.deref.ensures.value) in (
       c.self.invariant.0.0,
       holds_found c.self.inside.bytes.items c.deref.result.now (g.T.Tape.content c.settle.new.tape) c.self.invariant.0.0 c.self.inside.front c.self.inside.front

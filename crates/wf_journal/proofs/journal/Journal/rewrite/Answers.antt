@@ -7,10 +7,13 @@ use Rattle.wf_journal.proofs.Settling.{holds_written, settled_written, follows_r
 use Rattle.wf_journal.proofs.journal.Journal.rewrite.Goals as goal
 
 pub invariant_of-self : goal.invariant_of-self
-invariant_of-self g c = λ honest running.
-    let are = subst (λ (t : List ℕ). AreRecords t (map view c.args.records.now)) (sym c.deref.ensures.value) c.in-Ok.ensures.are_records in
-    settled_written (g.T.Tape.content c.replace.new.self) c.deref.result.now (map view c.args.records.now) (g.T.Tape.images c.replace.new.self) are
-    (c.in-Ok-replace.ensures.ok honest) (c.in-Ok-replace.ensures.synced honest)
+invariant_of-self g c = (
+  λ honest running.
+      let are = subst (λ (t : List ℕ). AreRecords t (map view c.args.records.now)) (sym c.deref.ensures.value) c.in-Ok.ensures.are_records in
+      settled_written (g.T.Tape.content c.replace.new.self) c.deref.result.now (map view c.args.records.now) (g.T.Tape.images c.replace.new.self) are
+      (c.in-Ok-replace.ensures.ok honest) (c.in-Ok-replace.ensures.synced honest),
+  λ running. c.in-Ok-replace.ensures.sure,
+)
 
 pub returns-in-Ok-replace-clause-ok : goal.returns-in-Ok-replace-clause-ok
 returns-in-Ok-replace-clause-ok g c = λ honest.
@@ -25,7 +28,7 @@ returns-in-Ok-replace-clause-images g c = λ honest.
     let are = subst (λ (t : List ℕ). AreRecords t (map view c.args.records.now)) (sym c.deref.ensures.value) c.in-Ok.ensures.are_records in
     subst (λ tape. Follows (IsSameOrReads (map view c.args.records.now)) (g.T.Tape.images tape) (g.T.Tape.images c.replace.new.self)) same
     (follows_replaced (g.T.Tape.content c.self.inside.tape) c.deref.result.now (map view c.args.records.now) (g.T.Tape.images c.self.inside.tape) (g.T.Tape.images c.replace.new.self)
-    (c.self.invariant honest running) are (c.in-Ok-replace.ensures.synced honest))
+    (c.self.invariant.0 honest running) are (c.in-Ok-replace.ensures.synced honest))
 
 pub returns-in-Err-Memory-clause-images_err : goal.returns-in-Err-Memory-clause-images_err
 returns-in-Err-Memory-clause-images_err g c = λ honest.
@@ -53,7 +56,7 @@ returns-clause-images_err g c = λ honest.
     let are = subst (λ (t : List ℕ). AreRecords t (map view c.args.records.now)) (sym c.deref.ensures.value) c.in-Ok.ensures.are_records in
     subst (λ tape. Follows (IsSameOrRecords (map view c.args.records.now)) (g.T.Tape.images tape) (g.T.Tape.images c.replace.new.self)) same
     (failed_images (g.T.Tape.content c.self.inside.tape) c.deref.result.now (map view c.args.records.now) (g.T.Tape.images c.self.inside.tape) (g.T.Tape.images c.replace.new.self)
-    (c.self.invariant honest running) are (c.in-Err-Device.ensures.images honest))
+    (c.self.invariant.0 honest running) are (c.in-Err-Device.ensures.images honest))
 
 pub returns-clause-images : goal.returns-clause-images
 returns-clause-images g c = λ honest.
@@ -62,7 +65,7 @@ returns-clause-images g c = λ honest.
     let are = subst (λ (t : List ℕ). AreRecords t (map view c.args.records.now)) (sym c.deref.ensures.value) c.in-Ok.ensures.are_records in
     subst (λ tape. Follows (IsSameOrReads (map view c.args.records.now)) (g.T.Tape.images tape) (g.T.Tape.images c.replace.new.self)) same
     (follows_failed (g.T.Tape.content c.self.inside.tape) c.deref.result.now (map view c.args.records.now) (g.T.Tape.images c.self.inside.tape) (g.T.Tape.images c.replace.new.self)
-    (c.self.invariant honest running) are (c.in-Err-Device.ensures.images honest))
+    (c.self.invariant.0 honest running) are (c.in-Err-Device.ensures.images honest))
 
 pub returns-in-Ok-replace-clause-inside : goal.returns-in-Ok-replace-clause-inside
 returns-in-Ok-replace-clause-inside g c = λ honest.
@@ -71,7 +74,7 @@ returns-in-Ok-replace-clause-inside g c = λ honest.
     let are = subst (λ (t : List ℕ). AreRecords t (map view c.args.records.now)) (sym c.deref.ensures.value) c.in-Ok.ensures.are_records in
     subst (λ tape. Follows (IsSameOrReads (map view c.args.records.now)) (g.T.Tape.images tape) (g.T.Tape.left_since c.replace.new.self (g.T.Tape.moment tape))) same
     (follows_failed (g.T.Tape.content c.self.inside.tape) c.deref.result.now (map view c.args.records.now) (g.T.Tape.images c.self.inside.tape)
-    (g.T.Tape.left_since c.replace.new.self (g.T.Tape.moment c.self.inside.tape)) (c.self.invariant honest running) are (c.replace.ensures.inside honest))
+    (g.T.Tape.left_since c.replace.new.self (g.T.Tape.moment c.self.inside.tape)) (c.self.invariant.0 honest running) are (c.replace.ensures.inside honest))
 
 pub returns-in-Err-Memory-clause-inside : goal.returns-in-Err-Memory-clause-inside
 returns-in-Err-Memory-clause-inside g c = λ honest.
@@ -80,7 +83,7 @@ returns-in-Err-Memory-clause-inside g c = λ honest.
     let are = subst (λ (t : List ℕ). AreRecords t (map view c.args.records.now)) (sym c.deref.ensures.value) c.in-Ok.ensures.are_records in
     subst (λ tape. Follows (IsSameOrReads (map view c.args.records.now)) (g.T.Tape.images tape) (g.T.Tape.left_since c.replace.new.self (g.T.Tape.moment tape))) same
     (follows_failed (g.T.Tape.content c.self.inside.tape) c.deref.result.now (map view c.args.records.now) (g.T.Tape.images c.self.inside.tape)
-    (g.T.Tape.left_since c.replace.new.self (g.T.Tape.moment c.self.inside.tape)) (c.self.invariant honest running) are (c.replace.ensures.inside honest))
+    (g.T.Tape.left_since c.replace.new.self (g.T.Tape.moment c.self.inside.tape)) (c.self.invariant.0 honest running) are (c.replace.ensures.inside honest))
 
 pub returns-clause-inside : goal.returns-clause-inside
 returns-clause-inside g c = λ honest.
@@ -89,4 +92,4 @@ returns-clause-inside g c = λ honest.
     let are = subst (λ (t : List ℕ). AreRecords t (map view c.args.records.now)) (sym c.deref.ensures.value) c.in-Ok.ensures.are_records in
     subst (λ tape. Follows (IsSameOrReads (map view c.args.records.now)) (g.T.Tape.images tape) (g.T.Tape.left_since c.replace.new.self (g.T.Tape.moment tape))) same
     (follows_failed (g.T.Tape.content c.self.inside.tape) c.deref.result.now (map view c.args.records.now) (g.T.Tape.images c.self.inside.tape)
-    (g.T.Tape.left_since c.replace.new.self (g.T.Tape.moment c.self.inside.tape)) (c.self.invariant honest running) are (c.replace.ensures.inside honest))
+    (g.T.Tape.left_since c.replace.new.self (g.T.Tape.moment c.self.inside.tape)) (c.self.invariant.0 honest running) are (c.replace.ensures.inside honest))

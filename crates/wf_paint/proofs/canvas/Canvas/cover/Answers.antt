@@ -5,16 +5,16 @@ use Rattle.wf_paint.proofs.canvas.Canvas.cover.Goals as goal
 
 pub invariant_of-self : goal.invariant_of-self
 invariant_of-self c =
-    let here : CanvasValue = record { width = c.self.inside.width; height = c.self.inside.height; bytes = c.self.inside.bytes.items; free = c.self.inside.free.items; known = c.self.inside.known } in
-    canvas_covered here c.args.row c.args.from c.args.to c.args.color c.cover_range.new.free.items c.cover_range.new.bytes.items _ _ c.self.invariant c.cover_range.ensures
+    let here : CanvasValue = record { width = c.self.inside.width; height = c.self.inside.height; background = c.self.inside.background; bytes = c.self.inside.pixels; free = c.self.inside.free.items; known = c.self.inside.known } in
+    canvas_covered here c.args.row c.args.from c.args.to c.args.color c.cover_range.new.free.items c.cover_range.new.pixels _ _ c.self.invariant c.cover_range.ensures
 
 pub returns-then-from-to : goal.returns-then-from-to
 returns-then-from-to c =
-    let here : CanvasValue = record { width = c.self.inside.width; height = c.self.inside.height; bytes = c.self.inside.bytes.items; free = c.self.inside.free.items; known = c.self.inside.known } in
+    let here : CanvasValue = record { width = c.self.inside.width; height = c.self.inside.height; background = c.self.inside.background; bytes = c.self.inside.pixels; free = c.self.inside.free.items; known = c.self.inside.known } in
     let same : c.args.self.now ≡ here = cc in
     let within = rw same at c.requires.row_within in
     let inside = rw same at c.requires.to_within in
-    rw same (run_colored here c.args.row c.args.from c.args.to c.args.color c.cover_range.new.free.items c.cover_range.new.bytes.items
+    rw same (run_colored here c.args.row c.args.from c.args.to c.args.color c.cover_range.new.free.items c.cover_range.new.pixels
     c.self.invariant within inside c.cover_range.ensures)
 
 pub returns-else-from-to : goal.returns-else-from-to

@@ -5,7 +5,6 @@ use Rattle.wf_paint.proofs.pixmap.Pixmap.set.Goals as goal
 
 pub returns : goal.returns
 returns c =
-    let here : PixmapValue = record { width = c.self.inside.width; height = c.self.inside.height; bytes = c.self.inside.bytes.items } in
+    let here : PixmapValue = record { width = c.self.inside.width; height = c.self.inside.height; bytes = c.self.inside.pixels } in
     let same : c.args.self.now ≡ here = cc in
-    let within = rw same at c.requires in
-    rw same (pixel_set here c.args.index c.args.color c.self.invariant within)
+    rw same (pixel_set here c.args.index c.args.color c.write.new.self c.write.ensures)

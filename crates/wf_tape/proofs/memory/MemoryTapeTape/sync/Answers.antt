@@ -4,7 +4,7 @@ use Rattle.wf_tape.proofs.Called.{syncs, not_memory, stays_sturdy, fails_soundly
 use Rattle.wf_tape.proofs.memory.MemoryTapeTape.sync.Goals as goal
 
 pub returns-clause-ok : goal.returns-clause-ok
-returns-clause-ok c = λ honest. (syncs c.args.self.now c.sync_or_fail.new.self c.sync_or_fail.result c.sync_or_fail.ensures.within c.sync_or_fail.ensures.called).ok
+returns-clause-ok c = λ honest sure. (syncs c.args.self.now c.sync_or_fail.new.self c.sync_or_fail.result c.sync_or_fail.ensures.within c.sync_or_fail.ensures.called).ok
 
 pub returns-clause-same : goal.returns-clause-same
 returns-clause-same c = λ honest. (syncs c.args.self.now c.sync_or_fail.new.self c.sync_or_fail.result c.sync_or_fail.ensures.within c.sync_or_fail.ensures.called).same

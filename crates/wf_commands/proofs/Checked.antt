@@ -1,0 +1,145 @@
+-- From the check of bytes to the outcome of a run of `check`.
+use Rattle.std.proofs.Common.{◌≡◌, ◌∙◌, inl, inr, ℕ, List, true, false, ap, sym, subst, refl, arith}
+use Rattle.std.specs.Io.KnownBytes.{Appends}
+use Rattle.std.specs.Prelude.{Option, Some, None, Result, Ok, Err, IfSome}
+use Rattle.wf_block.specs.declared.fault.MapFault.TheVariants as maps
+use Rattle.wf_check.specs.Finding.{IsFinding, IsPublishable, IsReport, IsReportOf, IsWhy}
+use Rattle.wf_check.specs.declared.fault.CheckFault.{CheckFault}
+use Rattle.wf_check.specs.declared.fault.CheckFault.TheVariants as found
+use Rattle.wf_check.specs.declared.finding.Finding.{Finding}
+use Rattle.wf_mapfile.specs.Meaning.{meaning}
+use Rattle.wf_stream.specs.KnownLaws.{keeps_same}
+use Rattle.wf_commands.proofs.Judged.{cut_meaning}
+use Rattle.wf_commands.specs.Counting.{CountsReads, CountsWrites}
+use Rattle.wf_commands.specs.Run.{HasReport, HasReportIn, IsCheckOf, IsChecked, IsFindingWritten, IsInputFault, IsWriting, checked, fault_of, most_checked_bytes}
+use Rattle.wf_commands.specs.declared.fault.RunFault.{RunFault}
+use Rattle.wf_commands.specs.declared.fault.RunFault.TheVariants as faults
+
+abbrev failed : RunFault → Result (Unit {0}) RunFault
+failed fault = Err fault
+
+-- ---- what is written of a finding
+
+pub written_whole : (finding : Finding) (text bytes : List ℕ) (old new : Option (List ℕ)) (fault : RunFault) → bytes ≡ text → fault ≡ fault_of finding.fault
+    → IsReport finding text → Appends old new bytes → IsFindingWritten finding old new (failed fault)
+written_whole finding text bytes old new fault same is report appends =
+    inl (text, report, inl (ap failed is, subst (λ b. Appends old new b) same appends))
+
+part_by : (finding : Finding) (text : List ℕ) (old new : Option (List ℕ)) (fault : RunFault) → IsReport finding text
+    → IsWriting text (λ _. ⊥) old new (failed fault) → IsFindingWritten finding old new (failed fault)
+part_by finding text old new faults.Write report part = inl (text, report, inr (refl, part))
+part_by finding text old new (faults.Map fault) report none = inr (fault, refl, none.0, none.1)
+part_by finding text old new (faults.Canon fault) report none = absurd none.0
+part_by finding text old new (faults.Script fault) report none = absurd none
+part_by finding text old new (faults.Tape fault) report none = absurd none
+part_by finding text old new faults.Read report none = absurd none
+part_by finding text old new faults.Serve report none = absurd none
+part_by finding text old new faults.Wire report none = absurd none
+
+pub written_in_part : (finding : Finding) (text bytes : List ℕ) (old new : Option (List ℕ)) (fault : RunFault) → bytes ≡ text → IsReport finding text
+    → IsWriting bytes (λ _. ⊥) old new (failed fault) → IsFindingWritten finding old new (failed fault)
+written_in_part finding text bytes old new fault same report part =
+    part_by finding text old new fault report (subst (λ b. IsWriting b (λ _. ⊥) old new (failed fault)) same part)
+
+pub unwritten : (finding : Finding) (old : Option (List ℕ)) → IsFindingWritten finding old old (failed (faults.Map maps.Memory))
+unwritten finding old = inr (maps.Memory, refl, refl, keeps_same old)
+
+-- the error of a finding is that of no failed write
+found_writes_by : (fault : CheckFault) (before after : ℕ) → after ≡ before → CountsWrites {T = Unit {0}} (Err (fault_of fault)) before after
+found_writes_by (found.Map fault) before after same = same
+found_writes_by found.TooBig before after same = same
+
+pub found_writes : (error : CheckFault) (fault : RunFault) (before after : ℕ) → fault ≡ fault_of error → after ≡ before
+    → CountsWrites {T = Unit {0}} (Err fault) before after
+found_writes error fault before after is same =
+    subst (λ f. CountsWrites {T = Unit {0}} (Err f) before after) (sym is) (found_writes_by error before after same)
+
+-- ---- the check of bytes
+
+whole_by : (bytes text : List ℕ) (finding : Finding) (fault : CheckFault) (old new : Option (List ℕ)) → finding.fault ≡ fault → IsFinding bytes finding
+    → IsReport finding text → Appends old new text → IsCheckOf bytes old new (failed (fault_of fault))
+whole_by bytes text finding (found.Map fault) old new is finds report appends =
+    let why : IsWhy bytes (found.Map fault) = subst (λ f. IsWhy bytes f) is finds.why in (
+      λ memory. let clash : true ≡ false = sym memory ∙ why.0 in cc,
+      λ other. (text, (finding, finds, is, report), appends),
+    )
+whole_by bytes text finding found.TooBig old new is finds report appends = (refl, (text, (finding, finds, is, report), appends))
+
+pub found_checked : (bytes : List ℕ) (finding : Finding) (old new : Option (List ℕ)) (result : Result (Unit {0}) RunFault) → IsFinding bytes finding
+    → IsFindingWritten finding old new result → IsCheckOf bytes old new result
+found_checked bytes finding old new result finds (inl (text, report, inl (is, appends))) =
+    subst (λ r. IsCheckOf bytes old new r) (sym is) (whole_by bytes text finding finding.fault old new refl finds report appends)
+found_checked bytes finding old new result finds (inl (text, report, inr (is, part))) =
+    subst (λ r. IsCheckOf bytes old new r) (sym is) (finding.fault, (text, (finding, finds, refl, report), part))
+found_checked bytes finding old new result finds (inr (fault, is, memory, keeps)) =
+    subst (λ r. IsCheckOf bytes old new r) (sym is) (λ other. keeps, λ other. let clash : true ≡ false = sym memory ∙ other in cc)
+
+pub fine_checked : (bytes : List ℕ) (old : Option (List ℕ)) (done : Unit {0}) → IsPublishable bytes → IsCheckOf bytes old old (Ok done)
+fine_checked bytes old done publishable = (publishable, keeps_same old)
+
+pub unchecked : (bytes : List ℕ) (old : Option (List ℕ)) → IsCheckOf bytes old old (failed (faults.Map maps.Memory))
+unchecked bytes old = (λ other. keeps_same old, λ other. let clash : true ≡ false = other in cc)
+
+-- ---- the check of an input
+
+report_known : (input : Option (List ℕ)) (bytes : List ℕ) (fault : CheckFault) (P : List ℕ → Type 0) → IfSome input (λ known. bytes ≡ checked known)
+    → HasReport bytes fault P → HasReportIn input fault P
+report_known None bytes fault P is (text, report, holds) = (text, tt, holds)
+report_known (Some known) bytes fault P is (text, report, holds) = (text, subst (λ b. IsReportOf b fault text) is report, holds)
+
+-- a map that is read in part is read whole
+publishable_known : (input : Option (List ℕ)) (bytes : List ℕ) → IfSome input (λ known. bytes ≡ checked known) → IsPublishable bytes → IfSome input IsPublishable
+publishable_known None bytes is publishable = tt
+publishable_known (Some known) bytes is (d, means, short) =
+    (d, sym (cut_meaning most_checked_bytes known (omega arith)) ∙ ap meaning (sym is) ∙ means, short)
+
+known_by : (input : Option (List ℕ)) (bytes : List ℕ) (old new : Option (List ℕ)) (result : Result (Unit {0}) RunFault)
+    → IfSome input (λ known. bytes ≡ checked known) → IsCheckOf bytes old new result → IsChecked input old new result
+known_by input bytes old new (Ok done) is check = (publishable_known input bytes is check.0, check.1)
+known_by input bytes old new (Err (faults.Map fault)) is check = (check.0, λ other. report_known input bytes (found.Map fault) _ is (check.1 other))
+known_by input bytes old new (Err (faults.Canon fault)) is check = (check.0, report_known input bytes found.TooBig _ is check.1)
+known_by input bytes old new (Err faults.Write) is check = (check.0, report_known input bytes check.0 _ is check.1)
+known_by input bytes old new (Err faults.Read) is check = absurd check
+known_by input bytes old new (Err (faults.Script fault)) is check = absurd check
+known_by input bytes old new (Err (faults.Tape fault)) is check = absurd check
+known_by input bytes old new (Err faults.Serve) is check = absurd check
+known_by input bytes old new (Err faults.Wire) is check = absurd check
+
+pub check_known : (input : Option (List ℕ)) (bytes read : List ℕ) (old new : Option (List ℕ)) (result : Result (Unit {0}) RunFault) → read ≡ bytes
+    → IfSome input (λ known. bytes ≡ checked known) → IsCheckOf read old new result → IsChecked input old new result
+check_known input bytes read old new result same is check =
+    known_by input bytes old new result is (subst (λ b. IsCheckOf b old new result) same check)
+
+-- after the input was read no read fails
+pub check_reads : (bytes : List ℕ) (old new : Option (List ℕ)) (result : Result (Unit {0}) RunFault) (before after : ℕ)
+    → IsCheckOf bytes old new result → after ≡ before → CountsReads result before after
+check_reads bytes old new (Ok done) before after check same = same
+check_reads bytes old new (Err (faults.Map fault)) before after check same = λ other. same
+check_reads bytes old new (Err (faults.Canon fault)) before after check same = same
+check_reads bytes old new (Err faults.Write) before after check same = same
+check_reads bytes old new (Err faults.Read) before after check same = absurd check
+check_reads bytes old new (Err (faults.Script fault)) before after check same = absurd check
+check_reads bytes old new (Err (faults.Tape fault)) before after check same = absurd check
+check_reads bytes old new (Err faults.Serve) before after check same = absurd check
+check_reads bytes old new (Err faults.Wire) before after check same = absurd check
+
+-- of an input that can't be read
+pub unread : (input old : Option (List ℕ)) (fault : RunFault) → IsInputFault fault → IsChecked input old old (failed fault)
+unread input old (faults.Map fault) why = (λ other. keeps_same old, λ other. let clash : true ≡ false = sym why ∙ other in cc)
+unread input old faults.Read why = keeps_same old
+unread input old (faults.Canon fault) why = absurd why
+unread input old (faults.Script fault) why = absurd why
+unread input old (faults.Tape fault) why = absurd why
+unread input old faults.Write why = absurd why
+unread input old faults.Serve why = absurd why
+unread input old faults.Wire why = absurd why
+
+pub unread_writes : (fault : RunFault) (count : ℕ) → IsInputFault fault → CountsWrites {T = Unit {0}} (Err fault) count count
+unread_writes (faults.Map fault) count why = refl
+unread_writes faults.Read count why = refl
+unread_writes (faults.Canon fault) count why = absurd why
+unread_writes (faults.Script fault) count why = absurd why
+unread_writes (faults.Tape fault) count why = absurd why
+unread_writes faults.Write count why = absurd why
+unread_writes faults.Serve count why = absurd why
+unread_writes faults.Wire count why = absurd why

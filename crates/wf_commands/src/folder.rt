@@ -1,0 +1,235 @@
+//! The listing of a folder's tapes.
+ghost use Rattle.std.specs.Prelude.{◌≡◌, ◌++◌, [], IfOk, OnOk, length, string_bytes};
+ghost use Rattle.wf_commands.specs.Counting.{CountsWrites, FailsLast};
+ghost use Rattle.wf_commands.specs.Folder.{HasListingAppended, IsAppended, IsExtended, IsFolderListed, IsFolderListing, IsFront, IsNamedListing, tape_line};
+ghost use Rattle.wf_serve.specs.Folder.{tape_path};
+
+use crate::fault::RunFault;
+use crate::tapes::Tapes;
+use std::alloc::{AllocError, Global};
+use std::fmt::Write;
+use wf_folder::{Beginning, Start};
+use wf_listing::{TapeReadFault, list};
+use wf_serve::{Cause, Fault, Survey};
+use wf_stream::{Sink, write_all};
+
+/// Writes the listing of the tapes in the folder at a path with this in it: each tape's, after a line with its name, and a line that
+/// says whether the nodes of its farm would start on it. Nothing is written if a tape can't be read or an allocation fails.
+#[tactic(auto, using(crate::proofs::Folders::folder_whole, crate::proofs::Folders::folder_in_part, crate::proofs::Folders::folder_unread, crate::proofs::Last::none_failed, crate::proofs::Last::one_failed))]
+pub(crate) fn run_folder<K: Sink, V: Tapes>(
+    alloc: Global,
+    path: &str,
+    survey: &Survey,
+    sink: &mut K,
+    tapes: &V,
+) -> Result<(), RunFault>
+    requires { length survey.now.tapes ≡ 64 }
+    ensures listed { IsFolderListed (V.content tapes.now) path.now (K.written sink.old)
+        (K.written sink.new) result }
+    ensures writes { CountsWrites result (K.failures sink.old) (K.failures sink.new) }
+    ensures last { FailsLast K.Sink sink.old sink.new }
+{
+    let text = match text_of(alloc, path, survey, tapes) {
+        Ok(text) => text,
+        Err(fault) => return Err(RunFault::Tape(fault)),
+    };
+    let written = write_all(sink, text.as_bytes());
+    drop(text);
+    match written {
+        Ok(()) => Ok(()),
+        Err(_) => Err(RunFault::Write),
+    }
+}
+
+/// The listing of a folder.
+fn text_of<V: Tapes>(
+    alloc: Global,
+    path: &str,
+    survey: &Survey,
+    tapes: &V,
+) -> Result<String, TapeReadFault>
+    requires { length survey.now.tapes ≡ 64 }
+    ensures { IfOk result
+        (λ text. IsFolderListing (V.content tapes.now) path.now (string_bytes text)) }
+{
+    let mut text = String::new(alloc);
+    let pushed = push_all(alloc, &mut text, path, survey, tapes);
+    match pushed {
+        Ok(()) => Ok(text),
+        Err(fault) => {
+            drop(text);
+            Err(fault)
+        }
+    }
+}
+
+/// Appends the listing of a folder.
+#[tactic(auto, using(crate::proofs::Folders::whole))]
+fn push_all<V: Tapes>(
+    alloc: Global,
+    text: &mut String,
+    path: &str,
+    survey: &Survey,
+    tapes: &V,
+) -> Result<(), TapeReadFault>
+    requires tapes { length survey.now.tapes ≡ 64 }
+    requires empty { string_bytes text.old ≡ [] }
+    ensures { OnOk result
+        (IsFolderListing (V.content tapes.now) path.now (string_bytes text.new)) }
+{
+    match push_tapes(alloc, text, path, survey, tapes) {
+        Ok(()) => match push_end(alloc, text, path, tapes.examine(path, survey)) {
+            Ok(()) => Ok(()),
+            Err(fault) => Err(fault),
+        },
+        Err(fault) => Err(fault),
+    }
+}
+
+/// Appends the listing of each tape that is there.
+#[tactic(auto, using(crate::proofs::Folders::no_tapes, crate::proofs::Folders::one_more))]
+fn push_tapes<V: Tapes>(
+    alloc: Global,
+    text: &mut String,
+    path: &str,
+    survey: &Survey,
+    tapes: &V,
+) -> Result<(), TapeReadFault>
+    requires { string_bytes text.old ≡ [] }
+    ensures { OnOk result (IsFront (V.content tapes.now) path.now (string_bytes text.new)) }
+{
+    for (number, tape) in survey.tapes.iter().enumerate() {
+        if tape.is_there() {
+            push_tape(alloc, text, path, number, tapes)?;
+        }
+    }
+    Ok(())
+}
+
+/// Appends the listing of a tape, after a line with its name.
+#[tactic(auto, using(crate::proofs::Folders::appended))]
+fn push_tape<V: Tapes>(
+    alloc: Global,
+    text: &mut String,
+    path: &str,
+    number: usize,
+    tapes: &V,
+) -> Result<(), TapeReadFault>
+    ensures { OnOk result (IsAppended (V.content tapes.now) path.now number
+        (string_bytes text.old) (string_bytes text.new)) }
+{
+    let Ok(file) = tape_path(alloc, path, number) else {
+        return Err(TapeReadFault::Memory);
+    };
+    let bytes = tapes.read(alloc, file.as_str());
+    drop(file);
+    let bytes = bytes?;
+    let pushed = push_bytes(alloc, text, number, &bytes);
+    drop(bytes);
+    match pushed {
+        Ok(()) => Ok(()),
+        Err(AllocError) => Err(TapeReadFault::Memory),
+    }
+}
+
+/// The path of a node's tape in a folder.
+fn tape_path(alloc: Global, folder: &str, number: usize) -> Result<String, AllocError>
+    ensures { IfOk result (λ path. string_bytes path ≡ tape_path folder.now number) }
+{
+    match format!(in alloc; "{folder}/node-{number}.tape") {
+        Ok(path) => Ok(path),
+        Err(error) => Err(error),
+    }
+}
+
+/// Appends the listing of a tape's bytes, after a line with its name.
+#[tactic(auto, using(crate::proofs::Folders::named))]
+fn push_bytes(
+    alloc: Global,
+    text: &mut String,
+    number: usize,
+    bytes: &[u8],
+) -> Result<(), AllocError>
+    ensures { OnOk result (IsNamedListing bytes.now number (string_bytes text.old)
+        (string_bytes text.new)) }
+{
+    match push_name(text, number) {
+        Ok(()) => match push_listing(alloc, text, bytes) {
+            Ok(()) => Ok(()),
+            Err(error) => Err(error),
+        },
+        Err(error) => Err(error),
+    }
+}
+
+/// Appends the line with the name of a tape.
+fn push_name(text: &mut String, number: usize) -> Result<(), AllocError>
+    ensures { OnOk result
+        (string_bytes text.new ≡ string_bytes text.old ++ tape_line number) }
+{
+    writeln!(text, "node-{number}.tape")
+}
+
+/// Appends the listing of bytes.
+#[tactic(auto, using(crate::proofs::Folders::listed))]
+fn push_listing(alloc: Global, text: &mut String, bytes: &[u8]) -> Result<(), AllocError>
+    ensures { OnOk result (HasListingAppended bytes.now (string_bytes text.old)
+        (string_bytes text.new)) }
+{
+    let listing = list(alloc, bytes)?;
+    let pushed = text.push_str(listing.as_str());
+    drop(listing);
+    match pushed {
+        Ok(()) => Ok(()),
+        Err(error) => Err(error),
+    }
+}
+
+/// Appends the last line.
+#[tactic(auto, using(crate::proofs::Folders::ended))]
+fn push_end(
+    alloc: Global,
+    text: &mut String,
+    path: &str,
+    examined: Result<(u8, Start), Cause>,
+) -> Result<(), TapeReadFault>
+    ensures { OnOk result (IsExtended (string_bytes text.old) (string_bytes text.new)) }
+{
+    let Ok(line) = end_of(alloc, path, examined) else {
+        return Err(TapeReadFault::Memory);
+    };
+    let pushed = text.push_str(line.as_str());
+    drop(line);
+    match pushed {
+        Ok(()) => Ok(()),
+        Err(_) => Err(TapeReadFault::Memory),
+    }
+}
+
+/// The last line: whether the nodes of a folder's farm would start on it.
+fn end_of(
+    alloc: Global,
+    path: &str,
+    examined: Result<(u8, Start), Cause>,
+) -> Result<String, AllocError> {
+    match examined {
+        Ok((_, Start::New)) => format!(in alloc; "new, no tape has a byte\n"),
+        Ok((nodes, Start::TakenOver)) => {
+            format!(in alloc; "whole, {nodes} tapes, no file farm\n")
+        }
+        Ok((nodes, Start::Own(file))) => {
+            let began = match file.beginning {
+                Beginning::Empty => "empty",
+                Beginning::Found => "found",
+            };
+            format!(in alloc; "whole, {nodes} tapes of one farm, began {began}\n")
+        }
+        Err(cause) => {
+            let fault = Fault {
+                cause,
+                folder: Some(path),
+            };
+            format!(in alloc; "not whole, {fault}\n")
+        }
+    }
+}

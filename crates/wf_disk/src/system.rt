@@ -1,0 +1,234 @@
+//! A disk of the system, over std's files.
+
+ghost use Rattle.std.specs.Prelude.{◌≡◌, ◌≤◌, [], None, IfOk};
+ghost use Rattle.wf_disk.specs.Moments.{HasRisen};
+
+use crate::disk::Disk;
+use crate::fault::DiskFault;
+use crate::name::Name;
+use std::alloc::Global;
+use std::fs::{OpenFile, OpenOptions};
+use std::io::{Read, Seek, SeekFrom, Write};
+use std::rt::Files;
+use std::{fs, io};
+
+/// The most reads of a file: if it hasn't ended by then, the read counts as failed.
+pub const FILE_READS: u32 = 1_048_576;
+
+/// The number of bytes requested in one read.
+const PIECE_BYTES: usize = 8192;
+
+/// A disk of the system: the file at a path, and a second one beside it. No contract sees what a file holds, so it declares itself
+/// not honest: that its calls leave what they say is an assumption, stated in words.
+#[derive(Drop)]
+pub struct SystemDisk<R: Files + Drop> {
+    files: R,
+    path: String,
+    second_path: String,
+    own: Option<R::File>,
+    second: Option<R::File>,
+    failures: u64,
+}
+
+impl<R: Files + Drop> SystemDisk<R> {
+    /// The disk of the file at the path. The second file's name has `.new` appended. Nothing is opened yet.
+    pub fn new(alloc: Global, files: R, path: &str) -> Result<SystemDisk<R>, DiskFault>
+        ensures { IfOk result (λ disk. disk.failures ≡ 0) }
+    {
+        let own_path = path.to_string(alloc)?;
+        let second_path = format!(in alloc; "{path}.new")?;
+        Ok(SystemDisk {
+            files,
+            path: own_path,
+            second_path,
+            own: None,
+            second: None,
+            failures: 0,
+        })
+    }
+
+    /// Counts a failure of the device.
+    fn fail(&mut self) -> DiskFault
+        ensures fault { result ≡ DiskFault.Device }
+        ensures risen { HasRisen self.old.failures self.new.failures }
+        ensures later { self.old.failures ≤ self.new.failures }
+    {
+        self.failures = self.failures.saturating_add(1);
+        DiskFault::Device
+    }
+
+    /// Renames the second file to the first. If that fails, which of them has the path isn't known, so the path is opened again: a
+    /// handle that was open may be one of a file without a name.
+    fn put_second(&mut self) -> io::Result<()>
+        ensures { self.new.failures ≡ self.old.failures }
+    {
+        let second = self.second.take();
+        match fs::rename(&self.files, self.second_path.as_str(), self.path.as_str()) {
+            Ok(()) => {
+                self.own = second;
+                Ok(())
+            }
+            Err(error) => {
+                self.own = open_file(&self.files, self.path.as_str()).ok();
+                Err(error)
+            }
+        }
+    }
+}
+
+/// The options to open a file to read and write, and create it if it is absent.
+fn to_read_and_write() -> OpenOptions {
+    let mut options = OpenOptions::new();
+    options.read(true).write(true).create(true);
+    options
+}
+
+/// Opens the file at the path to read and write, and creates it if it is absent.
+fn open_file<R: Files>(files: &R, path: &str) -> io::Result<R::File> {
+    to_read_and_write().open(files, path)
+}
+
+/// Opens the file at the path to read and write, without bytes.
+fn open_empty<R: Files>(files: &R, path: &str) -> io::Result<R::File> {
+    to_read_and_write().truncate(true).open(files, path)
+}
+
+/// Appends the bytes to the file. False if it isn't open, or the write fails.
+fn write_behind<F: Write + Seek>(file: &mut Option<F>, bytes: &[u8]) -> bool {
+    match file {
+        None => false,
+        Some(file) => file.seek(SeekFrom::End(0)).is_ok() && file.write_all(bytes).is_ok(),
+    }
+}
+
+/// Syncs the file. False if it isn't open, or the sync fails.
+fn sync_file<F: OpenFile>(file: &Option<F>) -> bool {
+    match file {
+        None => false,
+        Some(file) => file.sync_all().is_ok(),
+    }
+}
+
+/// Syncs the directory of the file at the path, and so the files' names in it.
+fn sync_folder<R: Files>(files: &R, path: &str) -> io::Result<()> {
+    let folder = match path.rsplit_once('/') {
+        None => ".",
+        Some(("", _)) => "/",
+        Some((folder, _)) => folder,
+    };
+    fs::open(files, folder)?.sync_all()
+}
+
+/// The result of reading to the end.
+enum Given {
+    Bytes(Vec<u8>),
+    Memory,
+    Failed,
+}
+
+/// Reads the file from its start to its end.
+fn read_whole<F: Read + Seek>(file: &mut Option<F>, alloc: Global) -> Given {
+    match file {
+        None => Given::Failed,
+        Some(file) => match file.seek(SeekFrom::Start(0)) {
+            Ok(_) => read_to_end(file, alloc),
+            Err(_) => Given::Failed,
+        },
+    }
+}
+
+/// Reads to the end.
+fn read_to_end<F: Read>(file: &mut F, alloc: Global) -> Given {
+    let mut bytes = Vec::new(alloc);
+    let mut piece = [0u8; PIECE_BYTES];
+    for _ in 0..FILE_READS {
+        match file.read(&mut piece) {
+            Ok(0) => return Given::Bytes(bytes),
+            Ok(count) => {
+                if bytes.extend_from_slice(&piece[..count]).is_err() {
+                    return Given::Memory;
+                }
+            }
+            Err(_) => return Given::Failed,
+        }
+    }
+    Given::Failed
+}
+
+impl<R: Files + Drop> Disk for SystemDisk<R> {
+    ghost honest = { ⊥ };
+
+    ghost folder = { λ _. record { own = None; second = None; earlier = [] } };
+
+    ghost failed = { λ d. d.failures };
+
+    ghost moment = { λ _. 0 };
+
+    ghost left_since = { λ _ _ _. ⊥ };
+
+    ghost is_now = { λ no. absurd no };
+
+    ghost nested = { λ no. absurd no };
+
+    fn open(&mut self) -> Result<(), DiskFault> {
+        match open_file(&self.files, self.path.as_str()) {
+            Ok(file) => {
+                self.own = Some(file);
+                Ok(())
+            }
+            Err(_) => Err(self.fail()),
+        }
+    }
+
+    fn make(&mut self) -> Result<(), DiskFault> {
+        match open_empty(&self.files, self.second_path.as_str()) {
+            Ok(file) => {
+                self.second = Some(file);
+                Ok(())
+            }
+            Err(_) => Err(self.fail()),
+        }
+    }
+
+    fn append(&mut self, name: Name, bytes: &[u8]) -> Result<(), DiskFault> {
+        let is_written = match name {
+            Name::Own => write_behind(&mut self.own, bytes),
+            Name::Second => write_behind(&mut self.second, bytes),
+        };
+        if is_written { Ok(()) } else { Err(self.fail()) }
+    }
+
+    fn sync(&mut self, name: Name) -> Result<(), DiskFault> {
+        let is_synced = match name {
+            Name::Own => sync_file(&self.own),
+            Name::Second => sync_file(&self.second),
+        };
+        if is_synced { Ok(()) } else { Err(self.fail()) }
+    }
+
+    fn rename(&mut self) -> Result<(), DiskFault> {
+        match self.put_second() {
+            Ok(()) => Ok(()),
+            Err(_) => Err(self.fail()),
+        }
+    }
+
+    fn sync_names(&mut self) -> Result<(), DiskFault> {
+        match sync_folder(&self.files, self.path.as_str()) {
+            Ok(()) => Ok(()),
+            Err(_) => Err(self.fail()),
+        }
+    }
+
+    fn read(&mut self, alloc: Global) -> Result<Vec<u8>, DiskFault> {
+        match read_whole(&mut self.own, alloc) {
+            Given::Bytes(bytes) => Ok(bytes),
+            Given::Memory => Err(DiskFault::Memory),
+            Given::Failed => Err(self.fail()),
+        }
+    }
+
+    fn failures(&self) -> u64 {
+        self.failures
+    }
+}

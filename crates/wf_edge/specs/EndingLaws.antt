@@ -1,0 +1,104 @@
+-- From how a response ended to how a request ended.
+use Rattle.std.proofs.Common.{◌≡◌, ℕ, List, [], Vec, refl, sym, subst}
+use Rattle.std.specs.Prelude.{Option, Result, Ok, Err, IfSome}
+use Rattle.wf_codec.specs.declared.message.Message.{Message}
+use Rattle.wf_node.specs.Node.{Node}
+use Rattle.wf_edge.specs.Ending.{IsEnded, IsFaultEnded, EndsUnheard}
+use Rattle.wf_edge.specs.Notice.{response_of}
+use Rattle.wf_http.specs.Request.{Request, IsRequestFault, BeginsWith}
+use Rattle.wf_http.specs.Response.{Response}
+use Rattle.wf_edge.specs.Hearing.{CountsHearing, IsUnheard}
+use Rattle.wf_edge.specs.Saying.{CountsSaying}
+use Rattle.wf_edge.specs.Serving.{Asks, Gives, IsEnding, IsServed, Serves}
+use Rattle.wf_edge.specs.ServingLaws.{served_moves, served_outcome, served_reads, served_writes, unheard_moves, unheard_outcome}
+use Rattle.wf_http.specs.declared.fault.RequestFault.{RequestFault}
+use Rattle.wf_http.specs.declared.fault.RequestFault.TheVariants as fault
+use Rattle.wf_edge.specs.declared.notice.Notice.{Notice}
+use Rattle.wf_edge.specs.declared.notice.Notice.TheVariants as notice
+use Rattle.wf_edge.specs.declared.outcome.Outcome.{Outcome}
+use Rattle.wf_edge.specs.declared.outcome.Outcome.TheVariants as outcome
+use Rattle.wf_stream.specs.declared.stream.Sink.{Ghosts as Sink}
+use Rattle.wf_stream.specs.declared.stream.Source.{Ghosts as Source}
+use Rattle.wf_tape.specs.declared.tape.Tape.{Ghosts as Tape}
+
+module _ {K : Type 0} (sinks : Sink K) where
+  -- ---- where there is no request
+
+  pub unheard_ends : (input : Option (List ℕ)) (old new : K) (why : RequestFault) (said : Outcome) → IfSome input (λ bytes. IsRequestFault bytes why)
+      → IsFaultEnded sinks why old new said → EndsUnheard sinks input old new said
+  unheard_ends input old new why said is ended = record { why = why; is = is; ended = ended }
+
+  -- ---- the request
+
+  module _ {T A : Type 0} (tapes : Tape T) where
+    said_ending : (input : Option (List ℕ)) (old new : K) (heard : Result Request RequestFault) (before after : Node T) (answer : Result Response Notice)
+        (sent : Vec Message A) (said : Outcome) → IfSome input (λ bytes. Asks bytes heard) → Gives tapes heard before answer sent after
+        → IsEnded sinks (response_of answer) old new said
+        → IsEnding tapes sinks input old new before sent after said
+    said_ending input old new heard before after answer sent (outcome.Sent status count) asks given ended = ended
+    said_ending input old new heard before after answer sent (outcome.WriteFailed status count) asks given ended = record {
+      response = response_of answer;
+      responds = record { heard = heard; asks = asks; answer = answer; gives = given; is = refl };
+      breaks = ended.0;
+      status_is = ended.1;
+    }
+    said_ending input old new heard before after answer sent outcome.ReadFailed asks given ended = absurd ended
+    said_ending input old new heard before after answer sent outcome.NoRequest asks given ended = absurd ended
+
+    -- a request that was read, where the writer was as it is until it was answered
+    pub served_ending : (input : Option (List ℕ)) (first old new : K) (request : Request) (before after : Node T) (sent : Vec Message A) (said : Outcome)
+        → IfSome input (λ bytes. BeginsWith bytes request) → old ≡ first
+        → IsServed tapes sinks request old new before sent after said
+        → IsEnding tapes sinks input first new before sent after said
+    served_ending input first old new request before after sent said begins quiet served =
+        subst (λ start. IsEnding tapes sinks input start new before sent after said) quiet
+        (said_ending input old new (Ok request) before after served.answer sent said begins served.gives served.says.ended)
+
+    fault_ending : (input : Option (List ℕ)) (old new : K) (why : RequestFault) (node : Node T) (sent : Vec Message A) (said : Outcome)
+        → IfSome input (λ bytes. IsRequestFault bytes why) → sent.items ≡ [] → IsFaultEnded sinks why old new said
+        → IsEnding tapes sinks input old new node sent node said
+    fault_ending input old new (fault.Refused r) node sent said asks quiet ended =
+        said_ending input old new (Err (fault.Refused r)) node node (Err (notice.Refused r)) sent said asks (refl, record { same = refl; quiet = quiet }) ended
+    fault_ending input old new fault.Memory node sent said asks quiet ended =
+        said_ending input old new (Err fault.Memory) node node (Err notice.Unavailable) sent said asks (refl, record { same = refl; quiet = quiet }) ended
+    fault_ending input old new fault.NoRequest node sent said asks quiet ended =
+        subst (λ o. IsEnding tapes sinks input old new node sent node o) (sym ended.0) ended.1
+    fault_ending input old new fault.ReadFailed node sent said asks quiet ended =
+        subst (λ o. IsEnding tapes sinks input old new node sent node o) (sym ended.0) ended.1
+
+    -- if there is no request, its rejection ended, or the writer is unchanged
+    pub unheard_ending : (input : Option (List ℕ)) (old new : K) (node : Node T) (sent : Vec Message A) (said : Outcome)
+        → EndsUnheard sinks input old new said → sent.items ≡ []
+        → IsEnding tapes sinks input old new node sent node said
+    unheard_ending input old new node sent said unheard quiet = fault_ending input old new unheard.why node sent said unheard.is quiet unheard.ended
+
+-- ---- one request, served as a whole
+
+module _ {S K T A : Type 0} (sources : Source S) (sinks : Sink K) (tapes : Tape T) where
+  -- a request that was read and answered, where the writer was as it is until it was answered
+  pub read_serves : (source source_after : S) (first sink sink_after : K) (request : Request) (before after : Node T) (sent : Vec Message A) (said : Outcome)
+      → IfSome (sources.left source) (λ bytes. BeginsWith bytes request) → sink ≡ first → sources.failures source_after ≡ sources.failures source
+      → IsServed tapes sinks request sink sink_after before sent after said
+      → Serves tapes sinks sources source source_after first sink_after before sent after said
+  read_serves source source_after first sink sink_after request before after sent said begins quiet calm served = record {
+    outcome = served_outcome tapes sinks (sources.left source) first sink sink_after request before after sent said begins quiet served;
+    moves = served_moves tapes sinks request sink sink_after before after sent said served;
+    reads = served_reads tapes sinks request sink sink_after before after sent said (sources.failures source) (sources.failures source_after) calm served;
+    writes = served_writes tapes sinks first sink sink_after request before after sent said quiet served;
+    last = served_ending sinks tapes (sources.left source) first sink sink_after request before after sent said begins quiet served;
+  }
+
+  -- a request that wasn't there
+  pub unheard_serves : (source source_after : S) (sink sink_after : K) (node : Node T) (said : Outcome)
+      → IsUnheard (sources.left source) (sinks.written sink) (sinks.written sink_after) said
+      → CountsHearing said (sources.failures source) (sources.failures source_after)
+      → CountsSaying said (sinks.failures sink) (sinks.failures sink_after)
+      → EndsUnheard sinks (sources.left source) sink sink_after said
+      → (sent : Vec Message A) → sent.items ≡ [] → Serves tapes sinks sources source source_after sink sink_after node sent node said
+  unheard_serves source source_after sink sink_after node said unheard reads writes ends sent quiet = record {
+    outcome = unheard_outcome tapes (sources.left source) (sinks.written sink) (sinks.written sink_after) node sent said unheard quiet;
+    moves = unheard_moves tapes node sent quiet;
+    reads = reads;
+    writes = writes;
+    last = unheard_ending sinks tapes (sources.left source) sink sink_after node sent said ends quiet;
+  }

@@ -1,0 +1,150 @@
+-- From what was read, answered and written to the outcome of a request.
+use Rattle.std.proofs.Common.{◌≡◌, ℕ, List, [], Vec, refl, sym, subst}
+use Rattle.std.specs.Prelude.{Option, Result, Ok, Err, IfSome}
+use Rattle.wf_codec.specs.declared.message.Message.{Message}
+use Rattle.wf_node.specs.Node.{Node}
+use Rattle.wf_http.specs.Request.{Request, IsRequestFault, BeginsWith}
+use Rattle.wf_http.specs.Response.{Response}
+use Rattle.wf_http.specs.Target.{query_of}
+use Rattle.wf_edge.specs.Ending.{Says}
+use Rattle.wf_edge.specs.Notice.{response_of}
+use Rattle.wf_edge.specs.Publish.{IsPublished}
+use Rattle.wf_edge.specs.Saying.{IsSaid, IsFaultSaid, CountsSaying}
+use Rattle.wf_edge.specs.Hearing.{IsUnheard, CountsHearing}
+use Rattle.wf_edge.specs.Serving.{Answers, Asks, IsPublish, TellsPublish, GivesPublish, GivesTo, Gives, IsServed, MovesOnce, Stays, Proposes, IsOutcome}
+use Rattle.wf_http.specs.declared.fault.RequestFault.{RequestFault}
+use Rattle.wf_http.specs.declared.fault.RequestFault.TheVariants as fault
+use Rattle.wf_edge.specs.declared.notice.Notice.{Notice}
+use Rattle.wf_edge.specs.declared.notice.Notice.TheVariants as notice
+use Rattle.wf_edge.specs.declared.outcome.Outcome.{Outcome}
+use Rattle.wf_edge.specs.declared.outcome.Outcome.TheVariants as outcome
+use Rattle.wf_edge.specs.declared.publish_fault.PublishFault.{PublishFault}
+use Rattle.wf_edge.specs.declared.publish_fault.PublishFault.TheVariants as publish
+use Rattle.wf_http.specs.declared.resource.Asked.{Asked}
+use Rattle.wf_http.specs.declared.resource.Asked.TheVariants as asked
+use Rattle.wf_edge.specs.HearingLaws.{calm_reads}
+use Rattle.wf_stream.specs.declared.stream.Sink.{Ghosts as Sink}
+use Rattle.wf_tape.specs.declared.tape.Tape.{Ghosts as Tape}
+
+module _ {T A : Type 0} (tapes : Tape T) where
+  pub gives_published : (body : List ℕ) (before after : Node T) (done : Result (Response × Vec Message A) PublishFault) (answer : Result Response Notice)
+      (sent : Vec Message A) → IsPublished tapes body before done after → TellsPublish done answer sent
+      → GivesPublish tapes body before answer sent after
+  gives_published body before after done answer sent becomes told = record { done = done; published = becomes; tells = told }
+
+  -- ---- a request's effect on the node
+
+  published_moves : (body : List ℕ) (before after : Node T) (done : Result (Response × Vec Message A) PublishFault) (answer : Result Response Notice)
+      (sent : Vec Message A) → IsPublished tapes body before done after → TellsPublish done answer sent
+      → MovesOnce tapes before sent after
+  published_moves body before after (Ok done) answer sent becomes told = Proposes becomes.0 (Ok done.1) becomes.2 told.1
+  published_moves body before after (Err (publish.Node why)) answer sent becomes told = Proposes becomes.0 (Err why) becomes.2 told.1
+  published_moves body before after (Err (publish.Map why)) answer sent becomes told = Stays (record { same = becomes.1; quiet = told.1 })
+  published_moves body before after (Err publish.TooBig) answer sent becomes told = Stays (record { same = becomes.1; quiet = told.1 })
+  published_moves body before after (Err publish.Memory) answer sent becomes told = Stays (record { same = becomes.1; quiet = told.1 })
+
+  given_moves : (kind : Asked) (request : Request) (before after : Node T) (answer : Result Response Notice) (sent : Vec Message A)
+      → GivesTo tapes kind request before answer sent after → MovesOnce tapes before sent after
+  given_moves asked.Wms request before after answer sent given = Stays given.1
+  given_moves asked.Status request before after answer sent given = Stays given.1
+  given_moves (asked.Publish bytes) request before after answer sent given = published_moves request.body before after given.done answer sent given.published given.tells
+
+  pub unheard_moves : (node : Node T) (sent : Vec Message A) → sent.items ≡ [] → MovesOnce tapes node sent node
+  unheard_moves node sent quiet = Stays (record { same = refl; quiet = quiet })
+
+  -- ---- the outcome
+
+  -- a response that is written is the outcome
+  said_outcome : (input old new : Option (List ℕ)) (heard : Result Request RequestFault) (before after : Node T) (answer : Result Response Notice)
+      (sent : Vec Message A) (said : Outcome) → IfSome input (λ bytes. Asks bytes heard) → Gives tapes heard before answer sent after
+      → IsSaid (response_of answer) old new said → IsOutcome tapes input old new before sent after said
+  said_outcome input old new heard before after answer sent (outcome.Sent status count) asks given written = record {
+    response = response_of answer;
+    responds = record { heard = heard; asks = asks; answer = answer; gives = given; is = refl };
+    written = written.0;
+    status_is = written.1;
+    count_is = written.2;
+  }
+  said_outcome input old new heard before after answer sent (outcome.WriteFailed status count) asks given written = record {
+    response = response_of answer;
+    responds = record { heard = heard; asks = asks; answer = answer; gives = given; is = refl };
+    written = written.0;
+    status_is = written.1;
+  }
+  said_outcome input old new heard before after answer sent outcome.ReadFailed asks given written = absurd written
+  said_outcome input old new heard before after answer sent outcome.NoRequest asks given written = absurd written
+
+  fault_outcome : (input old new : Option (List ℕ)) (why : RequestFault) (node : Node T) (sent : Vec Message A) (said : Outcome)
+      → IfSome input (λ bytes. IsRequestFault bytes why) → sent.items ≡ [] → IsFaultSaid why old new said
+      → IsOutcome tapes input old new node sent node said
+  fault_outcome input old new (fault.Refused r) node sent said asks quiet written =
+      said_outcome input old new (Err (fault.Refused r)) node node (Err (notice.Refused r)) sent said asks (refl, record { same = refl; quiet = quiet }) written
+  fault_outcome input old new fault.Memory node sent said asks quiet written =
+      said_outcome input old new (Err fault.Memory) node node (Err notice.Unavailable) sent said asks (refl, record { same = refl; quiet = quiet }) written
+  fault_outcome input old new fault.NoRequest node sent said asks quiet written =
+      subst (λ o. IsOutcome tapes input old new node sent node o) (sym written.0) (asks, record { same = refl; quiet = quiet }, written.1)
+  fault_outcome input old new fault.ReadFailed node sent said asks quiet written =
+      subst (λ o. IsOutcome tapes input old new node sent node o) (sym written.0) (record { same = refl; quiet = quiet }, written.1)
+
+  -- if there is no request, its rejection is the outcome, or nothing
+  pub unheard_outcome : (input old new : Option (List ℕ)) (node : Node T) (sent : Vec Message A) (said : Outcome) → IsUnheard input old new said
+      → sent.items ≡ [] → IsOutcome tapes input old new node sent node said
+  unheard_outcome input old new node sent said unheard quiet =
+      fault_outcome input old new unheard.why node sent said unheard.is quiet unheard.written
+
+  -- ---- a request that was read
+
+  module _ {K : Type 0} (sinks : Sink K) where
+    served_by : (kind : Asked) (request : Request) (old new : K) (before after : Node T) (answer : Result Response Notice)
+        (sent : Vec Message A) (said : Outcome) → kind ≡ request.asked → GivesTo tapes kind request before answer sent after
+        → Says sinks (response_of answer) old new said → IsServed tapes sinks request old new before sent after said
+    served_by kind request old new before after answer sent said is given says = record {
+      answer = answer;
+      gives = subst (λ k. GivesTo tapes k request before answer sent after) is given;
+      says = says;
+    }
+
+    -- a request that only reads was answered, and the response written
+    pub answer_served : (kind : Asked) (request : Request) (old new : K) (node : Node T) (answer : Result Response Notice)
+        (said : Outcome) → kind ≡ request.asked → Answers kind (query_of request.head.target) node answer
+        → Says sinks (response_of answer) old new said
+        → (sent : Vec Message A) → sent.items ≡ [] → IsServed tapes sinks request old new node sent node said
+    answer_served asked.Wms request old new node answer said is answers says sent quiet =
+        served_by asked.Wms request old new node node answer sent said is (answers, record { same = refl; quiet = quiet }) says
+    answer_served asked.Status request old new node answer said is answers says sent quiet =
+        served_by asked.Status request old new node node answer sent said is (answers, record { same = refl; quiet = quiet }) says
+    answer_served (asked.Publish bytes) request old new node answer said is answers says sent quiet = absurd answers
+
+    -- a publish was answered, and the response written
+    pub publish_served : (kind : Asked) (request : Request) (old new : K) (before after : Node T) (answer : Result Response Notice)
+        (sent : Vec Message A) (said : Outcome) → kind ≡ request.asked → IsPublish kind → GivesPublish tapes request.body before answer sent after
+        → Says sinks (response_of answer) old new said → IsServed tapes sinks request old new before sent after said
+    publish_served asked.Wms request old new before after answer sent said is publishes given says = absurd publishes
+    publish_served asked.Status request old new before after answer sent said is publishes given says = absurd publishes
+    publish_served (asked.Publish bytes) request old new before after answer sent said is publishes given says =
+        served_by (asked.Publish bytes) request old new before after answer sent said is given says
+
+    pub served_moves : (request : Request) (old new : K) (before after : Node T) (sent : Vec Message A) (said : Outcome)
+        → IsServed tapes sinks request old new before sent after said → MovesOnce tapes before sent after
+    served_moves request old new before after sent said served = given_moves request.asked request before after served.answer sent served.gives
+
+    -- no read has failed
+    pub served_reads : (request : Request) (old new : K) (before after : Node T) (sent : Vec Message A) (said : Outcome) (first last : ℕ)
+        → last ≡ first → IsServed tapes sinks request old new before sent after said → CountsHearing said first last
+    served_reads request old new before after sent said first last calm served =
+        calm_reads _ (sinks.written old) (sinks.written new) said first last calm served.says.written
+
+    -- a failed write is reported; the writer was as it is until the request was answered
+    pub served_writes : (first old new : K) (request : Request) (before after : Node T) (sent : Vec Message A) (said : Outcome)
+        → old ≡ first → IsServed tapes sinks request old new before sent after said
+        → CountsSaying said (sinks.failures first) (sinks.failures new)
+    served_writes first old new request before after sent said quiet served =
+        subst (λ start. CountsSaying said (sinks.failures start) (sinks.failures new)) quiet served.says.counts
+
+    pub served_outcome : (input : Option (List ℕ)) (first old new : K) (request : Request) (before after : Node T) (sent : Vec Message A) (said : Outcome)
+        → IfSome input (λ bytes. BeginsWith bytes request) → old ≡ first
+        → IsServed tapes sinks request old new before sent after said
+        → IsOutcome tapes input (sinks.written first) (sinks.written new) before sent after said
+    served_outcome input first old new request before after sent said begins quiet served =
+        subst (λ start. IsOutcome tapes input (sinks.written start) (sinks.written new) before sent after said) quiet
+        (said_outcome input (sinks.written old) (sinks.written new) (Ok request) before after served.answer sent said begins served.gives served.says.written)

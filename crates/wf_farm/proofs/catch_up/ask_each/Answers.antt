@@ -1,0 +1,42 @@
+-- One node after the other asks.
+use Rattle.std.proofs.Common.{◌≡◌, ◌+◌, ◌∙◌, false, length, refl, subst, sym, arith}
+use Rattle.wf_farm.specs.CatchUp.{FirstEndUp, HasMost, HaveAsked, Rests}
+use Rattle.wf_farm.specs.Nodes.{nodes_of}
+use Rattle.wf_farm.specs.NodesLaws.{keep_themselves, keep_twice}
+use Rattle.wf_farm.proofs.Asked.{asked_twice}
+use Rattle.wf_farm.proofs.Changes.{first_end, has_most_at, most_on}
+use Rattle.wf_farm.proofs.catch_up.ask_each.Goals as goal
+
+pub loop-asker-init : goal.loop-asker-init
+loop-asker-init g c = record {
+  asked = Rests;
+  most = c.requires.most;
+  ends = λ k less. absurd (omega (arith, less));
+  members = c.requires.members;
+  kept = keep_themselves c.args.places.now;
+  size = refl;
+}
+
+pub ask_while_behind-requires-clause-within : goal.ask_while_behind-requires-clause-within
+ask_while_behind-requires-clause-within g c = has_most_at (nodes_of c.loop-asker.places) c.args.asked c.loop-asker.invariant.most c.loop-asker.asker
+
+pub loop-asker-preserved : goal.loop-asker-preserved
+loop-asker-preserved g c =
+    let so_far = c.loop-asker.invariant in
+    let one = c.ask_while_behind in
+    let nodes = nodes_of c.loop-asker.places in
+    let after = nodes_of one.new.places in
+    record {
+      asked = subst (λ b. HaveAsked g.T.Tape c.args.asked (nodes_of c.args.places.now) b after) (sym c.either-lost.ensures)
+          (asked_twice g.T.Tape c.args.asked (nodes_of c.args.places.now) c.loop-asker.lost nodes one.result after so_far.asked one.ensures.have_asked);
+      most = most_on c.args.asked c.loop-asker.asker nodes after one.ensures.one so_far.most;
+      ends = subst (λ b. FirstEndUp c.args.asked (c.loop-asker.asker + 1) b after) (sym c.either-lost.ensures)
+          (first_end c.args.asked c.loop-asker.asker nodes after one.ensures.one c.loop-asker.lost one.result (c.loop-asker.asker + 1) refl so_far.ends one.ensures.ends);
+      members = one.ensures.members;
+      kept = keep_twice c.args.places.now c.loop-asker.places one.new.places so_far.kept one.ensures.kept;
+      size = one.ensures.size ∙ so_far.size;
+    }
+
+pub returns-clause-ends : goal.returns-clause-ends
+returns-clause-ends g c =
+    subst (λ k. FirstEndUp c.args.asked k c.loop-asker.lost (nodes_of c.loop-asker.places)) (omega (arith, c.loop-asker-test.false)) c.loop-asker.invariant.ends

@@ -1,0 +1,5 @@
+-- What the node sends is dropped.
+use Rattle.wf_farm.proofs.catch_up.deliver.Goals as goal
+
+pub returns-clause-taken : goal.returns-clause-taken
+returns-clause-taken g c = record { said = c.hand-messages.result.messages.items; takes = c.hand-messages.ensures.takes }

@@ -1,0 +1,29 @@
+-- The event happened, or it was torn, and then no tape fails any more.
+use Rattle.std.proofs.Common.{subst}
+use Rattle.wf_farm.specs.Event.{view}
+use Rattle.wf_farm.specs.Fused.{HappensAs, TearsOnly}
+use Rattle.wf_farm.proofs.Events.{keep_twice}
+use Rattle.wf_farm.proofs.Faring.{armed_on, fails_before, told_whole, went_torn, went_whole}
+use Rattle.wf_farm.proofs.Worlds.{sturdy_on}
+use Rattle.wf_farm.proofs.running.Cluster+MemoryTape.go.Goals as goal
+
+pub returns-in-None-clause-on : goal.returns-in-None-clause-on
+returns-in-None-clause-on g c = went_whole c.args.watch.node c.args.number (view c.args.event.now) c.args.self.now.places.items c.happen.new.self.places.items c.args.self.now.sent.items c.happen.new.self.sent.items c.args.torn.now c.in-Ok.happened.torn c.in-None.is c.in-Ok.ensures.done.leads
+
+pub returns-in-None-clause-why : goal.returns-in-None-clause-why
+returns-in-None-clause-why g c = λ none. told_whole c.args.watch.node c.args.number (view c.args.event.now) c.args.self.now.places.items c.happen.new.self.places.items c.args.self.now.sent.items c.happen.new.self.sent.items c.args.torn.now c.in-Ok.happened.torn c.in-Ok.happened.why none c.in-None.is c.in-Ok.ensures.done.why
+
+pub returns-in-None-clause-armed : goal.returns-in-None-clause-armed
+returns-in-None-clause-armed g c = armed_on c.args.watch.node c.args.torn.now c.args.self.now.places.items c.happen.new.self.places.items c.happen.ensures.members c.requires.armed
+
+pub returns-in-Some-clause-on : goal.returns-in-Some-clause-on
+returns-in-Some-clause-on g c =
+    went_torn c.args.watch.node c.args.number (view c.args.event.now) c.args.self.now.places.items c.disarm.new.self.places.items c.args.self.now.sent.items c.disarm.new.self.sent.items c.in-Some.kept c.args.torn.now c.happen.new.self.places.items c.happen.new.self.sent.items c.requires.armed (subst (λ t. TearsOnly t (view c.args.event.now) c.args.self.now.places.items) c.in-Some.is c.in-Ok.ensures.tears)
+    (subst (λ t. HappensAs (view c.args.event.now) t c.args.self.now.places.items c.args.self.now.sent.items c.happen.new.self.places.items c.happen.new.self.sent.items) c.in-Some.is c.in-Ok.ensures.done.leads) c.disarm.ensures.stays
+
+pub returns-in-Some-clause-armed : goal.returns-in-Some-clause-armed
+returns-in-Some-clause-armed g c =
+    c.disarm.ensures.only (sturdy_on c.args.watch.node c.args.self.now.places.items c.happen.new.self.places.items c.happen.ensures.members (fails_before (view c.args.event.now) c.in-Some.kept c.args.self.now.places.items (subst (λ t. TearsOnly t (view c.args.event.now) c.args.self.now.places.items) c.in-Some.is c.in-Ok.ensures.tears) c.args.watch.node c.args.torn.now c.requires.armed))
+
+pub returns-in-Some-clause-members : goal.returns-in-Some-clause-members
+returns-in-Some-clause-members g c = keep_twice c.args.self.now.places.items c.happen.new.self.places.items c.disarm.new.self.places.items c.happen.ensures.members c.disarm.ensures.members

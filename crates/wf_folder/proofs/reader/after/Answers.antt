@@ -1,0 +1,7 @@
+-- What is found begins with the line; where nothing is, no such bytes do.
+use Rattle.std.proofs.lemmas.Bool.Decides.{Decides-eqb}
+use Rattle.std.proofs.lemmas.Slice.Eq.{strip_prefix_is}
+use Rattle.wf_folder.proofs.reader.after.Goals as goal
+
+pub returns : goal.returns
+returns c = strip_prefix_is Decides-eqb c.args.bytes.now c.args.line.now c.strip_prefix.result c.strip_prefix.ensures.cases

@@ -1,0 +1,2 @@
+pub mod Admission
+pub mod FarmFile

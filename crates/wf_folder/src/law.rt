@@ -1,0 +1,7 @@
+//! A theorem about starts.
+ghost use Rattle.wf_folder.specs.Admission.{StartsAreNotRejected};
+
+/// No folder is both one on which a farm may start and one on which its start is rejected. A theorem: the call does nothing.
+pub fn no_start_is_admitted_and_rejected()
+    ensures { StartsAreNotRejected }
+{}

@@ -1,0 +1,5 @@
+mod Spelled
+mod Outboxes
+mod Streams
+mod Received
+mod Ends

@@ -1,0 +1,93 @@
+-- What comes of a connection.
+use Rattle.std.proofs.Common.{◌≡◌, ℕ, List, [], ◌∷◌, ◌++◌, length, refl, sym, ap, subst, ◌∙◌, append_assoc, append-nil, length-append, arith}
+use Rattle.wf_codec.specs.Law.{NoneBeginsAnother, NoneIsEmpty}
+use Rattle.wf_codec.specs.Spelling.{spelling}
+use Rattle.wf_def.specs.Definition.{Definition}
+use Rattle.wf_model.specs.Message.{Message}
+use Rattle.wf_wire.specs.Law.{SplitOneWay, BreaksOrReads, StaysBroken}
+use Rattle.wf_wire.specs.Stream.{Splits, IsPart, Reads, Breaks}
+use Rattle.wf_wire.specs.declared.fault.InboxFault.{InboxFault}
+use Rattle.wf_mail.specs.Mail.{spelled, AreMessages, IsBeginning}
+use Rattle.wf_mail.specs.Law.{OnlySentCome, AllSentCome, NeverBreaks}
+
+-- ---- a stream that splits
+
+-- its messages have encodings, which it begins with
+pub splits_are : (stream : List ℕ) (messages : List (Message Definition)) (rest : List ℕ) → Splits stream messages rest → AreMessages messages × (stream ≡ spelled messages ++ rest)
+unfolding spelled
+splits_are stream [] rest splits = (tt, splits)
+splits_are stream (m ∷ messages) rest splits =
+    let later = splits_are splits.1 messages rest splits.4 in (
+      (splits.2.is_message, later.0),
+      splits.3 ∙ ap (λ bytes. bytes ++ splits.1) splits.2.spelled ∙ ap (λ bytes. spelling m ++ bytes) later.1 ∙ sym (append_assoc (spelling m) (spelled messages) rest),
+    )
+
+-- the encodings of messages, followed by other bytes, split into them
+pub are_split : (messages : List (Message Definition)) (rest : List ℕ) → AreMessages messages → Splits (spelled messages ++ rest) messages rest
+unfolding spelled
+are_split [] rest are = refl
+are_split (m ∷ messages) rest are =
+    (spelling m, spelled messages ++ rest, record { is_message = are.0; spelled = refl }, append_assoc (spelling m) (spelled messages) rest, are_split messages rest are.1)
+
+-- messages before a stream are the first that it splits into
+splits_behind : (messages : List (Message Definition)) (stream : List ℕ) (later : List (Message Definition)) (rest : List ℕ) → AreMessages messages → Splits stream later rest → Splits (spelled messages ++ stream) (messages ++ later) rest
+unfolding spelled
+splits_behind [] stream later rest are splits = splits
+splits_behind (m ∷ messages) stream later rest are splits = (
+  spelling m,
+  spelled messages ++ stream,
+  record { is_message = are.0; spelled = refl },
+  append_assoc (spelling m) (spelled messages) stream,
+  splits_behind messages stream later rest are.1 splits,
+)
+
+pub breaks_behind : (messages : List (Message Definition)) (stream : List ℕ) (fault : InboxFault) → AreMessages messages → Breaks stream fault → Breaks (spelled messages ++ stream) fault
+breaks_behind messages stream fault are breaks = record {
+  messages = messages ++ breaks.messages;
+  rest = breaks.rest;
+  splits = splits_behind messages stream breaks.messages breaks.rest are breaks.splits;
+  wrong = breaks.wrong;
+}
+
+-- no bytes are part of a message
+pub nothing_is_part : NoneIsEmpty → IsPart []
+nothing_is_part none_is_empty = record {
+  longest = λ m bytes more spells e. absurd (omega (arith, none_is_empty m bytes spells, ap length e, length-append bytes more));
+  unfinished = tt;
+}
+
+-- ---- what comes of a connection
+
+come_of : NoneBeginsAnother → NoneIsEmpty → (put came : List (Message Definition)) (bytes rest more : List ℕ) → AreMessages put → Splits bytes came rest → bytes ++ more ≡ spelled put → IsBeginning came put
+unfolding spelled
+come_of none_begins none_is_empty put [] bytes rest more are splits e = (put, refl)
+come_of none_begins none_is_empty [] (m ∷ came) bytes rest more are splits e =
+    absurd (omega (arith, none_is_empty m splits.0 splits.2, ap length e, length-append bytes more, ap length splits.3, length-append splits.0 splits.1))
+come_of none_begins none_is_empty (p ∷ put) (m ∷ came) bytes rest more are splits e =
+    let same = none_begins m p splits.0 (spelling p) (splits.1 ++ more) (spelled put) splits.2 (record { is_message = are.0; spelled = refl })
+    (sym (append_assoc splits.0 splits.1 more) ∙ ap (λ all. all ++ more) (sym splits.3) ∙ e) in
+    let later = come_of none_begins none_is_empty put came splits.1 rest more are.1 splits.4 same.2 in
+    (later.0, ap (λ first. first ∷ (came ++ later.0)) same.0 ∙ ap (λ messages. p ∷ messages) later.1)
+
+pub only_sent_come : NoneBeginsAnother → NoneIsEmpty → OnlySentCome
+only_sent_come none_begins none_is_empty put came bytes rest carried splits =
+    come_of none_begins none_is_empty put came bytes rest carried.begins.0 carried.messages splits carried.begins.1
+
+-- the encodings of messages are read as them
+reads_all : NoneIsEmpty → (put : List (Message Definition)) → AreMessages put → Reads (spelled put) put []
+reads_all none_is_empty put are = record {
+  splits = subst (λ bytes. Splits bytes put []) (append-nil (spelled put)) (are_split put [] are);
+  part = nothing_is_part none_is_empty;
+}
+
+pub all_sent_come : NoneIsEmpty → SplitOneWay → AllSentCome
+all_sent_come none_is_empty one_way put came rest are reads = one_way (spelled put) came put rest [] reads (reads_all none_is_empty put are)
+
+pub never_breaks : NoneIsEmpty → BreaksOrReads → StaysBroken → NeverBreaks
+never_breaks none_is_empty apart stays put bytes fault carried breaks =
+    apart (spelled put) fault put [] (subst (λ all. Breaks all fault) carried.begins.1 (stays bytes carried.begins.0 fault breaks)) (reads_all none_is_empty put carried.messages)
+
+-- ---- the two ends
+
+pub begins_through : {A : Type 0} (xs ys zs : List A) → IsBeginning xs ys → IsBeginning ys zs → IsBeginning xs zs
+begins_through xs ys zs (rest, e) (more, h) = (rest ++ more, sym (append_assoc xs rest more) ∙ subst (λ k. k ++ more ≡ zs) (sym e) h)

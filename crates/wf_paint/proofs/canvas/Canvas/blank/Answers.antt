@@ -1,5 +1,0 @@
-use Rattle.wf_paint.proofs.CanvasLemmas.{blank_pixels}
-use Rattle.wf_paint.proofs.canvas.Canvas.blank.Goals as goal
-
-pub returns : goal.returns
-returns c = blank_pixels c.args.width c.args.height c.in_ok-vec.field-0.items c.in_ok-free_words.field-0.items c.in_ok-free_words.ensures.free

@@ -1,0 +1,121 @@
+//! Segments that lines are drawn along and insides are bounded by.
+ghost use Rattle.std.specs.Prelude.{◌≡◌, ◌++◌, ◌∷◌, [], true, IfOk, OnOk};
+ghost use Rattle.std.specs.List.Sorted.{IsPermutation};
+ghost use Rattle.wf_paint.specs.Edges.{AreAlong, drawn_of};
+
+use crate::position::Position;
+use crate::segment::Segment;
+use std::alloc::{AllocError, Global};
+use std::marker::Model;
+
+/// From so many segments on equal ones are looked for. Fewer are drawn sooner than sorted.
+const MANY: usize = 256;
+
+/// Segments. Of many of them those that differ are kept beside them: a line along these covers what one along all does.
+#[derive(Drop)]
+pub(crate) struct Edges {
+    all: Vec<Segment>,
+    distinct: Option<Vec<Segment>>,
+}
+
+impl Model for Edges {
+    ghost use Rattle.std.specs.Prelude.{List};
+    ghost use Rattle.wf_paint.specs.Edges.{AreAlong, drawn_of};
+    ghost use Rattle.wf_paint.specs.declared.segment.Segment.{Segment};
+
+    ghost Value = { List Segment };
+
+    ghost view = { λ e. e.all.items };
+
+    ghost invariant = { λ e. AreAlong e.all.items (drawn_of e.all.items e.distinct) };
+}
+
+impl Edges {
+    /// These segments. Returns Ok unless allocation fails.
+    pub(crate) fn new(alloc: Global, all: Vec<Segment>) -> Result<Self, AllocError>
+        ensures { IfOk result (λ edges. edges ≡ all.items) }
+    {
+        let distinct = distinct_of_many(alloc, &all)?;
+        Ok(Edges { all, distinct })
+    }
+
+    /// All of them.
+    pub(crate) fn as_slice(&self) -> &[Segment]
+        ensures { result.now ≡ self.now }
+    {
+        &self.all
+    }
+
+    /// Those that a line is drawn along.
+    pub(crate) fn drawn(&self) -> &[Segment]
+        ensures { AreAlong self.now result.now }
+    {
+        match &self.distinct {
+            Some(distinct) => distinct,
+            None => &self.all,
+        }
+    }
+}
+
+/// The segments that differ, if there are many.
+fn distinct_of_many(alloc: Global, all: &[Segment]) -> Result<Option<Vec<Segment>>, AllocError>
+    ensures { IfOk result (λ distinct. AreAlong all.now (drawn_of all.now distinct)) }
+{
+    if all.len() < MANY {
+        return Ok(None);
+    }
+    let distinct = unlike_neighbours(alloc, &sorted(alloc, all)?)?;
+    Ok(Some(distinct))
+}
+
+/// The segments by their positions, so that equal ones are neighbours.
+fn sorted(alloc: Global, segments: &[Segment]) -> Result<Vec<Segment>, AllocError>
+    ensures { IfOk result (λ sorted. IsPermutation segments.now sorted.items) }
+{
+    let mut sorted = Vec::with_capacity(alloc, segments.len())?;
+    sorted.extend_from_slice(segments)?;
+    sorted.sort_unstable_by_key(|segment| {
+        let (from, to) = (segment.from, segment.to);
+        (from.x(), from.y(), to.x(), to.y())
+    });
+    Ok(sorted)
+}
+
+/// The segments that differ from the one before them.
+fn unlike_neighbours(alloc: Global, segments: &[Segment]) -> Result<Vec<Segment>, AllocError>
+    ensures { IfOk result (λ distinct. AreAlong segments.now distinct.items) }
+{
+    let mut distinct = Vec::new(alloc);
+    for segment in segments {
+        push_unlike(&mut distinct, segment)?;
+    }
+    Ok(distinct)
+}
+
+/// Appends the segment, unless the last one equals it.
+fn push_unlike(segments: &mut Vec<Segment>, segment: &Segment) -> Result<(), AllocError>
+    ensures { OnOk result (AreAlong
+        (segments.old.items ++ segment.now ∷ []) segments.new.items) }
+{
+    match segments.last() {
+        Some(last) if is_same(last, segment) => Ok(()),
+        _ => {
+            segments.push(*segment)?;
+            Ok(())
+        }
+    }
+}
+
+/// Whether both have the same ends.
+fn is_same(a: &Segment, b: &Segment) -> bool
+    ensures { result ≡ true → a.now ≡ b.now }
+{
+    is_at(a.from, b.from) && is_at(a.to, b.to)
+}
+
+/// Whether both are the same position.
+fn is_at(a: Position, b: Position) -> bool
+    ensures { result ≡ true → a ≡ b }
+{
+    a.x() == b.x() && a.y() == b.y()
+}

@@ -1,0 +1,288 @@
+//! The events of a farm that is served, and their lines in its log.
+
+use std::fmt;
+use wf_folder::Beginning;
+
+/// How much an event matters.
+#[derive(Clone, Copy, PartialEq, Eq)]
+pub enum Level {
+    /// Nothing to do.
+    Info,
+    /// A request wasn't fulfilled.
+    Warn,
+    /// The farm doesn't start, or a node has stopped.
+    Error,
+}
+
+impl fmt::Display for Level {
+    fn fmt<W: fmt::Write>(&self, f: &mut fmt::Formatter<W>) -> fmt::Result {
+        f.write_str(match self {
+            Level::Info => "info",
+            Level::Warn => "warn",
+            Level::Error => "error",
+        })
+    }
+}
+
+/// An event. Nodes are named by their numbers.
+#[derive(Clone, Copy)]
+pub enum Event<'a> {
+    /// The port is bound.
+    Port {
+        port: u16,
+    },
+    /// The folder is the farm's.
+    Folder {
+        folder: &'a str,
+        nodes: u8,
+        beginning: Beginning,
+    },
+    /// A tape has opened: its bytes before that and now, if the system says, and whether it was shortened.
+    Tape {
+        path: &'a str,
+        before: Option<u64>,
+        after: Option<u64>,
+        is_short: bool,
+    },
+    /// A node has caught up.
+    CaughtUp {
+        node: usize,
+        published: u16,
+    },
+    /// Nodes don't start.
+    Fault(Fault<'a>),
+    /// A node proposes a map, by its answer.
+    Proposed {
+        node: usize,
+        answer: &'a str,
+    },
+    /// A request to publish was rejected.
+    Rejected {
+        node: usize,
+        status: u16,
+        answer: &'a str,
+    },
+    /// The map of a node is published.
+    Published {
+        node: usize,
+        sequence: u16,
+    },
+    /// Another map is published under the sequence that a node's map was proposed for.
+    Overtaken {
+        node: usize,
+        sequence: u16,
+    },
+    /// The tape of a node has failed, and the node is halted.
+    Halted {
+        node: usize,
+    },
+    /// All connections were served.
+    Ended {
+        connections: u32,
+    },
+}
+
+/// Why nodes don't start: a cause, in a folder if there is one.
+#[derive(Clone, Copy)]
+pub struct Fault<'a> {
+    pub cause: Cause,
+    pub folder: Option<&'a str>,
+}
+
+/// The cause of a fault. Tapes are named by the numbers of their nodes.
+#[derive(Clone, Copy)]
+pub enum Cause {
+    /// The port is taken, or not permitted.
+    Port(u16),
+    /// The folder isn't there, or can't be opened.
+    NoFolder,
+    /// Another program has the folder.
+    FolderHeld,
+    /// The file `farm` isn't one of this program and version.
+    BadFile(wf_folder::FileFault),
+    /// The folder is that of a farm of another number of nodes.
+    OtherNodes(u8),
+    /// A tape isn't there.
+    TapeMissing(usize),
+    /// A tape is there of a node that the farm doesn't have.
+    TapeSurplus(usize),
+    /// A tape holds bytes at an offset that are no record, or a record there that can't follow.
+    TapeBad {
+        tape: usize,
+        offset: usize,
+    },
+    /// Two tapes hold different maps as published under one sequence.
+    TapesDiffer {
+        sequence: u16,
+        tape: usize,
+        other: usize,
+    },
+    /// A tape can't be read.
+    TapeUnreadable(usize),
+    /// A tape can't be opened, or failed then.
+    TapeFailed(usize),
+    /// The file `farm` can't be read.
+    FileUnreadable,
+    /// The file `farm` can't be written.
+    FileUnwritten,
+    /// The system gives no random bits.
+    NoRandomBits,
+    /// An allocation failed.
+    Memory,
+}
+
+impl Event<'_> {
+    /// How much the event matters.
+    pub fn level(&self) -> Level {
+        match self {
+            Event::Fault(_) | Event::Halted { .. } => Level::Error,
+            Event::Rejected { .. } | Event::Overtaken { .. } => Level::Warn,
+            Event::Port { .. }
+            | Event::Folder { .. }
+            | Event::Tape { .. }
+            | Event::CaughtUp { .. }
+            | Event::Proposed { .. }
+            | Event::Published { .. }
+            | Event::Ended { .. } => Level::Info,
+        }
+    }
+}
+
+impl fmt::Display for Event<'_> {
+    fn fmt<W: fmt::Write>(&self, f: &mut fmt::Formatter<W>) -> fmt::Result {
+        match self {
+            Event::Port { port } => write!(f, "listening port={port}"),
+            Event::Folder {
+                folder,
+                nodes,
+                beginning,
+            } => {
+                let began = match beginning {
+                    Beginning::Empty => "empty",
+                    Beginning::Found => "found",
+                };
+                write!(f, "folder path={folder:?} nodes={nodes} began={began}")
+            }
+            Event::Tape {
+                path,
+                before,
+                after,
+                is_short,
+            } => {
+                write!(f, "tape file={path:?}")?;
+                write_count(f, "before", *before)?;
+                write_count(f, "after", *after)?;
+                write!(f, " shortened={is_short}")
+            }
+            Event::CaughtUp { node, published } => {
+                write!(f, "caught-up node={node} published={published}")
+            }
+            Event::Fault(fault) => write!(f, "fault {fault}"),
+            Event::Proposed { node, answer } => write!(f, "proposed node={node} answer={answer:?}"),
+            Event::Rejected {
+                node,
+                status,
+                answer,
+            } => write!(f, "rejected node={node} status={status} answer={answer:?}"),
+            Event::Published { node, sequence } => {
+                write!(f, "published node={node} sequence={sequence}")
+            }
+            Event::Overtaken { node, sequence } => {
+                write!(f, "overtaken node={node} sequence={sequence}")
+            }
+            Event::Halted { node } => write!(f, "tape-failed node={node}"),
+            Event::Ended { connections } => write!(f, "end connections={connections}"),
+        }
+    }
+}
+
+/// Writes a count of bytes, if it is known.
+fn write_count<W: fmt::Write>(
+    f: &mut fmt::Formatter<W>,
+    key: &str,
+    count: Option<u64>,
+) -> fmt::Result {
+    match count {
+        Some(count) => write!(f, " {key}={count}"),
+        None => Ok(()),
+    }
+}
+
+impl fmt::Display for Fault<'_> {
+    fn fmt<W: fmt::Write>(&self, f: &mut fmt::Formatter<W>) -> fmt::Result {
+        write!(f, "cause=\"{}\"", self.cause)?;
+        match self.folder {
+            Some(folder) => self.write_place(f, folder),
+            None => Ok(()),
+        }
+    }
+}
+
+impl Fault<'_> {
+    /// Writes the file that the fault is about, or the folder.
+    fn write_place<W: fmt::Write>(&self, f: &mut fmt::Formatter<W>, folder: &str) -> fmt::Result {
+        match self.cause {
+            Cause::TapeMissing(tape)
+            | Cause::TapeSurplus(tape)
+            | Cause::TapeUnreadable(tape)
+            | Cause::TapeFailed(tape) => write_tape(f, "file", folder, tape),
+            Cause::TapeBad { tape, offset } => {
+                write_tape(f, "file", folder, tape)?;
+                write!(f, " offset={offset}")
+            }
+            Cause::TapesDiffer {
+                sequence,
+                tape,
+                other,
+            } => {
+                write_tape(f, "file", folder, tape)?;
+                write_tape(f, "other", folder, other)?;
+                write!(f, " sequence={sequence}")
+            }
+            Cause::BadFile(_) | Cause::FileUnreadable | Cause::FileUnwritten => {
+                write!(f, " file=\"{folder}/farm\"")
+            }
+            Cause::Port(_)
+            | Cause::NoFolder
+            | Cause::FolderHeld
+            | Cause::OtherNodes(_)
+            | Cause::NoRandomBits
+            | Cause::Memory => write!(f, " folder={folder:?}"),
+        }
+    }
+}
+
+/// Writes the path of a tape.
+fn write_tape<W: fmt::Write>(
+    f: &mut fmt::Formatter<W>,
+    key: &str,
+    folder: &str,
+    tape: usize,
+) -> fmt::Result {
+    write!(f, " {key}=\"{folder}/node-{tape}.tape\"")
+}
+
+impl fmt::Display for Cause {
+    fn fmt<W: fmt::Write>(&self, f: &mut fmt::Formatter<W>) -> fmt::Result {
+        match self {
+            Cause::Port(port) => write!(f, "port {port} taken or not permitted"),
+            Cause::NoFolder => f.write_str("folder missing"),
+            Cause::FolderHeld => f.write_str("folder held by another program"),
+            Cause::BadFile(fault) => write!(f, "{fault}"),
+            Cause::OtherNodes(nodes) => write!(
+                f,
+                "not this farm's folder, but one of {nodes} nodes"
+            ),
+            Cause::TapeMissing(_) => f.write_str("tape missing"),
+            Cause::TapeSurplus(_) => f.write_str("a tape too many"),
+            Cause::TapeBad { .. } => f.write_str("tape bad"),
+            Cause::TapesDiffer { .. } => f.write_str("tapes differ"),
+            Cause::TapeUnreadable(_) => f.write_str("tape unreadable"),
+            Cause::TapeFailed(_) => f.write_str("tape failed"),
+            Cause::FileUnreadable => f.write_str("file unreadable"),
+            Cause::FileUnwritten => f.write_str("file can't be written"),
+            Cause::NoRandomBits => f.write_str("no random bits"),
+            Cause::Memory => f.write_str("allocation failed"),
+        }
+    }
+}

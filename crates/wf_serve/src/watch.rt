@@ -1,0 +1,141 @@
+//! What becomes of proposals and tapes, for the log.
+
+use crate::event::Event;
+use crate::log::Log;
+use std::alloc::Global;
+use std::time::Clock;
+use wf_edge::outcome::Outcome;
+use wf_farm::Farm;
+use wf_node::{Node, NodeFault};
+use wf_proposer::Standing;
+use wf_tape::Tape;
+
+/// How a request to publish begins.
+const PUBLISH: &[u8] = b"POST /publish";
+
+/// The status of an accepted request to publish.
+const ACCEPTED: u16 = 202;
+
+/// What was last seen of a node: the sequence that its map was published as, the one under which another was, 0 if there is none, and
+/// whether its tape has failed.
+#[derive(Clone, Copy)]
+struct Seen {
+    published: u16,
+    overtaken: u16,
+    is_halted: bool,
+}
+
+/// Watches the nodes of a farm, and writes to its log what becomes of their proposals and tapes.
+#[derive(Drop)]
+pub(crate) struct Watch<'a, 'b, R> {
+    log: &'b Log<'a, R>,
+    // None of a farm without a log, and where an allocation failed
+    seen: Vec<Seen>,
+}
+
+impl<'a, 'b, R: Clock + Eprint> Watch<'a, 'b, R> {
+    /// Watches the nodes from now on, if the log is on and memory suffices.
+    pub(crate) fn new<T: Tape>(alloc: Global, log: &'b Log<'a, R>, farm: &Farm<T>) -> Self {
+        let mut seen = Vec::new(alloc);
+        if log.is_on() {
+            for number in 0..farm.size() {
+                if let Some(node) = farm.node(number) {
+                    let _ = seen.push(seen_of(node));
+                }
+            }
+        }
+        Watch { log, seen }
+    }
+
+    /// Writes what has become of the nodes since they were last seen.
+    pub(crate) fn look<T: Tape>(&mut self, farm: &Farm<T>) {
+        look_at(self.log, self.seen.as_mut_slice(), farm);
+    }
+
+    /// Writes how a request to publish was answered by a node, by the first bytes of the request and of the response.
+    pub(crate) fn hear(&self, node: usize, outcome: Outcome, request: &[u8], response: &[u8]) {
+        if !request.starts_with(PUBLISH) {
+            return;
+        }
+        if let Outcome::Sent(status, _) | Outcome::WriteFailed(status, _) = outcome {
+            let answer = body_of(response);
+            if status == ACCEPTED {
+                self.log.write(&Event::Proposed { node, answer });
+            } else {
+                self.log.write(&Event::Rejected {
+                    node,
+                    status,
+                    answer,
+                });
+            }
+        }
+    }
+}
+
+/// Writes the last sequence that each node has published, once all have caught up.
+pub(crate) fn write_caught_up<R: Clock + Eprint, T: Tape>(log: &Log<'_, R>, farm: &Farm<T>) {
+    for number in 0..farm.size() {
+        if let Some(node) = farm.node(number) {
+            log.write(&Event::CaughtUp {
+                node: number,
+                published: node.published().number(),
+            });
+        }
+    }
+}
+
+/// Writes what has become of the nodes since they were last seen.
+fn look_at<R: Clock + Eprint, T: Tape>(log: &Log<'_, R>, seen: &mut [Seen], farm: &Farm<T>) {
+    for number in 0..seen.len() {
+        if let Some(node) = farm.node(number) {
+            let now = seen_of(node);
+            write_change(log, number, &seen[number], &now);
+            seen[number] = now;
+        }
+    }
+}
+
+/// What is seen of a node.
+fn seen_of<T: Tape>(node: &Node<T>) -> Seen {
+    let is_halted = matches!(node.proposal_refusal(), Some(NodeFault::Halted));
+    let (published, overtaken) = match node.proposal() {
+        Standing::Published(slot) => (slot.number(), 0),
+        Standing::Overtaken(slot) => (0, slot.number()),
+        Standing::None | Standing::Running => (0, 0),
+    };
+    Seen {
+        published,
+        overtaken,
+        is_halted,
+    }
+}
+
+/// Writes what has become of a node.
+fn write_change<R: Clock + Eprint>(log: &Log<'_, R>, node: usize, before: &Seen, now: &Seen) {
+    if now.is_halted && !before.is_halted {
+        log.write(&Event::Halted { node });
+    }
+    if now.published != 0 && now.published != before.published {
+        log.write(&Event::Published {
+            node,
+            sequence: now.published,
+        });
+    }
+    if now.overtaken != 0 && now.overtaken != before.overtaken {
+        log.write(&Event::Overtaken {
+            node,
+            sequence: now.overtaken,
+        });
+    }
+}
+
+/// The line in the body of a response.
+fn body_of(response: &[u8]) -> &str {
+    match str::from_utf8(response) {
+        Ok(text) => match text.split_once("\r\n\r\n") {
+            Some((_, body)) => body.strip_suffix('\n').unwrap_or(body),
+            None => "",
+        },
+        Err(_) => "",
+    }
+}

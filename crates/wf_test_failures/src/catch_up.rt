@@ -1,0 +1,85 @@
+//! A node that missed maps catches up, whatever their number.
+
+use crate::value::{MAP_A, map};
+use std::alloc::Global;
+use std::process::Abort;
+use wf_farm::{Action, Event, Farm};
+
+/// The last published sequences of the three nodes of a farm; None of one that doesn't run.
+type Published = [Option<u16>; 3];
+
+fn published_by(farm: &Farm, number: usize) -> Option<u16> {
+    match farm.node(number) {
+        Some(node) => Some(node.published().number()),
+        None => None,
+    }
+}
+
+fn published(farm: &Farm) -> Published {
+    [
+        published_by(farm, 0),
+        published_by(farm, 1),
+        published_by(farm, 2),
+    ]
+}
+
+/// Whether node 0 proposed a map, and the messages could be delivered.
+fn is_published(rt: &impl Abort, alloc: Global, farm: &mut Farm) -> bool {
+    let events = [Event::Act(0, Action::Propose(map(rt, alloc, MAP_A)))];
+    let proposed = farm.run(alloc, &events).is_ok();
+    drop(events);
+    proposed && farm.pump(alloc, &[]).is_ok()
+}
+
+/// Whether so many maps were published while node 2 was stopped, which runs again then.
+fn is_missed(rt: &impl Abort, alloc: Global, farm: &mut Farm, count: u16) -> bool {
+    let mut done = farm.run(alloc, &[Event::Stop(2)]).is_ok();
+    for _ in 0..count {
+        done = done && is_published(rt, alloc, farm);
+    }
+    done && farm.run(alloc, &[Event::Restart(2)]).is_ok()
+}
+
+/// What the nodes have published once node 2 has missed so many maps, and what after they caught up. None if an allocation fails.
+fn caught_up(rt: &impl Abort, alloc: Global, count: u16) -> Option<(Published, Published)> {
+    let Ok(mut farm) = Farm::new(alloc, 3) else {
+        return None;
+    };
+    let is_missed = is_missed(rt, alloc, &mut farm, count);
+    let before = published(&farm);
+    let is_level = farm.catch_up(alloc).is_ok();
+    let after = published(&farm);
+    drop(farm);
+    if is_missed && is_level {
+        Some((before, after))
+    } else {
+        None
+    }
+}
+
+/// Whether a node that missed so many maps has all of them afterwards. If an allocation failed, everything is repeated once.
+fn is_level(rt: &impl Abort, alloc: Global, count: u16) -> bool {
+    let all = Some(count);
+    let expected = Some(([all, all, Some(0)], [all, all, all]));
+    caught_up(rt, alloc, count) == expected || caught_up(rt, alloc, count) == expected
+}
+
+#[test]
+fn a_node_that_missed_no_map_catches_up(rt: HostRuntime) {
+    assert!(rt; is_level(&rt, rt.alloc(), 0));
+}
+
+#[test]
+fn a_node_that_missed_40_maps_catches_up(rt: HostRuntime) {
+    assert!(rt; is_level(&rt, rt.alloc(), 40));
+}
+
+#[test]
+fn a_node_that_missed_4095_maps_catches_up(rt: HostRuntime) {
+    assert!(rt; is_level(&rt, rt.alloc(), 4095));
+}
+
+#[test]
+fn a_node_that_missed_all_4096_maps_catches_up(rt: HostRuntime) {
+    assert!(rt; is_level(&rt, rt.alloc(), 4096));
+}

@@ -1,0 +1,6 @@
+mod Nodes
+mod Deeds
+mod Entries
+mod Growing
+mod Agreement
+mod Example

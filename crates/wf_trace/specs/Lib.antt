@@ -1,0 +1,4 @@
+pub mod Deed
+pub mod Trace
+pub mod Laws
+pub mod Examples

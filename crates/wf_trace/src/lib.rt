@@ -1,0 +1,66 @@
+//! Traces: what several processes do in one order of time, each of them one node of a farm; and agreement among them, over the
+//! definitions of `wf_model` alone, generic in what is agreed on.
+//!
+//! **Model.** A deed (`specs/Deed.antt`) is what a process does at one moment: it takes an input, crashes within the step of one,
+//! stops or starts again. An entry is a deed with its process and the messages that it sent. The entries of one process are its
+//! life: they lead its node from one value to the next, where a step is the step table's transition. Entries of all processes go on
+//! from some nodes and sent messages to the nodes after (`GoOn` of `specs/Trace.antt`): each process's are its life, and each message
+//! that is delivered was sent before, by whichever of them. A trace is that from the start: all nodes are new, and nothing was sent.
+//!
+//! A life says only which node values lead to which, so a process can show its own without computing the model, and without
+//! knowing the others'. That its input had no effect is always allowed: it may have been rejected, or lost for want of memory.
+//!
+//! **Promises.** From any world of the model that shows the nodes, some events lead to one that shows them after the entries, with
+//! all that they sent appended, in order ([`entries_are_events`]). So a trace is a run, and each theorem of `wf_law` holds of its
+//! nodes and messages ([`a_trace_is_a_run`]). No process ever loses a published definition ([`lists_grow`]). No two processes, at any
+//! two moments, have published different definitions under one sequence, and there is one history of which each published list, at
+//! each moment, is a beginning ([`processes_agree`]).
+//!
+//! **Doesn't.** The number of processes is fixed, each is one node, and their order of time is given. Nothing says that any process
+//! goes on, or that a message arrives.
+#![tactic(auto)]
+
+ghost use Rattle.wf_model.specs.Examples.{a};
+ghost use Rattle.wf_trace.specs.Examples.{three_publish, IsPublished};
+ghost use Rattle.wf_trace.specs.Laws.{EntriesAreEvents, ListsGrow, OneDefinition, OneHistory, PartsAreOne, TraceIsRun};
+
+use wf_law::agreement;
+
+/// From any world of the model that shows the processes' nodes, some events lead to one that shows their nodes after the entries,
+/// and has all messages that the entries sent appended, in order.
+pub fn entries_are_events<V>()
+    ensures { EntriesAreEvents V }
+{}
+
+/// A trace is a run of the model: some events lead from its start to exactly the nodes at the trace's end, and to all messages that
+/// were sent, in order. So each theorem of `wf_law` holds of these nodes and messages.
+pub fn a_trace_is_a_run<V>()
+    ensures { TraceIsRun V }
+{}
+
+/// Two parts of a trace, one after the other, are one: where the first ends the second begins, with all that was sent by then.
+pub fn parts_are_one<V>()
+    ensures { PartsAreOne V }
+{}
+
+/// No process ever loses a published definition: what it has published at one moment is a beginning of what it has at each later
+/// one, through stops, restarts and crashes within a step.
+pub fn lists_grow<V>()
+    ensures { ListsGrow V }
+{}
+
+/// Agreement, of processes at any moments: no two of them have published different definitions under one sequence, even if neither
+/// moment is the trace's end; and there is one history, of which each published list, at each moment, is a beginning.
+pub fn processes_agree<V>()
+    ensures definition { OneDefinition V }
+    ensures history { OneHistory V }
+{
+    // The theorem of the model's runs, of which a trace is one.
+    agreement::<V>();
+}
+
+/// An example, which shows that the theorems' premises can be met: the proposal of one of three processes is published at each of
+/// them, though one crashes within a step, and another is stopped meanwhile.
+pub fn three_processes_publish()
+    ensures { IsPublished three_publish a }
+{}
