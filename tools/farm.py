@@ -12,17 +12,18 @@ PROGRAM = pathlib.Path(__file__).resolve().parent.parent / "crates" / "wfarm" / 
 CAPABILITIES = "/wms?SERVICE=WMS&REQUEST=GetCapabilities"
 
 
-def serve_words(program, requests, folder, nodes=3, port=0):
+def serve_words(program, requests, folder, nodes=3, port=0, log=False):
     """The command line of a farm."""
     words = [str(program), "serve", "--nodes", str(nodes), "--port", str(port), "--requests", str(requests)]
+    words += ["--log"] if log else []
     return words if folder is None else words + ["--state", str(folder)]
 
 
 class Farm:
-    """A farm that serves n connections, and then ends. `settings` are those of `subprocess.Popen`."""
+    """A farm that serves n connections, and then ends. `before` are words before the program's, and `settings` those of `subprocess.Popen`."""
 
-    def __init__(self, program, requests, folder, nodes=3, **settings):
-        words = serve_words(program, requests, folder, nodes)
+    def __init__(self, program, requests, folder, nodes=3, log=False, before=(), **settings):
+        words = [*before, *serve_words(program, requests, folder, nodes, log=log)]
         self.process = subprocess.Popen(words, stdout=subprocess.PIPE, text=True, **settings)
         told = self.process.stdout.readline()
         port = re.fullmatch(r"listening ([0-9]+)\n", told)
@@ -54,20 +55,37 @@ class Farm:
         return came
 
     def trickle(self, most):
-        """Sends a head byte by byte, two a second, and never ends it: after how many seconds the connection is closed, `most` at most."""
+        """Sends a head byte by byte, two a second, and never ends it: after how many seconds an answer comes or the connection is closed,
+        `most` at most, and what comes."""
         begun = time.monotonic()
+        came = b""
         with socket.create_connection(("127.0.0.1", self.port), timeout=20) as client:
             client.settimeout(0.5)
-            while time.monotonic() - begun < most:
+            while time.monotonic() - begun < most and not came:
                 try:
                     client.sendall(b"G")
-                    if client.recv(1) == b"":
+                    came = client.recv(1 << 16)
+                    if not came:
                         break
                 except TimeoutError:
                     continue
                 except OSError:
                     break
-        return time.monotonic() - begun
+        return time.monotonic() - begun, came
+
+    def wait_for_continue(self, body):
+        """Sends the head of a publish that expects 100 Continue, and waits for it before it would send the body: what comes, up to the
+        end."""
+        head = b"POST /publish HTTP/1.1\r\nContent-Length: %d\r\nExpect: 100-continue\r\n\r\n" % len(body)
+        came = b""
+        with socket.create_connection(("127.0.0.1", self.port), timeout=20) as client:
+            client.sendall(head)
+            try:
+                while piece := client.recv(1 << 16):
+                    came += piece
+            except OSError:
+                pass
+        return came
 
     def keep_open(self, request):
         """A client that sends a request, reads nothing and doesn't close."""

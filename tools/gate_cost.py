@@ -1,15 +1,17 @@
 #!/usr/bin/env python3
-"""Runs CI, `rt ci`, anew, and prints what each crate cost.
+"""Runs CI, `rt ci`, anew, prints what each crate cost, and writes that into docs/CI.md if the run passed.
 
     python3 tools/gate_cost.py [LOG]
 
-Everything that CI prints goes to LOG (`gate.log` beside the repository if left out). Then a table of processor
-minutes comes, a line a crate: its proof, its tests and its mutants, the longest first; and the whole: minutes on the
-clock, processor minutes, processors. The figures are read from the processes as they run, twice a second, so a line can
-miss a second here and there; the whole is the system's own count. Run it on a clean clone, with nothing beside it.
+Everything that CI prints goes to LOG (`gate.log` beside the repository if left out). Printed is the whole first: the
+date, the commit, CI's last line, minutes on the clock, processors, processor minutes; then a table of processor minutes,
+a line per crate: its proof, its tests and its mutants, the longest first. In docs/CI.md they replace what stands between
+the two marks. The figures are read from the processes as they run, twice a second, so a line can miss a second here and
+there; the whole is the system's own count. Run it on a clean clone, with nothing beside it.
 """
 
 import collections
+import datetime
 import os
 import pathlib
 import resource
@@ -17,10 +19,12 @@ import subprocess
 import sys
 import time
 
-from kit import TOP, load_rt, stamp_libraries
+from kit import TOP, git, load_rt, stamp_libraries
 
 TICKS = os.sysconf("SC_CLK_TCK")
 PARTS = ("proof", "tests", "edits")
+COSTS = TOP / "docs" / "CI.md"
+MARKS = "<!-- gate_cost.py: begin -->\n", "<!-- gate_cost.py: end -->\n"
 
 
 def read(path):
@@ -78,14 +82,26 @@ def look(seen, gate):
 
 
 def table(seen):
+    """The lines of the table: processor minutes per crate."""
     cost = collections.defaultdict(lambda: dict.fromkeys(PARTS, 0.0))
     for (crate, part), minutes in seen.values():
         cost[crate][part] += minutes
     rows = sorted(cost.items(), key=lambda it: -sum(it[1].values()))
-    print("| Crate | Proof | Tests | Edits | Sum |\n|---|---|---|---|---|")
+    lines = ["| Crate | Proof | Tests | Edits | Sum |", "|---|---|---|---|---|"]
     for crate, parts in rows:
         figures = " | ".join(f"{parts[it]:.1f}" for it in PARTS)
-        print(f"| `{crate}` | {figures} | {sum(parts.values()):.1f} |")
+        lines.append(f"| `{crate}` | {figures} | {sum(parts.values()):.1f} |")
+    return "\n".join(lines) + "\n"
+
+
+def record(costs):
+    """Writes the costs into the document, in place of those of the last run."""
+    begin, end = MARKS
+    before, mark, rest = COSTS.read_text(encoding="utf-8").partition(begin)
+    old, other, after = rest.partition(end)
+    if not mark or not other:
+        sys.exit(f"{COSTS}: a mark is missing, so nothing was written")
+    COSTS.write_text(before + begin + costs + end + after, encoding="utf-8")
 
 
 def main():
@@ -100,15 +116,18 @@ def main():
             look(seen, gate.pid)
             time.sleep(0.5)
     used = resource.getrusage(resource.RUSAGE_CHILDREN)
-    table(seen)
-    print(f"\n{log.read_text(encoding='utf-8').rstrip().splitlines()[-1]}")
-    print(
-        f"{(time.time() - began) / 60:.0f} minutes on {os.cpu_count()} processors,"
-        f" {(used.ru_utime + used.ru_stime) / 60:.0f} processor minutes"
+    whole = (
+        f"{datetime.date.today()}, commit {git('rev-parse', '--short', 'HEAD').strip()}:"
+        f" `{log.read_text(encoding='utf-8').rstrip().splitlines()[-1]}`,"
+        f" {(time.time() - began) / 60:.0f} minutes on {os.cpu_count()} processors,"
+        f" {(used.ru_utime + used.ru_stime) / 60:.0f} processor minutes."
     )
+    costs = f"{whole}\n\n{table(seen)}"
+    print(costs, end="")
     if gate.returncode == 0:
         # (so that tools/check_changed.py can take what this run proved)
         stamp_libraries(load_rt(), TOP)
+        record(costs)
     return gate.returncode
 
 

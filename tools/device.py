@@ -1,0 +1,195 @@
+"""A block device that loses, at a power cut, what wasn't flushed: a loop device over a file of a file system of our own (FUSE)."""
+
+import ctypes
+import os
+import pathlib
+import shutil
+import struct
+import subprocess
+import threading
+
+# what the kernel asks a file system for, by their numbers in linux/fuse.h, as are all forms below
+LOOKUP, FORGET, GETATTR, SETATTR, OPEN, READ, WRITE, STATFS, RELEASE, FSYNC, FLUSH, INIT, OPENDIR, RELEASEDIR = (
+    1, 2, 3, 4, 14, 15, 16, 17, 18, 20, 25, 26, 27, 29)
+INTERRUPT, DESTROY, BATCH_FORGET = 36, 38, 42
+UNANSWERED = (FORGET, INTERRUPT, BATCH_FORGET)
+ENOENT, ENOSYS = 2, 38
+MOST_WRITE = 1 << 17
+DIRECT_IO = 1
+ROOT, DISK = 1, 2
+NAME = b"disk"
+LIBC = ctypes.CDLL(None, use_errno=True)
+HEAD = struct.Struct("<IIQQIIIHH")
+ANSWER = struct.Struct("<IiQ")
+
+
+class Disk:
+    """The bytes of a device: what was flushed, and the writes since then, in their order."""
+
+    def __init__(self, content):
+        self.content = bytearray(content)
+        self.flushed = bytearray(content)
+        self.writes = []
+        self.is_off = False
+        self.left, self.then = None, None
+        self.lock = threading.Lock()
+
+    def cut_at(self, count, then):
+        """Cuts the power after so many writes and flushes from now on, and calls `then` just before."""
+        with self.lock:
+            self.left, self.then = count, then
+
+    def step(self):
+        """Counts a write or a flush, and cuts the power where all were made that were left."""
+        if self.left == 0 and not self.is_off:
+            self.then()
+            self.is_off = True
+        if self.left:
+            self.left -= 1
+
+    def write(self, at, data):
+        with self.lock:
+            self.step()
+            self.content[at:at + len(data)] = data
+            if not self.is_off:
+                self.writes.append((at, data))
+
+    def flush(self):
+        with self.lock:
+            self.step()
+            if not self.is_off:
+                for at, data in self.writes:
+                    self.flushed[at:at + len(data)] = data
+                self.writes.clear()
+
+    def off(self):
+        """The power is off: nothing is written any more."""
+        with self.lock:
+            self.is_off = True
+
+    def after(self, keeps):
+        """The bytes after a power cut: those of the writes that weren't flushed are kept that `keeps` says."""
+        content = bytearray(self.flushed)
+        for at, data in self.writes:
+            if keeps():
+                content[at:at + len(data)] = data
+        return content
+
+
+class Mounted:
+    """A file system with one file, the disk."""
+
+    def __init__(self, disk, folder):
+        self.disk, self.folder = disk, folder
+        self.channel = os.open("/dev/fuse", os.O_RDWR | os.O_CLOEXEC)
+        settings = f"fd={self.channel},rootmode=40000,user_id=0,group_id=0"
+        if LIBC.mount(b"cut_power", os.fsencode(folder), b"fuse", 6, settings.encode()):
+            os.close(self.channel)
+            raise OSError(ctypes.get_errno(), "mount")
+        self.thread = threading.Thread(target=self.serve, daemon=True)
+        self.thread.start()
+
+    def serve(self):
+        """Answers the kernel until the file system is unmounted."""
+        while True:
+            try:
+                asked = os.read(self.channel, MOST_WRITE + 4096)
+            except OSError:
+                return
+            _, kind, unique, node, *_ = HEAD.unpack_from(asked)
+            if kind in UNANSWERED:
+                continue
+            error, given = self.answer(kind, node, asked[HEAD.size:])
+            try:
+                os.write(self.channel, ANSWER.pack(ANSWER.size + len(given), -error, unique) + given)
+            except OSError:
+                pass
+
+    def answer(self, kind, node, given):
+        """An error's number, or 0, and what is given back."""
+        if kind == INIT:
+            return 0, struct.pack("<IIIIHHIIHHI28x", 7, 31, MOST_WRITE, 0, 12, 10, MOST_WRITE, 1, 32, 0, 0)
+        if kind == LOOKUP:
+            if given != NAME + b"\0":
+                return ENOENT, b""
+            return 0, struct.pack("<QQQQII", DISK, 0, 3600, 3600, 0, 0) + self.attributes(DISK)
+        if kind in (GETATTR, SETATTR):
+            return 0, struct.pack("<QII", 3600, 0, 0) + self.attributes(node)
+        if kind in (OPEN, OPENDIR):
+            return 0, struct.pack("<QII", 0, DIRECT_IO, 0)
+        if kind == READ:
+            at, size = struct.unpack_from("<8xQI", given)
+            return 0, bytes(self.disk.content[at:at + size])
+        if kind == WRITE:
+            at, size = struct.unpack_from("<8xQI", given)
+            self.disk.write(at, given[40:40 + size])
+            return 0, struct.pack("<II", size, 0)
+        if kind == FSYNC:
+            self.disk.flush()
+            return 0, b""
+        if kind in (FLUSH, RELEASE, RELEASEDIR, DESTROY):
+            return 0, b""
+        if kind == STATFS:
+            return 0, struct.pack("<QQQQQIIII24x", 1, 0, 0, 1, 0, 4096, 255, 4096, 0)
+        return ENOSYS, b""
+
+    def attributes(self, node):
+        """The attributes of the folder or the disk."""
+        size, mode = (0, 0o40755) if node == ROOT else (len(self.disk.content), 0o100600)
+        return struct.pack("<QQQQQQIIIIIIIIII", node, size, size // 512, 0, 0, 0, 0, 0, 0, mode, 1, 0, 0, 0, 4096, 0)
+
+    def unmount(self):
+        LIBC.umount2(os.fsencode(self.folder), 2)
+        os.close(self.channel)
+
+
+def run(*words):
+    """What a command writes."""
+    return subprocess.run(words, check=True, capture_output=True, text=True).stdout.strip()
+
+
+class Machine:
+    """A disk with an ext4 file system on it, mounted at a folder of its own. A rename doesn't write out the file (`noauto_da_alloc`)."""
+
+    def __init__(self, above, content):
+        self.below, self.folder = pathlib.Path(above) / "below", pathlib.Path(above) / "above"
+        for folder in (self.below, self.folder):
+            folder.mkdir(exist_ok=True)
+        self.disk = Disk(content)
+        self.mounted = Mounted(self.disk, self.below)
+        self.loop = None
+        try:
+            self.loop = run("losetup", "--find", "--show", str(self.below / "disk"))
+            run("mount", "-t", "ext4", "-o", "noauto_da_alloc", self.loop, str(self.folder))
+        except subprocess.CalledProcessError:
+            self.stop()
+            raise
+
+    def stop(self):
+        """Takes everything down; what goes to the disk meanwhile is lost, if its power is off."""
+        subprocess.run(["umount", str(self.folder)], capture_output=True)
+        if self.loop:
+            subprocess.run(["losetup", "-d", self.loop], capture_output=True)
+        self.mounted.unmount()
+
+
+def formatted(size, above):
+    """The bytes of a disk with an empty ext4."""
+    path = pathlib.Path(above) / "empty"
+    with path.open("wb") as file:
+        file.truncate(size)
+    run("mkfs.ext4", "-q", "-F", str(path))
+    content = path.read_bytes()
+    path.unlink()
+    return content
+
+
+def is_permitted(above):
+    """Whether a device may be made here."""
+    if not all(map(shutil.which, ("losetup", "mkfs.ext4"))):
+        return False
+    try:
+        Machine(above, formatted(16 << 20, above)).stop()
+    except (OSError, subprocess.CalledProcessError):
+        return False
+    return True
