@@ -19,6 +19,17 @@ def serve_words(program, requests, folder, nodes=3, port=0, log=False):
     return words if folder is None else words + ["--state", str(folder)]
 
 
+def received(client):
+    """What comes on a connection until the other end closes or breaks it."""
+    came = b""
+    try:
+        while piece := client.recv(1 << 16):
+            came += piece
+    except OSError:
+        pass
+    return came
+
+
 class Farm:
     """A farm that serves n connections, and then ends. `before` are words before the program's, and `settings` those of `subprocess.Popen`."""
 
@@ -43,16 +54,10 @@ class Farm:
 
     def ask_with_more(self, path, more):
         """What comes back to a GET with n bytes after its head, whole or up to where the connection breaks."""
-        came = b""
         with socket.create_connection(("127.0.0.1", self.port), timeout=20) as client:
             client.sendall(b"GET %s HTTP/1.1\r\n\r\n" % path.encode() + b"x" * more)
             time.sleep(0.2)
-            try:
-                while piece := client.recv(1 << 16):
-                    came += piece
-            except OSError:
-                pass
-        return came
+            return received(client)
 
     def trickle(self, most):
         """Sends a head byte by byte, two a second, and never ends it: after how many seconds an answer comes or the connection is closed,
@@ -77,15 +82,9 @@ class Farm:
         """Sends the head of a publish that expects 100 Continue, and waits for it before it would send the body: what comes, up to the
         end."""
         head = b"POST /publish HTTP/1.1\r\nContent-Length: %d\r\nExpect: 100-continue\r\n\r\n" % len(body)
-        came = b""
         with socket.create_connection(("127.0.0.1", self.port), timeout=20) as client:
             client.sendall(head)
-            try:
-                while piece := client.recv(1 << 16):
-                    came += piece
-            except OSError:
-                pass
-        return came
+            return received(client)
 
     def keep_open(self, request):
         """A client that sends a request, reads nothing and doesn't close."""
