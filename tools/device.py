@@ -96,6 +96,8 @@ class Mounted:
                 asked = os.read(self.channel, MOST_WRITE + 4096)
             except OSError:
                 return
+            if not asked:
+                return
             _, kind, unique, node, *_ = HEAD.unpack_from(asked)
             if kind in UNANSWERED:
                 continue

@@ -1,37 +1,36 @@
 -- From the result of a command to the run of its line.
-use Rattle.std.proofs.Common.{◌≡◌, ◌∙◌, ℕ, List, [], ap, refl, inl, inr, arith}
-use Rattle.std.specs.Prelude.{Option, Some, None, Result, Ok, Err}
+use Rattle.std.specs.Borrow.{Bor}
+use Rattle.std.proofs.Common.{◌≡◌, ◌∙◌, ℕ, Bool, List, [], ap, refl, subst, sym, inl, inr, arith}
+use Rattle.std.specs.Prelude.{Option, Some, None, Result, Ok, Err, OnOk}
+use Rattle.std.specs.declared.io.ErrorKind.{ErrorKind as IoErrorKind}
+use Rattle.clap.specs.Walk.{Text}
+use Rattle.clap.specs.declared.error.kind.ErrorKind.{ErrorKind}
 use Rattle.wf_listing.specs.declared.fault.TapeReadFault.{TapeReadFault}
+use Rattle.wf_serve.specs.Fault as serving
+use Rattle.wf_serve.specs.Listening.{IsTold}
+use Rattle.wf_serve.specs.Served.{HasServed}
 use Rattle.wf_serve.specs.declared.fault.ServeFault.{ServeFault}
+use Rattle.wf_serve.specs.declared.fault.ServeFault.TheVariants as serve
+use Rattle.wf_service.specs.declared.service.Service.{Service}
 use Rattle.wf_stream.specs.KnownLaws.{consumes_none}
 use Rattle.wf_stream.specs.Reading.{TakesUpTo}
+use Rattle.wf_tape.specs.declared.tape.Tape.{Ghosts as Tape}
 use Rattle.wf_commands.specs.Counting.{CountsReads, CountsWrites}
-use Rattle.wf_commands.specs.Ending.{left_to_report, reported, run_status}
+use Rattle.wf_commands.specs.Ending.{left_to_report, rejection_status, reported, run_status, unreadable_status}
 use Rattle.wf_commands.specs.Folder.{Contents, HasFolderListing, IsTapeDone}
-use Rattle.wf_commands.specs.Program.{IsDone, IsRunOf, Serves}
+use Rattle.wf_commands.specs.Program.{IsProcess, IsDone, IsRun, IsRunOf, Serves}
 use Rattle.wf_commands.specs.Run.{HasListing, HasMap, IsTapeWriting, IsWhyUnlisted, IsWhyUnwritten, most_read}
-use Rattle.wf_commands.specs.Serving.{IsServing}
+use Rattle.wf_commands.specs.Serving.{IsMachineServing, run_outcome}
 use Rattle.wf_commands.specs.declared.ending.Ending.{Ending}
 use Rattle.wf_commands.specs.declared.fault.RunFault.{RunFault}
 use Rattle.wf_commands.specs.declared.fault.RunFault.TheVariants as faults
+use Rattle.wf_line.specs.CommandLine.{IsRejection}
 use Rattle.wf_line.specs.declared.line.Line.{Line}
+use Rattle.wf_line.specs.declared.line.Line.TheVariants as lines
 
 -- a reader that isn't called has given nothing
 pub nothing_read : (input : Option (List ℕ)) → TakesUpTo 0 input input
 nothing_read input = ([], omega arith, consumes_none input [] refl)
-
--- serving nodes, no read fails
-pub serving_reads_nothing : (serves : Option (List ℕ) → Option (List ℕ) → Result (Unit {0}) ServeFault → Type 0) (old new : Option (List ℕ))
-    (result : Result (Unit {0}) RunFault) (count : ℕ) → IsServing serves old new result → CountsReads result count count
-serving_reads_nothing serves old new (Ok done) count served = refl
-serving_reads_nothing serves old new (Err faults.Write) count served = refl
-serving_reads_nothing serves old new (Err faults.Serve) count served = refl
-serving_reads_nothing serves old new (Err faults.Wire) count served = absurd served
-serving_reads_nothing serves old new (Err (faults.Map fault)) count served = absurd served
-serving_reads_nothing serves old new (Err (faults.Canon fault)) count served = absurd served
-serving_reads_nothing serves old new (Err (faults.Script fault)) count served = absurd served
-serving_reads_nothing serves old new (Err (faults.Tape fault)) count served = absurd served
-serving_reads_nothing serves old new (Err faults.Read) count served = absurd served
 
 -- writing about a tape, no read of standard input fails
 writing_reads_nothing : (HasOutput : (List ℕ → Type 0) → Type 0) (why : TapeReadFault → Type 0) (old new : Option (List ℕ)) (result : Result (Unit {0}) RunFault) (count : ℕ) →
@@ -55,17 +54,75 @@ listing_reads_nothing contents path None old new result count done = elim done [
   | inr folder ↦ writing_reads_nothing (HasFolderListing contents path) (λ fault. Unit {0}) old new result count folder.1
 ]
 
-pub run_ended : (serves : Serves) (contents : Contents) (line : Line) (input left old new : Option (List ℕ)) (reads reads_after writes writes_after : ℕ) (whole ending : Ending)
-    (result : Result (Unit {0}) RunFault) → IsDone serves contents line input old new result → TakesUpTo (most_read line) input left
-    → CountsReads result reads reads_after → CountsWrites result writes writes_after → whole.reported ≡ reported result
-    → ending.reported ≡ left_to_report line whole.reported → whole.status ≡ run_status result → ending.status ≡ whole.status → IsRunOf serves contents line input left old new reads reads_after writes writes_after ending
-run_ended serves contents line input left old new reads reads_after writes writes_after whole ending result done most read written told left_told status same =
-    record {
-      result = result;
-      done = done;
-      most = most;
-      read = read;
-      written = written;
-      told = left_told ∙ ap (left_to_report line) told;
-      status = same ∙ status;
-    }
+module _ (serves : Serves) (contents : Contents) (input left old new : Option (List ℕ)) (reads reads_after writes writes_after : ℕ) (ending : Ending) where
+  pub run_ended : (line : Line) (result : Result (Unit {0}) RunFault) → IsDone serves contents line input old new result → TakesUpTo (most_read line) input left →
+      CountsReads result reads reads_after → CountsWrites result writes writes_after → ending.reported ≡ left_to_report line (reported result) → ending.status ≡ run_status result →
+      IsRunOf serves contents line input left old new reads reads_after writes writes_after ending
+  run_ended line result done most read written told status = record { result = result; done = done; most = most; read = read; written = written; told = told; status = status }
+
+module _ (serves : Serves) (contents : Contents) (input old new : Option (List ℕ)) (reads writes writes_after : ℕ) (ending : Ending) where
+  -- of `serve`, by the server's result
+  pub serving_ended : (service : Service) (outcome : Result (Unit {0}) ServeFault) → serves service old new outcome → serving.CountsWrites outcome writes writes_after →
+      ending.reported ≡ left_to_report (lines.Serve service) (reported (run_outcome outcome)) → ending.status ≡ run_status (run_outcome outcome) →
+      IsRunOf serves contents (lines.Serve service) input input old new reads reads writes writes_after ending
+  serving_ended service (Ok done) is counts told status = run_ended serves contents input input old new reads reads writes writes_after ending (lines.Serve service) (Ok done) is (nothing_read input) refl counts told status
+  serving_ended service (Err serve.Start) is counts told status = run_ended serves contents input input old new reads reads writes writes_after ending (lines.Serve service) (Err faults.Serve) is (nothing_read input) refl counts told status
+  serving_ended service (Err serve.Write) is counts told status = run_ended serves contents input input old new reads reads writes writes_after ending (lines.Serve service) (Err faults.Write) is (nothing_read input) refl counts told status
+
+  -- of `tape`
+  pub listing_ended : (file : Bor (List ℕ)) (map : Option ℕ) (result : Result (Unit {0}) RunFault) → IsTapeDone contents file.now map old new result → CountsWrites result writes writes_after →
+      ending.reported ≡ left_to_report (lines.Tape file map) (reported result) → ending.status ≡ run_status result →
+      IsRunOf serves contents (lines.Tape file map) input input old new reads reads writes writes_after ending
+  listing_ended file map result done counts told status =
+      run_ended serves contents input input old new reads reads writes writes_after ending (lines.Tape file map) result done (nothing_read input)
+      (listing_reads_nothing contents file.now map old new result reads done) counts told status
+
+-- The same of a line that is one of these.
+module _ (serves : Serves) (contents : Contents) (input old new : Option (List ℕ)) (reads writes writes_after : ℕ) (ending : Ending) (line : Line) where
+  pub served_line : (service : Service) → line ≡ lines.Serve service → (outcome : Result (Unit {0}) ServeFault) (result : Result (Unit {0}) RunFault) → result ≡ run_outcome outcome →
+      serves service old new outcome → serving.CountsWrites outcome writes writes_after → ending.reported ≡ left_to_report (lines.Serve service) (reported result) → ending.status ≡ run_status result →
+      IsRunOf serves contents line input input old new reads reads writes writes_after ending
+  served_line service is outcome result same done counts told status =
+      subst (λ (l : Line). IsRunOf serves contents l input input old new reads reads writes writes_after ending) (sym is)
+      (serving_ended serves contents input old new reads writes writes_after ending service outcome done counts
+      (told ∙ ap (λ (r : Result (Unit {0}) RunFault). left_to_report (lines.Serve service) (reported r)) same)
+      (status ∙ ap (λ (r : Result (Unit {0}) RunFault). run_status r) same))
+
+  pub listed_line : (file : Bor (List ℕ)) (map : Option ℕ) → line ≡ lines.Tape file map → (result : Result (Unit {0}) RunFault) → IsTapeDone contents file.now map old new result →
+      CountsWrites result writes writes_after → ending.reported ≡ left_to_report (lines.Tape file map) (reported result) → ending.status ≡ run_status result →
+      IsRunOf serves contents line input input old new reads reads writes writes_after ending
+  listed_line file map is result done counts told status =
+      subst (λ (l : Line). IsRunOf serves contents l input input old new reads reads writes writes_after ending) (sym is)
+      (listing_ended serves contents input old new reads writes writes_after ending file map result done counts
+      told status)
+
+-- what the machine's serving of a service is, by its parts
+pub machine_serves : {M F : Type 0} (inside : Tape M) (outside : Tape F) (service : Service) (old new : Option (List ℕ)) (result : Result (Unit {0}) ServeFault) →
+    IsTold service.port old new result → OnOk result (HasServed inside outside service) → IsMachineServing inside outside service old new result
+machine_serves inside outside service old new result told served = record { told = told; served = served }
+
+-- ---- the process
+
+module _ (serves : Serves) (contents : Contents) (status : ℕ) where
+  pub process_run : (words : List Text) (input left old new : Option (List ℕ)) (reads reads_after writes writes_after : ℕ) (ending : Ending) →
+      IsRun serves contents words input left old new reads reads_after writes writes_after ending → status ≡ ending.status → IsProcess serves contents status
+  process_run words input left old new reads reads_after writes writes_after ending run is = inl (record {
+    words = words;
+    input = input;
+    left = left;
+    old = old;
+    new = new;
+    reads = reads;
+    reads_after = reads_after;
+    writes = writes;
+    writes_after = writes_after;
+    ending = ending;
+    run = run;
+    is = is;
+  })
+
+  pub process_rejected : (words : List Text) (kind : ErrorKind) → IsRejection words kind → (printed : Bool) × (status ≡ rejection_status kind printed) → IsProcess serves contents status
+  process_rejected words kind why is = inr (inl (record { words = words; kind = kind; why = why; printed = is.0; is = is.1 }))
+
+  pub process_unreadable : (kind : IoErrorKind) → status ≡ unreadable_status kind → IsProcess serves contents status
+  process_unreadable kind is = inr (inr (record { kind = kind; is = is }))

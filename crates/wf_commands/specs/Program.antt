@@ -1,14 +1,16 @@
 -- What a run of the program does: from the words of its command line and its standard input to what it reads and writes, the error
 -- that it reports and its exit status.
-use Rattle.std.specs.Prelude.{◌≡◌, ℕ, List, Option, Result}
+use Rattle.std.specs.Prelude.{◌≡◌, ◌⊎◌, ℕ, Bool, List, Option, Result}
+use Rattle.std.specs.declared.io.ErrorKind.{ErrorKind as IoErrorKind}
 use Rattle.clap.specs.Simple.{subcommand_of}
 use Rattle.clap.specs.Walk.{Text}
+use Rattle.clap.specs.declared.error.kind.ErrorKind.{ErrorKind}
 use Rattle.wf_serve.specs.declared.fault.ServeFault.{ServeFault}
 use Rattle.wf_service.specs.declared.service.Service.{Service}
 use Rattle.wf_stream.specs.Reading.{TakesUpTo}
-use Rattle.wf_line.specs.CommandLine.{Asks, program}
+use Rattle.wf_line.specs.CommandLine.{Asks, IsRejection, program}
 use Rattle.wf_commands.specs.Counting.{CountsReads, CountsWrites}
-use Rattle.wf_commands.specs.Ending.{left_to_report, reported, run_status}
+use Rattle.wf_commands.specs.Ending.{left_to_report, rejection_status, reported, run_status, unreadable_status}
 use Rattle.wf_commands.specs.Folder.{Contents, IsTapeDone}
 use Rattle.wf_commands.specs.Run.{IsOutcomeOf, most_read}
 use Rattle.wf_commands.specs.Serving.{IsServing}
@@ -50,3 +52,38 @@ pub record IsRunOf (serves : Serves) (contents : Contents) (line : Line) (input 
 abbrev pub IsRun : Serves → Contents → List Text → (input left old new : Option (List ℕ)) → (reads reads_after writes writes_after : ℕ) → Ending → Type 0
 IsRun serves contents words input left old new reads reads_after writes writes_after ending =
     (line : Line) × Asks (subcommand_of program words) line × IsRunOf serves contents line input left old new reads reads_after writes writes_after ending
+
+-- ---- the process
+
+-- It ran the line that its words ask for, and ended with the run's status.
+pub record HasRun (serves : Serves) (contents : Contents) (status : ℕ) : Type 0 where
+  pub words : List Text
+  -- the input before and after, the output before and after, if known, and the counts of failed reads and writes
+  pub input : Option (List ℕ)
+  pub left : Option (List ℕ)
+  pub old : Option (List ℕ)
+  pub new : Option (List ℕ)
+  pub reads : ℕ
+  pub reads_after : ℕ
+  pub writes : ℕ
+  pub writes_after : ℕ
+  pub ending : Ending
+  pub run : IsRun serves contents words input left old new reads reads_after writes writes_after ending
+  pub is : status ≡ ending.status
+
+-- Its words ask for no line, and it ended with the status of their rejection, by whether its text was printed.
+pub record WasRejected (status : ℕ) : Type 0 where
+  pub words : List Text
+  pub kind : ErrorKind
+  pub why : IsRejection words kind
+  pub printed : Bool
+  pub is : status ≡ rejection_status kind printed
+
+-- Its words can't be read.
+pub record WasUnreadable (status : ℕ) : Type 0 where
+  pub kind : IoErrorKind
+  pub is : status ≡ unreadable_status kind
+
+-- what the process did, by its exit status
+abbrev pub IsProcess : Serves → Contents → ℕ → Type 0
+IsProcess serves contents status = HasRun serves contents status ⊎ (WasRejected status ⊎ WasUnreadable status)

@@ -17,7 +17,9 @@ use Rattle.wf_check.specs.declared.finding.Finding.{Finding}
 use Rattle.wf_wms.specs.Answer.{AnswerValue, IsAnswerOf, description}
 use Rattle.wf_script.specs.Fault as script
 use Rattle.wf_script.specs.Lines.{most_script_bytes}
+use Rattle.wf_play.specs.Ending.{WritesBeginning}
 use Rattle.wf_play.specs.Running.{IsFaultOf, IsScriptText, PlaysInput}
+use Rattle.wf_play.specs.declared.fault.PlayFault.TheVariants as plays
 use Rattle.std.specs.declared.alloc.Global.{Global}
 use Rattle.wf_listing.specs.Listing.{IsListing}
 use Rattle.wf_listing.specs.Map.{IsTextOf}
@@ -151,12 +153,14 @@ IsPreview query d bytes = (answer : AnswerValue) × IsAnswerOf 1 (d ∷ []) quer
 -- What is written for a script: nothing if it can't be read or isn't one. An error of the script, unless an allocation failed, is
 -- the input's, with its line. If it is played to its end, to a failed write or to a message that is lost on its way, the whole input
 -- was read; if the input is known, it is a script. If it is played to its end, each of its orders was performed in turn on a new
--- farm, and what they write was written. `loses` is whether a message may be lost.
+-- farm, and what they write was written; before an error a beginning of that, in the words of `WritesBeginning`. `loses` is whether a
+-- message may be lost.
 abbrev pub IsPlayed : Type 0 → Option (List ℕ) → Option (List ℕ) → Option (List ℕ) → Result (Unit {0}) RunFault → Type 0
 IsPlayed loses input old new (Ok done) = IfSome input IsScriptText × PlaysInput input old new
-IsPlayed loses input old new (Err faults.Write) = IfSome input IsScriptText
-IsPlayed loses input old new (Err faults.Wire) = loses × IfSome input IsScriptText
-IsPlayed loses input old new (Err (faults.Script fault)) = IsFaultOf input fault × (script.is_memory fault ≡ false → Keeps old new)
+IsPlayed loses input old new (Err faults.Write) = IfSome input IsScriptText × WritesBeginning input old new plays.Write
+IsPlayed loses input old new (Err faults.Wire) = loses × IfSome input IsScriptText × WritesBeginning input old new plays.Wire
+IsPlayed loses input old new (Err (faults.Script fault)) =
+    IsFaultOf input fault × (script.is_memory fault ≡ false → Keeps old new) × WritesBeginning input old new (plays.Script fault)
 IsPlayed loses input old new (Err faults.Read) = Keeps old new
 IsPlayed loses input old new (Err (faults.Map fault)) = ⊥
 IsPlayed loses input old new (Err (faults.Canon fault)) = ⊥

@@ -24,6 +24,7 @@
 //! About a script:
 //! - if the input isn't a script, nothing is written
 //! - if it is played to its end, the whole input is within the limits of scripts
+//! - before an error a prefix of what its orders write is written
 //! - at most 1,048,577 bytes are read
 //! - `run` never loses a message on its way; `wire` does and writes what `run` does and writes, whatever the carrier, or returns
 //!   that a message was lost
@@ -40,7 +41,9 @@
 //! with the line's numbers of nodes, connections and pictures, its port and its folder, or none if it has none, and whether it asks for
 //! a log. The error of the
 //! run is the one to be printed, unless a write failed, and the exit status is 0 without an error and 1 with one. What serving
-//! means is the server's; of [`server::Host`] it is `wf_serve`'s contract.
+//! means is the server's; of [`server::Host`] it is `wf_serve`'s contract: if the nodes were served, there were as many as the line asks
+//! for, new ones if it names no folder, each with a cache for its number of pictures; they served its number of connections, and what
+//! the headline says holds of them. [`program::program`] promises that of the process.
 //!
 //! No contract says what standard input holds, what happens to the bytes after standard output, what text an error prints, or that
 //! the process hands its own words, input and output on; the stored run of `wfarm` shows these.

@@ -1,17 +1,13 @@
 //! The program: from the command line to the exit status.
-ghost use Rattle.std.specs.Prelude.{◌≡◌, ◌≤◌, Bool, IfErr, IfOk, OnErr, map};
+ghost use Rattle.std.specs.Prelude.{◌≡◌, ◌≤◌, Bool, None, IfErr, IfOk, OnErr, map};
 ghost use Rattle.std.specs.IoError.{error_kind};
 ghost use Rattle.clap.specs.Values.{kind_of};
 ghost use Rattle.std.specs.Process.{exit_status};
-ghost use Rattle.wf_stream.specs.Reading.{TakesUpTo};
 ghost use Rattle.wf_line.specs.CommandLine.{IsRejection, IsWhyRejected};
-ghost use Rattle.wf_commands.specs.Counting.{CountsReads, CountsWrites, FailsLast};
-ghost use Rattle.wf_line.specs.Line.{IsInRange};
+ghost use Rattle.wf_commands.specs.Counting.{FailsLast};
 ghost use Rattle.wf_commands.specs.Ending.{is_found, is_written, left_to_report, run_status, reported, rejection_status, unreadable_status};
-ghost use Rattle.wf_commands.specs.Program.{IsDone, IsRun, IsRunOf};
-ghost use Rattle.wf_commands.specs.Run.{most_read};
-ghost use Rattle.wf_commands.specs.Serving.{IsServing};
-ghost use Rattle.wf_service.specs.Service.{IsService};
+ghost use Rattle.wf_commands.specs.Program.{IsProcess, IsRun};
+ghost use Rattle.wf_commands.specs.Serving.{IsMachineServing, run_outcome};
 
 use crate::ending::Ending;
 use crate::fault::RunFault;
@@ -33,8 +29,8 @@ use wf_line::arguments::line;
 use wf_line::line::Line;
 use wf_link::Connection;
 use wf_mapfile::fault::MapFault;
-use wf_serve::Service;
 use wf_stream::{Sink, Source, Stream};
+use wf_tape::{FileTape, MemoryTape, Tape};
 
 /// The exit status of an error, also of a failed write.
 const FAULT: u8 = 1;
@@ -42,48 +38,14 @@ const FAULT: u8 = 1;
 /// The exit status of a bad command line.
 const BAD_COMMAND_LINE: u8 = 2;
 
-// Serves the nodes of a service.
-fn serve<K: Sink, V: Server>(service: Service<'_>, sink: &mut K, server: &V) -> Result<(), RunFault>
-    requires { IsService service }
-    ensures served { IsServing (V.serves server.now service.entry) (K.written sink.old)
-        (K.written sink.new) result }
-    ensures writes { CountsWrites result (K.failures sink.old) (K.failures sink.new) }
-    ensures last { FailsLast K.Sink sink.old sink.new }
+// The result of a run of `serve`, by the server's.
+fn served(outcome: Result<(), ServeFault>) -> Result<(), RunFault>
+    ensures { result ≡ run_outcome outcome }
 {
-    match server.serve(service, sink) {
+    match outcome {
         Ok(()) => Ok(()),
         Err(ServeFault::Start) => Err(RunFault::Serve),
         Err(ServeFault::Write) => Err(RunFault::Write),
-    }
-}
-
-// Runs the command of a line.
-#[tactic(auto, using(crate::proofs::Ended::nothing_read, crate::proofs::Ended::serving_reads_nothing, crate::proofs::Ended::listing_reads_nothing))]
-fn run<I: Source, K: Sink, V: Server + Tapes, C: Carrier>(
-    alloc: Global,
-    line: Line<'_>,
-    source: &mut I,
-    sink: &mut K,
-    server: &V,
-    carrier: &mut C,
-) -> Result<(), RunFault>
-    requires { IsInRange line }
-    ensures done { IsDone (V.serves server.now) (V.content server.now) line.entry
-        (I.left source.old) (K.written sink.old) (K.written sink.new) result }
-    ensures most { TakesUpTo (most_read line.entry) (I.left source.old) (I.left source.new) }
-    ensures reads { CountsReads result (I.failures source.old) (I.failures source.new) }
-    ensures writes { CountsWrites result (K.failures sink.old) (K.failures sink.new) }
-    ensures last { FailsLast K.Sink sink.old sink.new }
-{
-    match line {
-        Line::Serve(service) => serve(service, sink, server),
-        Line::Tape { file, map } => run_tape(alloc, file, map, sink, server),
-        Line::Caps { .. }
-        | Line::Draw { .. }
-        | Line::Canon
-        | Line::Check
-        | Line::Run
-        | Line::Wire => run_line(alloc, line, source, sink, carrier),
     }
 }
 
@@ -134,7 +96,6 @@ fn is_written(line: Line<'_>, fault: RunFault) -> bool
 fn reported_once(line: Line<'_>, ending: Ending) -> Ending
     ensures told { result.reported ≡ left_to_report line.entry ending.reported }
     ensures status { result.status ≡ ending.status }
-    ensures low { ending.status ≤ 1 → result.status ≤ 1 }
 {
     match ending.reported {
         Some(fault) if is_written(line, fault) => Ending {
@@ -145,36 +106,23 @@ fn reported_once(line: Line<'_>, ending: Ending) -> Ending
     }
 }
 
-/// Runs the command of a line: a command about standard input between the reader and the writer, with the messages of `wire` by the
-/// carrier; `tape` by the server, which reads the file, and `serve` by the server, whose line goes to the writer. Returns the error
-/// whose text is the line on standard error, and the exit status.
-#[tactic(auto, using(crate::proofs::Ended::run_ended))]
-pub fn run_command<I: Source, K: Sink, V: Server + Tapes, C: Carrier>(
-    alloc: Global,
-    line: Line<'_>,
-    source: &mut I,
-    sink: &mut K,
-    server: &V,
-    carrier: &mut C,
-) -> Ending
-    requires { IsInRange line }
-    ensures run { IsRunOf (V.serves server.now) (V.content server.now) line.entry
-        (I.left source.old) (I.left source.new) (K.written sink.old) (K.written sink.new)
-        (I.failures source.old) (I.failures source.new)
-        (K.failures sink.old) (K.failures sink.new) result }
-    // A failed write is the last call of the writer.
-    ensures last { FailsLast K.Sink sink.old sink.new }
+// How a run of a line with this result ends.
+fn end(line: Line<'_>, outcome: Result<(), RunFault>) -> Ending
+    ensures told { result.reported ≡ left_to_report line.entry (reported outcome) }
+    ensures status { result.status ≡ run_status outcome }
     ensures low { result.status ≤ 1 }
 {
-    let outcome = run(alloc, line, source, sink, server, carrier);
     reported_once(line, ending_of(outcome))
 }
 
-/// Runs the words of a command line, without the program's name: as [`run_command`] the line that they ask for.
+/// Runs the words of a command line, without the program's name: the command of the line that they ask for. A command about standard
+/// input goes between the reader and the writer, with the messages of `wire` by the carrier; `tape` reads the files that the server has,
+/// and `serve` is the server's, whose line goes to the writer. Returns the error whose text is the line on standard error, and the exit
+/// status.
 ///
 /// Err: no command was run, and nothing was read or written. The error's text is for the user: it is help or the version, if the
 /// words ask for these.
-#[tactic(auto, using(crate::proofs::Last::none_failed))]
+#[tactic(auto, using(crate::proofs::Last::none_failed, crate::proofs::Ended::run_ended, crate::proofs::Ended::serving_ended, crate::proofs::Ended::listing_ended))]
 pub fn run_words<'a, S: AsStr, I: Source, K: Sink, V: Server + Tapes, C: Carrier>(
     alloc: Global,
     words: &'a [S],
@@ -201,7 +149,16 @@ pub fn run_words<'a, S: AsStr, I: Source, K: Sink, V: Server + Tapes, C: Carrier
     ensures unused { OnErr result (carrier.new ≡ carrier.old) }
 {
     match line(alloc, words) {
-        Ok(line) => Ok(run_command(alloc, line, source, sink, server, carrier)),
+        Ok(line) => match line {
+            Line::Serve(service) => Ok(end(line, served(server.serve(service, sink)))),
+            Line::Tape { file, map } => Ok(end(line, run_tape(alloc, file, map, sink, server))),
+            Line::Caps { .. }
+            | Line::Draw { .. }
+            | Line::Canon
+            | Line::Check
+            | Line::Run
+            | Line::Wire => Ok(end(line, run_line(alloc, line, source, sink, carrier))),
+        },
         Err(error) => Err(error),
     }
 }
@@ -259,7 +216,9 @@ fn words<R: Env + AllocGlobal>(rt: &R) -> io::Result<Vec<String>> {
 /// Runs the command line, as by [`run_words`] with the words of the process, its standard input and output, the machine as server,
 /// and a connection of the machine to itself as carrier. Returns the exit status: 0 for success; 1 for an error, with one line on
 /// standard error, except for a failed write; 2 for a bad command line, with the parser's text there.
+#[tactic(auto, using(crate::proofs::Ended::process_run, crate::proofs::Ended::process_rejected, crate::proofs::Ended::process_unreadable))]
 pub fn program<
+    'a,
     R: Env
         + Input
         + Print
@@ -268,8 +227,11 @@ pub fn program<
         + Clock
         + Net<Listener = TcpListener, Stream = TcpStream>
         + AllocGlobal,
->(rt: &R) -> ExitCode
-    ensures { exit_status result ≤ 2 }
+>(rt: &'a R) -> ExitCode
+    ensures low { exit_status result ≤ 2 }
+    // What the process did: of `serve` what was served, by nodes on tapes in memory or in files.
+    ensures ended { IsProcess (λ service old new outcome. IsMachineServing ⟦<MemoryTape as Tape>⟧
+        ⟦<FileTape<&'a R> as Tape>⟧ service old new outcome) (λ _. None) (exit_status result) }
 {
     let words = match words(rt) {
         Ok(words) => words,
@@ -279,24 +241,21 @@ pub fn program<
             return code;
         }
     };
-    let mut source = Stream::new(rt.reader());
-    let mut sink = Stream::new(io::writer(rt));
-    let mut carrier = Connection::new(rt);
-    let code = match run_words(
+    let outcome = run_words(
         rt.alloc(),
         &words,
-        &mut source,
-        &mut sink,
+        &mut Stream::new(rt.reader()),
+        &mut Stream::new(io::writer(rt)),
         &Host(rt),
-        &mut carrier,
-    ) {
+        &mut Connection::new(rt),
+    );
+    drop(words);
+    match outcome {
         Ok(ending) => report(rt, ending),
         Err(error) => {
             let code = rejection(rt, &error);
             drop(error);
             code
         }
-    };
-    drop(words);
-    code
+    }
 }

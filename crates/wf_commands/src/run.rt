@@ -307,7 +307,7 @@ fn play_script<S: Source, K: Sink, C: Carrier>(
     }
 }
 
-/// Runs a command about standard input; the messages of `wire` come by the carrier. [`crate::program::run_command`] runs any.
+/// Runs a command about standard input; the messages of `wire` come by the carrier. [`crate::program::run_words`] runs any.
 pub fn run_line<S: Source, K: Sink, C: Carrier>(
     alloc: Global,
     line: Line<'_>,

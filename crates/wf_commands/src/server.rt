@@ -2,7 +2,7 @@
 ghost use Rattle.std.specs.Prelude.{ℕ, List, Option, Result};
 ghost use Rattle.wf_commands.specs.Counting.{FailsLast};
 ghost use Rattle.wf_serve.specs.Fault.{CountsWrites};
-ghost use Rattle.wf_serve.specs.Listening.{IsTold};
+ghost use Rattle.wf_commands.specs.Serving.{IsMachineServing};
 ghost use Rattle.wf_service.specs.Service.{IsService};
 ghost use Rattle.wf_serve.specs.declared.fault.ServeFault.{ServeFault};
 ghost use Rattle.wf_service.specs.declared.service.Service.{Service};
@@ -14,6 +14,7 @@ use std::time::Clock;
 pub use wf_serve::ServeFault;
 use wf_serve::{Service, serve};
 use wf_stream::Sink;
+use wf_tape::{FileTape, MemoryTape, Tape};
 
 /// What serves nodes: the machine, or in a test what stands for it.
 pub trait Server {
@@ -43,9 +44,9 @@ impl<
         + Net<Listener = TcpListener, Stream = TcpStream>
         + AllocGlobal,
 > Server for Host<'a, R> {
-    ghost serves = { λ _ service old new result. IsTold service.port old new result };
+    ghost serves = { λ _ service old new result. IsMachineServing ⟦<MemoryTape as Tape>⟧ ⟦<FileTape<&'a R> as Tape>⟧ service old new result };
 
-    #[tactic(auto, using(crate::proofs::Last::line_fails_last))]
+    #[tactic(auto, using(crate::proofs::Last::line_fails_last, crate::proofs::Ended::machine_serves))]
     fn serve<K: Sink>(&self, service: Service<'_>, sink: &mut K) -> Result<(), ServeFault> {
         serve(self.0, service, sink)
     }

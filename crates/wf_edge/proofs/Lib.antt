@@ -1,3 +1,4 @@
 mod PublishLaw
+mod RequestLaw
 mod ServiceLaw
 mod UnavailableLaw

@@ -9,12 +9,13 @@ use Rattle.wf_node.specs.Node.{Node}
 use Rattle.wf_wms.specs.Answer.{AnswerValue, AskedMapsAreAnsweredAlike, AsksForMap, EachQueryHasOneAnswer, IsAnswerOf, operation_of, or_own, rejection, subject, subject_of}
 use Rattle.wf_wms.specs.Query.{pairs_of}
 use Rattle.wf_wms.specs.Rejection.{TextsAreRejectedAlike}
-use Rattle.wf_http.specs.Checks.{judged}
+use Rattle.wf_edge.specs.Route.{judged}
 use Rattle.wf_http.specs.Head.{Head, Begins, head_of}
 use Rattle.wf_edge.specs.Law.{AsksMapService, stand_alike, are_asked_alike, is_rejected_by_text, reject_alike, EachQueryHasOnePage, EqualRequestsHaveEqualResponses}
 use Rattle.wf_edge.specs.Notice.{response_of}
 use Rattle.wf_edge.specs.Page.{service_page, IsServicePage, IsServiceGiven}
-use Rattle.wf_http.specs.Request.{Request, IsRefused, by_head, by_check, by_body, IsHeadRefusal, body_bytes}
+use Rattle.wf_http.specs.Front.{IsHeadRefusal}
+use Rattle.wf_edge.specs.Request.{Request, IsRefused, by_head, by_check, by_body, body_bytes}
 use Rattle.wf_http.specs.Response.{Response, response_bytes}
 use Rattle.wf_edge.specs.Serving.{Asks, Gives, GivesTo, Responds}
 use Rattle.wf_http.specs.Target.{query_of}
@@ -24,8 +25,8 @@ use Rattle.wf_edge.specs.declared.notice.Notice.{Notice}
 use Rattle.wf_edge.specs.declared.notice.Notice.TheVariants as notice
 use Rattle.wf_http.specs.declared.refusal.Refusal.{Refusal}
 use Rattle.wf_http.specs.declared.refusal.Refusal.TheVariants as refusal
-use Rattle.wf_http.specs.declared.resource.Asked.{Asked}
-use Rattle.wf_http.specs.declared.resource.Asked.TheVariants as asked
+use Rattle.wf_edge.specs.declared.resource.Asked.{Asked}
+use Rattle.wf_edge.specs.declared.resource.Asked.TheVariants as asked
 use Rattle.wf_tape.specs.declared.tape.Tape.{Ghosts as Tape}
 
 -- ---- one page

@@ -2,20 +2,20 @@
 use Rattle.std.proofs.Common.{◌≡◌, ◌∙◌, ℕ, List, Vec, refl, sym, ap, arith}
 use Rattle.std.specs.Prelude.{Result, Ok, Err}
 use Rattle.wf_codec.specs.declared.message.Message.{Message}
-use Rattle.wf_http.specs.Request.{Request, BeginsWith}
+use Rattle.wf_edge.specs.Request.{Request, BeginsWith}
 use Rattle.wf_http.specs.Response.{Response}
 use Rattle.wf_http.specs.Target.{query_of}
 use Rattle.wf_http.specs.declared.fault.RequestFault.{RequestFault}
 use Rattle.wf_http.specs.declared.fault.RequestFault.TheVariants as fault
 use Rattle.wf_http.specs.declared.refusal.Refusal.{Refusal}
 use Rattle.wf_http.specs.declared.refusal.Refusal.TheVariants as refusal
-use Rattle.wf_http.specs.declared.resource.Asked.{Asked}
-use Rattle.wf_http.specs.declared.resource.Asked.TheVariants as asked
+use Rattle.wf_edge.specs.declared.resource.Asked.{Asked}
+use Rattle.wf_edge.specs.declared.resource.Asked.TheVariants as asked
 use Rattle.wf_node.specs.Node.{Node}
 use Rattle.wf_node.specs.declared.fault.NodeFault.{NodeFault}
 use Rattle.wf_node.specs.declared.fault.NodeFault.TheVariants as node
 use Rattle.wf_edge.specs.Notice.{notice_of, refusal_status, response_of, status_of}
-use Rattle.wf_edge.specs.Page.{accepted_page, bad_map_page, status_page}
+use Rattle.wf_edge.specs.Page.{accepted_page, bad_map_page, status_at, status_page}
 use Rattle.wf_edge.specs.Publish.{IsPublished}
 use Rattle.wf_edge.specs.Serving.{Asks, Gives, GivesTo, TellsPublish}
 use Rattle.wf_edge.specs.Unavailable.{MayBeUnavailable, OnlyTheseAreUnavailable, Publishes, by_body, by_map, by_service, by_step}
@@ -83,7 +83,7 @@ module _ {T : Type 0} (A : Type 0) (tapes : Tape T) (input : List ℕ) (before a
   of_request asked.Wms request answer sent asks begins given unavailable =
       by_service (query_of request.head.target) (record { request = request; begins = begins; of_service = asks; of_query = refl })
   of_request asked.Status request answer sent asks begins given unavailable =
-      let clash : 200 ≡ 503 = status_is answer (Ok (status_page before)) given.0 unavailable in absurd (omega (arith, clash))
+      let clash : 200 ≡ 503 = status_is answer (Ok (status_page (status_at before))) given.0 unavailable in absurd (omega (arith, clash))
   of_request (asked.Publish bytes) request answer sent asks begins given unavailable =
       of_publish request bytes given.done answer sent (record { request = request; begins = begins; bytes = bytes; asks = asks; of_body = refl })
       given.published given.tells unavailable

@@ -1,9 +1,8 @@
 -- How writing a response ends: a call that fails is the last one, and where there is no response no call is made. This holds of
 -- each writer, also of one whose bytes aren't known.
-use Rattle.std.specs.Prelude.{◌≡◌, ℕ, List, Option, IfSome}
+use Rattle.std.specs.Prelude.{◌≡◌}
 use Rattle.wf_edge.specs.Notice.{notice_response}
 use Rattle.wf_edge.specs.Saying.{IsSaid, CountsSaying}
-use Rattle.wf_http.specs.Request.{IsRequestFault}
 use Rattle.wf_http.specs.Breaking.{BreaksOff}
 use Rattle.wf_http.specs.Response.{Response, response_bytes}
 use Rattle.wf_http.specs.declared.fault.RequestFault.{RequestFault}
@@ -33,9 +32,3 @@ module _ {K : Type 0} (sinks : Sink K) where
   IsFaultEnded fault.Memory old new said = IsEnded (notice_response notice.Unavailable) old new said
   IsFaultEnded fault.NoRequest old new said = (said ≡ outcome.NoRequest) × (new ≡ old)
   IsFaultEnded fault.ReadFailed old new said = (said ≡ outcome.ReadFailed) × (new ≡ old)
-
-  -- there is no request in the input, for a reason, and this is how the response for it ended
-  pub record EndsUnheard (input : Option (List ℕ)) (old new : K) (said : Outcome) : Type 0 where
-    pub why : RequestFault
-    pub is : IfSome input (λ bytes. IsRequestFault bytes why)
-    pub ended : IsFaultEnded why old new said

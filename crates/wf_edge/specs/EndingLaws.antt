@@ -3,14 +3,15 @@ use Rattle.std.proofs.Common.{◌≡◌, ℕ, List, [], Vec, refl, sym, subst}
 use Rattle.std.specs.Prelude.{Option, Result, Ok, Err, IfSome}
 use Rattle.wf_codec.specs.declared.message.Message.{Message}
 use Rattle.wf_node.specs.Node.{Node}
-use Rattle.wf_edge.specs.Ending.{IsEnded, IsFaultEnded, EndsUnheard}
+use Rattle.wf_edge.specs.Ending.{IsEnded, IsFaultEnded}
 use Rattle.wf_edge.specs.Notice.{response_of}
-use Rattle.wf_http.specs.Request.{Request, IsRequestFault, BeginsWith}
+use Rattle.wf_edge.specs.Request.{Request, IsRequestFault, BeginsWith}
+use Rattle.wf_http.specs.Front.{CountsReads}
 use Rattle.wf_http.specs.Response.{Response}
-use Rattle.wf_edge.specs.Hearing.{CountsHearing, IsUnheard}
-use Rattle.wf_edge.specs.Saying.{CountsSaying}
+use Rattle.wf_edge.specs.HearingLaws.{fault_reads}
+use Rattle.wf_edge.specs.Saying.{CountsSaying, IsFaultSaid}
 use Rattle.wf_edge.specs.Serving.{Asks, Gives, IsEnding, IsServed, Serves}
-use Rattle.wf_edge.specs.ServingLaws.{served_moves, served_outcome, served_reads, served_writes, unheard_moves, unheard_outcome}
+use Rattle.wf_edge.specs.ServingLaws.{fault_outcome, served_moves, served_outcome, served_reads, served_writes, unmoved_moves}
 use Rattle.wf_http.specs.declared.fault.RequestFault.{RequestFault}
 use Rattle.wf_http.specs.declared.fault.RequestFault.TheVariants as fault
 use Rattle.wf_edge.specs.declared.notice.Notice.{Notice}
@@ -22,14 +23,6 @@ use Rattle.wf_stream.specs.declared.stream.Source.{Ghosts as Source}
 use Rattle.wf_tape.specs.declared.tape.Tape.{Ghosts as Tape}
 
 module _ {K : Type 0} (sinks : Sink K) where
-  -- ---- where there is no request
-
-  pub unheard_ends : (input : Option (List ℕ)) (old new : K) (why : RequestFault) (said : Outcome) → IfSome input (λ bytes. IsRequestFault bytes why)
-      → IsFaultEnded sinks why old new said → EndsUnheard sinks input old new said
-  unheard_ends input old new why said is ended = record { why = why; is = is; ended = ended }
-
-  -- ---- the request
-
   module _ {T A : Type 0} (tapes : Tape T) where
     said_ending : (input : Option (List ℕ)) (old new : K) (heard : Result Request RequestFault) (before after : Node T) (answer : Result Response Notice)
         (sent : Vec Message A) (said : Outcome) → IfSome input (λ bytes. Asks bytes heard) → Gives tapes heard before answer sent after
@@ -54,7 +47,8 @@ module _ {K : Type 0} (sinks : Sink K) where
         subst (λ start. IsEnding tapes sinks input start new before sent after said) quiet
         (said_ending input old new (Ok request) before after served.answer sent said begins served.gives served.says.ended)
 
-    fault_ending : (input : Option (List ℕ)) (old new : K) (why : RequestFault) (node : Node T) (sent : Vec Message A) (said : Outcome)
+    -- if there is no request, its rejection ended, or the writer is unchanged
+    pub fault_ending : (input : Option (List ℕ)) (old new : K) (why : RequestFault) (node : Node T) (sent : Vec Message A) (said : Outcome)
         → IfSome input (λ bytes. IsRequestFault bytes why) → sent.items ≡ [] → IsFaultEnded sinks why old new said
         → IsEnding tapes sinks input old new node sent node said
     fault_ending input old new (fault.Refused r) node sent said asks quiet ended =
@@ -65,12 +59,6 @@ module _ {K : Type 0} (sinks : Sink K) where
         subst (λ o. IsEnding tapes sinks input old new node sent node o) (sym ended.0) ended.1
     fault_ending input old new fault.ReadFailed node sent said asks quiet ended =
         subst (λ o. IsEnding tapes sinks input old new node sent node o) (sym ended.0) ended.1
-
-    -- if there is no request, its rejection ended, or the writer is unchanged
-    pub unheard_ending : (input : Option (List ℕ)) (old new : K) (node : Node T) (sent : Vec Message A) (said : Outcome)
-        → EndsUnheard sinks input old new said → sent.items ≡ []
-        → IsEnding tapes sinks input old new node sent node said
-    unheard_ending input old new node sent said unheard quiet = fault_ending input old new unheard.why node sent said unheard.is quiet unheard.ended
 
 -- ---- one request, served as a whole
 
@@ -88,17 +76,18 @@ module _ {S K T A : Type 0} (sources : Source S) (sinks : Sink K) (tapes : Tape 
     last = served_ending sinks tapes (sources.left source) first sink sink_after request before after sent said begins quiet served;
   }
 
-  -- a request that wasn't there
-  pub unheard_serves : (source source_after : S) (sink sink_after : K) (node : Node T) (said : Outcome)
-      → IsUnheard (sources.left source) (sinks.written sink) (sinks.written sink_after) said
-      → CountsHearing said (sources.failures source) (sources.failures source_after)
+  -- there was no request, for a reason that was reported
+  pub fault_serves : (source source_after : S) (sink sink_after : K) (node : Node T) (why : RequestFault) (said : Outcome)
+      → IfSome (sources.left source) (λ input. IsRequestFault input why)
+      → CountsReads {T = Request} (Err why) (sources.failures source) (sources.failures source_after)
+      → IsFaultSaid why (sinks.written sink) (sinks.written sink_after) said
       → CountsSaying said (sinks.failures sink) (sinks.failures sink_after)
-      → EndsUnheard sinks (sources.left source) sink sink_after said
+      → IsFaultEnded sinks why sink sink_after said
       → (sent : Vec Message A) → sent.items ≡ [] → Serves tapes sinks sources source source_after sink sink_after node sent node said
-  unheard_serves source source_after sink sink_after node said unheard reads writes ends sent quiet = record {
-    outcome = unheard_outcome tapes (sources.left source) (sinks.written sink) (sinks.written sink_after) node sent said unheard quiet;
-    moves = unheard_moves tapes node sent quiet;
-    reads = reads;
+  fault_serves source source_after sink sink_after node why said is reads written writes ends sent quiet = record {
+    outcome = fault_outcome tapes (sources.left source) (sinks.written sink) (sinks.written sink_after) why node sent said is quiet written;
+    moves = unmoved_moves tapes node sent quiet;
+    reads = fault_reads why (sinks.written sink) (sinks.written sink_after) said (sources.failures source) (sources.failures source_after) written reads;
     writes = writes;
-    last = unheard_ending sinks tapes (sources.left source) sink sink_after node sent said ends quiet;
+    last = fault_ending sinks tapes (sources.left source) sink sink_after why node sent said is quiet ends;
   }

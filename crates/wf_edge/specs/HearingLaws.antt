@@ -1,18 +1,15 @@
--- From the reason why there is no request, and the response written for it, to its outcome.
+-- From the response written to what its outcome says of the reader.
 use Rattle.std.proofs.Common.{◌≡◌, ℕ, List, sym, subst}
-use Rattle.std.specs.Prelude.{Option, Err, IfSome}
-use Rattle.wf_http.specs.Request.{Request, IsRequestFault, CountsReads}
+use Rattle.std.specs.Prelude.{Option, Err}
+use Rattle.wf_http.specs.Front.{CountsReads}
+use Rattle.wf_edge.specs.Request.{Request}
 use Rattle.wf_http.specs.Response.{Response}
 use Rattle.wf_edge.specs.Saying.{IsSaid, IsFaultSaid}
-use Rattle.wf_edge.specs.Hearing.{IsUnheard, CountsHearing}
+use Rattle.wf_edge.specs.Hearing.{CountsHearing}
 use Rattle.wf_http.specs.declared.fault.RequestFault.{RequestFault}
 use Rattle.wf_http.specs.declared.fault.RequestFault.TheVariants as fault
 use Rattle.wf_edge.specs.declared.outcome.Outcome.{Outcome}
 use Rattle.wf_edge.specs.declared.outcome.Outcome.TheVariants as outcome
-
-pub unheard : (input old new : Option (List ℕ)) (why : RequestFault) (said : Outcome) → IfSome input (λ bytes. IsRequestFault bytes why)
-    → IsFaultSaid why old new said → IsUnheard input old new said
-unheard input old new why said is written = record { why = why; is = is; written = written }
 
 -- a response that leaves the reader unchanged
 pub calm_reads : (response : Response) (old new : Option (List ℕ)) (said : Outcome) (first last : ℕ) → last ≡ first → IsSaid response old new said

@@ -8,11 +8,11 @@ use Rattle.wf_wms.specs.Answer.{AsksForMap, rejection, subject}
 use Rattle.wf_wms.specs.Rejection.{IsRejectedByText}
 use Rattle.wf_wms.specs.declared.exception.Exception.{Exception}
 use Rattle.wf_edge.specs.Page.{IsLastAnswer, IsServicePage}
-use Rattle.wf_http.specs.Request.{Request, BeginsWith}
+use Rattle.wf_edge.specs.Request.{Request, BeginsWith}
 use Rattle.wf_http.specs.Response.{Response, response_bytes}
 use Rattle.wf_edge.specs.Serving.{Responds}
 use Rattle.wf_http.specs.Target.{query_of}
-use Rattle.wf_http.specs.declared.resource.Asked.TheVariants.{Wms}
+use Rattle.wf_edge.specs.declared.resource.Asked.TheVariants.{Wms}
 use Rattle.wf_tape.specs.declared.tape.Tape.{Ghosts as Tape}
 
 -- the input begins with a request to the map service, of that query

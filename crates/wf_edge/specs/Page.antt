@@ -12,6 +12,7 @@ use Rattle.wf_http.specs.Response.{Response}
 use Rattle.wf_edge.specs.Notice.{plain, text_line}
 use Rattle.wf_edge.specs.declared.notice.Notice.{Notice}
 use Rattle.wf_edge.specs.declared.notice.Notice.TheVariants as notice
+use Rattle.wf_edge.specs.declared.status.Status.{Status}
 
 -- the greatest length of a line, in bytes: more than any has
 abbrev pub most_line_bytes : ℕ
@@ -63,8 +64,12 @@ unfoldable pub status_words : ℕ → ℕ → Standing → List ℕ
 status_words id published stands =
     codes "node " ++ decimal id ++ codes " published " ++ decimal published ++ codes " proposal " ++ standing_words stands
 
-abbrev pub status_page : {T : Type 0} → Node T → Response
-status_page node = line_page 200 (status_words node.id (length node.parts.history) (standing_at node))
+-- the status of a node
+abbrev pub status_at : {T : Type 0} → Node T → Status
+status_at node = record { id = node.id; published = length node.parts.history; proposal = standing_at node }
+
+abbrev pub status_page : Status → Response
+status_page status = line_page 200 (status_words status.id status.published status.proposal)
 
 -- ---- POST /publish
 

@@ -7,12 +7,12 @@ use Rattle.wf_node.specs.Node.{Node}
 use Rattle.wf_node.specs.declared.fault.NodeFault.{NodeFault}
 use Rattle.wf_edge.specs.Ending.{Says}
 use Rattle.wf_http.specs.Breaking.{BreaksOff}
-use Rattle.wf_http.specs.Request.{Request, BeginsWith, IsRequestFault}
+use Rattle.wf_edge.specs.Request.{Request, BeginsWith, IsRequestFault}
 use Rattle.wf_http.specs.Response.{Response, response_bytes, IsCount, WritesPart}
 use Rattle.wf_http.specs.Target.{query_of}
 use Rattle.wf_edge.specs.Hearing.{CountsHearing}
 use Rattle.wf_edge.specs.Notice.{response_of}
-use Rattle.wf_edge.specs.Page.{status_page, IsServiceGiven}
+use Rattle.wf_edge.specs.Page.{status_at, status_page, IsServiceGiven}
 use Rattle.wf_edge.specs.Publish.{IsProposed, IsPublished, TellsFault}
 use Rattle.wf_edge.specs.Saying.{CountsSaying}
 use Rattle.wf_http.specs.declared.fault.RequestFault.{RequestFault}
@@ -20,10 +20,11 @@ use Rattle.wf_http.specs.declared.fault.RequestFault.TheVariants as fault
 use Rattle.wf_edge.specs.declared.notice.Notice.{Notice}
 use Rattle.wf_edge.specs.declared.notice.Notice.TheVariants as notice
 use Rattle.wf_edge.specs.declared.publish_fault.PublishFault.{PublishFault}
-use Rattle.wf_http.specs.declared.resource.Asked.{Asked}
-use Rattle.wf_http.specs.declared.resource.Asked.TheVariants as asked
+use Rattle.wf_edge.specs.declared.resource.Asked.{Asked}
+use Rattle.wf_edge.specs.declared.resource.Asked.TheVariants as asked
 use Rattle.wf_edge.specs.declared.outcome.Outcome.{Outcome}
 use Rattle.wf_edge.specs.declared.outcome.Outcome.TheVariants as outcome
+use Rattle.wf_edge.specs.declared.status.Status.{Status}
 use Rattle.wf_stream.specs.declared.stream.Sink.{Ghosts as Sink}
 use Rattle.wf_stream.specs.declared.stream.Source.{Ghosts as Source}
 use Rattle.wf_tape.specs.declared.tape.Tape.{Ghosts as Tape}
@@ -49,11 +50,11 @@ IsPublish (asked.Publish bytes) = Unit {0}
 
 -- ---- the reply
 
--- the answer to a request that only reads, by what it asks for and its query
-abbrev pub Answers : {T : Type 0} → Asked → List ℕ → Node T → Result Response Notice → Type 0
-Answers asked.Wms query node answer = IsServiceGiven node.parts.history query answer
-Answers asked.Status query node answer = answer ≡ Ok (status_page node)
-Answers (asked.Publish bytes) query node answer = ⊥
+-- the answer to a request that only reads, by what it asks for and its query, from a list of published maps and a status
+abbrev pub Answers : Asked → List ℕ → List Definition → Status → Result Response Notice → Type 0
+Answers asked.Wms query history status answer = IsServiceGiven history query answer
+Answers asked.Status query history status answer = answer ≡ Ok (status_page status)
+Answers (asked.Publish bytes) query history status answer = ⊥
 
 -- the node is unchanged, and sends nothing
 pub record IsUnmoved {T A : Type 0} (before : Node T) (sent : Vec Message A) (after : Node T) : Type 0 where
@@ -70,6 +71,12 @@ abbrev pub HandsOut : {A : Type 0} → Result (Vec Message A) NodeFault → Vec 
 HandsOut (Ok messages) sent = sent ≡ messages
 HandsOut (Err why) sent = sent.items ≡ []
 
+-- A request that only reads was answered from a list of published maps and a status, and its response written.
+pub record IsRead {K : Type 0} (sinks : Sink K) (request : Request) (history : List Definition) (status : Status) (old new : K) (said : Outcome) : Type 0 where
+  pub answer : Result Response Notice
+  pub answers : Answers request.asked (query_of request.head.target) history status answer
+  pub says : Says sinks (response_of answer) old new said
+
 module _ {T A : Type 0} (tapes : Tape T) where
   -- the reply to a publish of a body: its messages are the step's, whatever the answer
   pub record GivesPublish (body : List ℕ) (before : Node T) (answer : Result Response Notice) (sent : Vec Message A) (after : Node T) : Type 0 where
@@ -81,7 +88,7 @@ module _ {T A : Type 0} (tapes : Tape T) where
   abbrev pub GivesTo : Asked → Request → Node T → Result Response Notice → Vec Message A → Node T → Type 0
   GivesTo asked.Wms request before answer sent after =
       IsServiceGiven before.parts.history (query_of request.head.target) answer × IsUnmoved before sent after
-  GivesTo asked.Status request before answer sent after = (answer ≡ Ok (status_page before)) × IsUnmoved before sent after
+  GivesTo asked.Status request before answer sent after = (answer ≡ Ok (status_page (status_at before))) × IsUnmoved before sent after
   GivesTo (asked.Publish bytes) request before answer sent after = GivesPublish request.body before answer sent after
 
   -- the reply to what was read: a rejection and allocation failure are reported, and leave the node unchanged
@@ -136,7 +143,7 @@ module _ {T A : Type 0} (tapes : Tape T) where
   -- ---- how the writing ended, of any writer
 
   module _ {K : Type 0} (sinks : Sink K) where
-    -- for the crate's own contracts: a request was answered, and its response written
+    -- a request was answered by a node, and its response written
     pub record IsServed (request : Request) (old new : K) (before : Node T) (sent : Vec Message A) (after : Node T) (said : Outcome) : Type 0 where
       pub answer : Result Response Notice
       pub gives : GivesTo request.asked request before answer sent after

@@ -1,17 +1,19 @@
 -- From what was read, answered and written to the outcome of a request.
-use Rattle.std.proofs.Common.{◌≡◌, ℕ, List, [], Vec, refl, sym, subst}
+use Rattle.std.proofs.Common.{◌≡◌, ℕ, List, [], Vec, refl, sym, subst, subst₂}
 use Rattle.std.specs.Prelude.{Option, Result, Ok, Err, IfSome}
 use Rattle.wf_codec.specs.declared.message.Message.{Message}
+use Rattle.wf_def.specs.Definition.{Definition}
 use Rattle.wf_node.specs.Node.{Node}
-use Rattle.wf_http.specs.Request.{Request, IsRequestFault, BeginsWith}
+use Rattle.wf_edge.specs.Request.{Request, IsRequestFault, BeginsWith}
 use Rattle.wf_http.specs.Response.{Response}
 use Rattle.wf_http.specs.Target.{query_of}
 use Rattle.wf_edge.specs.Ending.{Says}
 use Rattle.wf_edge.specs.Notice.{response_of}
+use Rattle.wf_edge.specs.Page.{status_at}
 use Rattle.wf_edge.specs.Publish.{IsPublished}
 use Rattle.wf_edge.specs.Saying.{IsSaid, IsFaultSaid, CountsSaying}
-use Rattle.wf_edge.specs.Hearing.{IsUnheard, CountsHearing}
-use Rattle.wf_edge.specs.Serving.{Answers, Asks, IsPublish, TellsPublish, GivesPublish, GivesTo, Gives, IsServed, MovesOnce, Stays, Proposes, IsOutcome}
+use Rattle.wf_edge.specs.Hearing.{CountsHearing}
+use Rattle.wf_edge.specs.Serving.{Answers, Asks, IsPublish, IsRead, TellsPublish, GivesPublish, GivesTo, Gives, IsServed, MovesOnce, Stays, Proposes, IsOutcome}
 use Rattle.wf_http.specs.declared.fault.RequestFault.{RequestFault}
 use Rattle.wf_http.specs.declared.fault.RequestFault.TheVariants as fault
 use Rattle.wf_edge.specs.declared.notice.Notice.{Notice}
@@ -20,8 +22,9 @@ use Rattle.wf_edge.specs.declared.outcome.Outcome.{Outcome}
 use Rattle.wf_edge.specs.declared.outcome.Outcome.TheVariants as outcome
 use Rattle.wf_edge.specs.declared.publish_fault.PublishFault.{PublishFault}
 use Rattle.wf_edge.specs.declared.publish_fault.PublishFault.TheVariants as publish
-use Rattle.wf_http.specs.declared.resource.Asked.{Asked}
-use Rattle.wf_http.specs.declared.resource.Asked.TheVariants as asked
+use Rattle.wf_edge.specs.declared.resource.Asked.{Asked}
+use Rattle.wf_edge.specs.declared.resource.Asked.TheVariants as asked
+use Rattle.wf_edge.specs.declared.status.Status.{Status}
 use Rattle.wf_edge.specs.HearingLaws.{calm_reads}
 use Rattle.wf_stream.specs.declared.stream.Sink.{Ghosts as Sink}
 use Rattle.wf_tape.specs.declared.tape.Tape.{Ghosts as Tape}
@@ -49,8 +52,8 @@ module _ {T A : Type 0} (tapes : Tape T) where
   given_moves asked.Status request before after answer sent given = Stays given.1
   given_moves (asked.Publish bytes) request before after answer sent given = published_moves request.body before after given.done answer sent given.published given.tells
 
-  pub unheard_moves : (node : Node T) (sent : Vec Message A) → sent.items ≡ [] → MovesOnce tapes node sent node
-  unheard_moves node sent quiet = Stays (record { same = refl; quiet = quiet })
+  pub unmoved_moves : (node : Node T) (sent : Vec Message A) → sent.items ≡ [] → MovesOnce tapes node sent node
+  unmoved_moves node sent quiet = Stays (record { same = refl; quiet = quiet })
 
   -- ---- the outcome
 
@@ -74,7 +77,8 @@ module _ {T A : Type 0} (tapes : Tape T) where
   said_outcome input old new heard before after answer sent outcome.ReadFailed asks given written = absurd written
   said_outcome input old new heard before after answer sent outcome.NoRequest asks given written = absurd written
 
-  fault_outcome : (input old new : Option (List ℕ)) (why : RequestFault) (node : Node T) (sent : Vec Message A) (said : Outcome)
+  -- if there is no request, its rejection is the outcome, or nothing
+  pub fault_outcome : (input old new : Option (List ℕ)) (why : RequestFault) (node : Node T) (sent : Vec Message A) (said : Outcome)
       → IfSome input (λ bytes. IsRequestFault bytes why) → sent.items ≡ [] → IsFaultSaid why old new said
       → IsOutcome tapes input old new node sent node said
   fault_outcome input old new (fault.Refused r) node sent said asks quiet written =
@@ -85,12 +89,6 @@ module _ {T A : Type 0} (tapes : Tape T) where
       subst (λ o. IsOutcome tapes input old new node sent node o) (sym written.0) (asks, record { same = refl; quiet = quiet }, written.1)
   fault_outcome input old new fault.ReadFailed node sent said asks quiet written =
       subst (λ o. IsOutcome tapes input old new node sent node o) (sym written.0) (record { same = refl; quiet = quiet }, written.1)
-
-  -- if there is no request, its rejection is the outcome, or nothing
-  pub unheard_outcome : (input old new : Option (List ℕ)) (node : Node T) (sent : Vec Message A) (said : Outcome) → IsUnheard input old new said
-      → sent.items ≡ [] → IsOutcome tapes input old new node sent node said
-  unheard_outcome input old new node sent said unheard quiet =
-      fault_outcome input old new unheard.why node sent said unheard.is quiet unheard.written
 
   -- ---- a request that was read
 
@@ -104,16 +102,23 @@ module _ {T A : Type 0} (tapes : Tape T) where
       says = says;
     }
 
-    -- a request that only reads was answered, and the response written
-    pub answer_served : (kind : Asked) (request : Request) (old new : K) (node : Node T) (answer : Result Response Notice)
-        (said : Outcome) → kind ≡ request.asked → Answers kind (query_of request.head.target) node answer
+    answer_given : (kind : Asked) (request : Request) (old new : K) (node : Node T) (answer : Result Response Notice)
+        (said : Outcome) → kind ≡ request.asked → Answers kind (query_of request.head.target) node.parts.history (status_at node) answer
         → Says sinks (response_of answer) old new said
         → (sent : Vec Message A) → sent.items ≡ [] → IsServed tapes sinks request old new node sent node said
-    answer_served asked.Wms request old new node answer said is answers says sent quiet =
+    answer_given asked.Wms request old new node answer said is answers says sent quiet =
         served_by asked.Wms request old new node node answer sent said is (answers, record { same = refl; quiet = quiet }) says
-    answer_served asked.Status request old new node answer said is answers says sent quiet =
+    answer_given asked.Status request old new node answer said is answers says sent quiet =
         served_by asked.Status request old new node node answer sent said is (answers, record { same = refl; quiet = quiet }) says
-    answer_served (asked.Publish bytes) request old new node answer said is answers says sent quiet = absurd answers
+    answer_given (asked.Publish bytes) request old new node answer said is answers says sent quiet = absurd answers
+
+    -- what was answered from a node's list of published maps and its status was answered by the node, which sends nothing
+    pub read_served : (request : Request) (old new : K) (node : Node T) (history : List Definition) (status : Status) (said : Outcome)
+        → history ≡ node.parts.history → status ≡ status_at node → IsRead sinks request history status old new said
+        → (sent : Vec Message A) → sent.items ≡ [] → IsServed tapes sinks request old new node sent node said
+    read_served request old new node history status said same is read =
+        answer_given request.asked request old new node read.answer said refl
+        (subst₂ (λ (h : List Definition) (s : Status). Answers request.asked (query_of request.head.target) h s read.answer) same is read.answers) read.says
 
     -- a publish was answered, and the response written
     pub publish_served : (kind : Asked) (request : Request) (old new : K) (before after : Node T) (answer : Result Response Notice)

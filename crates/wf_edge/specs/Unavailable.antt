@@ -4,9 +4,9 @@
 use Rattle.std.specs.Prelude.{◌≡◌, ℕ, List, Some, Err, Vec}
 use Rattle.wf_codec.specs.declared.message.Message.{Message}
 use Rattle.wf_def.specs.Definition.{Definition}
-use Rattle.wf_http.specs.Request.{Request, BeginsWith, HasBody}
+use Rattle.wf_edge.specs.Request.{Request, BeginsWith, HasBody}
 use Rattle.wf_http.specs.Response.{Response}
-use Rattle.wf_http.specs.declared.resource.Asked.TheVariants.{Publish}
+use Rattle.wf_edge.specs.declared.resource.Asked.TheVariants.{Publish}
 use Rattle.wf_node.specs.Node.{Node}
 use Rattle.wf_node.specs.declared.fault.NodeFault.{NodeFault}
 use Rattle.wf_edge.specs.Law.{AsksMapService}

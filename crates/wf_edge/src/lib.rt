@@ -1,20 +1,27 @@
 //! The HTTP server side of a node, over any reader and writer (RFC 9110, RFC 9112).
 //!
-//! Requests and responses are wf_http's; readers and writers are wf_stream's.
+//! Heads, bodies and responses are wf_http's; readers and writers are wf_stream's.
+//! - [`route`] has the resources of a node, `/wms`, `/status` and `/publish`, and the method of each. [`request::Request`] is a
+//!   request to one of them.
 //! - [`saying::say`] writes a response and returns its [`outcome::Outcome`]. A [`notice::Notice`] is a response of one line;
-//!   [`saying::say_fault`] responds if a request can't be read.
-//! - [`hearing::hear`] reads a request, or responds why there is none.
+//!   [`saying::say_fault`] responds if there is no request.
+//! - [`answer::answer_get`] answers a request that isn't a publish. It takes no node, but a history and a [`status::Status`], as
+//!   [`answer::status_of`] returns it of a node; where the pictures come from is a [`pictures::Pictures`].
+//! - [`serve::publish_request`] lets a node propose the map of a publish.
 //! - [`serve::serve_one`] does everything: it reads a request, answers it by a node, and writes the response;
 //!   [`serve::serve_one_cached`] does so with a cache of pictures of the node's maps. A caller for whom only a publish is an
-//!   event reads and answers all other requests by [`serve::serve_reading`], and proposes a map by [`serve::publish_request`]. All of them are one
-//!   path; where the pictures come from is a [`pictures::Pictures`].
+//!   event calls these one by one: `specs/ServingLaws.antt` and `specs/EndingLaws.antt` lead from their contracts to that of
+//!   `serve_one`.
 //!
-//! **Model.** `specs/Serving.antt` states the response to a request and the node's step, with the pages in `specs/Page.antt` and a
+//! **Model.** `specs/Route.antt` states what the head of a request asks for, `specs/Request.antt` which request an input begins with
+//! and why there is none. `specs/Serving.antt` states the response to a request and the node's step, with the pages in `specs/Page.antt` and a
 //! publish in `specs/Publish.antt`.
 //!
 //! **Promises.**
-//! - [`hearing::hear`]: either the request is the one at the front of the input and nothing is written yet, or the response for
-//!   the reason why there is none is written (`specs/Notice.antt`), and nothing if the input is empty or a read failed.
+//! - [`request::Request::read`]: the request is the one at the front of the input; a rejection is for its head, for the first check
+//!   that fails, or for a truncated body; nothing after it is taken but what came in one piece with the last of its head.
+//! - [`saying::say_fault`]: the response for the reason why there is no request is written (`specs/Notice.antt`), and nothing if the
+//!   input is empty or a read failed.
 //! - [`serve::serve_one`]: a response to the input is written, or a prefix of it, and the number of bytes written is reported;
 //!   and, even for readers and writers whose bytes aren't known, a failed write is the last call, and the node is unchanged or made
 //!   one step Propose, whose messages are returned whether or not the write succeeds.
@@ -30,9 +37,8 @@
 //! a message arrives.
 #![tactic(auto)]
 
-mod answering;
+pub mod answer;
 mod contents;
-pub mod hearing;
 pub mod law;
 pub mod notice;
 pub mod outcome;
@@ -40,7 +46,11 @@ mod page;
 pub mod pictures;
 mod publish;
 mod publish_fault;
+pub mod request;
+pub mod resource;
+pub mod route;
 pub mod saying;
 pub mod serve;
+pub mod status;
 pub mod telling;
 mod text_line;

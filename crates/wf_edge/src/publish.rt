@@ -5,7 +5,7 @@ ghost use Rattle.wf_block.specs.Reading.{is_memory};
 ghost use Rattle.wf_edge.specs.Publish.{IsMapOf, IsWhyNoMap, IsProposed, IsPublished, TellsFault, unwritten};
 ghost use Rattle.wf_edge.specs.Serving.{GivesPublish};
 
-use crate::answering::{accept, tell_fault};
+use crate::answer::{accept, tell_fault};
 use crate::notice::Notice;
 use crate::page::Page;
 use crate::publish_fault::PublishFault;

@@ -1,36 +1,22 @@
 //! Serving one request.
-ghost use Rattle.std.specs.Prelude.{◌≡◌, [], IfErr, IfOk, IfSome, OnErr, Vec};
+ghost use Rattle.std.specs.Prelude.{◌≡◌, Vec};
 ghost use Rattle.std.specs.declared.alloc.Global.{Global};
 ghost use Rattle.wf_codec.specs.declared.message.Message.{Message};
-ghost use Rattle.wf_edge.specs.Ending.{Says};
 ghost use Rattle.wf_edge.specs.Hearing.{CountsHearing};
-ghost use Rattle.wf_edge.specs.Notice.{response_of};
-ghost use Rattle.wf_http.specs.Request.{BeginsWith, TakesRequest};
+ghost use Rattle.wf_edge.specs.Request.{TakesRequest};
 ghost use Rattle.wf_edge.specs.Saying.{CountsSaying};
-ghost use Rattle.wf_edge.specs.Serving.{
-  IsEnding,
-  IsOutcome,
-  IsPublish,
-  IsReading,
-  IsServed,
-  MovesOnce,
-  Serves,
-};
+ghost use Rattle.wf_edge.specs.Serving.{IsEnding, IsOutcome, IsPublish, IsServed, MovesOnce, Serves};
 ghost use Rattle.wf_wms.specs.KeptPictures.{AllKept};
 
-use crate::answering::answer_reading;
-use crate::hearing::hear;
-use crate::notice::Notice;
+use crate::answer::{answer_get, say_answer, status_of};
 use crate::outcome::Outcome;
-use crate::page::Page;
 use crate::pictures::{Pictures, Uncached};
 use crate::publish::{Reply, reply_to_publish};
-use crate::saying::say;
-use crate::telling::told;
+use crate::request::Request;
+use crate::resource::Asked;
+use crate::saying::say_fault;
 use std::alloc::Global;
 use wf_codec::Message;
-use wf_http::request::Request;
-use wf_http::resource::Asked;
 use wf_node::Node;
 use wf_stream::{Sink, Source};
 use wf_tape::Tape;
@@ -43,42 +29,6 @@ pub struct Served {
     pub outcome: Outcome,
     /// To be delivered whether or not the response was written.
     pub messages: Vec<Message>,
-}
-
-// Writes a page, or the notice in its place.
-fn say_answer<K: Sink>(sink: &mut K, answer: &Result<Page, Notice>) -> Outcome
-    ensures { Says K.Sink (response_of answer.now) sink.old sink.new result }
-{
-    match answer {
-        Ok(page) => say(sink, &page.response()),
-        Err(notice) => say(sink, &told(*notice)),
-    }
-}
-
-// Answers a request that isn't a publish by a node, which stays as it is and sends nothing, and writes the response.
-#[tactic(auto, using(crate::specs::ServingLaws::answer_served))]
-fn answer_request<K: Sink, T: Tape, P: Pictures>(
-    alloc: Global,
-    sink: &mut K,
-    node: &Node<T>,
-    pictures: &mut P,
-    request: &Request,
-) -> Served
-    requires reads { IsReading request.now.asked }
-    requires kept { P.kept pictures.old node.now.parts.history }
-    ensures served { IsServed T.Tape K.Sink request.now sink.old sink.new
-        node.now result.messages node.now result.outcome }
-    ensures quiet { result.messages.items ≡ [] }
-    ensures kept { P.kept pictures.new node.now.parts.history }
-    ensures capacity { P.capacity pictures.new ≡ P.capacity pictures.old }
-{
-    let answer = answer_reading(alloc, node, pictures, request.asked(), request.query());
-    let outcome = say_answer(sink, &answer);
-    drop(answer);
-    Served {
-        outcome,
-        messages: Vec::new(alloc),
-    }
 }
 
 /// Proposes the map in a publish's body by a node, and writes the response. The messages of the node's step are returned whether or
@@ -100,45 +50,6 @@ pub fn publish_request<K: Sink, T: Tape>(
     Served { outcome, messages }
 }
 
-/// Reads a request, and nothing after it but what came in one piece with the last of its head, and answers it by a node, which
-/// stays as it is and sends nothing; or returns the request if it is a publish, before anything is written. If there is no request,
-/// its rejection is written, and nothing if the input is empty or a read failed.
-pub fn serve_reading<S: Source, K: Sink, T: Tape, P: Pictures>(
-    alloc: Global,
-    source: &mut S,
-    sink: &mut K,
-    node: &Node<T>,
-    pictures: &mut P,
-) -> Result<Served, Request>
-    requires { P.kept pictures.old node.now.parts.history }
-    ensures serves { IfOk result (λ served. Serves T.Tape K.Sink S.Source
-        source.old source.new sink.old sink.new node.now served.messages node.now served.outcome) }
-    ensures silent { IfOk result (λ served. served.messages.items ≡ []) }
-    ensures publish { IfErr result (λ request. IsPublish request.asked) }
-    ensures begins { IfErr result
-        (λ request. IfSome (S.left source.old) (λ input. BeginsWith input request)) }
-    ensures quiet { OnErr result (sink.new ≡ sink.old) }
-    ensures heard { OnErr result (S.failures source.new ≡ S.failures source.old) }
-    ensures takes { TakesRequest (S.piece source.old) (S.left source.old) (S.left source.new) }
-    ensures kept { P.kept pictures.new node.now.parts.history }
-    ensures capacity { P.capacity pictures.new ≡ P.capacity pictures.old }
-{
-    match hear(alloc, source, sink) {
-        Ok(request) => match request.asked() {
-            Asked::Wms | Asked::Status => {
-                let served = answer_request(alloc, sink, node, pictures, &request);
-                drop(request);
-                Ok(served)
-            }
-            Asked::Publish(_) => Err(request),
-        },
-        Err(outcome) => Ok(Served {
-            outcome,
-            messages: Vec::new(alloc),
-        }),
-    }
-}
-
 // Reads a request, answers it by the node, and writes the response.
 fn serve_with<S: Source, K: Sink, T: Tape, P: Pictures>(
     alloc: Global,
@@ -154,13 +65,44 @@ fn serve_with<S: Source, K: Sink, T: Tape, P: Pictures>(
     ensures kept { P.kept pictures.new node.old.parts.history }
     ensures capacity { P.capacity pictures.new ≡ P.capacity pictures.old }
 {
-    match serve_reading(alloc, source, sink, node, pictures) {
-        Ok(served) => served,
-        Err(request) => {
-            let served = publish_request(alloc, sink, node, &request);
+    match Request::read(alloc, source) {
+        Ok(request) => {
+            let served = answer_request(alloc, sink, node, pictures, &request);
             drop(request);
             served
         }
+        Err(fault) => Served {
+            outcome: say_fault(sink, fault),
+            messages: Vec::new(alloc),
+        },
+    }
+}
+
+// Answers a request by the node, and writes the response.
+#[tactic(auto, using(crate::specs::ServingLaws::read_served))]
+fn answer_request<K: Sink, T: Tape, P: Pictures>(
+    alloc: Global,
+    sink: &mut K,
+    node: &mut Node<T>,
+    pictures: &mut P,
+    request: &Request,
+) -> Served
+    requires { P.kept pictures.old node.old.parts.history }
+    ensures served { IsServed T.Tape K.Sink request.now sink.old sink.new
+        node.old result.messages node.new result.outcome }
+    ensures kept { P.kept pictures.new node.old.parts.history }
+    ensures capacity { P.capacity pictures.new ≡ P.capacity pictures.old }
+{
+    match request.asked() {
+        Asked::Wms | Asked::Status => {
+            let status = status_of(node);
+            let outcome = answer_get(alloc, sink, node.history(), status, pictures, request);
+            Served {
+                outcome,
+                messages: Vec::new(alloc),
+            }
+        }
+        Asked::Publish(_) => publish_request(alloc, sink, node, request),
     }
 }
 

@@ -14,6 +14,7 @@ mod Pumping
 mod Answered
 pub mod Deliveries
 mod OneRun
+mod Outcomes
 mod ThreeNodes
 mod Exactly
 mod Published

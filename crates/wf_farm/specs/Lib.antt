@@ -25,3 +25,4 @@ pub mod ExchangeLaws
 pub mod Reopening
 pub mod Fused
 pub mod Publishing
+pub mod Outcome

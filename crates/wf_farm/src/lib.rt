@@ -44,6 +44,7 @@
 //! [`deliveries_lead_on`], [`leading_goes_on`]; `specs/Leading.antt`); nodes opened on empty tapes are the model's start
 //! ([`open_fresh`], [`fresh_nodes_are_reached`]); nodes led on from reached nodes are reached ([`reached_stays`]); and so are nodes
 //! opened again from what reached nodes left on their tapes ([`reopen`], [`reopened_nodes_are_reached`]; `specs/Reopening.antt`).
+//! What one node does with an input, whichever, follows from what its step promises ([`a_step_is_answered`]; `specs/Outcome.antt`).
 //! So such nodes agree and answer as a farm's do: [`reached_nodes_agree`], [`reached_nodes_answer_alike`].
 //!
 //! A farm's pump and [`deliver_all`] deliver alike: where no delivery is lost and no tape fails, both are the same deliveries of the
@@ -70,6 +71,7 @@ mod happening;
 mod law;
 mod leading;
 mod lending;
+mod outcome;
 mod place;
 mod progress;
 mod publishing;
@@ -95,6 +97,7 @@ pub use leading::{
     a_step_leads_on, deliveries_lead_on, fresh_nodes_are_reached, leading_goes_on,
     reached_nodes_agree, reached_nodes_answer_alike, reached_stays, reopened_nodes_are_reached,
 };
+pub use outcome::a_step_is_answered;
 pub use place::Place;
 pub use publishing::{a_proposal_is_published, a_pump_delivers_alike, new_nodes_stay_new};
 pub use rejection::Rejection;

@@ -1,1 +1,4 @@
 mod Digits
+pub mod Lines
+pub mod Names
+pub mod Numbers

@@ -90,7 +90,7 @@ fn beginning_line(beginning: Beginning) -> &'static [u8]
 }
 
 /// Appends the line with the number of nodes, in two digits.
-fn push_nodes(text: &mut Vec<u8>, nodes: u8) -> Result<(), AllocError>
+pub(crate) fn push_nodes(text: &mut Vec<u8>, nodes: u8) -> Result<(), AllocError>
     requires { nodes ≤ 64 }
     ensures { OnOk result (text.new.items ≡ text.old.items ++ nodes_line nodes) }
 {
@@ -99,17 +99,17 @@ fn push_nodes(text: &mut Vec<u8>, nodes: u8) -> Result<(), AllocError>
 }
 
 /// Appends the line with the mark.
-fn push_mark(text: &mut Vec<u8>, mark: &[u8; 16]) -> Result<(), AllocError>
+pub(crate) fn push_mark(text: &mut Vec<u8>, mark: &[u8; 16]) -> Result<(), AllocError>
     requires { length mark.now ≡ 16 }
     ensures { OnOk result (text.new.items ≡ text.old.items ++ mark_line mark.now) }
 {
     text.extend_from_slice(b"mark ")?;
-    text.extend_from_slice(&digits(mark))?;
+    text.extend_from_slice(&mark_digits(mark))?;
     text.extend_from_slice(b"\n")
 }
 
 /// The digits of a mark, two a byte.
-pub(crate) fn digits(mark: &[u8; 16]) -> [u8; 32]
+pub fn mark_digits(mark: &[u8; 16]) -> [u8; 32]
     requires { length mark.now ≡ 16 }
     ensures { result ≡ encode_lower mark.now }
 {

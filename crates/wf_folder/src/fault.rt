@@ -13,3 +13,17 @@ pub enum FileFault {
     #[error("malformed")]
     Malformed,
 }
+
+/// Why bytes aren't the text of a node's file `farm` that this program reads.
+#[derive(Clone, Copy, Debug, PartialEq, Eq, Error)]
+pub enum NodeFault {
+    /// They don't begin with the line of this version.
+    #[error("not a farm file of version 1")]
+    Version,
+    /// They begin with it, but the next line doesn't say that the folder is one of `node`.
+    #[error("not a folder of wfarm node")]
+    Kind,
+    /// They begin with both lines, but what follows is malformed.
+    #[error("malformed")]
+    Malformed,
+}

@@ -6,7 +6,7 @@ ghost use Rattle.wf_folder.specs.declared.farm_file.Beginning.{Beginning};
 ghost use Rattle.wf_folder.specs.declared.farm_file.FarmFile.{FarmFile};
 
 use crate::farm_file::{
-    Beginning, EMPTY_LINE, FIRST_LINE, FOUND_LINE, FarmFile, KIND_LINE, MARK_DIGITS, digits,
+    Beginning, EMPTY_LINE, FIRST_LINE, FOUND_LINE, FarmFile, KIND_LINE, MARK_DIGITS, mark_digits,
 };
 use crate::fault::FileFault;
 
@@ -52,7 +52,7 @@ fn read_fields(bytes: &[u8]) -> Option<FarmFile>
 }
 
 /// What follows a line that the bytes begin with.
-fn after<'a>(bytes: &'a [u8], line: &[u8]) -> Option<&'a [u8]>
+pub fn after<'a>(bytes: &'a [u8], line: &[u8]) -> Option<&'a [u8]>
     ensures { MatchOption result ((rest : List ℕ) → bytes.now ≢ line.now ++ rest)
         (λ rest. bytes.now ≡ line.now ++ rest.now) }
 {
@@ -74,7 +74,7 @@ fn read_beginning(bytes: &[u8]) -> Option<(Beginning, &[u8])>
 }
 
 /// The number of nodes, and what follows that line.
-fn read_nodes(bytes: &[u8]) -> Option<(u8, &[u8])>
+pub(crate) fn read_nodes(bytes: &[u8]) -> Option<(u8, &[u8])>
     ensures number { IfSome result (λ x. IsNumberOfNodes x.0) }
     ensures some { IfSome result (λ x. bytes.now ≡ nodes_line x.0 ++ x.1.now) }
     ensures none { IfNone result ((nodes : ℕ) (rest : List ℕ) → IsNumberOfNodes nodes → bytes.now ≢ nodes_line nodes ++ rest) }
@@ -106,7 +106,7 @@ fn number_of(tens: u8, ones: u8) -> Option<u8>
 }
 
 /// The mark, if bytes are its line.
-fn read_mark(bytes: &[u8]) -> Option<[u8; 16]>
+pub(crate) fn read_mark(bytes: &[u8]) -> Option<[u8; 16]>
     ensures mark { IfSome result (λ mark. IsBytes mark × (length mark ≡ 16)) }
     ensures some { IfSome result (λ mark. bytes.now ≡ mark_line mark) }
     ensures none { IfNone result ((mark : List ℕ) → IsBytes mark → length mark ≡ 16 → bytes.now ≢ mark_line mark) }
@@ -116,11 +116,27 @@ fn read_mark(bytes: &[u8]) -> Option<[u8; 16]>
 }
 
 /// What stands before a line's end that bytes end with.
-fn before<'a>(bytes: &'a [u8], end: &[u8]) -> Option<&'a [u8]>
+pub(crate) fn before<'a>(bytes: &'a [u8], end: &[u8]) -> Option<&'a [u8]>
     ensures { MatchOption result ((front : List ℕ) → bytes.now ≢ front ++ end.now)
         (λ front. bytes.now ≡ front.now ++ end.now) }
 {
     bytes.strip_suffix(end)
+}
+
+/// The mark whose digits bytes begin with, and what follows them; None if they begin with no mark's.
+pub fn split_mark(bytes: &[u8]) -> Option<([u8; 16], &[u8])>
+    ensures mark { IfSome result (λ x. IsBytes x.0 × (length x.0 ≡ 16)) }
+    ensures some { IfSome result (λ x. bytes.now ≡ encode_lower x.0 ++ x.1.now) }
+    ensures none { IfNone result ((mark rest : List ℕ) → IsBytes mark → length mark ≡ 16 → bytes.now ≢ encode_lower mark ++ rest) }
+{
+    if bytes.len() < MARK_DIGITS {
+        return None;
+    }
+    let (digits, rest) = bytes.split_at(MARK_DIGITS);
+    match mark_of(digits) {
+        Some(mark) => Some((mark, rest)),
+        None => None,
+    }
 }
 
 /// The mark with these digits.
@@ -143,7 +159,7 @@ fn in_lowercase(text: &[u8], mark: [u8; 16]) -> Option<[u8; 16]>
     ensures some { IfSome result (λ _. text.now ≡ encode_lower mark) }
     ensures none { IfNone result (text.now ≢ encode_lower mark) }
 {
-    if digits(&mark).as_slice() == text {
+    if mark_digits(&mark).as_slice() == text {
         Some(mark)
     } else {
         None

@@ -4,9 +4,10 @@ use Rattle.std.specs.Prelude.{Option, Some, None, IfSome}
 use Rattle.std.proofs.lemmas.Bool.{cases_lt}
 use Rattle.std.proofs.Math.Seq.{take-append-add}
 use Rattle.std.proofs.lemmas.List.{append-nil, length-append, length-take, take_all, take-append-le}
-use Rattle.wf_stream.specs.KnownLaws.{consumes_none, takes_all}
-use Rattle.wf_stream.specs.Reading.{TakesUpTo}
-use Rattle.wf_http.specs.Request.{IsBody, IsBodyFault}
+use Rattle.std.specs.Io.KnownBytes.{Consumes, IsAtEnd}
+use Rattle.wf_stream.specs.KnownLaws.{first_at_end, first_at_limit, nothing_read, takes_read}
+use Rattle.wf_stream.specs.Reading.{ReadsPiece, TakesUpTo}
+use Rattle.wf_http.specs.Body.{IsBody, IsBodyFault}
 use Rattle.wf_http.specs.declared.refusal.Refusal.TheVariants as refusal
 use Rattle.wf_http.specs.declared.fault.RequestFault.TheVariants as fault
 
@@ -53,19 +54,29 @@ module _ (behind known front rest : List ℕ) (bytes missing : ℕ) (came : fron
       let sizes = length-append behind known in let size = came_bytes in
       let had : length rest ≡ min missing (length known) = ap length read ∙ length-take missing known in omega arith
 
--- the same, if the input is known
-pub body_joined : (left : Option (List ℕ)) (behind front rest body : List ℕ) (bytes missing : ℕ) → front ≡ take (min (length behind) bytes) behind
-    → missing ≡ bytes - length front → IfSome left (λ known. rest ≡ take missing known) → length rest ≡ missing → body ≡ front ++ rest
-    → IfSome left (λ known. IsBody (behind ++ known) bytes body)
-body_joined None behind front rest body bytes missing came misses read full is = tt
-body_joined (Some known) behind front rest body bytes missing came misses read full is =
-    rw is (whole_body behind known front rest bytes missing came misses read full)
+-- what was read after the front is what was missing, or all that was left
+piece_is : (known : List ℕ) (new : Option (List ℕ)) (piece : List ℕ) (count missing : ℕ) → length piece ≡ count → Consumes (Some known) new piece
+    → count ≤ missing → (count < missing → IsAtEnd new) → piece ≡ take missing known
+piece_is known new piece count missing size consumed short ends = elim (cases_lt count missing) [
+  | inl fewer ↦ first_at_end (Some known) new piece missing consumed (ends fewer) (omega arith)
+  | inr full ↦ first_at_limit (Some known) new piece missing consumed (omega arith)
+]
 
-pub body_cut : (left : Option (List ℕ)) (behind front rest : List ℕ) (bytes missing : ℕ) → front ≡ take (min (length behind) bytes) behind
-    → missing ≡ bytes - length front → IfSome left (λ known. rest ≡ take missing known) → length rest ≢ missing
+-- the same, if the input is known
+pub body_joined : (left new : Option (List ℕ)) (behind front begun body : List ℕ) (bytes missing count : ℕ) → front ≡ take (min (length behind) bytes) behind
+    → missing ≡ bytes - length front → begun ≡ front → ReadsPiece count left new begun body → count ≤ missing → (count < missing → IsAtEnd new) → count ≡ missing
+    → IfSome left (λ known. IsBody (behind ++ known) bytes body)
+body_joined None new behind front begun body bytes missing count came misses same read short ends full = tt
+body_joined (Some known) new behind front begun body bytes missing count came misses same (piece, size, consumed, is) short ends full =
+    rw (is, same)
+    (whole_body behind known front piece bytes missing came misses (piece_is known new piece count missing size consumed short ends) (size ∙ full))
+
+pub body_cut : (left new : Option (List ℕ)) (behind front begun body : List ℕ) (bytes missing count : ℕ) → front ≡ take (min (length behind) bytes) behind
+    → missing ≡ bytes - length front → ReadsPiece count left new begun body → count ≤ missing → (count < missing → IsAtEnd new) → count ≢ missing
     → IfSome left (λ known. IsBodyFault (behind ++ known) bytes (fault.Refused refusal.BadRequest))
-body_cut None behind front rest bytes missing came misses read short = tt
-body_cut (Some known) behind front rest bytes missing came misses read short = (refl, cut_body behind known front rest bytes missing came misses read short)
+body_cut None new behind front begun body bytes missing count came misses read short ends other = tt
+body_cut (Some known) new behind front begun body bytes missing count came misses (piece, size, consumed, is) short ends other =
+    (refl, cut_body behind known front piece bytes missing came misses (piece_is known new piece count missing size consumed short ends) (λ full. other (sym size ∙ full)))
 
 -- a body of at least one byte allocates
 pub body_unheld : (left : Option (List ℕ)) (behind : List ℕ) (bytes : ℕ) → 0 < bytes → IfSome left (λ known. IsBodyFault (behind ++ known) bytes fault.Memory)
@@ -83,4 +94,4 @@ missing_taken old new behind front bytes missing came misses (taken, short, cons
     (taken, omega arith, consumed)
 
 pub nothing_taken : (known : Option (List ℕ)) (limit : ℕ) → TakesUpTo limit known known
-nothing_taken known limit = takes_all known known [] limit (consumes_none known [] refl) (omega arith)
+nothing_taken known limit = takes_read known known 0 limit [] [] (nothing_read known []) (omega arith)

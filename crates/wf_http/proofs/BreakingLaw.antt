@@ -1,10 +1,10 @@
 -- From the pieces written to the whole, or to how writing broke off.
-use Rattle.std.proofs.Common.{◌≡◌, ◌∙◌, ◌+◌, ◌-◌, ◌≤◌, ◌^◌, ℕ, Bool, false, min, List, [], ◌++◌, length, take, refl, sym, ap, subst, subst₂, arith}
+use Rattle.std.proofs.Common.{◌≡◌, ◌∙◌, ◌+◌, ◌-◌, ◌≤◌, ◌^◌, ℕ, Bool, false, min, List, [], ◌++◌, length, take, drop, refl, sym, ap, subst, subst₂, arith}
 use Rattle.std.specs.Prelude.{Some}
-use Rattle.std.specs.Io.KnownBytes.{Appends}
-use Rattle.std.proofs.lemmas.List.{take-append-le, length-append}
-use Rattle.std.proofs.Math.Seq.{take-append-add}
-use Rattle.wf_stream.specs.KnownLaws.{appends_none, appends_more}
+use Rattle.std.specs.Io.KnownBytes.{Appends, Keeps}
+use Rattle.std.proofs.lemmas.List.{append_assoc, take-append-drop, take-append-le, length-append, length-take-le}
+use Rattle.std.proofs.Math.Seq.{drop-append-add, take-append-add}
+use Rattle.wf_stream.specs.KnownLaws.{appends_keeps, appends_none, appends_more}
 use Rattle.wf_stream.specs.Reading.{EndsByFailing, Rises}
 use Rattle.wf_stream.specs.declared.stream.Sink.{Ghosts as Sink}
 use Rattle.wf_http.specs.Breaking.{IsWriting, HasWritten, HasBroken, BreaksOff}
@@ -113,3 +113,48 @@ gathered_is sinks first now before bytes gathered count failed was is none whole
     let done = subst (λ (f : Bool). IsWriting sinks first bytes now count f) whole writing in
     let appended : gathered ≡ before ++ bytes = subst₂ (λ old new. Appends old new bytes) was is done.whole in
     appended ∙ ap (λ (b : List ℕ). b ++ bytes) none
+
+-- ---- two pieces
+
+take_pair : (one two : List ℕ) (count : ℕ) → count ≤ length one → take count (one ++ two) ≡ take count one
+take_pair one two count short = take-append-le count one two short
+
+-- what is left of the first of two pieces, and the second
+pub rest_of_first : (bytes one two rest : List ℕ) (count : ℕ) → count ≤ length one → rest ≡ drop count one
+    → ((bytes ++ take count (one ++ two)) ++ rest) ++ two ≡ bytes ++ (one ++ two)
+rest_of_first bytes one two rest count short is =
+    ap (λ (back : List ℕ). ((bytes ++ take count (one ++ two)) ++ back) ++ two) is
+    ∙ ap (λ (front : List ℕ). ((bytes ++ front) ++ drop count one) ++ two) (take_pair one two count short)
+    ∙ ap (λ (front : List ℕ). front ++ two) (append_assoc bytes (take count one) (drop count one) ∙ ap (λ (whole : List ℕ). bytes ++ whole) (take-append-drop count one))
+    ∙ append_assoc bytes one two
+
+-- what is left of the second
+pub rest_of_second : (bytes one two rest : List ℕ) (count : ℕ) → length one ≤ count → rest ≡ drop (count - length one) two
+    → (bytes ++ take count (one ++ two)) ++ rest ≡ bytes ++ (one ++ two)
+rest_of_second bytes one two rest count long is =
+    let index : length one + (count - length one) ≡ count = omega arith in
+    let same : drop (count - length one) two ≡ drop count (one ++ two) =
+    sym (drop-append-add one two (count - length one)) ∙ ap (λ (n : ℕ). drop n (one ++ two)) index in
+    ap (λ (back : List ℕ). (bytes ++ take count (one ++ two)) ++ back) (is ∙ same)
+    ∙ append_assoc bytes (take count (one ++ two)) (drop count (one ++ two))
+    ∙ ap (λ (whole : List ℕ). bytes ++ whole) (take-append-drop count (one ++ two))
+
+module _ {K : Type 0} (sinks : Sink K) where
+  -- the first bytes of a piece were written
+  pub writing_begins : (first old new : K) (bytes piece : List ℕ) (before count after : ℕ) → count ≤ length piece →
+      Appends (sinks.written old) (sinks.written new) (take count piece) → sinks.failures new ≡ sinks.failures old → after ≡ min (before + count) (2 ^ 64 - 1) →
+      HasWritten sinks first bytes old before → HasWritten sinks first (bytes ++ take count piece) new after
+  writing_begins first old new bytes piece before count after short appends calm more so_far =
+      writing_goes_on sinks first old new bytes (take count piece) before after appends calm
+      (more ∙ ap (λ (n : ℕ). min (before + n) (2 ^ 64 - 1)) (sym (length-take-le count piece short))) so_far
+
+  -- a call failed before any byte of a piece was written
+  pub writing_fails : (first old new : K) (bytes piece : List ℕ) (before : ℕ) → Keeps (sinks.written old) (sinks.written new) →
+      Rises (sinks.failures old) (sinks.failures new) → sinks.fails old new →
+      HasWritten sinks first bytes old before → HasBroken sinks first (bytes ++ piece) new before
+  writing_fails first old new bytes piece before keeps cause failed so_far =
+      let counts = so_far.counts in
+      writing_breaks sinks first old new bytes piece before 0 before (omega arith)
+      (appends_keeps (sinks.written old) (sinks.written old) (sinks.written new) [] (appends_none (sinks.written old)) keeps) cause
+      (record { before = old; appended = appends_none (sinks.written old); calm = refl; failed = failed })
+      (omega (arith, counts)) so_far

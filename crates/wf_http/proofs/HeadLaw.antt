@@ -9,7 +9,7 @@ use Rattle.httparse.specs.declared.spans.HeaderSpan.{HeaderSpan}
 use Rattle.httparse.specs.declared.spans.RequestSpans.{RequestSpans}
 use Rattle.wf_http.specs.Head.{Head, Begins, HasNoSmallRequest, most_fields, most_head_bytes}
 use Rattle.wf_stream.specs.Reading.{ReadsPiece}
-use Rattle.wf_http.specs.Request.{front_of, IsHeadRefusal, IsHeadFault, IsUnfinished, TakesPiece, TakesHead}
+use Rattle.wf_http.specs.Front.{front_of, IsHeadRefusal, IsHeadFault, IsUnfinished, TakesPiece, TakesHead}
 use Rattle.wf_http.specs.declared.refusal.Refusal.{Refusal}
 use Rattle.wf_http.specs.declared.refusal.Refusal.TheVariants as refusal
 use Rattle.wf_http.specs.declared.fault.RequestFault.{RequestFault}

@@ -5,5 +5,4 @@ mod CheckLaw
 mod FieldLaw
 mod HeadLaw
 mod NumberLaw
-mod RequestLaw
 mod Written

@@ -7,7 +7,7 @@ use Rattle.std.proofs.lemmas.Bool.{and_parts, leb-true, eqb-true, eqb-false, cas
 use Rattle.std.proofs.lemmas.Bool.Decides.{same_from_decides, Decides-eqb}
 use Rattle.std.proofs.lemmas.Slice.Eq.{bytes_eq-Decides}
 use Rattle.wf_text.specs.Number.{number_of_digits, spelled_onto}
-use Rattle.wf_http.specs.Fields.{is_digits, is_zero, significant, first_of}
+use Rattle.wf_http.specs.Fields.{is_digits, is_number, is_zero, significant, first_of}
 
 abbrev AreDigits : List ℕ → Type 0
 AreDigits digits = list_all is_ascii_digit digits ≡ true
@@ -141,11 +141,26 @@ first_is_digits (value ∷ lengths) first told are =
     let is : value ≡ first = cc in
     subst (λ digits. is_digits digits ≡ true) is (and_parts (is_digits value) (list_all is_digits lengths) are).0
 
+both_step : (a b all one other : Bool) → all ≡ (one && other) → ((a && b) && all) ≡ ((a && one) && (b && other))
+both_step true true all one other is = is
+both_step true false all true other is = refl
+both_step true false all false other is = refl
+both_step false b all one other is = refl
+
+-- two tests pass of each value if each of them does of all
+all_both : (p q : List ℕ → Bool) (values : List (List ℕ)) → list_all (λ value. p value && q value) values ≡ (list_all p values && list_all q values)
+all_both p q [] = refl
+all_both p q (value ∷ values) = both_step (p value) (q value) (list_all (λ v. p v && q v) values) (list_all p values) (list_all q values) (all_both p q values)
+
+numbers_alike : (lengths : List (List ℕ)) (first : List ℕ) (digits : Bool) → first_of lengths ≡ Some first → list_all is_digits lengths ≡ digits
+    → (digits && list_all (λ value. bytes_eq (significant value) (significant first)) lengths)
+    ≡ (digits && list_all (λ value. number_of_digits value == number_of_digits first) lengths)
+numbers_alike lengths first true told all = same_numbers lengths first (first_is_digits lengths first told all) all
+numbers_alike lengths first false told all = refl
+
 -- all lengths are digits, the same as the first one's leading zeros aside, iff they are one number
-pub numbers_agree : (lengths : List (List ℕ)) (first : List ℕ) (digits same : Bool) → first_of lengths ≡ Some first → digits ≡ list_all is_digits lengths
-    → same ≡ list_all (λ value. bytes_eq (significant value) (significant first)) lengths
-    → (digits && same) ≡ (list_all is_digits lengths && list_all (λ value. number_of_digits value == number_of_digits first) lengths)
-numbers_agree lengths first true same told all alike =
-    alike ∙ same_numbers lengths first (first_is_digits lengths first told (sym all)) (sym all)
-    ∙ ap (λ t. t && list_all (λ value. number_of_digits value == number_of_digits first) lengths) all
-numbers_agree lengths first false same told all alike = ap (λ t. t && list_all (λ value. number_of_digits value == number_of_digits first) lengths) all
+pub numbers_agree : (lengths : List (List ℕ)) (first : List ℕ) (same : Bool) → first_of lengths ≡ Some first → same ≡ list_all (is_number first) lengths
+    → same ≡ (list_all is_digits lengths && list_all (λ value. number_of_digits value == number_of_digits first) lengths)
+numbers_agree lengths first same told is =
+    is ∙ all_both is_digits (λ value. bytes_eq (significant value) (significant first)) lengths
+    ∙ numbers_alike lengths first (list_all is_digits lengths) told refl

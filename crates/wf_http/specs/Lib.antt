@@ -1,7 +1,9 @@
+pub mod Body
 pub mod Breaking
 pub mod Checks
 pub mod Fields
+pub mod Front
 pub mod Head
-pub mod Request
+pub mod Method
 pub mod Response
 pub mod Target

@@ -2,7 +2,7 @@
 use Rattle.std.specs.Prelude.{◌≡◌, ◌≤◌, ◌-◌, ◌^◌, ℕ, min, List, [], ◌++◌, length, take, decimal, codes, unwrap_or, Option, Some, None}
 use Rattle.std.specs.Io.KnownBytes.{Appends}
 use Rattle.http.specs.StatusCode.{code_digits, reason_phrase}
-use Rattle.wf_http.specs.Target.{method_name}
+use Rattle.wf_http.specs.Method.{method_name}
 use Rattle.wf_http.specs.declared.refusal.Allowed.{Allowed}
 
 -- a response: the status, the media type of the body, the allowed method if the request's was another, and the body

@@ -1,20 +1,22 @@
 //! The body of a request.
 ghost use Rattle.std.specs.Prelude.{◌≡◌, ◌<◌, ◌-◌, ◌++◌, IfOk, IfErr, IfSome, IsOk, length};
-ghost use Rattle.wf_http.specs.Request.{IsBody, IsBodyFault, CountsReads};
+ghost use Rattle.wf_http.specs.Body.{IsBody, IsBodyFault};
+ghost use Rattle.wf_http.specs.Front.{CountsReads};
 ghost use Rattle.wf_stream.specs.Reading.{TakesUpTo};
 
 use crate::fault::RequestFault;
 use crate::refusal::Refusal;
 use std::alloc::{AllocError, Global};
 use std::io::ErrorKind;
-use wf_stream::{Source, read_up_to};
+use wf_stream::{Source, read_onto};
 
-fn join(alloc: Global, front: &[u8], rest: &[u8]) -> Result<Vec<u8>, AllocError>
-    ensures { IfOk result (λ whole. whole.items ≡ front.now ++ rest.now) }
+// A buffer with room for a body of `bytes` bytes, and these at its front.
+fn begin(alloc: Global, front: &[u8], bytes: usize) -> Result<Vec<u8>, AllocError>
+    ensures { IfOk result (λ body. body.items ≡ front.now) }
 {
-    let mut whole = Vec::from_slice(alloc, front)?;
-    whole.extend_from_slice(rest)?;
-    Ok(whole)
+    let mut body = Vec::with_capacity(alloc, bytes)?;
+    body.extend_from_slice(front)?;
+    Ok(body)
 }
 
 // Reads a body of `bytes` bytes, some of which may have been read with the head.
@@ -35,15 +37,16 @@ fn read_missing<S: Source>(
 {
     let front = behind.split_at(behind.len().min(bytes)).0;
     let missing = bytes - front.len();
-    match read_up_to(alloc, source, missing) {
-        Ok(rest) => {
-            if rest.len() != missing {
+    let mut body = match begin(alloc, front, bytes) {
+        Ok(body) => body,
+        Err(_) => return Err(RequestFault::Memory),
+    };
+    match read_onto(source, &mut body, missing) {
+        Ok(count) => {
+            if count != missing {
                 return Err(RequestFault::Refused(Refusal::BadRequest));
             }
-            match join(alloc, front, &rest) {
-                Ok(body) => Ok(body),
-                Err(_) => Err(RequestFault::Memory),
-            }
+            Ok(body)
         }
         Err(error) if error.kind() == ErrorKind::OutOfMemory => Err(RequestFault::Memory),
         Err(_) => Err(RequestFault::ReadFailed),

@@ -1,8 +1,8 @@
 //! The header fields of a request.
-ghost use Rattle.std.specs.Prelude.{◌≡◌, ◌≤◌, ◌&&◌, not, is_some, bytes_eq, length, map, find, option_map};
+ghost use Rattle.std.specs.Prelude.{◌≡◌, ◌≤◌, ◌&&◌, not, is_some, length, map, find, option_map};
 ghost use Rattle.std.specs.List.{list_all, prefix_len};
 ghost use Rattle.httparse.specs.Spans.{header_bytes};
-ghost use Rattle.wf_http.specs.Fields.{is_named, is_digits, is_zero, significant, values, first_of};
+ghost use Rattle.wf_http.specs.Fields.{is_named, is_digits, is_number, is_zero, significant, values, first_of};
 
 use crate::span::covered;
 use httparse::spans::HeaderSpan;
@@ -46,21 +46,20 @@ fn is_named(bytes: &[u8], span: &HeaderSpan, name: &[u8]) -> bool
     covered(bytes, span.name).eq_ignore_ascii_case(name)
 }
 
-// Whether the field at a span has this name, and its value isn't digits.
-fn has_no_digits(bytes: &[u8], span: &HeaderSpan, name: &[u8]) -> bool
-    ensures { result ≡ (is_named name.now (header_bytes bytes.now span.now)
-        && not (is_digits (header_bytes bytes.now span.now).1)) }
+// Whether a value is digits, and the same number as these. Numbers are compared by their digits without leading zeros, so they may
+// have any length.
+fn is_number(first: &[u8], value: &[u8]) -> bool
+    ensures { result ≡ is_number first.now value.now }
 {
-    is_named(bytes, span, name) && !is_digits(covered(bytes, span.value))
+    is_digits(value) && significant(value) == significant(first)
 }
 
-// Whether the field at a span has this name, and its value differs from this one, leading zeros aside.
+// Whether the field at a span has this name, and its value isn't that number.
 fn has_other(bytes: &[u8], span: &HeaderSpan, name: &[u8], first: &[u8]) -> bool
     ensures { result ≡ (is_named name.now (header_bytes bytes.now span.now)
-        && not (bytes_eq
-        (significant (header_bytes bytes.now span.now).1) (significant first.now))) }
+        && not (is_number first.now (header_bytes bytes.now span.now).1)) }
 {
-    is_named(bytes, span, name) && significant(covered(bytes, span.value)) != significant(first)
+    is_named(bytes, span, name) && !is_number(first, covered(bytes, span.value))
 }
 
 /// The header fields of a request, as spans of its bytes.
@@ -99,21 +98,9 @@ impl<'b> Fields<'b> {
         None
     }
 
-    fn found_no_digits(&self, name: &[u8]) -> bool
-        ensures { result ≡ is_some
-            (find (λ field. is_named name.now field && not (is_digits field.1)) self.now) }
-    {
-        for span in self.spans {
-            if has_no_digits(self.bytes, span, name) {
-                return true;
-            }
-        }
-        false
-    }
-
     fn found_other(&self, name: &[u8], first: &[u8]) -> bool
-        ensures { result ≡ is_some (find (λ field. is_named name.now field
-            && not (bytes_eq (significant field.1) (significant first.now))) self.now) }
+        ensures { result ≡ is_some
+            (find (λ field. is_named name.now field && not (is_number first.now field.1)) self.now) }
     {
         for span in self.spans {
             if has_other(self.bytes, span, name, first) {
@@ -130,17 +117,9 @@ impl<'b> Fields<'b> {
         self.found(name)
     }
 
-    /// Whether the value of each field of that name is one or more decimal digits.
-    pub fn are_digits(&self, name: &[u8]) -> bool
-        ensures { result ≡ list_all is_digits (values name.now self.now) }
-    {
-        !self.found_no_digits(name)
-    }
-
-    /// Whether the value of each field of that name is this one, leading zeros aside.
-    pub fn are_same(&self, name: &[u8], first: &[u8]) -> bool
-        ensures { result ≡ list_all (λ value. bytes_eq (significant value) (significant first.now))
-            (values name.now self.now) }
+    /// Whether the value of each field of that name is one or more decimal digits, and the same number as this one.
+    pub fn are_number(&self, name: &[u8], first: &[u8]) -> bool
+        ensures { result ≡ list_all (is_number first.now) (values name.now self.now) }
     {
         !self.found_other(name, first)
     }

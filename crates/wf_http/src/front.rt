@@ -3,17 +3,16 @@ ghost use Rattle.std.specs.Prelude.{◌≡◌, ◌≢◌, ◌≤◌, ◌<◌, �
 ghost use Rattle.std.specs.Io.KnownBytes.{Consumes, IsAtEnd};
 ghost use Rattle.httparse.specs.Grammar.{HasNoRequest};
 ghost use Rattle.wf_http.specs.Head.{most_head_bytes, most_fields};
-ghost use Rattle.wf_http.specs.Request.{front_of, IsFront, TakesFront, TakesMore, TakesPiece, TakesHead, IsUnfinished, IsHeadRefusal, IsHeadFault, CountsReads};
-ghost use Rattle.wf_http.specs.Checks.{judged, most_body_bytes};
+ghost use Rattle.wf_http.specs.Front.{front_of, IsFront, TakesFront, TakesMore, TakesPiece, TakesHead, IsUnfinished, IsHeadRefusal, IsHeadFault, CountsReads};
+ghost use Rattle.wf_http.specs.Checks.{most_body_bytes};
 ghost use Rattle.wf_http.specs.declared.fault.RequestFault.TheVariants.{ReadFailed, Memory};
 ghost use Rattle.wf_stream.specs.Reading.{Counts, ReadsPiece};
 
 use crate::buffer::append;
-use crate::check::{MOST_BODY_BYTES, judge};
+use crate::check::MOST_BODY_BYTES;
 use crate::fault::RequestFault;
 use crate::fields::Fields;
 use crate::refusal::Refusal;
-use crate::resource::Asked;
 use crate::span::covered;
 use arrayvec::ArrayVec;
 use httparse::spans::{EMPTY_HEADER_SPAN, HeaderSpan, RequestSpans, parse_request};
@@ -145,7 +144,7 @@ pub struct Front {
 }
 
 impl Model for Front {
-    ghost use Rattle.wf_http.specs.Request.{Front as FrontValue, front_of};
+    ghost use Rattle.wf_http.specs.Front.{Front as FrontValue, front_of};
 
     ghost Value = { FrontValue };
 
@@ -190,24 +189,19 @@ impl Front {
         self.bytes.as_slice().split_at(length).1
     }
 
-    fn method(&self) -> &[u8]
+    /// The method of the request.
+    pub fn method(&self) -> &[u8]
         ensures { result.now ≡ self.now.head.method }
     {
         covered(self.bytes.as_slice(), self.parts.spans.method)
     }
 
+    /// The header fields of the request.
     #[tactic(auto, using(crate::proofs::HeadLaw::taken_within))]
-    fn fields(&self) -> Fields<'_>
+    pub fn fields(&self) -> Fields<'_>
         ensures { result ≡ self.now.head.fields }
     {
         let count = self.parts.spans.headers.min(self.parts.fields.len());
         Fields::new(self.bytes.as_slice(), self.parts.fields.split_at(count).0)
-    }
-
-    /// What the head asks for, or the rejection by the first check that fails.
-    pub fn judge(&self) -> Result<Asked, Refusal>
-        ensures { result ≡ judged self.now.head }
-    {
-        judge(self.method(), self.target(), &self.fields())
     }
 }

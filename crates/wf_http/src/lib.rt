@@ -2,24 +2,26 @@
 //!
 //! Readers and writers are [`wf_stream::Source`] and [`wf_stream::Sink`], which count their failed calls and report their bytes
 //! if known.
-//! - [`front::Front`] is the head of a request with the bytes read after it; [`check::judge`] checks a head; [`body::read_body`]
-//!   reads a body; [`request::Request`] combines these.
+//! - [`front::Front`] is the head of a request (its method, target and fields) with the bytes read after it; a target is a path
+//!   and a query ([`target`]). [`check`] has the checks on a head that hold for any resource, and the length of the body that its
+//!   fields announce; [`body::read_body`] reads a body.
 //! - [`response::Response`] is a response, which writes itself.
 //! - [`buffer::append`] appends to bytes stored inline.
 //!
-//! **Model.** A request is its head, what the head asks for, and its body (`specs/Request.antt`); a response is its status, media
-//! type, allowed method and body (`specs/Response.antt`).
+//! **Model.** What is read of a head is in `specs/Front.antt`, of a body in `specs/Body.antt`; the checks and the length of a body
+//! are in `specs/Checks.antt`. A response is its status, media type, allowed method and body (`specs/Response.antt`).
 //!
 //! **Promises.**
-//! - [`request::Request::read`]: the request is the one at the front of the input; a rejection is for its head, for the first
-//!   check that fails, or for a truncated body; a failed read is reported iff one has failed; and nothing after the request is
-//!   consumed but what came in one piece with the last of its head: no read is made once the request is complete.
+//! - [`front::Front::read`]: the head is the one at the front of the input, and no read is made once it is complete; a rejection is
+//!   for an input that has no such head; a failed read is reported iff one has failed.
+//! - [`body::read_body`]: the body is the bytes that follow, and no further ones are read; a rejection is for a truncated body.
 //! - [`response::Response::write`]: exactly the bytes of the response are written, or a prefix of them if the writer failed; the
 //!   failed write is the last call (`specs/Breaking.antt`).
 //!
-//! Only a body allocates: a request that its head rejects isn't rejected for allocation failure.
+//! Only a body allocates.
 //!
-//! **Doesn't.** It doesn't know what the resources answer (wf_edge), nor promise that a reader ever returns its next byte.
+//! **Doesn't.** It doesn't know which resources there are, nor their methods (wf_edge), nor promise that a reader ever returns its
+//! next byte.
 #![tactic(auto)]
 
 pub mod body;
@@ -29,9 +31,8 @@ pub mod fault;
 pub mod fields;
 pub mod front;
 mod gathered;
+pub mod method;
 pub mod refusal;
-pub mod request;
-pub mod resource;
 pub mod response;
 mod span;
 pub mod target;

@@ -1,6 +1,6 @@
 //! Why a request is rejected.
 
-/// The methods of the resources (RFC 9110, section 9.3).
+/// The methods that a resource may have (RFC 9110, section 9.3).
 #[derive(Clone, Copy, PartialEq, Eq)]
 pub enum Allowed {
     Get,

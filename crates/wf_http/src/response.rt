@@ -1,5 +1,5 @@
 //! Responses, and how they are written.
-ghost use Rattle.std.specs.Prelude.{◌≡◌, ◌≤◌, ◌++◌, ℕ, false, List, [], length, IfOk, IfErr, OnOk, OnErr};
+ghost use Rattle.std.specs.Prelude.{◌≡◌, ◌≤◌, ◌++◌, ℕ, false, List, [], length, take, IfOk, IfErr, OnOk, OnErr};
 ghost use Rattle.std.specs.Io.KnownBytes.{Appends};
 ghost use Rattle.wf_stream.specs.Reading.{Rises};
 ghost use Rattle.wf_http.specs.Breaking.{BreaksOff, IsWriting};
@@ -55,6 +55,42 @@ fn put<K: Sink>(sink: &mut K, progress: &mut Progress, piece: &[u8])
             progress.written = progress.written.saturating_add(count as u64);
             progress.failed = true;
         }
+    }
+}
+
+// Writes two more pieces, in one call where the writer takes both, unless it has failed.
+fn put_pair<K: Sink>(sink: &mut K, progress: &mut Progress, one: &[u8], two: &[u8])
+    ensures { (first : K) (bytes : List ℕ) →
+        IsWriting K.Sink first bytes sink.old progress.old.written progress.old.failed →
+        IsWriting K.Sink first (bytes ++ (one.now ++ two.now))
+        sink.new progress.new.written progress.new.failed }
+{
+    if progress.failed {
+        return;
+    }
+    match sink.write_pair(one, two) {
+        Ok(count) => {
+            progress.written = progress.written.saturating_add(count as u64);
+            put_rest(sink, progress, one, two, count);
+        }
+        Err(_) => progress.failed = true,
+    }
+}
+
+// Writes what is left of two pieces after so many bytes of them.
+fn put_rest<K: Sink>(sink: &mut K, progress: &mut Progress, one: &[u8], two: &[u8], count: usize)
+    requires { count ≤ length (one.now ++ two.now) }
+    ensures { (first : K) (bytes : List ℕ) →
+        IsWriting K.Sink first (bytes ++ take count (one.now ++ two.now))
+        sink.old progress.old.written progress.old.failed →
+        IsWriting K.Sink first (bytes ++ (one.now ++ two.now))
+        sink.new progress.new.written progress.new.failed }
+{
+    if count < one.len() {
+        put(sink, progress, one.split_at(count).1);
+        put(sink, progress, two);
+    } else {
+        put(sink, progress, two.split_at(count - one.len()).1);
     }
 }
 
@@ -140,11 +176,11 @@ impl<'b> Response<'b> {
         put(sink, progress, b"Connection: close\r\n\r\n");
     }
 
-    // Writes the lines before the body, in one piece if they fit the buffer.
-    fn put_head<K: Sink>(&self, sink: &mut K, progress: &mut Progress)
+    // Writes the lines before the body, gathered if they fit the buffer, and the body with them.
+    fn put_all<K: Sink>(&self, sink: &mut K, progress: &mut Progress)
         ensures { (first : K) →
             IsWriting K.Sink first [] sink.old progress.old.written progress.old.failed →
-            IsWriting K.Sink first (head_bytes self.now)
+            IsWriting K.Sink first (response_bytes self.now)
             sink.new progress.new.written progress.new.failed }
     {
         let mut head = Gathered::new();
@@ -152,13 +188,14 @@ impl<'b> Response<'b> {
         self.put_lines(&mut head, &mut gathering);
         if gathering.failed {
             self.put_lines(sink, progress);
-            return;
+            put(sink, progress, self.body);
+        } else {
+            put_pair(sink, progress, head.bytes(), self.body);
         }
-        put(sink, progress, head.bytes());
     }
 
-    /// Writes the response without allocating, its head in one piece and its body in another, and returns its number of bytes. If
-    /// the writer fails, a prefix of the response is written, and the failed call is the last.
+    /// Writes the response without allocating, its head and its body in one call where the writer takes both, and returns its number
+    /// of bytes. If the writer fails, a prefix of the response is written, and the failed call is the last.
     pub fn write<K: Sink>(&self, sink: &mut K) -> Result<u64, CutShort>
         ensures whole { OnOk result
             (Appends (K.written sink.old) (K.written sink.new) (response_bytes self.now)) }
@@ -172,8 +209,7 @@ impl<'b> Response<'b> {
             BreaksOff K.Sink (response_bytes self.now) sink.old sink.new cut.written) }
     {
         let mut progress = Progress::start();
-        self.put_head(sink, &mut progress);
-        put(sink, &mut progress, self.body);
+        self.put_all(sink, &mut progress);
         if progress.failed {
             Err(CutShort {
                 written: progress.written,

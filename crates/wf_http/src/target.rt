@@ -1,10 +1,7 @@
 //! The target of a request.
 ghost use Rattle.std.specs.Prelude.{◌≡◌, ◌≤◌, length};
 ghost use Rattle.std.specs.List.{position_or_len};
-ghost use Rattle.wf_http.specs.Target.{is_question_mark, path_of, query_of, resource_at, method_of, method_name};
-
-use crate::refusal::Allowed;
-use crate::resource::Resource;
+ghost use Rattle.wf_http.specs.Target.{is_question_mark, path_of, query_of};
 
 // The length of the target's path.
 fn path_length(target: &[u8]) -> usize
@@ -29,41 +26,5 @@ pub fn query_of(target: &[u8]) -> &[u8]
     match behind {
         [_, query @ ..] => query,
         [] => behind,
-    }
-}
-
-/// The resource at a path.
-#[tactic(auto, unfolding(crate::specs::Target::resource_at))]
-pub fn resource_at(path: &[u8]) -> Option<Resource>
-    ensures { result ≡ resource_at path.now }
-{
-    if path == b"/wms".as_slice() {
-        Some(Resource::Wms)
-    } else if path == b"/status".as_slice() {
-        Some(Resource::Status)
-    } else if path == b"/publish".as_slice() {
-        Some(Resource::Publish)
-    } else {
-        None
-    }
-}
-
-/// The method of a resource.
-pub fn method_of(resource: Resource) -> Allowed
-    ensures { result ≡ method_of resource }
-{
-    match resource {
-        Resource::Wms | Resource::Status => Allowed::Get,
-        Resource::Publish => Allowed::Post,
-    }
-}
-
-/// A method's name.
-pub fn method_name(method: Allowed) -> &'static [u8]
-    ensures { result.now ≡ method_name method }
-{
-    match method {
-        Allowed::Get => b"GET",
-        Allowed::Post => b"POST",
     }
 }

@@ -9,7 +9,7 @@ use Rattle.wf_tape.specs.Tape.{LeavesNoOther, IsUnchanged, HasRisen}
 use Rattle.wf_journal.specs.declared.opening.OpenFault.{OpenFault}
 use Rattle.wf_journal.specs.declared.opening.OpenFault.TheVariants.{TapeFailed, BadRecord, Memory}
 use Rattle.wf_node.specs.Images.{AllStandFor}
-use Rattle.wf_node.specs.Opening.{IsFoldOf, HasNoFold, IsWhyBad, IsWhyUnfolded}
+use Rattle.wf_node.specs.Opening.{IsFoldOf, IsRead, HasNoFold, IsWhyBad, IsWhyUnfolded}
 use Rattle.wf_node.proofs.Folded.{none_where_unfit}
 
 -- The tape's content was read: its records fold to the stored part.
@@ -17,6 +17,12 @@ pub fold_of : (bytes content : List ℕ) (records : List (Record Definition)) (n
     IsFoldOf stored content
 fold_of bytes content records n stored read same folds =
     subst (λ (t : List ℕ). IsFoldOf stored t) same (record { records = records; rest = drop n bytes; tape = read.is_tape; folds = folds })
+
+-- Whatever tape it is, these bytes were read.
+pub read_of : (honest : Type 0) (bytes content : List ℕ) (records : List (Record Definition)) (n : ℕ) (stored : Stored Definition) → HasRead bytes records n → (honest → bytes ≡ content) →
+    fold records ≡ Some stored → IsRead honest content stored
+read_of honest bytes content records n stored read same folds =
+    record { bytes = bytes; folds = record { records = records; rest = drop n bytes; tape = read.is_tape; folds = folds }; same = same }
 
 -- Images that read as records stand for the fold of these.
 pub stands_all : (images : List ℕ → Type 0) (records : List (Record Definition)) (stored : Stored Definition) → AllReadAs images records → fold records ≡ Some stored → AllStandFor stored images

@@ -40,7 +40,7 @@ module _ (stored : Stored Definition) where
   record_grown (Accepted s b d) = accepted_grown s b d (nat_lt (published stored) s) refl
   record_grown (Published s d) = record { more = d ∷ []; is = refl }
 
-  store_grown : (entry : Option (Record Definition)) → IsGrown stored.history (store stored entry).history
+  pub store_grown : (entry : Option (Record Definition)) → IsGrown stored.history (store stored entry).history
   unfolding store
   store_grown None = grown_itself stored.history
   store_grown (Some r) = record_grown r

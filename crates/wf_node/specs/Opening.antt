@@ -15,6 +15,12 @@ pub record IsFoldOf (stored : Stored Definition) (content : List ℕ) : Type 0 w
   pub tape : IsTapeOf content records rest
   pub folds : fold records ≡ Some stored
 
+-- Some bytes were read from the tape, its content if it is honest, and their records fold to this.
+pub record IsRead (honest : Type 0) (content : List ℕ) (stored : Stored Definition) : Type 0 where
+  pub bytes : List ℕ
+  pub folds : IsFoldOf stored bytes
+  pub same : honest → bytes ≡ content
+
 -- At this byte offset from the first record is the first record that doesn't fit: a published definition that isn't the next one.
 pub record IsUnfitAt (records : List (Record Definition)) (place : ℕ) : Type 0 where
   pub before : List (Record Definition)

@@ -48,6 +48,13 @@ impl<T: Tape> Node<T> {
         self.machine.proposer.id()
     }
 
+    /// The number of nodes.
+    pub fn n(&self) -> u8
+        ensures { result ≡ self.now.n }
+    {
+        self.machine.proposer.nodes()
+    }
+
     /// The node's tape. Unless the node is halted, an honest one holds only whole records, all of them synced, and stands for what
     /// the node has stored.
     pub fn tape(&self) -> &T

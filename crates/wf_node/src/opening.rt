@@ -6,7 +6,7 @@ ghost use Rattle.wf_model.specs.Working as model;
 ghost use Rattle.wf_node.specs.Images.{AllStandFor};
 ghost use Rattle.wf_node.specs.StoredPart as kept_;
 ghost use Rattle.wf_node.specs.Node.{stored_of, working_of, IsOnTape};
-ghost use Rattle.wf_node.specs.Opening.{IsFoldOf, IsWhyBad, IsTaken, IsWhyRefused, IsWhyUnfolded};
+ghost use Rattle.wf_node.specs.Opening.{IsFoldOf, IsRead, IsWhyBad, IsTaken, IsWhyRefused, IsWhyUnfolded};
 ghost use Rattle.wf_tape.specs.Change.{inside, Stays};
 ghost use Rattle.wf_journal.specs.Journal.{Follows, ReadsSame, IsWhyFailed};
 ghost use Rattle.wf_journal.specs.Record.{view};
@@ -28,8 +28,8 @@ impl<T: Tape> Node<T> {
     /// failed; P2 with the byte offset if what follows the whole records isn't a record, or if a published definition isn't the
     /// next one; P3 if allocation failed. Each record is moved once, so opening takes time in proportion to the tape. A crash at
     /// each moment inside the call leaves what reads as something that a crash could have left before it. A tape that won't fail
-    /// still won't, and P1 isn't returned.
-    #[tactic(auto, using(crate::proofs::Opened::fold_of, crate::proofs::Opened::stands_all, crate::proofs::Opened::bad_read, crate::proofs::Opened::bad_fold, crate::proofs::Opened::bad_settle, crate::proofs::Opened::unfolded_soundly, crate::proofs::Opened::same_before, wf_journal::specs::MomentLaws::inside_opened, crate::proofs::Opened::follows_before, crate::proofs::Opened::unchanged_before, crate::proofs::Opened::why_failed_before))]
+    /// still won't, and P1 isn't returned. Of a tape that isn't honest: the stored part is that of the bytes that were read.
+    #[tactic(auto, using(crate::proofs::Opened::fold_of, crate::proofs::Opened::read_of, crate::proofs::Opened::stands_all, crate::proofs::Opened::bad_read, crate::proofs::Opened::bad_fold, crate::proofs::Opened::bad_settle, crate::proofs::Opened::unfolded_soundly, crate::proofs::Opened::same_before, wf_journal::specs::MomentLaws::inside_opened, crate::proofs::Opened::follows_before, crate::proofs::Opened::unchanged_before, crate::proofs::Opened::why_failed_before))]
     pub fn open(alloc: Global, tape: T, id: NodeId, n: u8) -> Result<Node<T>, (T, OpenFault)>
         requires nodes { n ≤ 64 }
         requires member { id < n }
@@ -39,6 +39,7 @@ impl<T: Tape> Node<T> {
         ensures working { IfOk result (λ node. working_of node ≡ model.at_start) }
         ensures stored { T.honest →
             IfOk result (λ node. IsFoldOf (stored_of node) (T.content tape)) }
+        ensures found { IfOk result (λ node. IsRead T.honest (T.content tape) (stored_of node)) }
         ensures stands { T.honest → IfOk result (IsOnTape T.Tape) }
         ensures images { T.honest →
             IfOk result (λ node. Follows ReadsSame (T.images tape) (T.images node.tape)) }

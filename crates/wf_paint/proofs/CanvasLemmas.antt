@@ -1,6 +1,9 @@
 -- A canvas as a picture: the index of a column of a row, and the effect on a canvas in terms of its pixels.
-use Rattle.std.proofs.Common.{◌≡◌, ◌≢◌, ℕ, ◌+◌, ◌-◌, ◌*◌, ◌/◌, ◌%◌, ◌^◌, ◌<◌, ◌≤◌, inl, inr, Bool, true, false, nat_lt, List, length, Option, Some, None, is_some, refl, sym, ap, ◌∙◌, arith}
+use Rattle.std.proofs.Common.{◌≡◌, ◌≢◌, ℕ, ◌+◌, ◌-◌, ◌*◌, ◌/◌, ◌%◌, ◌^◌, ◌<◌, ◌≤◌, inl, inr, Bool, true, false, nat_lt, List, length, slice_index, replicate, Option, Some, None, is_some, refl, sym, ap, ◌∙◌, arith}
+use Rattle.std.specs.Int.{bit_at}
 use Rattle.std.specs.Option.{option_or, unwrap_or}
+use Rattle.std.proofs.lemmas.List.{get_or-replicate, length-replicate}
+use Rattle.std.proofs.lemmas.Nat.Bits.{bit_at_ones}
 use Rattle.std.proofs.Math.Nat.{div-lt_iff_lt-mul, div-add-mod, mul_comm}
 use Rattle.std.proofs.lemmas.Nat.{div-mul-add, mod-mul-add}
 use Rattle.std.proofs.lemmas.Bool.{cases_Bool, cases_lt, cases_eq, false≢true, lt-ltb, le-ltb}
@@ -8,8 +11,8 @@ use Rattle.std.proofs.lemmas.Bool.Decides.{nat_tests}
 use Rattle.wf_def.specs.declared.color.Color.{Color}
 use Rattle.wf_paint.specs.Limit.{most_pixels}
 use Rattle.wf_paint.specs.Pixmap.{column_of, row_of}
-use Rattle.wf_paint.specs.Cells.{IsCells, HasFreeBit, IsPlain, IsRangePainted, is_free, painted_in}
-use Rattle.wf_paint.specs.Canvas.{CanvasValue, IsCanvas, IsBlank, IsFull, HasFree, IsAlike, IsFinished, painted_at}
+use Rattle.wf_paint.specs.Cells.{IsCells, HasFreeBit, IsPlain, IsRangePainted, AreBlocks, IsSized, is_free, painted_in}
+use Rattle.wf_paint.specs.Canvas.{CanvasValue, IsCanvas, IsBlank, IsFull, HasFree, IsAlike, IsFinished, IsBoxPainted, painted_at}
 use Rattle.wf_paint.specs.Shown.{IsColored, is_in_run, color_where}
 use Rattle.wf_paint.proofs.PlainLemmas.{area_most}
 use Rattle.wf_paint.proofs.CellsLemmas.{range_keeps, range_was_free, cells_kept, painted_in-free, painted_in-painted}
@@ -71,7 +74,7 @@ or_none (Some color) = refl
 
 -- the same canvas with other pixels
 abbrev pub with_cells : CanvasValue → List ℕ → List ℕ → CanvasValue
-with_cells c free bytes = record { width = c.width; height = c.height; background = c.background; bytes = bytes; free = free; known = c.known }
+with_cells c free bytes = record { width = c.width; height = c.height; background = c.background; bytes = bytes; free = free; known = c.known; blocks = c.blocks }
 
 module _ (c : CanvasValue) (row from to : ℕ) (color : Color) (free bytes : List ℕ) where
   -- how many pixels lie in the rows above
@@ -131,6 +134,10 @@ module _ (c : CanvasValue) (row from to : ℕ) (color : Color) (free bytes : Lis
     unpainted = λ i still. range.unpainted i still ∙ is.unpainted i (range_was_free start end color c.free c.bytes free bytes range i still);
     known_within = omega (arith, is.known_within, range.free_size);
     known_painted = λ i before. range_keeps start end color c.free c.bytes free bytes range i (is.known_painted i before);
+    blocks = record {
+      size = is.blocks.size;
+      painted = λ column row high wide clear. range_keeps start end color c.free c.bytes free bytes range _ (is.blocks.painted column row high wide clear);
+    };
   }
 
   -- no column lies between two in the wrong order
@@ -151,10 +158,10 @@ module _ (c : CanvasValue) (row from to : ℕ) (color : Color) (free bytes : Lis
 
 -- ---- the whole canvas
 
-pub blank_pixels : (width height : ℕ) (background : Color) (bytes free : List ℕ) → ((i : ℕ) → is_free free i ≡ nat_lt i (width * height)) →
-    IsBlank width height background (record { width = width; height = height; background = background; bytes = bytes; free = free; known = 0 })
+pub blank_pixels : (width height : ℕ) (background : Color) (bytes free blocks : List ℕ) → ((i : ℕ) → is_free free i ≡ nat_lt i (width * height)) →
+    IsBlank width height background (record { width = width; height = height; background = background; bytes = bytes; free = free; known = 0; blocks = blocks })
 unfolding painted_at
-blank_pixels width height background bytes free all = record {
+blank_pixels width height background bytes free blocks all = record {
   wide = refl;
   high = refl;
   under = refl;
@@ -172,11 +179,23 @@ blank_cells area bytes free small sized words all = record {
   ];
 }
 
+-- no block is known to be painted
+none_known : (width height : ℕ) (free blocks : List ℕ) → width ≤ most_pixels → height ≤ most_pixels → blocks ≡ replicate 64 (2 ^ 64 - 1) →
+    AreBlocks width height free blocks
+none_known width height free blocks wide_most high_most unknown = record {
+  size = ap (λ (l : List ℕ). length l) unknown ∙ length-replicate 64 (2 ^ 64 - 1);
+  painted = λ column row high wide clear.
+      let word : slice_index blocks (row / 16) ≡ 2 ^ 64 - 1 = ap (λ (l : List ℕ). slice_index l (row / 16)) unknown ∙ get_or-replicate 64 (row / 16) (2 ^ 64 - 1) 0 (omega arith) in
+      let bit : bit_at (slice_index blocks (row / 16)) (column / 16) ≡ 1 = ap (λ (n : ℕ). bit_at n (column / 16)) word ∙ bit_at_ones 64 (column / 16) (omega arith) in
+      absurd (omega (arith, bit, clear));
+}
+
 -- a canvas begins as it has to be: all pixels of the picture are free and have the background
-pub canvas_begins : (width height : ℕ) (background : Color) (bytes free : List ℕ) → 1 ≤ width → width ≤ most_pixels → 1 ≤ height → height ≤ most_pixels →
+pub canvas_begins : (width height : ℕ) (background : Color) (bytes free blocks : List ℕ) → 1 ≤ width → width ≤ most_pixels → 1 ≤ height → height ≤ most_pixels →
     IsPlain (width * height) background bytes → length free ≡ width * height / 64 + 1 → ((i : ℕ) → is_free free i ≡ nat_lt i (width * height)) →
-    IsCanvas (record { width = width; height = height; background = background; bytes = bytes; free = free; known = 0 })
-canvas_begins width height background bytes free wide_least wide_most high_least high_most plain words all = record {
+    blocks ≡ replicate 64 (2 ^ 64 - 1) →
+    IsCanvas (record { width = width; height = height; background = background; bytes = bytes; free = free; known = 0; blocks = blocks })
+canvas_begins width height background bytes free blocks wide_least wide_most high_least high_most plain words all unknown = record {
   width_least = wide_least;
   width_most = wide_most;
   height_least = high_least;
@@ -190,11 +209,62 @@ canvas_begins width height background bytes free wide_least wide_most high_least
   ];
   known_within = omega arith;
   known_painted = λ i before. absurd (omega arith);
+  blocks = none_known width height free blocks wide_most high_most unknown;
 }
 
 -- the same canvas, of whose first words so many are known to have no free pixel
 abbrev pub with_known : CanvasValue → ℕ → CanvasValue
-with_known c known = record { width = c.width; height = c.height; background = c.background; bytes = c.bytes; free = c.free; known = known }
+with_known c known = record { width = c.width; height = c.height; background = c.background; bytes = c.bytes; free = c.free; known = known; blocks = c.blocks }
+
+-- the same canvas, of which other blocks are known to be painted
+abbrev pub with_blocks : CanvasValue → List ℕ → CanvasValue
+with_blocks c blocks = record { width = c.width; height = c.height; background = c.background; bytes = c.bytes; free = c.free; known = c.known; blocks = blocks }
+
+module _ (c : CanvasValue) (blocks : List ℕ) where
+  pub blocks_alike : IsAlike c (with_blocks c blocks)
+  unfolding painted_at
+  blocks_alike = record { width = refl; height = refl; background = refl; pixels = λ i area. refl }
+
+  pub canvas_blocks : IsCanvas c → AreBlocks c.width c.height c.free blocks → IsCanvas (with_blocks c blocks)
+  canvas_blocks is painted = record {
+    width_least = is.width_least;
+    width_most = is.width_most;
+    height_least = is.height_least;
+    height_most = is.height_most;
+    size = is.size;
+    words = is.words;
+    cells = is.cells;
+    unpainted = is.unpainted;
+    known_within = is.known_within;
+    known_painted = is.known_painted;
+    blocks = painted;
+  }
+
+-- a picture has words for its pixels
+pub canvas_sized : (c : CanvasValue) → IsCanvas c → IsSized c.width c.height c.free
+canvas_sized c is = record { width_least = is.width_least; width_most = is.width_most; height_least = is.height_least; height_most = is.height_most; words = is.words }
+
+-- what lies in painted blocks of 16 rows is painted
+pub box_painted : (c : CanvasValue) (row from to top : ℕ) → top ≡ (row + 16 - 1) / 16 → IsCanvas c → row + 16 ≤ c.height → to ≤ c.width →
+    ((column : ℕ) → from ≤ column → column < to → bit_at (slice_index c.blocks (row / 16)) (column / 16) ≡ 0) →
+    ((column : ℕ) → from ≤ column → column < to → bit_at (slice_index c.blocks top) (column / 16) ≡ 0) →
+    IsBoxPainted row (row + 16) from to c
+unfolding painted_at
+box_painted c row from to above at is within inside first last = record {
+  pixels = λ i area bottom top left right.
+      let column : ℕ = column_of c.width i in
+      let r : ℕ = row_of c.width c.height i in
+      let some : 0 < c.width = omega (arith, is.width_least) in
+      let index : i ≡ (c.height - 1 - r) * c.width + column = index_in_row c.width c.height r i some (omega arith) area refl in
+      let clear : bit_at (slice_index c.blocks (r / 16)) (column / 16) ≡ 0 = elim (cases_eq (r / 16) (row / 16)) [
+        | inl same ↦ rw same (first column left right)
+        | inr apart ↦
+            let other : r / 16 ≡ above = omega arith in
+            rw other (last column left right)
+      ] in
+      let painted : is_free c.free i ≡ false = rw index (is.blocks.painted column r (omega arith) (omega arith) clear) in
+      ap (λ (o : Option Color). is_some o) (painted_in-painted c.free c.bytes i painted);
+}
 
 module _ (c : CanvasValue) (known : ℕ) where
   -- to know more changes no pixel
@@ -214,6 +284,7 @@ module _ (c : CanvasValue) (known : ℕ) where
     unpainted = is.unpainted;
     known_within = within;
     known_painted = painted;
+    blocks = is.blocks;
   }
 
   -- no word has a free pixel

@@ -4,7 +4,7 @@ use Rattle.std.specs.Option.{option_or}
 use Rattle.wf_def.specs.declared.color.Color.{Color}
 use Rattle.wf_paint.specs.Operation.{ShapeValue, covers, shape_covers, in_color}
 use Rattle.wf_paint.specs.Pixmap.{column_of, row_of}
-use Rattle.wf_paint.specs.Canvas.{CanvasValue, painted_at}
+use Rattle.wf_paint.specs.Canvas.{CanvasValue, IsAlike, painted_at}
 use Rattle.wf_paint.specs.Shown.{IsShown, IsColored, color_where, seen}
 
 -- ---- one pixel
@@ -80,6 +80,15 @@ IsColored-alike shown other color a b same colored = record {
       let row = row_of a.width a.height i in
       colored.pixels i within
       ∙ ap (λ (t : Bool). option_or (painted_at a i) (color_where t color)) (sym (same column row (column_within a.width a.height i within) (row_within a.width a.height i within)));
+}
+
+-- they are shown on any canvas with the same pixels
+pub IsColored-after : (shown : ℕ → ℕ → Bool) (color : Color) (a b c : CanvasValue) → IsColored shown color a b → IsAlike b c → IsColored shown color a c
+IsColored-after shown color a b c colored alike = record {
+  width = alike.width ∙ colored.width;
+  height = alike.height ∙ colored.height;
+  background = alike.background ∙ colored.background;
+  pixels = λ i within. alike.pixels i (rw (colored.width, colored.height) within) ∙ colored.pixels i within;
 }
 
 -- ---- a shape in a colour

@@ -1,16 +1,17 @@
--- Segments, and those of them that differ: a line along these covers what one along all does.
-use Rattle.std.proofs.Common.{◌≡◌, ℕ, ◌+◌, ◌-◌, ◌<◌, ◌≤◌, ◌||◌, Bool, true, false, List, [], ◌∷◌, ◌++◌, take, length, get_or, Some, pos, refl, sym, ap, subst, ◌∙◌, arith}
+-- Segments, those of them that differ, and those that are there an odd number of times.
+use Rattle.std.proofs.Common.{◌≡◌, ℕ, ◌+◌, ◌-◌, ◌%◌, ◌==◌, ◌<◌, ◌≤◌, ◌||◌, Bool, true, false, cond, List, [], ◌∷◌, ◌++◌, take, length, get_or, Some, pos, refl, sym, ap, subst, ◌∙◌, arith}
 use Rattle.std.specs.Prelude.{slice_get}
-use Rattle.std.specs.List.{list_any}
+use Rattle.std.specs.List.{count_by, list_any}
 use Rattle.std.specs.List.Sorted.{IsPermutation}
 use Rattle.std.proofs.lemmas.List.{take_all, take_more}
 use Rattle.std.proofs.lemmas.Option.{slice_get_within, get_or_from_slice_get}
 use Rattle.std.proofs.lemmas.List.Folds.{list_any-append}
-use Rattle.std.proofs.lemmas.List.Sorted.{list_any-IsPermutation}
+use Rattle.std.proofs.lemmas.List.Sorted.{list_any-IsPermutation, sum_by-IsPermutation}
+use Rattle.std.proofs.lemmas.List.Sums.{sum_by_push}
 use Rattle.wf_def.specs.declared.color.Color.{Color}
 use Rattle.wf_paint.specs.Position.{centre}
-use Rattle.wf_paint.specs.Coverage.{is_on, is_on_any}
-use Rattle.wf_paint.specs.Edges.{AreAlong}
+use Rattle.wf_paint.specs.Coverage.{crosses, is_inside, is_on, is_on_any}
+use Rattle.wf_paint.specs.Edges.{AreAlong, AreAround}
 use Rattle.wf_paint.specs.Canvas.{CanvasValue}
 use Rattle.wf_paint.specs.Shown.{IsColored}
 use Rattle.wf_paint.specs.declared.segment.Segment.{Segment}
@@ -67,6 +68,72 @@ module _ (segments : List Segment) (last : Segment) (is : slice_get segments (le
 
   pub along_again : AreAlong (segments ++ last ∷ []) segments
   along_again = subst (λ (xs : List Segment). AreAlong (xs ++ last ∷ []) xs) (sym ends_with) (along_last (take (length segments - 1) segments) last)
+
+-- ---- rays that meet an odd number
+
+pub around_same : (segments : List Segment) → AreAround segments segments
+unfolding AreAround
+around_same segments c = refl
+
+pub around_twice : (all some fewer : List Segment) → AreAround all some → AreAround some fewer → AreAround all fewer
+unfolding AreAround
+around_twice all some fewer first second c = second c ∙ first c
+
+pub around_sorted : (segments sorted : List Segment) → IsPermutation segments sorted → AreAround segments sorted
+unfolding AreAround
+around_sorted segments sorted permutation c = ap (λ (n : ℕ). n % 2) (sum_by-IsPermutation (λ s. cond (crosses c s) 1 0) segments sorted permutation)
+
+added : (m n k : ℕ) → m % 2 ≡ n % 2 → (m + k) % 2 ≡ (n + k) % 2
+added m n k same = omega arith
+
+-- one more segment after some
+pub around_more : (before some : List Segment) (segment : Segment) → AreAround before some → AreAround (before ++ segment ∷ []) (some ++ segment ∷ [])
+unfolding AreAround
+around_more before some segment same c =
+    let met : Segment → ℕ = λ s. cond (crosses c s) 1 0 in
+    ap (λ (n : ℕ). n % 2) (sum_by_push met some segment)
+    ∙ added (count_by (crosses c) some) (count_by (crosses c) before) (met segment) (same c)
+    ∙ ap (λ (n : ℕ). n % 2) (sym (sum_by_push met before segment))
+
+twice : (m k n : ℕ) → n ≡ (m + k) + k → m % 2 ≡ n % 2
+twice m k n is = omega arith
+
+-- two equal segments are left out
+pub around_last : (front : List Segment) (segment : Segment) → AreAround ((front ++ segment ∷ []) ++ segment ∷ []) front
+unfolding AreAround
+around_last front segment c =
+    let met : Segment → ℕ = λ s. cond (crosses c s) 1 0 in
+    twice (count_by (crosses c) front) (met segment) (count_by (crosses c) ((front ++ segment ∷ []) ++ segment ∷ []))
+    (sum_by_push met (front ++ segment ∷ []) segment ∙ ap (λ (n : ℕ). n + met segment) (sum_by_push met front segment))
+
+pub around_cancelled : (segments : List Segment) (last : Segment) → slice_get segments (length segments - 1) ≡ Some last →
+    AreAround (segments ++ last ∷ []) (take (length segments - 1) segments)
+around_cancelled segments last is =
+    subst (λ (xs : List Segment). AreAround (xs ++ last ∷ []) (take (length segments - 1) segments)) (sym (ends_with segments last is))
+    (around_last (take (length segments - 1) segments) last)
+
+pub around_none : AreAround [] []
+around_none = around_same []
+
+-- one segment more
+pub around_step : (all : List Segment) (i : ℕ) (segment d : Segment) (before after : List Segment) → i < length all → segment ≡ get_or all i d →
+    AreAround (take i all) before → AreAround (before ++ segment ∷ []) after → AreAround (take (i + 1) all) after
+around_step all i segment d before after within here so_far next =
+    let more : take (i + 1) all ≡ take i all ++ segment ∷ [] = take_more all i d within ∙ ap (λ (s : Segment). take i all ++ s ∷ []) (sym here) in
+    subst (λ (xs : List Segment). AreAround xs after) (sym more)
+    (around_twice (take i all ++ segment ∷ []) (before ++ segment ∷ []) after (around_more (take i all) before segment so_far) next)
+
+pub around_all : (all : List Segment) (i : ℕ) (some : List Segment) → length all ≤ i → AreAround (take i all) some → AreAround all some
+around_all all i some end around = subst (λ (xs : List Segment). AreAround xs some) (take_all i all end) around
+
+-- the inside of these is that of all
+pub inside_of_some : (all some : List Segment) (color : Color) (a b : CanvasValue) → AreAround all some →
+    IsColored (λ column row. is_inside (centre (pos column) (pos row)) some) color a b →
+    IsColored (λ column row. is_inside (centre (pos column) (pos row)) all) color a b
+unfolding AreAround is_inside
+inside_of_some all some color a b same colored =
+    IsColored-alike (λ column row. is_inside (centre (pos column) (pos row)) some) (λ column row. is_inside (centre (pos column) (pos row)) all) color a b
+    (λ column row wide high. ap (λ (n : ℕ). n == 1) (sym (same (centre (pos column) (pos row))))) colored
 
 -- ---- lines
 

@@ -1,5 +1,5 @@
 -- Each request has a view: on each level the nearest grid lines alone can be the sides of its box, so whether a cell fits is decided.
-use Rattle.std.proofs.Common.{◌≡◌, ℕ, zero, suc, ◌+◌, ◌*◌, ◌^◌, ◌<◌, ◌≤◌, ◌==◌, ◌&&◌, ◌⊎◌, inl, inr, Bool, true, false, true≢false, ℤ, pos, refl, sym, ap, ◌∙◌, subst, ⊎_elim, arith}
+use Rattle.std.proofs.Common.{◌≡◌, ℕ, zero, suc, ◌*◌, ◌^◌, ◌<◌, ◌≤◌, ◌==◌, ◌&&◌, ◌⊎◌, inl, inr, Bool, true, false, true≢false, ℤ, pos, refl, sym, ap, ◌∙◌, subst, ⊎_elim, arith}
 use Rattle.std.proofs.lemmas.Nat.{pow_pos}
 use Rattle.std.proofs.lemmas.Bool.{cases_order}
 use borrow.Author.Tests.{le-leb}
@@ -7,7 +7,7 @@ use Rattle.wf_def.specs.Extent.{ExtentValue}
 use Rattle.wf_paint.specs.Exact.{plus, difference, product, quotient}
 use Rattle.wf_paint.specs.Grid.{is_on_line, is_cell, has_level, is_box, fits, width_of}
 use Rattle.wf_paint.specs.Limit.{most_level, tile_pixels}
-use Rattle.wf_paint.specs.Tile.{EachRequestHasAView, HasView, IsViewOf, box_view, tile_view}
+use Rattle.wf_paint.specs.Tile.{EachRequestHasAView, HasView, box_view, tile_view}
 use Rattle.wf_paint.specs.declared.cell.GridCell.{GridCell}
 use Rattle.wf_paint.proofs.GridLemmas.{box_found, box_without_col, box_without_level, box_without_row, cell_none, fits_none, fits_size, level_wide, line_near_enough, one_cell}
 use Rattle.wf_paint.proofs.QuotientLemmas.{nearest_line}

@@ -5,6 +5,7 @@ pub mod PixelLemmas
 pub mod PlainLemmas
 pub mod CellsLemmas
 pub mod WindowLemmas
+pub mod BlockLemmas
 pub mod CanvasLemmas
 pub mod ShownLemmas
 pub mod ColoredLemmas

@@ -1,26 +1,30 @@
 -- Strips: where the pixels of a row begin and end, and how that changes from row to row.
-use Rattle.std.proofs.Common.{◌≡◌, Bool, true, false, ℕ, suc, ◌+◌, ◌*◌, ◌^◌, ◌<◌, ◌≤◌, inl, inr, ◌&&◌, ◌||◌, not, nat_lt, max, min, ⊎_elim, ℤ, pos, ◌+ℤ◌, ◌*ℤ◌, neg_ℤ, nat_abs, ◌≤ℤ◌, negsuc, refl, sym, ap, ◌∙◌, arith}
-use Rattle.std.proofs.lemmas.Bool.{and_left, and_right, cases_lt}
+use Rattle.std.proofs.Common.{◌≡◌, Bool, true, false, ℕ, suc, ◌+◌, ◌*◌, ◌^◌, ◌<◌, ◌≤◌, inl, inr, ◌&&◌, ◌||◌, not, nat_lt, max, min, ⊎_elim, Option, Some, None, is_some, ℤ, pos, ◌+ℤ◌, ◌*ℤ◌, neg_ℤ, nat_abs, ◌≤ℤ◌, negsuc, refl, sym, ap, ◌∙◌, arith}
+use Rattle.std.proofs.lemmas.Bool.{and_left, and_right, cases_lt, false≢true}
 use Rattle.std.proofs.lemmas.Bool.Decides.{nat_tests}
 use Rattle.std.proofs.lemmas.Int.{ints}
+use Rattle.std.specs.Int.{int_rem_euclid}
+use Rattle.std.specs.Option.{option_or}
 use Rattle.std.proofs.Math.IntN.{pos-*ℤ-pos, negsuc-*ℤ-pos}
 use Rattle.std.proofs.Math.Nat.{mul_assoc, mul_comm, mul-le-mul}
-use Rattle.wf_paint.specs.Exact.{plus, difference, product, opposite, is_less}
+use Rattle.wf_paint.specs.Exact.{plus, difference, product, opposite, quotient, is_less}
 use Rattle.wf_def.specs.declared.color.Color.{Color}
-use Rattle.wf_paint.specs.Canvas.{CanvasValue}
-use Rattle.wf_paint.specs.Shown.{IsColored}
+use Rattle.wf_paint.specs.Pixmap.{column_of, row_of}
+use Rattle.wf_paint.specs.Canvas.{CanvasValue, painted_at}
+use Rattle.wf_paint.specs.Shown.{IsColored, color_where}
 use Rattle.wf_paint.specs.Level.{level, row_level, level_at, is_in_margin}
 use Rattle.wf_paint.specs.Quotient.{number_of}
 use Rattle.wf_paint.specs.Span.{IsSpanOf, is_within, shared}
-use Rattle.wf_paint.specs.Strip.{is_in_strip, IsPart, IsEnd, IsStepped, IsBetween}
+use Rattle.wf_paint.specs.Strip.{is_in_strip, IsPart, IsEnd, IsStepped, IsBetween, StaysBetween, IsHiddenBlock}
 use Rattle.wf_paint.specs.declared.levels.Levels.{Levels}
 use Rattle.wf_paint.specs.declared.quotient.Quotient.{Quotient}
 use Rattle.wf_paint.specs.declared.span.Span.{Span}
 use Rattle.wf_paint.specs.declared.stepped.Stepped.{Stepped}
 use Rattle.wf_paint.specs.Limit.{half_side, pixel_side}
 use Rattle.wf_paint.proofs.AlongLemmas.{times_sum, sixteen}
-use Rattle.wf_paint.proofs.ColoredLemmas.{IsColored-either, IsColored-alike}
+use Rattle.wf_paint.proofs.ColoredLemmas.{IsColored-none, IsColored-either, IsColored-alike, column_within}
 use Rattle.wf_paint.proofs.LevelLemmas.{opposed, level_still, rising_span}
+use Rattle.wf_paint.proofs.QuotientLemmas.{divided_again}
 use Rattle.wf_paint.proofs.StepsLemmas.{multiples_to}
 use Rattle.wf_paint.proofs.SpanLemmas.{is_within-before, is_within-after, is_within-inside, shared_within}
 
@@ -466,3 +470,150 @@ strip_joined l columns from middle to color a b c order further before after =
     ap (λ (t : Bool). is_within columns column && (t && is_in_margin l.margin (level_at l column row))) (both_rows from middle to row order further)
     ∙ spread (is_within columns column) (is_within (record { from = from; to = middle }) row) (is_within (record { from = middle; to = to }) row) (is_in_margin l.margin (level_at l column row)))
     (IsColored-either (is_in_strip l (record { from = from; to = middle }) columns) (is_in_strip l (record { from = middle; to = to }) columns) color a b c before after)
+
+-- no rows, no pixels
+pub strip_none : (l : Levels) (columns : Span) (from to : ℕ) (color : Color) (c : CanvasValue) → to ≤ from →
+    IsColored (is_in_strip l (record { from = from; to = to }) columns) color c c
+strip_none l columns from to color c empty = IsColored-none (is_in_strip l (record { from = from; to = to }) columns) color c
+    (λ column r wide high. strip_nowhere l (record { from = from; to = to }) columns column r empty)
+
+-- ---- sixteen rows at once
+
+leap_level : (start change : ℤ) (row : ℕ) → level start change (pos (row + 16)) ≡ plus (level start change (pos row)) (change *ℤ pos 16)
+unfolding level plus product
+leap_level start change row =
+    let more : change *ℤ pos (row + 16) ≡ change *ℤ pos row +ℤ change *ℤ pos 16 = omega (arith, ints) in
+    omega (arith, ints)
+
+leap_change : (up : ℤ) → product (pos (16 * pixel_side)) up ≡ product (pos pixel_side) up *ℤ pos 16
+unfolding product
+leap_change up = omega (arith, ints)
+
+pub end_leaps : (l : Levels) (bound : ℤ) (row step : ℕ) (q c next : Quotient) → IsEnd bound l.origin (product (pos pixel_side) l.up) step row q →
+    number_of step c ≡ opposite (product (pos (16 * pixel_side)) l.up) → number_of step next ≡ plus (number_of step q) (number_of step c) → next.rest < step →
+    IsEnd bound l.origin (product (pos pixel_side) l.up) step (row + 16) next
+end_leaps l bound row step q c next is leaps sum rest =
+    let change : ℤ = product (pos pixel_side) l.up in
+    record {
+      value = lowered (number_of step q) (number_of step c) (number_of step next) bound (level l.origin change (pos row)) (change *ℤ pos 16) (level l.origin change (pos (row + 16)))
+          is.value (leaps ∙ ap opposite (leap_change l.up)) sum (leap_level l.origin change row);
+      rest = rest;
+    }
+
+-- from another row on
+pub stepped_from : (l : Levels) (bound : ℤ) (first row : ℕ) (s : Stepped) (q : Quotient) → IsStepped l bound first s →
+    IsEnd bound l.origin (product (pos pixel_side) l.up) s.step row q → nat_abs q.whole ≤ 2 ^ 50 →
+    IsStepped l bound row (record { now = q; change = s.change; step = s.step })
+stepped_from l bound first row s q is end near = record {
+  across = is.across;
+  most = is.most;
+  begins = end;
+  near = near;
+  moves = is.moves;
+  rest = is.rest;
+  slow = is.slow;
+}
+
+pub stays_part : (l : Levels) (step width from to : ℕ) (rows columns : Span) → rows.from ≤ from → to ≤ rows.to → StaysBetween l step width rows columns →
+    StaysBetween l step width (record { from = from; to = to }) columns
+stays_part l step width from to rows columns first last is = record { each = λ row after before q end. is.each row (omega arith) (omega arith) q end }
+
+-- columns of a picture
+pub between_near : (columns : Span) (width : ℕ) (q : Quotient) → columns.to ≤ 2 ^ 40 → IsBetween columns width q → nat_abs q.whole ≤ 2 ^ 50
+unfolding plus
+between_near columns width q most is = omega (arith, ints, is.from, is.to, is.least)
+
+pub between_all : (columns : Span) (width wide : ℕ) (q : Quotient) → columns.to ≤ wide → IsBetween columns width q → IsBetween (record { from = 0; to = wide }) width q
+unfolding plus
+between_all columns width wide q most is = record { least = is.least; most = is.most; from = omega (arith, ints, is.from); to = omega (arith, ints, is.to) }
+
+-- ---- hidden rows
+
+rest_kept : (z : ℤ) (n : ℕ) → 0 < n → pos (nat_abs (int_rem_euclid z (pos n))) ≡ int_rem_euclid z (pos n)
+rest_kept (pos a) n some = omega (arith, ints)
+rest_kept (negsuc a) n some = omega (arith, ints)
+
+rest_below : (z : ℤ) (n : ℕ) → 0 < n → nat_abs (int_rem_euclid z (pos n)) < n
+rest_below (pos a) n some = omega (arith, ints)
+rest_below (negsuc a) n some = omega (arith, ints)
+
+-- the quotient that tells where the pixels of a row end
+abbrev end_at : ℤ → ℤ → ℤ → ℕ → ℕ → Quotient
+end_at bound start change step row =
+    let room : ℤ = difference (difference bound (level start change (pos row))) (pos 1) in
+    record { whole = quotient room (pos step); rest = nat_abs (int_rem_euclid room (pos step)) }
+
+end_exists : (bound start change : ℤ) (step row : ℕ) → 0 < step → IsEnd bound start change step row (end_at bound start change step row)
+unfolding number_of
+end_exists bound start change step row some =
+    let here : ℤ = level start change (pos row) in
+    let room : ℤ = difference (difference bound here) (pos 1) in
+    let rest : plus (product (quotient room (pos step)) (pos step)) (pos (nat_abs (int_rem_euclid room (pos step)))) ≡ room =
+    ap (plus (product (quotient room (pos step)) (pos step))) (rest_kept room step some) ∙ divided_again room step some in
+    record { value = one_more _ bound here rest; rest = rest_below room step some }
+
+shown_painted : (o : Option Color) (shown : Bool) (color : Color) → (shown ≡ true → is_some o ≡ true) → option_or o (color_where shown color) ≡ o
+unfolding color_where
+shown_painted None true color painted = absurd (false≢true (painted refl))
+shown_painted None false color painted = refl
+shown_painted (Some c) shown color painted = refl
+
+in_rows : (l : Levels) (rows columns : Span) (u v : ℕ) → is_in_strip l rows columns u v ≡ true → (rows.from ≤ v) × (v < rows.to)
+in_rows l rows columns u v shown = (
+  elim (cases_lt v rows.from) [
+    | inl before ↦ absurd (false≢true (sym (strip_before l rows columns u v before) ∙ shown))
+    | inr from ↦ from
+  ],
+  elim (cases_lt v rows.to) [
+    | inl inside ↦ inside
+    | inr after ↦ absurd (false≢true (sym (strip_after l rows columns u v after) ∙ shown))
+  ],
+)
+
+pub in_span : (span : Span) (u : ℕ) → is_within span u ≡ true → (span.from ≤ u) × (u < span.to)
+in_span span u inside = (
+  elim (cases_lt u span.from) [
+    | inl before ↦ absurd (false≢true (sym (is_within-before span u before) ∙ inside))
+    | inr from ↦ from
+  ],
+  elim (cases_lt u span.to) [
+    | inl within ↦ within
+    | inr after ↦ absurd (false≢true (sym (is_within-after span u after) ∙ inside))
+  ],
+)
+
+-- the pixels of each row are at most `width`, from its lower end on
+abbrev pub AreFew : Levels → ℕ → ℕ → ℕ → Span → Span → Type 0
+AreFew l step width wide rows columns = (row : ℕ) → rows.from ≤ row → row < rows.to → (q : Quotient) →
+    IsEnd (opposite l.margin) l.origin (product (pos pixel_side) l.up) step row q → (from u : ℕ) → pos from ≡ plus q.whole (pos 1) → u < wide →
+    is_in_strip l rows columns u row ≡ true → (from ≤ u) × (u < from + width)
+
+pub whole_few : (l : Levels) (step width wide : ℕ) (rows columns : Span) → pos 1 ≤ℤ l.across → l.margin ≡ product (pos (half_side * width)) l.across →
+    pos step ≡ product (pos pixel_side) l.across → columns.to ≤ wide → StaysBetween l step width rows columns → AreFew l step width wide rows columns
+whole_few l step width wide rows columns rising even same within stays row after before q end from u begins below shown =
+    let inside = whole_row l step row width wide from rows columns q rising even same within after before end (stays.each row after before q end) begins in
+    in_span (record { from = from; to = from + width }) u (sym (inside.passed u below) ∙ shown)
+
+-- where all of a box is painted, nothing is left to do in the rows whose pixels lie in it
+pub strip_hidden : (l : Levels) (step width : ℕ) (rows columns : Span) (low next : Quotient) (color : Color) (c : CanvasValue) → 0 < step → rows.to ≡ rows.from + 16 →
+    IsEnd (opposite l.margin) l.origin (product (pos pixel_side) l.up) step rows.from low → IsEnd (opposite l.margin) l.origin (product (pos pixel_side) l.up) step rows.to next →
+    AreFew l step width c.width rows columns → IsHiddenBlock rows.from width low next c → IsColored (is_in_strip l rows columns) color c c
+unfolding plus
+strip_hidden l step width rows columns low next color c some count begin end few hidden = record {
+  width = refl;
+  height = refl;
+  background = refl;
+  pixels = λ i within.
+      let column : ℕ = column_of c.width i in
+      let row : ℕ = row_of c.width c.height i in
+      sym (shown_painted (painted_at c i) (is_in_strip l rows columns column row) color (λ shown.
+      let inside : (rows.from ≤ row) × (row < rows.to) = in_rows l rows columns column row shown in
+      let q : Quotient = end_at (opposite l.margin) l.origin (product (pos pixel_side) l.up) step row in
+      let here : IsEnd (opposite l.margin) l.origin (product (pos pixel_side) l.up) step row q = end_exists (opposite l.margin) l.origin (product (pos pixel_side) l.up) step row some in
+      let between : IsBetween hidden.columns width q = row_between (opposite l.margin) l.origin (product (pos pixel_side) l.up) step rows.from row rows.to width hidden.columns low q next
+      inside.0 (omega (arith, inside.1)) begin here end hidden.first hidden.last in
+      let from : ℕ = nat_abs (q.whole +ℤ pos 1) in
+      let begins : pos from ≡ q.whole +ℤ pos 1 = omega (arith, ints, between.from) in
+      let spot : (from ≤ column) × (column < from + width) = few row inside.0 inside.1 q here from column begins (column_within c.width c.height i within) shown in
+      hidden.painted.pixels i within inside.0 (omega (arith, inside.1)) (omega (arith, ints, between.from, spot.0)) (omega (arith, ints, between.to, spot.1))));
+}

@@ -4,11 +4,11 @@ use Rattle.std.specs.Prelude.{◌≡◌, ℕ, ◌+◌, ◌*◌, ◌/◌, ◌<◌
 use Rattle.std.specs.Option.{unwrap_or}
 use Rattle.wf_def.specs.declared.color.Color.{Color}
 use Rattle.wf_paint.specs.Limit.{most_pixels}
-use Rattle.wf_paint.specs.Pixmap.{PixmapValue, pixel_at}
-use Rattle.wf_paint.specs.Cells.{IsCells, is_free, painted_in}
+use Rattle.wf_paint.specs.Pixmap.{PixmapValue, pixel_at, column_of, row_of}
+use Rattle.wf_paint.specs.Cells.{IsCells, AreBlocks, is_free, painted_in}
 
--- a size in pixels, the background, three bytes a pixel, words with a bit for each pixel, set where it is free, and how many of the
--- first words are known to have no free pixel
+-- a size in pixels, the background, three bytes a pixel, words with a bit for each pixel, set where it is free, how many of the first
+-- words are known to have no free pixel, and words with a bit for each block of pixels
 pub record CanvasValue : Type 0 where
   pub width : ℕ
   pub height : ℕ
@@ -16,6 +16,7 @@ pub record CanvasValue : Type 0 where
   pub bytes : List ℕ
   pub free : List ℕ
   pub known : ℕ
+  pub blocks : List ℕ
 
 -- the colour of a painted pixel
 unfoldable pub painted_at : CanvasValue → ℕ → Option Color
@@ -32,6 +33,7 @@ pub record IsCanvas (c : CanvasValue) : Type 0 where
   pub unpainted : (i : ℕ) → is_free c.free i ≡ true → pixel_at c.bytes i ≡ c.background
   pub known_within : c.known ≤ length c.free
   pub known_painted : (i : ℕ) → i < 64 * c.known → is_free c.free i ≡ false
+  pub blocks : AreBlocks c.width c.height c.free c.blocks
 
 -- a canvas of this size and background with all pixels free
 pub record IsBlank (width height : ℕ) (background : Color) (c : CanvasValue) : Type 0 where
@@ -43,6 +45,11 @@ pub record IsBlank (width height : ℕ) (background : Color) (c : CanvasValue) :
 -- all pixels are painted
 pub record IsFull (c : CanvasValue) : Type 0 where
   pub pixels : (i : ℕ) → i < c.width * c.height → is_some (painted_at c i) ≡ true
+
+-- all pixels in these rows and columns are painted
+pub record IsBoxPainted (bottom top from to : ℕ) (c : CanvasValue) : Type 0 where
+  pub pixels : (i : ℕ) → i < c.width * c.height → bottom ≤ row_of c.width c.height i → row_of c.width c.height i < top →
+      from ≤ column_of c.width i → column_of c.width i < to → is_some (painted_at c i) ≡ true
 
 -- some pixel is free
 pub record HasFree (c : CanvasValue) : Type 0 where

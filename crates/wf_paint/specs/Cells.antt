@@ -1,8 +1,9 @@
 -- The pixels of a canvas, index by index: three bytes each, and a bit, 1 where the pixel is free. A word has the bits of 64 pixels.
-use Rattle.std.specs.Prelude.{◌≡◌, ◌≢◌, ℕ, ◌+◌, ◌*◌, ◌/◌, ◌%◌, ◌^◌, ◌<◌, ◌≤◌, ◌==◌, Bool, true, List, length, slice_index, Option, Some, None, if◌then◌else◌}
+use Rattle.std.specs.Prelude.{◌≡◌, ◌≢◌, ℕ, ◌+◌, ◌-◌, ◌*◌, ◌/◌, ◌%◌, ◌^◌, ◌<◌, ◌≤◌, ◌==◌, Bool, true, false, List, length, slice_index, Option, Some, None, if◌then◌else◌}
 use Rattle.std.specs.Int.{bit_at}
 use Rattle.std.specs.Option.{option_or}
 use Rattle.wf_def.specs.declared.color.Color.{Color}
+use Rattle.wf_paint.specs.Limit.{most_pixels}
 use Rattle.wf_paint.specs.Pixmap.{pixel_at}
 
 -- the pixel is free: its bit is set
@@ -23,6 +24,20 @@ pub record HasFreeBit (free : List ℕ) (word : ℕ) : Type 0 where
   pub bit : ℕ
   pub below : bit < 64
   pub unpainted : is_free free (64 * word + bit) ≡ true
+
+-- words for the pixels of a picture of this size
+pub record IsSized (width height : ℕ) (free : List ℕ) : Type 0 where
+  pub width_least : 1 ≤ width
+  pub width_most : width ≤ most_pixels
+  pub height_least : 1 ≤ height
+  pub height_most : height ≤ most_pixels
+  pub words : length free ≡ width * height / 64 + 1
+
+-- a word for each 16 rows, counted from the bottom, with a bit for each 16 columns: no pixel of a block is free whose bit is clear
+pub record AreBlocks (width height : ℕ) (free blocks : List ℕ) : Type 0 where
+  pub size : length blocks ≡ 64
+  pub painted : (column row : ℕ) → row < height → column < width → bit_at (slice_index blocks (row / 16)) (column / 16) ≡ 0 →
+      is_free free ((height - 1 - row) * width + column) ≡ false
 
 -- so many pixels, all of one colour
 pub record IsPlain (count : ℕ) (color : Color) (bytes : List ℕ) : Type 0 where

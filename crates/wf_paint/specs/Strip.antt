@@ -1,5 +1,6 @@
 -- The pixels of some rows and columns whose level lies within a margin.
-use Rattle.std.specs.Prelude.{◌≡◌, ℕ, ◌^◌, ◌<◌, ◌≤◌, ◌&&◌, Bool, nat_lt, ℤ, pos, nat_abs, ◌≤ℤ◌}
+use Rattle.std.specs.Prelude.{◌≡◌, ℕ, ◌+◌, ◌^◌, ◌<◌, ◌≤◌, ◌&&◌, Bool, nat_lt, ℤ, pos, nat_abs, ◌≤ℤ◌}
+use Rattle.wf_paint.specs.Canvas.{CanvasValue, IsBoxPainted}
 use Rattle.wf_paint.specs.Exact.{plus, difference, product, opposite, is_less}
 use Rattle.wf_paint.specs.Level.{level, level_at, is_in_margin}
 use Rattle.wf_paint.specs.Limit.{pixel_side}
@@ -50,3 +51,10 @@ pub record IsBetween (columns : Span) (width : ℕ) (q : Quotient) : Type 0 wher
 pub record StaysBetween (l : Levels) (step width : ℕ) (rows columns : Span) : Type 0 where
   pub each : (row : ℕ) → rows.from ≤ row → row < rows.to → (q : Quotient) →
       IsEnd (opposite l.margin) l.origin (product (pos pixel_side) l.up) step row q → IsBetween columns width q
+
+-- all pixels of 16 rows are painted in columns among which the `width` pixels of the first row and those of the row after them lie
+pub record IsHiddenBlock (row width : ℕ) (low next : Quotient) (c : CanvasValue) : Type 0 where
+  pub columns : Span
+  pub first : IsBetween columns width low
+  pub last : IsBetween columns width next
+  pub painted : IsBoxPainted row (row + 16) columns.from columns.to c

@@ -7,6 +7,7 @@ ghost use Rattle.wf_paint.specs.Level.{level_at};
 ghost use Rattle.wf_paint.specs.Position.{centre, turned};
 ghost use Rattle.wf_paint.specs.Coverage.{deviation, margin, is_along, is_across, is_on_flat, is_on, is_on_any};
 ghost use Rattle.wf_paint.specs.Operation.{in_color, LineOf};
+ghost use Rattle.wf_paint.specs.Canvas.{IsAlike};
 ghost use Rattle.wf_paint.specs.Shown.{IsShown, IsColored};
 ghost use Rattle.wf_paint.specs.Span.{IsSpanOf};
 
@@ -24,6 +25,12 @@ use crate::steps::centres_below;
 use crate::strip::{draw_strip, draw_upright};
 use wf_def::color::Color;
 
+/// How many long segments are drawn from one look for painted blocks to the next.
+const MANY_LONG: u32 = 256;
+
+/// How high a long segment is, in sixteenths of a pixel.
+const LONG: u64 = 2_048;
+
 /// Paints a line of `width` pixels along each segment; nothing if `color` is None.
 pub(crate) fn draw_along(canvas: &mut Canvas, width: u8, edges: &Edges, color: Option<Color>)
     ensures { IsShown (in_color (LineOf width edges.now) color) canvas.old canvas.new }
@@ -39,9 +46,27 @@ fn draw_segments(canvas: &mut Canvas, width: u8, segments: &[Segment], color: Co
     ensures { IsColored (λ column row.
         is_on_any width (centre (pos column) (pos row)) segments.now) color canvas.old canvas.new }
 {
+    let mut long = 0;
     for segment in segments {
         draw_segment(canvas, width, segment, color);
+        long = find_blocks(canvas, segment, long);
     }
+}
+
+/// Counts the long segments. After each `MANY_LONG` of them painted blocks are looked for, which takes about as long as to draw a few.
+fn find_blocks(canvas: &mut Canvas, segment: &Segment, long: u32) -> u32
+    requires { long < 256 }
+    ensures alike { IsAlike canvas.old canvas.new }
+    ensures within { result < 256 }
+{
+    if rise(segment.from, segment.to).unsigned_abs() < LONG {
+        return long;
+    }
+    if long + 1 < MANY_LONG {
+        return long + 1;
+    }
+    canvas.find_painted_blocks();
+    0
 }
 
 /// Paints the line along the segment.

@@ -3,8 +3,8 @@
 ghost use Rattle.std.specs.Prelude.{◌≡◌, ◌≤◌, ◌<◌, ◌*◌, ◌+◌, ◌/◌, ◌-◌, ◌^◌, ℕ, true, false, length, slice_index, nat_lt, IfOk};
 ghost use Rattle.std.specs.Int.{bit_at};
 ghost use Rattle.wf_paint.specs.Limit.{most_pixels};
-ghost use Rattle.wf_paint.specs.Cells.{IsCells, HasFreeBit, IsRangePainted, AreWritten, is_free};
-ghost use Rattle.wf_paint.specs.Canvas.{IsCanvas, IsBlank, IsFull, HasFree, IsAlike, IsFinished};
+ghost use Rattle.wf_paint.specs.Cells.{IsCells, HasFreeBit, IsRangePainted, AreWritten, AreBlocks, IsSized, is_free};
+ghost use Rattle.wf_paint.specs.Canvas.{IsCanvas, IsBlank, IsFull, HasFree, IsAlike, IsFinished, IsBoxPainted};
 ghost use Rattle.wf_paint.specs.Shown.{IsColored, is_in_run};
 
 use crate::pixels::Pixels;
@@ -12,6 +12,12 @@ use crate::pixmap::Pixmap;
 use std::alloc::{AllocError, Global};
 use std::marker::Model;
 use wf_def::color::Color;
+
+/// The width and height of a block, in pixels. A word has the bits of all blocks of its rows.
+pub(crate) const BLOCK_SIDE: u32 = 16;
+
+/// How many rows of blocks the highest picture has.
+const BLOCK_ROWS: usize = 64;
 
 /// A picture that records which pixels are painted. A painted pixel keeps its colour; the bytes of a free one are the
 /// background's, so that a canvas is a picture at any time.
@@ -25,6 +31,9 @@ pub(crate) struct Canvas {
     free: Vec<u64>,
     /// So many of the first words have no free pixel.
     known: u32,
+    /// A word for each 16 rows, from the bottom, with a bit for each 16 columns: clear where all pixels of that block are known to be
+    /// painted.
+    blocks: Vec<u64>,
 }
 
 impl Model for Canvas {
@@ -39,6 +48,7 @@ impl Model for Canvas {
       bytes = c.pixels;
       free = c.free.items;
       known = c.known;
+      blocks = c.blocks.items;
     } };
 
     ghost invariant = { λ c. IsCanvas (record {
@@ -48,6 +58,7 @@ impl Model for Canvas {
       bytes = c.pixels;
       free = c.free.items;
       known = c.known;
+      blocks = c.blocks.items;
     }) };
 }
 
@@ -68,6 +79,7 @@ impl Canvas {
         ensures { IfOk result (λ c. IsBlank width height background c) }
     {
         let area = width * height;
+        let blocks = vec![in alloc; u64::MAX; BLOCK_ROWS]?;
         Ok(Canvas {
             width,
             height,
@@ -75,6 +87,7 @@ impl Canvas {
             pixels: Pixels::plain(alloc, room, area, background)?,
             free: free_words(alloc, area)?,
             known: 0,
+            blocks,
         })
     }
 
@@ -136,6 +149,27 @@ impl Canvas {
     {
         self.known = first_free(&self.free, self.known);
         self.known == self.width * self.height / 64 + 1
+    }
+
+    /// Whether painted blocks hide the pixels of 16 rows, from this one on, in columns from..to. May be false where they don't but all
+    /// these pixels are painted.
+    #[inline]
+    pub(crate) fn hides(&self, row: u32, from: u32, to: u32) -> bool
+        requires row_within { row + 16 ≤ self.now.height }
+        requires order { from < to }
+        requires to_within { to ≤ self.now.width }
+        ensures { result ≡ true → IsBoxPainted row (row + 16) from to self.now }
+    {
+        let last = row / BLOCK_SIDE + (row % BLOCK_SIDE + BLOCK_SIDE - 1) / BLOCK_SIDE;
+        are_painted(&self.blocks, row / BLOCK_SIDE, from, to)
+            && are_painted(&self.blocks, last, from, to)
+    }
+
+    /// Finds the painted blocks, for `hides`. No pixel changes.
+    pub(crate) fn find_painted_blocks(&mut self)
+        ensures { IsAlike self.old self.new }
+    {
+        clear_painted(&mut self.blocks, &self.free, self.width, self.height);
     }
 
     /// The picture as it stands: free pixels have the background.
@@ -314,4 +348,90 @@ fn first_free(free: &Vec<u64>, known: u32) -> u32
         here += 1;
     }
     here
+}
+
+/// Whether the blocks of these columns in a row of blocks are known to be painted.
+#[inline]
+fn are_painted(blocks: &Vec<u64>, index: u32, from: u32, to: u32) -> bool
+    requires index { index < length blocks.now.items }
+    requires order { from < to }
+    requires most { to ≤ most_pixels }
+    ensures { result ≡ true → (column : ℕ) → from ≤ column → column < to →
+        bit_at (slice_index blocks.now.items index) (column / 16) ≡ 0 }
+{
+    let mask = ones(from / BLOCK_SIDE, (to - 1) / BLOCK_SIDE + 1);
+    word_at(blocks, index) & mask == 0
+}
+
+/// Clears the bits of the blocks that are painted.
+fn clear_painted(blocks: &mut Vec<u64>, free: &Vec<u64>, width: u32, height: u32)
+    requires size { IsSized width height free.now.items }
+    requires blocks { AreBlocks width height free.now.items blocks.old.items }
+    ensures { AreBlocks width height free.now.items blocks.new.items }
+{
+    let rows = (height + BLOCK_SIDE - 1) / BLOCK_SIDE;
+    for index in 0..rows {
+        clear_row(blocks, free, width, height, index);
+    }
+}
+
+/// The same for a row of blocks.
+fn clear_row(blocks: &mut Vec<u64>, free: &Vec<u64>, width: u32, height: u32, index: u32)
+    requires size { IsSized width height free.now.items }
+    requires index { index < 64 }
+    requires blocks { AreBlocks width height free.now.items blocks.old.items }
+    ensures { AreBlocks width height free.now.items blocks.new.items }
+{
+    let columns = (width + BLOCK_SIDE - 1) / BLOCK_SIDE;
+    for block in 0..columns {
+        clear_block(blocks, free, width, height, index, block);
+    }
+}
+
+/// The same for one block.
+fn clear_block(
+    blocks: &mut Vec<u64>,
+    free: &Vec<u64>,
+    width: u32,
+    height: u32,
+    index: u32,
+    block: u32,
+)
+    requires size { IsSized width height free.now.items }
+    requires index { index < 64 }
+    requires block { block < 64 }
+    requires blocks { AreBlocks width height free.now.items blocks.old.items }
+    ensures { AreBlocks width height free.now.items blocks.new.items }
+{
+    let mask = ones(block, block + 1);
+    let word = word_at(blocks, index);
+    if word & mask != 0 && is_block_painted(free, width, height, index, block) {
+        blocks[index as usize] = word & !mask;
+    }
+}
+
+/// Whether no pixel of the block is free.
+fn is_block_painted(free: &Vec<u64>, width: u32, height: u32, index: u32, block: u32) -> bool
+    requires size { IsSized width height free.now.items }
+    requires index { index < 64 }
+    requires block { block < 64 }
+    ensures { result ≡ true → (column row : ℕ) → row < height → column < width →
+        row / 16 ≡ index → column / 16 ≡ block →
+        is_free free.now.items ((height - 1 - row) * width + column) ≡ false }
+{
+    let (first, start) = (BLOCK_SIDE * index, BLOCK_SIDE * block);
+    let (last, end) = (
+        height.min(first + BLOCK_SIDE),
+        width.min(start + BLOCK_SIDE),
+    );
+    if start >= end {
+        return true;
+    }
+    for row in first..last {
+        let left = (height - 1 - row) * width;
+        if !is_window_painted(free, left + start, left + end) {
+            return false;
+        }
+    }
+    true
 }

@@ -1,7 +1,7 @@
 //! Segments that lines are drawn along and insides are bounded by.
-ghost use Rattle.std.specs.Prelude.{◌≡◌, ◌++◌, ◌∷◌, [], true, IfOk, OnOk};
+ghost use Rattle.std.specs.Prelude.{◌≡◌, ◌++◌, ◌∷◌, ◌-◌, [], Some, true, length, slice_get, IfOk, OnOk};
 ghost use Rattle.std.specs.List.Sorted.{IsPermutation};
-ghost use Rattle.wf_paint.specs.Edges.{AreAlong, drawn_of};
+ghost use Rattle.wf_paint.specs.Edges.{AreAlong, AreAround, drawn_of};
 
 use crate::position::Position;
 use crate::segment::Segment;
@@ -11,23 +11,26 @@ use std::marker::Model;
 /// From so many segments on equal ones are looked for. Fewer are drawn sooner than sorted.
 const MANY: usize = 256;
 
-/// Segments. Of many of them those that differ are kept beside them: a line along these covers what one along all does.
+/// Segments. Beside many of them are kept those that differ, since a line along these covers what one along all does, and those that
+/// are there an odd number of times, since they have the same inside.
 #[derive(Drop)]
 pub(crate) struct Edges {
     all: Vec<Segment>,
     distinct: Option<Vec<Segment>>,
+    odd: Option<Vec<Segment>>,
 }
 
 impl Model for Edges {
     ghost use Rattle.std.specs.Prelude.{List};
-    ghost use Rattle.wf_paint.specs.Edges.{AreAlong, drawn_of};
+    ghost use Rattle.wf_paint.specs.Edges.{AreAlong, AreAround, drawn_of};
     ghost use Rattle.wf_paint.specs.declared.segment.Segment.{Segment};
 
     ghost Value = { List Segment };
 
     ghost view = { λ e. e.all.items };
 
-    ghost invariant = { λ e. AreAlong e.all.items (drawn_of e.all.items e.distinct) };
+    ghost invariant = { λ e. AreAlong e.all.items (drawn_of e.all.items e.distinct)
+        × AreAround e.all.items (drawn_of e.all.items e.odd) };
 }
 
 impl Edges {
@@ -36,14 +39,18 @@ impl Edges {
         ensures { IfOk result (λ edges. edges ≡ all.items) }
     {
         let distinct = distinct_of_many(alloc, &all)?;
-        Ok(Edges { all, distinct })
+        let odd = odd_of_many(alloc, &all)?;
+        Ok(Edges { all, distinct, odd })
     }
 
-    /// All of them.
-    pub(crate) fn as_slice(&self) -> &[Segment]
-        ensures { result.now ≡ self.now }
+    /// Those that bound the inside.
+    pub(crate) fn around(&self) -> &[Segment]
+        ensures { AreAround self.now result.now }
     {
-        &self.all
+        match &self.odd {
+            Some(odd) => odd,
+            None => &self.all,
+        }
     }
 
     /// Those that a line is drawn along.
@@ -66,6 +73,17 @@ fn distinct_of_many(alloc: Global, all: &[Segment]) -> Result<Option<Vec<Segment
     }
     let distinct = unlike_neighbours(alloc, &sorted(alloc, all)?)?;
     Ok(Some(distinct))
+}
+
+/// The segments that are there an odd number of times, if there are many.
+fn odd_of_many(alloc: Global, all: &[Segment]) -> Result<Option<Vec<Segment>>, AllocError>
+    ensures { IfOk result (λ odd. AreAround all.now (drawn_of all.now odd)) }
+{
+    if all.len() < MANY {
+        return Ok(None);
+    }
+    let odd = odd_neighbours(alloc, &sorted(alloc, all)?)?;
+    Ok(Some(odd))
 }
 
 /// The segments by their positions, so that equal ones are neighbours.
@@ -103,6 +121,41 @@ fn push_unlike(segments: &mut Vec<Segment>, segment: &Segment) -> Result<(), All
             segments.push(*segment)?;
             Ok(())
         }
+    }
+}
+
+/// The segments of which an odd number of equal ones are neighbours.
+fn odd_neighbours(alloc: Global, segments: &[Segment]) -> Result<Vec<Segment>, AllocError>
+    ensures { IfOk result (λ odd. AreAround segments.now odd.items) }
+{
+    let mut odd = Vec::new(alloc);
+    for segment in segments {
+        push_or_cancel(&mut odd, segment)?;
+    }
+    Ok(odd)
+}
+
+/// Appends the segment; if the last one equals it, removes that instead: a ray that meets both meets an even number.
+fn push_or_cancel(segments: &mut Vec<Segment>, segment: &Segment) -> Result<(), AllocError>
+    ensures { OnOk result (AreAround
+        (segments.old.items ++ segment.now ∷ []) segments.new.items) }
+{
+    let cancels = ends_with(segments, segment);
+    if cancels {
+        segments.pop();
+    } else {
+        segments.push(*segment)?;
+    }
+    Ok(())
+}
+
+/// Whether the last segment is this one.
+fn ends_with(segments: &[Segment], segment: &Segment) -> bool
+    ensures { result ≡ true → slice_get segments.now (length segments.now - 1) ≡ Some segment.now }
+{
+    match segments.last() {
+        Some(last) => is_same(last, segment),
+        None => false,
     }
 }
 

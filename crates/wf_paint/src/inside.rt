@@ -12,6 +12,7 @@ ghost use Rattle.wf_paint.specs.Shown.{IsShown, IsColored};
 ghost use Rattle.wf_paint.specs.Limit.{half_side, most_pixels, pixel_side};
 
 use crate::canvas::Canvas;
+use crate::edges::Edges;
 use crate::exact::{area_difference, difference, is_less, product};
 use crate::limits::{HALF_SIDE, PIXEL_SIDE};
 use crate::position::Position;
@@ -27,13 +28,13 @@ const MANY: usize = 128;
 pub(crate) fn draw_inside(
     alloc: Global,
     canvas: &mut Canvas,
-    edges: &[Segment],
+    edges: &Edges,
     color: Option<Color>,
 ) -> Result<(), AllocError>
     ensures { OnOk result (IsShown (in_color (FillOf edges.now) color) canvas.old canvas.new) }
 {
     match color {
-        Some(color) => fill(alloc, canvas, edges, color),
+        Some(color) => fill(alloc, canvas, edges.around(), color),
         None => Ok(()),
     }
 }

@@ -10,6 +10,8 @@
 //! [`painter::paint`] goes from the last operation to the first, row by row, and writes only pixels that are still free, which a
 //! bit for each pixel tells: so hidden operations cost little. It skips operations that later ones hide: those of a layer that is listed again later; a fill
 //! of a feature that a later style fills; a line of a feature, if a later style has one at least as wide along the same segments.
+//! Of a shape's many segments it draws equal ones once, and fills between those that are there an odd number of times. Where
+//! blocks of 16 by 16 pixels are painted, a steep line passes 16 rows at once.
 //!
 //! It promises:
 //! - each pixel of a painted picture has the colour of the last operation in painter's order that covers it, else the background;

@@ -190,7 +190,7 @@ fn draw_polygons(
         let width = style.width.get();
         let border = line_color(style.outline_color, width, widest);
         draw_along(canvas, width, edges, border);
-        draw_inside(alloc, canvas, edges.as_slice(), inner_color(style, filled))?;
+        draw_inside(alloc, canvas, edges, inner_color(style, filled))?;
         filled |= style.color.is_some();
         widest = widest_line(style.outline_color, width, widest);
     }

@@ -5,12 +5,13 @@ ghost use Rattle.wf_paint.specs.Near.{IsReach, IsArea};
 ghost use Rattle.wf_paint.specs.Exact.{plus, difference, product, opposite};
 ghost use Rattle.wf_paint.specs.Quotient.{number_of};
 ghost use Rattle.wf_paint.specs.Level.{level_at, row_level, is_in_margin};
+ghost use Rattle.wf_paint.specs.Canvas.{IsBoxPainted};
 ghost use Rattle.wf_paint.specs.Shown.{IsColored};
 ghost use Rattle.wf_paint.specs.Span.{IsSpanOf, shared};
-ghost use Rattle.wf_paint.specs.Strip.{is_in_strip, IsPart, IsBetween, IsStepped, StaysBetween};
+ghost use Rattle.wf_paint.specs.Strip.{is_in_strip, IsPart, IsBetween, IsEnd, IsHiddenBlock, IsStepped, StaysBetween};
 ghost use Rattle.wf_paint.specs.Limit.{half_side, most_pixels, pixel_side};
 
-use crate::canvas::Canvas;
+use crate::canvas::{BLOCK_SIDE, Canvas};
 use crate::exact::{opposite, product};
 use crate::level::level_within;
 use crate::levels::Levels;
@@ -152,8 +153,144 @@ fn is_between(columns: Span, low: Quotient, width: u8) -> bool
     width <= 64 && lies_in(columns, from, from + i64::from(width))
 }
 
-/// The same as `draw_even` where each row has `width` pixels in the columns.
+/// The same as `draw_even` where each row has `width` pixels in the columns. Rows that painted blocks hide are passed 16 at once.
 fn draw_whole(
+    canvas: &mut Canvas,
+    levels: Levels,
+    low: Stepped,
+    width: u8,
+    rows: Span,
+    columns: Span,
+    color: Color,
+)
+    requires up { IsReach levels.up }
+    requires rising { pos 1 ≤ℤ levels.across }
+    requires even { levels.margin ≡ product (pos (half_side * width)) levels.across }
+    requires order { rows.from < rows.to }
+    requires rows { rows.to ≤ canvas.old.height }
+    requires most_rows { rows.to ≤ most_pixels }
+    requires columns { columns.to ≤ canvas.old.width }
+    requires low { IsStepped levels (opposite levels.margin) rows.from low }
+    requires between { StaysBetween levels low.step width rows columns }
+    ensures { IsColored (is_in_strip levels rows columns) color canvas.old canvas.new }
+{
+    let Some(leap) = leap(levels, low.step) else {
+        return draw_whole_rows(canvas, levels, low, width, rows, columns, color);
+    };
+    let blocks = (rows.to - rows.from - 1) / BLOCK_SIDE;
+    let mut end = low.now;
+    for index in 0..blocks {
+        let row = rows.from + BLOCK_SIDE * index;
+        let here = restart(low, end);
+        let next = sum(end, leap, low.step);
+        let few = span(row, row + BLOCK_SIDE);
+        draw_whole_block(canvas, levels, here, next, width, few, columns, color);
+        end = next;
+    }
+    let last = span(rows.from + BLOCK_SIDE * blocks, rows.to);
+    draw_whole_rows(
+        canvas,
+        levels,
+        restart(low, end),
+        width,
+        last,
+        columns,
+        color,
+    );
+}
+
+/// The same changes from row to row, from another number on.
+#[inline(always)]
+fn restart(stepped: Stepped, now: Quotient) -> Stepped
+    ensures { result ≡ record { now = now; change = stepped.change; step = stepped.step } }
+{
+    Stepped {
+        now,
+        change: stepped.change,
+        step: stepped.step,
+    }
+}
+
+/// How the number that tells where a row's pixels end changes over 16 rows. None if 64 bits don't hold it.
+fn leap(levels: Levels, step: u64) -> Option<Quotient>
+    requires up { IsReach levels.up }
+    requires step { 1 ≤ step }
+    ensures value { IfSome result (λ q. number_of step q
+        ≡ opposite (product (pos (16 * pixel_side)) levels.up)) }
+    ensures rest { IfSome result (λ q. q.rest < step) }
+    ensures within { IfSome result (λ q. nat_abs q.whole ≤ 2 ^ 50) }
+{
+    quotient(
+        opposite(product(i64::from(BLOCK_SIDE) * PIXEL_SIDE, levels.up)),
+        step,
+    )
+}
+
+/// The same for 16 rows. Nothing is left to do if painted blocks hide all that lies between the first of them and the row after them.
+fn draw_whole_block(
+    canvas: &mut Canvas,
+    levels: Levels,
+    low: Stepped,
+    next: Quotient,
+    width: u8,
+    rows: Span,
+    columns: Span,
+    color: Color,
+)
+    requires up { IsReach levels.up }
+    requires rising { pos 1 ≤ℤ levels.across }
+    requires even { levels.margin ≡ product (pos (half_side * width)) levels.across }
+    requires order { rows.from < rows.to }
+    requires rows { rows.to ≤ canvas.old.height }
+    requires most_rows { rows.to ≤ most_pixels }
+    requires columns { columns.to ≤ canvas.old.width }
+    requires low { IsStepped levels (opposite levels.margin) rows.from low }
+    requires between { StaysBetween levels low.step width rows columns }
+    requires block { rows.to ≡ rows.from + 16 }
+    requires next { IsEnd (opposite levels.margin) levels.origin (product (pos pixel_side) levels.up) low.step rows.to next }
+    requires after { IsBetween columns width next }
+    ensures { IsColored (is_in_strip levels rows columns) color canvas.old canvas.new }
+{
+    if !is_hidden(canvas, low.now, next, width, rows.from) {
+        draw_whole_rows(canvas, levels, low, width, rows, columns, color);
+    }
+}
+
+/// Whether painted blocks hide what lies between the `width` pixels of a row and those of the 16th row after it.
+#[inline(always)]
+fn is_hidden(canvas: &Canvas, low: Quotient, next: Quotient, width: u8, row: u32) -> bool
+    requires row { row + 16 ≤ canvas.now.height }
+    requires first { IsBetween (record { from = 0; to = canvas.now.width }) width low }
+    requires last { IsBetween (record { from = 0; to = canvas.now.width }) width next }
+    ensures { result ≡ true → IsHiddenBlock row width low next canvas.now }
+{
+    if low.whole < next.whole {
+        is_box_hidden(canvas, low.whole, next.whole, width, row)
+    } else {
+        is_box_hidden(canvas, next.whole, low.whole, width, row)
+    }
+}
+
+/// Whether painted blocks hide the pixels of 16 rows after the one column and up to `width` after the other.
+#[inline(always)]
+#[tactic(auto, unfolding(crate::specs::Exact::plus))]
+fn is_box_hidden(canvas: &Canvas, left: i64, right: i64, width: u8, row: u32) -> bool
+    requires row { row + 16 ≤ canvas.now.height }
+    requires least { pos 0 ≤ℤ plus left (pos 1) }
+    requires order { left ≤ℤ right }
+    requires some { 1 ≤ width }
+    requires most { plus (plus right (pos 1)) (pos width) ≤ℤ pos canvas.now.width }
+    ensures { result ≡ true → IsBoxPainted row (row + 16)
+        (nat_abs (plus left (pos 1))) (nat_abs (plus right (pos 1)) + width) canvas.now }
+{
+    canvas.sides_are_limited();
+    let from = count(left + 1);
+    let to = count(right + 1) + u32::from(width);
+    canvas.hides(row, from, to)
+}
+
+/// The same as `draw_whole`, row by row.
+fn draw_whole_rows(
     canvas: &mut Canvas,
     levels: Levels,
     low: Stepped,

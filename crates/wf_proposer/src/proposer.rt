@@ -81,6 +81,13 @@ impl Proposer {
         self.node
     }
 
+    /// The number of nodes.
+    pub fn nodes(&self) -> u8
+        ensures { result ≡ self.now.nodes }
+    {
+        self.nodes
+    }
+
     /// The state of the node's proposal.
     pub fn proposal(&self) -> Standing
         ensures { result ≡ standing_of (working_of self.now).proposing }

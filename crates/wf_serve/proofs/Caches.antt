@@ -8,7 +8,7 @@ use Rattle.wf_farm.specs.Delivering.{EachGrows}
 use Rattle.wf_farm.specs.PlaceLaws.{get_set_same, get_set_other}
 use Rattle.wf_node.specs.Node.{Node}
 use Rattle.wf_wms.specs.KeptPictures.{AllKept, CacheValue, GrowthKeepsAll}
-use Rattle.wf_serve.specs.Caching.{AreEmpty, AreKept, IsKeptAt}
+use Rattle.wf_serve.specs.Caching.{AreEmpty, AreKept, HaveRoom, IsKeptAt, KeepRoom}
 
 -- the element at an index of a list
 there_is : {A : Type 0} (xs : List A) (i : ℕ) → i < length xs → (x : A) × (slice_get xs i ≡ Some x)
@@ -68,3 +68,26 @@ one_more_empty caches cache are is = λ i other at. elim (last_at caches cache i
 pub kept_empty : {T : Type 0} (nodes : List (Node T)) (caches : List CacheValue) → length caches ≡ length nodes → AreEmpty caches → AreKept nodes caches
 unfolding AreEmpty
 kept_empty nodes caches long are = record { as_many = long; kept = λ i node cache at there. are i cache there node.parts.history }
+
+-- ---- the room of caches
+
+pub no_room : (room : ℕ) → HaveRoom room []
+unfolding HaveRoom
+no_room room = λ i cache at. absurd (none-some cache at)
+
+pub one_more_room : (room : ℕ) (caches : List CacheValue) (cache : CacheValue) → HaveRoom room caches → cache.cap ≡ room → HaveRoom room (caches ++ cache ∷ [])
+unfolding HaveRoom
+one_more_room room caches cache have is = λ i other at. elim (last_at caches cache i other at) [
+  | inl before ↦ have i other before
+  | inr last ↦ subst (λ (c : CacheValue). c.cap ≡ room) last is
+]
+
+-- one cache has changed, and has the room that it had
+pub room_with : (caches : List CacheValue) (place : ℕ) (cache next : CacheValue) → slice_get caches place ≡ Some cache → next.cap ≡ cache.cap → KeepRoom caches (slice_set caches place next)
+unfolding HaveRoom
+room_with caches place cache next there same = λ room have i kept at. elim (cases_eq i place) [
+  | inl is ↦
+      let its = get_set_same caches place next cache kept there (subst (λ k. slice_get (slice_set caches place next) k ≡ Some kept) is at) in
+      subst (λ (c : CacheValue). c.cap ≡ room) its (same ∙ have place cache there)
+  | inr differs ↦ have i kept (sym (get_set_other caches place i next differs) ∙ at)
+]

@@ -14,7 +14,7 @@ use Rattle.wf_farm.specs.DeliveringLaws.{halted_itself, keeps_turn_itself}
 use Rattle.wf_farm.specs.Exchange.{IsExchange}
 use Rattle.wf_farm.specs.PlaceLaws.{set_same}
 use Rattle.wf_farm.specs.declared.delivering.Pumped.{Pumped}
-use Rattle.wf_http.specs.Request.{Request}
+use Rattle.wf_edge.specs.Request.{Request}
 use Rattle.wf_model.specs.Stored.{Stored}
 use Rattle.wf_model.specs.Table.{Input}
 use Rattle.wf_model.specs.World.{steps}

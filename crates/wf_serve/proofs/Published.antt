@@ -18,15 +18,15 @@ use Rattle.wf_farm.specs.CatchUp.{LevelRests, StandLevel}
 use Rattle.wf_farm.specs.Delivering.{AreHandedOut, StandInTurn}
 use Rattle.wf_farm.specs.Leading.{AreFresh}
 use Rattle.wf_farm.specs.Publishing.{AllPublish, NoneHalted, PublishedOnAll, Rests}
-use Rattle.wf_http.specs.Request.{Request, BeginsWith}
+use Rattle.wf_edge.specs.Request.{Request, BeginsWith}
 use Rattle.wf_http.specs.Response.{Response}
 use Rattle.wf_http.specs.Target.{query_of}
 use Rattle.wf_http.specs.declared.fault.RequestFault.{RequestFault}
 use Rattle.wf_http.specs.declared.fault.RequestFault.TheVariants as fault
 use Rattle.wf_http.specs.declared.refusal.Refusal.{Refusal}
 use Rattle.wf_http.specs.declared.refusal.Refusal.TheVariants as refusal
-use Rattle.wf_http.specs.declared.resource.Asked.{Asked}
-use Rattle.wf_http.specs.declared.resource.Asked.TheVariants as asked
+use Rattle.wf_edge.specs.declared.resource.Asked.{Asked}
+use Rattle.wf_edge.specs.declared.resource.Asked.TheVariants as asked
 use Rattle.wf_model.specs.Working as model
 use Rattle.wf_node.specs.Node.{Node, working_of}
 use Rattle.wf_proposer.specs.Standing.{standing_of}

@@ -1,29 +1,56 @@
--- From what a farm's nodes did to what a service's did.
-use Rattle.std.proofs.Common.{◌≡◌, ℕ, List, length}
-use Rattle.std.specs.Prelude.{Result, Ok, Err, OnOk}
-use Rattle.wf_farm.specs.Delivering.{AnyPart, EachGrows, StandInTurn}
-use Rattle.wf_farm.specs.Leading.{AreFresh, AreLedOn, AreReached, HaveOneHistory}
+-- From what a farm's nodes did to what was served of a service.
+use Rattle.std.proofs.Common.{◌≡◌, ℕ, List, false, true, length, sym}
+use Rattle.std.specs.Prelude.{Option, Some, None, IsSome, Result, Ok, Err, OnOk}
+use Rattle.std.proofs.lemmas.Option.{none-some}
+use Rattle.wf_farm.specs.Delivering.{AnyPart}
+use Rattle.wf_farm.specs.Leading.{AreFresh, AreLedOn, AreReached}
 use Rattle.wf_node.specs.Node.{Node}
-use Rattle.wf_serve.specs.Agreeing.{RespondAlike}
-use Rattle.wf_serve.specs.Connections.{IsServing}
-use Rattle.wf_serve.specs.Served.{HaveServed, NewServed, Served}
+use Rattle.wf_serve.specs.Agreeing.{AgreeStill, HaveGoneOn}
+use Rattle.wf_serve.specs.Served.{HasServed, HaveServed}
 use Rattle.wf_serve.specs.declared.fault.ServeFault.{ServeFault}
+use Rattle.wf_service.specs.declared.service.Service.{Service}
 use Rattle.wf_tape.specs.declared.tape.Tape.{Ghosts as Tape}
 
-module _ {T : Type 0} (tapes : Tape T) (requests : ℕ) (nodes : List (Node T)) where
-  pub have_served : (after : List (Node T)) (result : Result (Unit {0}) ServeFault) → StandInTurn nodes → IsServing tapes requests nodes result after →
-      AreLedOn tapes nodes after → (AreReached AnyPart nodes → HaveOneHistory after) → (AreReached AnyPart nodes → RespondAlike tapes after) → EachGrows nodes after →
-      OnOk result ((nodes_after : List (Node T)) × HaveServed tapes requests nodes nodes_after)
-  have_served after (Ok done) turns serving led agree alike grows =
-      (after, record { in_turn = turns; serving = serving; led = led; agree = agree; alike = alike; grows = grows })
-  have_served after (Err why) turns serving led agree alike grows = tt
+-- what holds of nodes that events led on
+pub gone_on : {T : Type 0} (tapes : Tape T) (nodes after : List (Node T)) → AgreeStill tapes after → AreLedOn tapes nodes after → HaveGoneOn tapes nodes after
+gone_on tapes nodes after agree led = record {
+  led = led;
+  reached = λ reached. (agree nodes reached led).reached;
+  agree = λ reached. (agree nodes reached led).history;
+  alike = λ reached. (agree nodes reached led).alike;
+  grows = led.turn.lists;
+}
 
-  pub served_by : (count : ℕ) (result : Result (Unit {0}) ServeFault) → length nodes ≡ count →
-      OnOk result ((nodes_after : List (Node T)) × HaveServed tapes requests nodes nodes_after) → OnOk result (Served tapes count requests)
-  served_by count (Ok done) many have = record { nodes = nodes; nodes_after = have.0; as_many = many; have = have.1 }
-  served_by count (Err why) many have = tt
+none_is_some : {A : Type 0} (x : Option A) → x ≡ None → IsSome x → ⊥
+none_is_some None is some = let clash : false ≡ true = some in cc
+none_is_some (Some x) is some = none-some x (sym is)
 
-  pub new_served : (count : ℕ) (result : Result (Unit {0}) ServeFault) → length nodes ≡ count → AreFresh nodes → AreReached AnyPart nodes →
-      OnOk result ((nodes_after : List (Node T)) × HaveServed tapes requests nodes nodes_after) → OnOk result (NewServed tapes count requests)
-  new_served count (Ok done) many fresh reached have = record { nodes = nodes; nodes_after = have.0; as_many = many; new = fresh; reached = reached; have = have.1 }
-  new_served count (Err why) many fresh reached have = tt
+module _ {M F : Type 0} (inside : Tape M) (outside : Tape F) (service : Service) where
+  in_memory : (nodes after : List (Node M)) → service.state ≡ None → length nodes ≡ service.nodes → AreFresh nodes → AreReached AnyPart nodes →
+      HaveServed inside service.requests service.cache nodes after → HasServed inside outside service
+  in_memory nodes after none many fresh reached have = record {
+    memory = λ is. record { nodes = nodes; nodes_after = after; as_many = many; new = fresh; reached = reached; have = have };
+    files = λ some. absurd (none_is_some service.state none some);
+  }
+
+  in_files : (nodes after : List (Node F)) → IsSome service.state → length nodes ≡ service.nodes → HaveServed outside service.requests service.cache nodes after → HasServed inside outside service
+  in_files nodes after some many have = record {
+    memory = λ none. absurd (none_is_some service.state none some);
+    files = λ is. record { nodes = nodes; nodes_after = after; as_many = many; have = have };
+  }
+
+  pub served_in_memory : (nodes : List (Node M)) (result : Result (Unit {0}) ServeFault) → service.state ≡ None → length nodes ≡ service.nodes → AreFresh nodes → AreReached AnyPart nodes →
+      OnOk result ((after : List (Node M)) × HaveServed inside service.requests service.cache nodes after) → OnOk result (HasServed inside outside service)
+  served_in_memory nodes (Ok done) none many fresh reached have = in_memory nodes have.0 none many fresh reached have.1
+  served_in_memory nodes (Err why) none many fresh reached have = tt
+
+  pub served_in_files : (nodes : List (Node F)) (result : Result (Unit {0}) ServeFault) → IsSome service.state → length nodes ≡ service.nodes →
+      OnOk result ((after : List (Node F)) × HaveServed outside service.requests service.cache nodes after) → OnOk result (HasServed inside outside service)
+  served_in_files nodes (Ok done) some many have = in_files nodes have.0 some many have.1
+  served_in_files nodes (Err why) some many have = tt
+
+-- the nodes that were served, whoever holds them
+pub some_served : {T : Type 0} (tapes : Tape T) (requests room : ℕ) (nodes after : List (Node T)) (result : Result (Unit {0}) ServeFault) → OnOk result (HaveServed tapes requests room nodes after) →
+    OnOk result ((other : List (Node T)) × HaveServed tapes requests room nodes other)
+some_served tapes requests room nodes after (Ok done) have = (after, have)
+some_served tapes requests room nodes after (Err why) have = tt

@@ -4,7 +4,7 @@ use Rattle.std.specs.declared.alloc.Global.{Global}
 use Rattle.wf_codec.specs.declared.message.Message.{Message}
 use Rattle.wf_edge.specs.Law.{AsksMapService}
 use Rattle.wf_edge.specs.Serving.{Responds}
-use Rattle.wf_farm.specs.Delivering.{AnyPart}
+use Rattle.wf_farm.specs.Delivering.{AnyPart, EachGrows}
 use Rattle.wf_farm.specs.Leading.{AreLedOn, AreReached, HaveOneHistory}
 use Rattle.wf_http.specs.Response.{Response, response_bytes}
 use Rattle.wf_node.specs.Node.{Node}
@@ -29,3 +29,12 @@ module _ {T : Type 0} (tapes : Tape T) where
   -- That holds of nodes to which nodes that were reached were led.
   abbrev pub AgreeStill : List (Node T) → Type 0
   AgreeStill nodes = (before : List (Node T)) → AreReached AnyPart before → AreLedOn tapes before nodes → AreAgreed nodes
+
+  -- Some events of the model lead the nodes on. So if its start leads to them, it does still; they publish one history, and respond
+  -- alike. And no list of published maps has lost one.
+  pub record HaveGoneOn (nodes nodes_after : List (Node T)) : Type 0 where
+    pub led : AreLedOn tapes nodes nodes_after
+    pub reached : AreReached AnyPart nodes → AreReached AnyPart nodes_after
+    pub agree : AreReached AnyPart nodes → HaveOneHistory nodes_after
+    pub alike : AreReached AnyPart nodes → RespondAlike nodes_after
+    pub grows : EachGrows nodes nodes_after

@@ -13,6 +13,20 @@ pub record AreKept {T : Type 0} (nodes : List (Node T)) (caches : List CacheValu
   pub as_many : length caches ≡ length nodes
   pub kept : (i : ℕ) (node : Node T) (cache : CacheValue) → slice_get nodes i ≡ Some node → slice_get caches i ≡ Some cache → AllKept node.parts.history cache
 
+-- each cache has room for this many pictures
+unfoldable pub HaveRoom : ℕ → List CacheValue → Type 0
+HaveRoom room caches = (i : ℕ) (cache : CacheValue) → slice_get caches i ≡ Some cache → cache.cap ≡ room
+
+-- whatever room they had, they have still
+abbrev pub KeepRoom : List CacheValue → List CacheValue → Type 0
+KeepRoom caches caches_after = (room : ℕ) → HaveRoom room caches → HaveRoom room caches_after
+
+-- Each node has a cache with room for this many pictures.
+pub record HaveCaches {T : Type 0} (count : ℕ) (nodes : List (Node T)) : Type 0 where
+  pub caches : List CacheValue
+  pub kept : AreKept nodes caches
+  pub room : HaveRoom count caches
+
 -- for the crate's own contracts: these caches are valid for every history
 unfoldable pub AreEmpty : List CacheValue → Type 0
 AreEmpty caches = (i : ℕ) (cache : CacheValue) → slice_get caches i ≡ Some cache → (history : List Definition) → AllKept history cache

@@ -6,7 +6,7 @@ use Rattle.wf_edge.specs.Publish.{IsMapOf}
 use Rattle.wf_farm.specs.Delivering.{StandInTurn}
 use Rattle.wf_farm.specs.Leading.{AreFresh}
 use Rattle.wf_farm.specs.Publishing.{NoneHalted}
-use Rattle.wf_http.specs.Request.{Request, BeginsWith}
+use Rattle.wf_edge.specs.Request.{Request, BeginsWith}
 use Rattle.wf_model.specs.Stored.{definition_at}
 use Rattle.wf_node.specs.Node.{Node}
 use Rattle.wf_serve.specs.Connections.{HaveCome, MayBeAnswered}

@@ -35,7 +35,7 @@ IsWriting bytes old new (Err faults.Start) = ⊥
 
 -- What is written by the time that the nodes are served no more: the line with such a port, or a prefix of it if the writer
 -- failed; nothing if they didn't start.
-abbrev pub IsTold : ℕ → Option (List ℕ) → Option (List ℕ) → Result (Unit {0}) ServeFault → Type 0
+abbrev pub IsTold : {A : Type 0} → ℕ → Option (List ℕ) → Option (List ℕ) → Result A ServeFault → Type 0
 IsTold asked old new (Ok done) = (port : ℕ) × IsPortFor asked port × Appends old new (port_line port)
 IsTold asked old new (Err faults.Write) = (port : ℕ) × IsPortFor asked port × ((count : ℕ) × Appends old new (take count (port_line port)))
 IsTold asked old new (Err faults.Start) = Keeps old new
@@ -50,13 +50,13 @@ module _ {K : Type 0} (sinks : Sink K) where
   HasEnded bytes old new (Err faults.Start) = ⊥
 
   -- Of the line with such a port. If the nodes didn't start, the writer isn't called.
-  abbrev pub IsEnded : ℕ → K → K → Result (Unit {0}) ServeFault → Type 0
+  abbrev pub IsEnded : {A : Type 0} → ℕ → K → K → Result A ServeFault → Type 0
   IsEnded asked old new (Ok done) = Unit {0}
   IsEnded asked old new (Err faults.Write) = (port : ℕ) × IsPortFor asked port × ((count : ℕ) × EndsByFailing sinks.written sinks.failures sinks.fails (take count (port_line port)) old new)
   IsEnded asked old new (Err faults.Start) = new ≡ old
 
   -- for the crate's own contracts: what is written of that line, whether a write failed, and how the writing ended
-  pub record TellsPort (asked : ℕ) (old new : K) (result : Result (Unit {0}) ServeFault) : Type 0 where
+  pub record TellsPort {A : Type 0} (asked : ℕ) (old new : K) (result : Result A ServeFault) : Type 0 where
     pub told : IsTold asked (sinks.written old) (sinks.written new) result
     pub writes : CountsWrites result (sinks.failures old) (sinks.failures new)
     pub ended : IsEnded asked old new result

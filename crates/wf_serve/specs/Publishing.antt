@@ -8,7 +8,7 @@ use Rattle.wf_edge.specs.declared.outcome.Outcome.TheVariants as outcome
 use Rattle.wf_farm.specs.Delivering.{StandInTurn}
 use Rattle.wf_farm.specs.Leading.{AreFresh}
 use Rattle.wf_farm.specs.Publishing.{AllPublish, NoneHalted}
-use Rattle.wf_http.specs.Request.{Request, BeginsWith}
+use Rattle.wf_edge.specs.Request.{Request, BeginsWith}
 use Rattle.wf_node.specs.Node.{Node}
 use Rattle.wf_serve.specs.Serving.{HaveCaughtUp, IsConnection}
 use Rattle.wf_tape.specs.declared.tape.Tape.{Ghosts as Tape}

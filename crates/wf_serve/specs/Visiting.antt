@@ -4,7 +4,7 @@ use Rattle.std.specs.declared.alloc.Global.{Global}
 use Rattle.wf_codec.specs.declared.message.Message.{Message}
 use Rattle.wf_edge.specs.Serving.{IsServed, Serves}
 use Rattle.wf_edge.specs.declared.outcome.Outcome.{Outcome}
-use Rattle.wf_http.specs.Request.{Request}
+use Rattle.wf_edge.specs.Request.{Request}
 use Rattle.wf_node.specs.Node.{Node}
 use Rattle.wf_serve.specs.Serving.{AreHeard, IsChangedAt}
 use Rattle.wf_stream.specs.declared.stream.Sink.{Ghosts as Sink}

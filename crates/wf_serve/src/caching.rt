@@ -1,7 +1,7 @@
 //! The caches of the nodes.
 ghost use Rattle.std.specs.Prelude.{◌≡◌, ◌≤◌, ◌+◌, length, IfOk, OnOk};
 ghost use Rattle.wf_farm.specs.Nodes.{nodes_in};
-ghost use Rattle.wf_serve.specs.Caching.{AreEmpty, AreKept};
+ghost use Rattle.wf_serve.specs.Caching.{AreEmpty, AreKept, HaveRoom};
 ghost use Rattle.wf_wms.specs.KeptPictures.{most_kept};
 
 use std::alloc::{AllocError, Global};
@@ -17,7 +17,8 @@ pub(crate) fn caches_for<T: Tape>(
 ) -> Result<Vec<Cache>, AllocError>
     requires least { 1 ≤ capacity }
     requires most { capacity ≤ most_kept }
-    ensures { IfOk result (λ caches. AreKept (nodes_in farm.now) caches.items) }
+    ensures kept { IfOk result (λ caches. AreKept (nodes_in farm.now) caches.items) }
+    ensures room { IfOk result (λ caches. HaveRoom capacity caches.items) }
 {
     let mut caches = Vec::new(alloc);
     for number in 0..farm.size() {
@@ -37,8 +38,10 @@ fn add(
     requires most { capacity ≤ most_kept }
     requires next { length caches.old.items ≡ number }
     requires empty { AreEmpty caches.old.items }
+    requires room { HaveRoom capacity caches.old.items }
     ensures size { OnOk result (length caches.new.items ≡ number + 1) }
     ensures empty { OnOk result (AreEmpty caches.new.items) }
+    ensures room { OnOk result (HaveRoom capacity caches.new.items) }
 {
     let cache = Cache::new(alloc, capacity as usize)?;
     caches.push(cache)?;

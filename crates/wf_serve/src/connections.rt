@@ -1,12 +1,11 @@
 //! Connections accepted at a listener, each served by the node whose turn it is.
 ghost use Rattle.std.specs.Prelude.{◌≡◌, ◌<◌, ◌%◌};
-ghost use Rattle.wf_farm.specs.Delivering.{AnyPart, EachGrows};
 ghost use Rattle.wf_farm.specs.Farm.{size};
-ghost use Rattle.wf_farm.specs.Leading.{AreLedOn, AreReached, HaveOneHistory};
+ghost use Rattle.wf_farm.specs.Leading.{AreLedOn};
 ghost use Rattle.wf_farm.specs.Nodes.{AllRun, nodes_in};
-ghost use Rattle.wf_serve.specs.Agreeing.{RespondAlike};
-ghost use Rattle.wf_serve.specs.Caching.{AreKept};
-ghost use Rattle.wf_serve.specs.Connections.{HaveCome, IsAnswered, MayBeAnswered};
+ghost use Rattle.wf_serve.specs.Agreeing.{HaveGoneOn};
+ghost use Rattle.wf_serve.specs.Caching.{AreKept, KeepRoom};
+ghost use Rattle.wf_serve.specs.Connections.{HaveCome, MayBeAnswered};
 
 use crate::limited::Limited;
 use crate::log::Log;
@@ -45,16 +44,10 @@ pub fn serve_connections<R: Clock + Eprint + AllocGlobal, T: Tape>(
     requires kept { AreKept (nodes_in farm.old) caches.old }
     ensures come { HaveCome T.Tape (size farm.old) requests
         (nodes_in farm.old) (nodes_in farm.new) }
-    ensures led { AreLedOn T.Tape (nodes_in farm.old) (nodes_in farm.new) }
-    ensures reached { AreReached AnyPart (nodes_in farm.old) →
-        AreReached AnyPart (nodes_in farm.new) }
-    ensures agree { AreReached AnyPart (nodes_in farm.old) →
-        HaveOneHistory (nodes_in farm.new) }
-    ensures alike { AreReached AnyPart (nodes_in farm.old) →
-        RespondAlike T.Tape (nodes_in farm.new) }
-    ensures grows { EachGrows (nodes_in farm.old) (nodes_in farm.new) }
+    ensures headline { HaveGoneOn T.Tape (nodes_in farm.old) (nodes_in farm.new) }
     ensures running { AllRun farm.new.places }
     ensures kept { AreKept (nodes_in farm.new) caches.new }
+    ensures room { KeepRoom caches.old caches.new }
 {
     leading_goes_on::<T>();
     let count = farm.size();
@@ -82,7 +75,7 @@ fn turn_of(connection: u32, count: usize) -> usize
     connection as usize % count
 }
 
-/// Serves the next connection by the node at an index. If none can be accepted, nothing happens.
+/// Serves the next connection by the node at an index, and closes it. If none can be accepted, nothing happens.
 fn serve_next<R: Clock + Eprint + AllocGlobal, T: Tape>(
     rt: &R,
     watch: &mut Watch<'_, '_, R>,
@@ -98,31 +91,12 @@ fn serve_next<R: Clock + Eprint + AllocGlobal, T: Tape>(
     ensures led { AreLedOn T.Tape (nodes_in farm.old) (nodes_in farm.new) }
     ensures running { AllRun farm.new.places }
     ensures kept { AreKept (nodes_in farm.new) caches.new }
+    ensures room { KeepRoom caches.old caches.new }
 {
     leading_goes_on::<T>();
     let Ok((stream, _)) = listener.accept() else {
         return;
     };
-    serve_stream(rt, watch, stream, farm, caches, place);
-}
-
-/// Serves an accepted connection by the node at an index, and closes it.
-fn serve_stream<R: Clock + Eprint + AllocGlobal, T: Tape>(
-    rt: &R,
-    watch: &mut Watch<'_, '_, R>,
-    stream: TcpStream,
-    farm: &mut Farm<T>,
-    caches: &mut [Cache],
-    place: usize,
-)
-    requires within { place < size farm.old }
-    requires running { AllRun farm.old.places }
-    requires kept { AreKept (nodes_in farm.old) caches.old }
-    ensures answered { IsAnswered T.Tape place (nodes_in farm.old) (nodes_in farm.new) }
-    ensures led { AreLedOn T.Tape (nodes_in farm.old) (nodes_in farm.new) }
-    ensures running { AllRun farm.new.places }
-    ensures kept { AreKept (nodes_in farm.new) caches.new }
-{
     let time = Duration::from_secs(PEER_SECONDS);
     let mut source = Stream::new(Noted::new(Limited::new(rt, &stream, time)));
     let mut sink = Stream::new(Noted::new(Limited::new(rt, &stream, time)));

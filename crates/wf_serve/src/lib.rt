@@ -1,9 +1,8 @@
 //! A farm's nodes served over HTTP on one machine, one connection after the other.
 //!
 //! A [`Service`] gives the number of nodes, the port, the number of connections, the number of pictures cached for each node, and
-//! the folder of the nodes' tapes. [`serve`] binds the port, and goes on in steps that a caller can also take alone:
+//! the folder of the nodes' tapes. [`serve`] binds the port, opens the nodes, and goes on in steps that a caller can also take alone:
 //! - [`listen`] returns a listener at 127.0.0.1.
-//! - [`serve_at`] opens the nodes and serves them at a listener.
 //! - [`serve_nodes`] lets a farm's nodes catch up ([`catch_up`]), prints the port and serves them.
 //! - [`serve_connections`] serves a number of connections.
 //! - [`serve_connection`] serves one, over any reader and writer.
@@ -34,8 +33,10 @@
 //! - All of this is one run of the farm's model: whatever world of it the nodes were, some of its events lead to what they are
 //!   afterwards, and no node's published sequence goes back. If they are reached from its start, as those of a farm in memory are, no two
 //!   of them have published different maps under one sequence, whatever the connections sent, and two that stand at one sequence
-//!   respond to equal requests for maps with equal bytes (`led`, `grows`, `reached`, `agree` and `alike` of [`serve_nodes`],
-//!   [`serve_connections`] and [`serve_connection`]; `specs/Agreeing.antt`).
+//!   respond to equal requests for maps with equal bytes (`headline` of [`serve_nodes`], [`serve_connections`] and
+//!   [`serve_connection`]; `HaveGoneOn` of `specs/Agreeing.antt`).
+//! - [`serve`] promises all of it of the nodes that it opens: there are as many as the service has, each at its own index, new ones if it
+//!   has no folder; they served its number of connections, each with a cache for its number of pictures (`specs/Served.antt`).
 //! - A map that one of three new nodes accepted over a connection is published on all three, if no delivery was lost, the deliveries
 //!   didn't stop early and no tape failed ([`an_accepted_map_is_published`], `specs/Publishing.antt`). New nodes that caught up before
 //!   are new still ([`caught_up_nodes_stay_new`]), and what the first connection published all of them have published after any later
@@ -61,6 +62,7 @@ mod opening;
 mod parting;
 mod port;
 mod publishing;
+mod reading;
 mod serving;
 mod shortening;
 mod survey;
@@ -71,7 +73,7 @@ pub use check::{check_tapes, examine, first_difference};
 pub use connections::serve_connections;
 pub use event::{Cause, Event, Fault, Level};
 pub use fault::ServeFault;
-pub use listening::{serve, serve_at, serve_nodes};
+pub use listening::{serve, serve_nodes};
 pub use log::Log;
 pub use port::listen;
 pub use publishing::{

@@ -1,22 +1,19 @@
 //! Opens the nodes, lets them catch up, prints their port, and serves the connections.
-ghost use Rattle.std.specs.Prelude.{◌≡◌, List, Err, IsSome, OnOk, Some, None};
-ghost use Rattle.wf_farm.specs.Delivering.{AnyPart, EachGrows};
-ghost use Rattle.wf_farm.specs.Leading.{AreLedOn, AreReached, HaveOneHistory};
+ghost use Rattle.std.specs.Prelude.{◌≡◌, List, Err, IfOk, OnOk};
 ghost use Rattle.wf_farm.specs.Nodes.{AllRun, nodes_in};
-ghost use Rattle.wf_serve.specs.Agreeing.{RespondAlike};
-ghost use Rattle.wf_serve.specs.Caching.{AreKept};
-ghost use Rattle.wf_serve.specs.Connections.{IfTold, IsServing};
-ghost use Rattle.wf_serve.specs.Fault.{CountsWrites};
 ghost use Rattle.wf_node.specs.Node.{Node};
+ghost use Rattle.wf_serve.specs.Agreeing.{HaveGoneOn};
+ghost use Rattle.wf_serve.specs.Caching.{AreKept, HaveRoom};
+ghost use Rattle.wf_serve.specs.Connections.{IsServing};
+ghost use Rattle.wf_serve.specs.Fault.{CountsWrites};
 ghost use Rattle.wf_serve.specs.Listening.{IsEnded, IsTold, TellsPort};
-ghost use Rattle.wf_serve.specs.Served.{HaveServed, NewServed, Served};
+ghost use Rattle.wf_serve.specs.Served.{HasServed, HaveServed};
 ghost use Rattle.wf_service.specs.Service.{IsService};
 
 use crate::caching::caches_for;
 use crate::connections::serve_connections;
 use crate::event::{Cause, Event, Fault};
 use crate::fault::ServeFault;
-use crate::holding::hold;
 use crate::log::Log;
 use crate::opening::open_folder;
 use crate::port::{listen, tell_port};
@@ -33,12 +30,16 @@ use wf_tape::{FileTape, MemoryTape, Tape};
 use wf_wms::cache::Cache;
 
 /// Serves nodes at a port of 127.0.0.1, to the service's number of connections, one after the other: connection c, counted from
-/// 0, by node c mod N. The port is bound first: if that fails, no tape is opened. Then it goes on as [`serve_at`].
+/// 0, by node c mod N. The port is bound first: if that fails, no tape is opened. Then the nodes are opened from their tapes in the
+/// service's folder, or new ones in memory if there is no folder, and it goes on as [`serve_nodes`].
+///
+/// Each tape in the folder is shortened once its node is open. The folder is locked first, and as long as the nodes are served: if
+/// another program has locked it, nothing in it changes; nor if it isn't this farm's, a tape is bad or two tapes differ. If the
+/// service asks for a log, each event is written to it.
 ///
 /// Err: `Start` if the port can't be bound, the folder can't be locked or isn't this farm's, a tape doesn't open or an allocation
-/// fails; the writer
-/// isn't called then. `Write` if the line can't be written; a prefix of it may be, and the failed write is the last call. The
-/// port is the service's, or one chosen by the system if that is 0.
+/// fails; the writer isn't called then. `Write` if the line can't be written; a prefix of it may be, and the failed write is the
+/// last call. The port is the service's, or one chosen by the system if that is 0.
 pub fn serve<
     'a,
     R: Files<File = File>
@@ -52,16 +53,48 @@ pub fn serve<
     ensures told { IsTold service.entry.port (K.written sink.old) (K.written sink.new) result }
     ensures writes { CountsWrites result (K.failures sink.old) (K.failures sink.new) }
     ensures last { IsEnded K.Sink service.entry.port sink.old sink.new result }
-    ensures memory { service.entry.state ≡ None → OnOk result
-        (NewServed ⟦<MemoryTape as Tape>⟧ service.entry.nodes service.entry.requests) }
-    ensures files { IsSome service.entry.state → OnOk result
-        (Served ⟦<FileTape<&'a R> as Tape>⟧ service.entry.nodes service.entry.requests) }
+    ensures served { OnOk result (HasServed ⟦<MemoryTape as Tape>⟧ ⟦<FileTape<&'a R> as Tape>⟧
+        service.entry) }
 {
+    fresh_nodes_are_reached::<MemoryTape>();
+    let log = Log::new(rt, service.log);
     let Ok(listener) = listen(rt, service.port) else {
-        return fault(&Log::new(rt, service.log), Cause::Port(service.port), None);
+        return fault(&log, Cause::Port(service.port), None);
     };
-    let outcome = serve_at(rt, &listener, service, sink);
-    drop(listener);
+    write_port(&log, &listener);
+    match service.state {
+        None => match Farm::new(rt.alloc(), service.nodes) {
+            Ok(farm) => serve_opened(rt, &log, &listener, service, farm, sink),
+            Err(_) => fault(&log, Cause::Memory, None),
+        },
+        Some(folder) => match open_folder(rt, &log, service.nodes, folder) {
+            Ok((farm, held)) => {
+                let outcome = serve_opened(rt, &log, &listener, service, farm, sink);
+                drop(held);
+                outcome
+            }
+            Err(cause) => fault(&log, cause, Some(folder)),
+        },
+    }
+}
+
+/// Serves open nodes, and closes them.
+fn serve_opened<R: Clock + Eprint + AllocGlobal, K: Sink, T: Tape + Drop>(
+    rt: &R,
+    log: &Log<'_, R>,
+    listener: &TcpListener,
+    service: Service<'_>,
+    mut farm: Farm<T>,
+    sink: &mut K,
+) -> Result<(), ServeFault>
+    requires service { IsService service }
+    requires running { AllRun farm.places }
+    ensures tells { TellsPort K.Sink service.entry.port sink.old sink.new result }
+    ensures served { OnOk result ((after : List (Node T)) × HaveServed T.Tape
+        service.entry.requests service.entry.cache (nodes_in farm) after) }
+{
+    let outcome = serve_nodes(rt, log, listener, service, &mut farm, sink);
+    drop(farm);
     outcome
 }
 
@@ -86,121 +119,6 @@ fn write_port<R: Clock + Eprint>(log: &Log<'_, R>, listener: &TcpListener) {
     }
 }
 
-/// Serves nodes at a listener: opens them from their tapes in the service's folder, or new ones in memory if there is no folder,
-/// and goes on as [`serve_nodes`]. Each tape in the folder is shortened once its node is open. The folder is locked first: if another
-/// program has locked it, nothing in it changes; nor if it isn't this farm's, a tape is bad or two tapes differ. If the service asks
-/// for a log, each event is written to it. The errors are those of [`serve`].
-pub fn serve_at<'a, R: Files<File = File> + Eprint + Clock + AllocGlobal, K: Sink>(
-    rt: &'a R,
-    listener: &TcpListener,
-    service: Service<'_>,
-    sink: &mut K,
-) -> Result<(), ServeFault>
-    requires { IsService service }
-    ensures told { IsTold service.entry.port (K.written sink.old) (K.written sink.new) result }
-    ensures writes { CountsWrites result (K.failures sink.old) (K.failures sink.new) }
-    ensures last { IsEnded K.Sink service.entry.port sink.old sink.new result }
-    ensures memory { service.entry.state ≡ None → OnOk result
-        (NewServed ⟦<MemoryTape as Tape>⟧ service.entry.nodes service.entry.requests) }
-    ensures files { IsSome service.entry.state → OnOk result
-        (Served ⟦<FileTape<&'a R> as Tape>⟧ service.entry.nodes service.entry.requests) }
-{
-    let log = Log::new(rt, service.log);
-    write_port(&log, listener);
-    match service.state {
-        Some(folder) => serve_files(rt, &log, listener, service, folder, sink),
-        None => serve_memory(rt, &log, listener, service, sink),
-    }
-}
-
-/// Serves nodes on tapes in memory, where the service has no folder.
-fn serve_memory<R: Clock + Eprint + AllocGlobal, K: Sink>(
-    rt: &R,
-    log: &Log<'_, R>,
-    listener: &TcpListener,
-    service: Service<'_>,
-    sink: &mut K,
-) -> Result<(), ServeFault>
-    requires service { IsService service }
-    requires memory { service.state ≡ None }
-    ensures tells { TellsPort K.Sink service.entry.port sink.old sink.new result }
-    ensures served { OnOk result
-        (NewServed ⟦<MemoryTape as Tape>⟧ service.entry.nodes service.entry.requests) }
-{
-    fresh_nodes_are_reached::<MemoryTape>();
-    match Farm::new(rt.alloc(), service.nodes) {
-        Ok(farm) => serve_opened(rt, log, listener, service, farm, sink),
-        Err(_) => fault(log, Cause::Memory, None),
-    }
-}
-
-/// Serves nodes on tapes in the files of the service's folder, which is locked meanwhile.
-fn serve_files<'a, R: Files<File = File> + Eprint + Clock + AllocGlobal, K: Sink>(
-    rt: &'a R,
-    log: &Log<'_, R>,
-    listener: &TcpListener,
-    service: Service<'_>,
-    folder: &str,
-    sink: &mut K,
-) -> Result<(), ServeFault>
-    requires service { IsService service }
-    requires files { service.state ≡ Some folder }
-    ensures tells { TellsPort K.Sink service.entry.port sink.old sink.new result }
-    ensures served { OnOk result (Served ⟦<FileTape<&'a R> as Tape>⟧
-        service.entry.nodes service.entry.requests) }
-{
-    match hold(rt, folder) {
-        Ok(held) => {
-            let outcome = serve_tapes(rt, log, listener, service, folder, sink);
-            drop(held);
-            outcome
-        }
-        Err(cause) => fault(log, cause, Some(folder)),
-    }
-}
-
-/// Serves nodes on tapes in the files of the service's folder, once it is locked.
-fn serve_tapes<'a, R: Files + Eprint + Clock + AllocGlobal, K: Sink>(
-    rt: &'a R,
-    log: &Log<'_, R>,
-    listener: &TcpListener,
-    service: Service<'_>,
-    folder: &str,
-    sink: &mut K,
-) -> Result<(), ServeFault>
-    requires service { IsService service }
-    requires files { service.state ≡ Some folder }
-    ensures tells { TellsPort K.Sink service.entry.port sink.old sink.new result }
-    ensures served { OnOk result (Served ⟦<FileTape<&'a R> as Tape>⟧
-        service.entry.nodes service.entry.requests) }
-{
-    match open_folder(rt, log, service.nodes, folder) {
-        Ok(farm) => serve_opened(rt, log, listener, service, farm, sink),
-        Err(cause) => fault(log, cause, Some(folder)),
-    }
-}
-
-/// Serves open nodes, and closes them.
-fn serve_opened<R: Clock + Eprint + AllocGlobal, K: Sink, T: Tape + Drop>(
-    rt: &R,
-    log: &Log<'_, R>,
-    listener: &TcpListener,
-    service: Service<'_>,
-    mut farm: Farm<T>,
-    sink: &mut K,
-) -> Result<(), ServeFault>
-    requires service { IsService service }
-    requires running { AllRun farm.places }
-    ensures tells { TellsPort K.Sink service.entry.port sink.old sink.new result }
-    ensures served { OnOk result ((after : List (Node T)) ×
-        HaveServed T.Tape service.entry.requests (nodes_in farm) after) }
-{
-    farm.nodes_agree();
-    let outcome = serve_nodes(rt, log, listener, service, &mut farm, sink);
-    drop(farm);
-    outcome
-}
-
 /// Serves a farm that a caller holds at a listener: each node requests the definitions that it missed, and the messages are delivered;
 /// the line `listening P` with the listener's port is written; and then connections are served as by [`serve_connections`]. The
 /// service gives the number of pictures cached for each node; its number of nodes is ignored. Events are written to the log.
@@ -221,68 +139,66 @@ pub fn serve_nodes<R: Clock + Eprint + AllocGlobal, K: Sink, T: Tape>(
     ensures told { IsTold service.entry.port (K.written sink.old) (K.written sink.new) result }
     ensures writes { CountsWrites result (K.failures sink.old) (K.failures sink.new) }
     ensures last { IsEnded K.Sink service.entry.port sink.old sink.new result }
-    ensures served { IsServing T.Tape service.entry.requests
+    ensures serving { IsServing T.Tape service.entry.requests
         (nodes_in farm.old) result (nodes_in farm.new) }
-    ensures led { AreLedOn T.Tape (nodes_in farm.old) (nodes_in farm.new) }
-    ensures reached { AreReached AnyPart (nodes_in farm.old) →
-        AreReached AnyPart (nodes_in farm.new) }
-    ensures agree { AreReached AnyPart (nodes_in farm.old) →
-        HaveOneHistory (nodes_in farm.new) }
-    ensures alike { AreReached AnyPart (nodes_in farm.old) →
-        RespondAlike T.Tape (nodes_in farm.new) }
-    ensures grows { EachGrows (nodes_in farm.old) (nodes_in farm.new) }
+    ensures served { OnOk result (HaveServed T.Tape service.entry.requests service.entry.cache
+        (nodes_in farm.old) (nodes_in farm.new)) }
+    ensures headline { HaveGoneOn T.Tape (nodes_in farm.old) (nodes_in farm.new) }
 {
     leading_goes_on::<T>();
+    farm.nodes_agree();
     catch_up(rt.alloc(), farm);
     write_caught_up(log, farm);
-    let Ok(mut caches) = caches_for(rt.alloc(), farm, service.cache) else {
-        agree_still(farm);
+    match prepare(rt, log, listener, service, farm, sink) {
+        Ok(mut caches) => {
+            serve_connections(
+                rt,
+                log,
+                listener,
+                farm,
+                caches.as_mut_slice(),
+                service.requests,
+            );
+            drop(caches);
+            log.write(&Event::Ended {
+                connections: service.requests,
+            });
+            agree_still(farm);
+            Ok(())
+        }
+        Err(fault) => {
+            agree_still(farm);
+            Err(fault)
+        }
+    }
+}
+
+/// Makes the nodes' caches, all empty, and writes the line with the port.
+fn prepare<R: Clock + Eprint + AllocGlobal, K: Sink, T: Tape>(
+    rt: &R,
+    log: &Log<'_, R>,
+    listener: &TcpListener,
+    service: Service<'_>,
+    farm: &Farm<T>,
+    sink: &mut K,
+) -> Result<Vec<Cache>, ServeFault>
+    requires { IsService service }
+    ensures tells { TellsPort K.Sink service.entry.port sink.old sink.new result }
+    ensures kept { IfOk result (λ caches. AreKept (nodes_in farm.now) caches.items) }
+    ensures room { IfOk result (λ caches. HaveRoom service.entry.cache caches.items) }
+{
+    let Ok(caches) = caches_for(rt.alloc(), farm, service.cache) else {
         log.write(&Event::Fault(Fault {
             cause: Cause::Memory,
             folder: service.state,
         }));
         return Err(ServeFault::Start);
     };
-    let outcome = serve_kept(
-        rt,
-        log,
-        listener,
-        service,
-        farm,
-        caches.as_mut_slice(),
-        sink,
-    );
-    drop(caches);
-    agree_still(farm);
-    outcome
-}
-
-/// Prints the port, and serves the connections.
-fn serve_kept<R: Clock + Eprint + AllocGlobal, K: Sink, T: Tape>(
-    rt: &R,
-    log: &Log<'_, R>,
-    listener: &TcpListener,
-    service: Service<'_>,
-    farm: &mut Farm<T>,
-    caches: &mut [Cache],
-    sink: &mut K,
-) -> Result<(), ServeFault>
-    requires running { AllRun farm.old.places }
-    requires kept { AreKept (nodes_in farm.old) caches.old }
-    ensures tells { TellsPort K.Sink service.entry.port sink.old sink.new result }
-    ensures come { IfTold T.Tape service.entry.requests
-        (nodes_in farm.old) result (nodes_in farm.new) }
-    ensures led { AreLedOn T.Tape (nodes_in farm.old) (nodes_in farm.new) }
-{
-    leading_goes_on::<T>();
     match tell_port(rt.alloc(), listener, service.port, sink) {
-        Ok(()) => {
-            serve_connections(rt, log, listener, farm, caches, service.requests);
-            log.write(&Event::Ended {
-                connections: service.requests,
-            });
-            Ok(())
+        Ok(()) => Ok(caches),
+        Err(fault) => {
+            drop(caches);
+            Err(fault)
         }
-        Err(fault) => Err(fault),
     }
 }

@@ -8,10 +8,12 @@ ghost use Rattle.wf_serve.specs.Opening.{AreOpened};
 
 use crate::check::{cause_of_rejection, check_tapes};
 use crate::event::{Cause, Event};
+use crate::holding::hold;
 use crate::log::Log;
 use crate::marking::{new_file, write_file};
 use crate::shortening::{bytes_at, open_shortened};
 use crate::survey::{Survey, inspect, tape_path};
+use std::fs::File;
 use std::rt::Files;
 use std::time::Clock;
 use wf_ballot::NodeId;
@@ -20,9 +22,36 @@ use wf_folder::{Beginning, FarmFile, Start, admit};
 use wf_node::Node;
 use wf_tape::{FileTape, Tape};
 
-/// The farm of n nodes on their tapes in a folder, if the folder is new, this farm's or taken over; then it has its file `farm`. The
-/// folder is looked at and its tapes are read first: if it isn't the farm's, a tape is bad, or two differ, nothing changes in it.
-pub(crate) fn open_folder<'a, R: Files + Eprint + Clock + AllocGlobal>(
+/// A farm on its tapes in a folder, and the handle by which that is locked.
+pub(crate) type Opened<'a, R> = (Farm<FileTape<&'a R>>, File);
+
+/// Locks a folder, and opens the farm of n nodes on their tapes in it. Err: also if another program has locked it; then nothing
+/// changes in it.
+pub(crate) fn open_folder<'a, R: Files<File = File> + Eprint + Clock + AllocGlobal>(
+    rt: &'a R,
+    log: &Log<'_, R>,
+    n: u8,
+    folder: &str,
+) -> Result<Opened<'a, R>, Cause>
+    requires some { 1 ≤ n }
+    requires most { n ≤ 64 }
+    ensures size { IfOk result (λ opened. size opened.0 ≡ n) }
+    ensures running { IfOk result (λ opened. AllRun opened.0.places) }
+{
+    let held = hold(rt, folder)?;
+    match open_held(rt, log, n, folder) {
+        Ok(farm) => Ok((farm, held)),
+        Err(cause) => {
+            drop(held);
+            Err(cause)
+        }
+    }
+}
+
+/// The farm of n nodes on their tapes in a locked folder, if the folder is new, this farm's or taken over; then it has its file
+/// `farm`. The folder is looked at and its tapes are read first: if it isn't the farm's, a tape is bad, or two differ, nothing changes
+/// in it.
+fn open_held<'a, R: Files + Eprint + Clock + AllocGlobal>(
     rt: &'a R,
     log: &Log<'_, R>,
     n: u8,

@@ -4,24 +4,24 @@ ghost use Rattle.wf_edge.specs.Hearing.{CountsHearing};
 ghost use Rattle.wf_edge.specs.Page.{standing_at};
 ghost use Rattle.wf_edge.specs.Saying.{CountsSaying};
 ghost use Rattle.wf_edge.specs.Serving.{IsPublish};
-ghost use Rattle.wf_http.specs.Request.{BeginsWith};
-ghost use Rattle.wf_farm.specs.Delivering.{AnyPart, EachGrows};
+ghost use Rattle.wf_edge.specs.Request.{BeginsWith};
 ghost use Rattle.wf_farm.specs.Farm.{size};
-ghost use Rattle.wf_farm.specs.Leading.{AreLedOn, AreReached, HaveOneHistory};
+ghost use Rattle.wf_farm.specs.Leading.{AreLedOn};
 ghost use Rattle.wf_farm.specs.Nodes.{AllRun, nodes_in};
-ghost use Rattle.wf_serve.specs.Agreeing.{AgreeStill, RespondAlike};
-ghost use Rattle.wf_serve.specs.Caching.{AreKept, IsKeptAt};
+ghost use Rattle.wf_serve.specs.Agreeing.{AgreeStill, HaveGoneOn};
+ghost use Rattle.wf_serve.specs.Caching.{AreKept, IsKeptAt, KeepRoom};
 ghost use Rattle.wf_serve.specs.Serving.{EndsWriting, HaveCaughtUp, IsAskedAndHeard, IsConnection, IsRetried, IsServedAndHeard, RestsAt, ProposesAt};
 ghost use Rattle.wf_serve.specs.Visiting.{IsAnsweredAt, IsReadAt};
 ghost use Rattle.wf_model.specs.Table.{Retry};
 
+use crate::reading::read_request;
 use crate::visiting::{Publishing, Restart};
 use std::alloc::Global;
 use wf_edge::law::equal_requests_have_equal_responses;
 use wf_edge::outcome::Outcome;
-use wf_edge::serve::{Served, serve_reading};
+use wf_edge::request::Request;
+use wf_edge::serve::Served;
 use wf_farm::{Farm, leading_goes_on, reached_stays};
-use wf_http::request::Request;
 use wf_node::Node;
 use wf_proposer::Standing;
 use wf_stream::{Sink, Source};
@@ -61,15 +61,10 @@ pub fn serve_connection<S: Source, K: Sink, T: Tape>(
     ensures reads { CountsHearing result (S.failures source.old) (S.failures source.new) }
     ensures writes { CountsSaying result (K.failures sink.old) (K.failures sink.new) }
     ensures last { EndsWriting K.Sink sink.old sink.new result }
-    ensures led { AreLedOn T.Tape (nodes_in farm.old) (nodes_in farm.new) }
-    ensures reached { AreReached AnyPart (nodes_in farm.old) →
-        AreReached AnyPart (nodes_in farm.new) }
-    ensures agree { AreReached AnyPart (nodes_in farm.old) → HaveOneHistory (nodes_in farm.new) }
-    ensures alike { AreReached AnyPart (nodes_in farm.old) →
-        RespondAlike T.Tape (nodes_in farm.new) }
-    ensures grows { EachGrows (nodes_in farm.old) (nodes_in farm.new) }
+    ensures headline { HaveGoneOn T.Tape (nodes_in farm.old) (nodes_in farm.new) }
     ensures running { AllRun farm.new.places }
     ensures kept { AreKept (nodes_in farm.new) caches.new }
+    ensures room { KeepRoom caches.old caches.new }
 {
     kept_pictures_outlast_growth();
     leading_goes_on::<T>();
@@ -109,6 +104,7 @@ fn served_at<S: Source, K: Sink, T: Tape>(
     ensures led { AreLedOn T.Tape (nodes_in farm.old) (nodes_in farm.new) }
     ensures running { AllRun farm.new.places }
     ensures kept { IsKeptAt (nodes_in farm.new) place cache.new }
+    ensures room { cache.new.cap ≡ cache.old.cap }
 {
     kept_pictures_outlast_growth();
     leading_goes_on::<T>();
@@ -145,9 +141,10 @@ fn read_at<S: Source, K: Sink, T: Tape>(
     ensures quiet { OnErr result (sink.new ≡ sink.old) }
     ensures heard { OnErr result (S.failures source.new ≡ S.failures source.old) }
     ensures kept { IsKeptAt (nodes_in farm.now) place cache.new }
+    ensures room { cache.new.cap ≡ cache.old.cap }
 {
     match farm.node(place) {
-        Some(node) => serve_reading(alloc, source, sink, node, cache),
+        Some(node) => read_request(alloc, source, sink, node, cache),
         None => unreachable!(),
     }
 }

@@ -1,8 +1,10 @@
 -- The effect of a read or a write on known bytes.
-use Rattle.std.proofs.Common.{◌≡◌, ◌∙◌, ◌+◌, ◌-◌, ◌≤◌, ℕ, List, [], refl, sym, ap, subst, ◌++◌, length, take, drop, arith}
+use Rattle.std.proofs.Common.{◌≡◌, ◌∙◌, ◌+◌, ◌-◌, ◌≤◌, ◌<◌, ℕ, List, [], ◌∷◌, refl, sym, ap, subst, ◌++◌, length, take, drop, arith, inl, inr}
 use Rattle.std.specs.Prelude.{Option, Some, None, IfSome, Result, Ok, Err}
-use Rattle.std.proofs.lemmas.List.{append-nil, append_assoc, take_all, take_at, take-append-drop, length-append}
+use Rattle.std.proofs.lemmas.List.{append-nil, append_assoc, take_all, take_at, take-append-drop, take-append-le, length-append}
+use Rattle.std.proofs.lemmas.Bool.{cases_lt}
 use Rattle.wf_stream.specs.Reading.{ReadsPiece, TakesUpTo}
+use Rattle.std.specs.Io.{WritesAtMost}
 use Rattle.std.specs.Io.KnownBytes.{Keeps, Appends, Consumes, IsAtEnd, ReadConsumes, WriteAppends}
 
 pub keeps_same : (known : Option (List ℕ)) → Keeps known known
@@ -35,6 +37,23 @@ pub writes_after : {E : Type 0} (a b c : Option (List ℕ)) (r : Result ℕ E) (
 writes_after a b c (Ok n) buf keeps writes = appends_after a b c _ keeps writes
 writes_after a b c (Err e) buf keeps writes = keeps_twice a b c keeps writes
 
+-- a write of the first of two buffers is one of both
+pub writes_first : {E : Type 0} (a b : Option (List ℕ)) (r : Result ℕ E) (one two : List ℕ) → WritesAtMost r one → WriteAppends a b r one → WriteAppends a b r (one ++ two)
+writes_first a b (Ok n) one two within writes = subst (λ (bytes : List ℕ). Appends a b bytes) (sym (take-append-le n one two within)) writes
+writes_first a b (Err e) one two within writes = writes
+
+pub writes_second : {E : Type 0} (a b : Option (List ℕ)) (r : Result ℕ E) (one two : List ℕ) → length one ≡ 0 → WriteAppends a b r two → WriteAppends a b r (one ++ two)
+writes_second a b r [] two none writes = writes
+writes_second a b r (x ∷ xs) two none writes = absurd (omega arith)
+
+pub most_first : {E : Type 0} (r : Result ℕ E) (one two : List ℕ) → WritesAtMost r one → WritesAtMost r (one ++ two)
+most_first (Ok n) one two within = rw (length-append one two) (omega arith)
+most_first (Err e) one two within = tt
+
+pub most_second : {E : Type 0} (r : Result ℕ E) (one two : List ℕ) → length one ≡ 0 → WritesAtMost r two → WritesAtMost r (one ++ two)
+most_second r [] two none within = within
+most_second r (x ∷ xs) two none within = absurd (omega arith)
+
 -- ---- reading piece by piece
 
 pub consumes_none : (a : Option (List ℕ)) (bytes : List ℕ) → bytes ≡ [] → Consumes a a bytes
@@ -64,20 +83,44 @@ first_at_limit None b bytes limit consumed full = tt
 first_at_limit (Some xs) None bytes limit consumed full = absurd consumed
 first_at_limit (Some xs) (Some ys) bytes limit consumed full = sym (ap (take limit) consumed ∙ take_at bytes ys limit full)
 
-pub piece_more : (a b c : Option (List ℕ)) (count : ℕ) (before after : List ℕ) → Consumes a b before → ReadsPiece count b c before after → Consumes a c after
-piece_more a b c count before after first (piece, size, second, is) = rw is (consumes_more a b c before piece first second)
-
 pub piece_length : (b c : Option (List ℕ)) (count : ℕ) (before after : List ℕ) → ReadsPiece count b c before after → length after ≡ length before + count
 piece_length b c count before after (piece, size, second, is) = rw (is, ← size) (length-append before piece)
 
--- the bytes read so far, and at most this many more
-pub takes_more : (a b c : Option (List ℕ)) (bytes : List ℕ) (room limit : ℕ) → Consumes a b bytes → TakesUpTo room b c → length bytes + room ≤ limit
-    → TakesUpTo limit a c
-takes_more a b c bytes room limit first (piece, size, second) most =
-    (bytes ++ piece, rw (length-append bytes piece) (omega arith), consumes_more a b c bytes piece first second)
+-- nothing is read before the first piece
+pub nothing_read : (a : Option (List ℕ)) (bytes : List ℕ) → ReadsPiece 0 a a bytes bytes
+nothing_read a bytes = ([], refl, consumes_none a [] refl, sym (append-nil bytes))
 
-pub takes_all : (a b : Option (List ℕ)) (bytes : List ℕ) (limit : ℕ) → Consumes a b bytes → length bytes ≤ limit → TakesUpTo limit a b
-takes_all a b bytes limit consumed short = (bytes, short, consumed)
+-- a piece more is read
+pub reads_more : (a b c : Option (List ℕ)) (count more : ℕ) (first before after : List ℕ) → ReadsPiece count a b first before → ReadsPiece more b c before after
+    → ReadsPiece (count + more) a c first after
+reads_more a b c count more first before after (front, front_size, one, is) (piece, size, two, also) = (
+  front ++ piece,
+  rw (length-append front piece, front_size, size) refl,
+  consumes_more a b c front piece one two,
+  also ∙ ap (λ bytes. bytes ++ piece) is ∙ append_assoc first front piece,
+)
+
+-- the bytes read so far, and at most this many more
+pub takes_after : (a b c : Option (List ℕ)) (count room limit : ℕ) (first before : List ℕ) → ReadsPiece count a b first before → TakesUpTo room b c → count + room ≤ limit
+    → TakesUpTo limit a c
+takes_after a b c count room limit first before (front, size, one, is) (piece, short, two) most =
+    (front ++ piece, rw (length-append front piece) (omega arith), consumes_more a b c front piece one two)
+
+pub takes_read : (a b : Option (List ℕ)) (count limit : ℕ) (first before : List ℕ) → ReadsPiece count a b first before → count ≤ limit → TakesUpTo limit a b
+takes_read a b count limit first before (front, size, one, is) short = (front, omega arith, one)
+
+-- what is read into an empty buffer is the front of what was left, and all of that where fewer than the limit are read
+pub all_read : (a b : Option (List ℕ)) (count : ℕ) (bytes : List ℕ) → ReadsPiece count a b [] bytes → Consumes a b bytes
+all_read a b count bytes (front, size, one, is) = rw is one
+
+pub first_read : (a b : Option (List ℕ)) (count limit : ℕ) (bytes : List ℕ) → ReadsPiece count a b [] bytes → count ≤ limit → (count < limit → IsAtEnd b)
+    → IfSome a (λ known. bytes ≡ take limit known)
+first_read a b count limit bytes read short ends =
+    let size = piece_length a b count [] bytes read in
+    elim (cases_lt count limit) [
+      | inl fewer ↦ first_at_end a b bytes limit (all_read a b count bytes read) (ends fewer) (omega arith)
+      | inr full ↦ first_at_limit a b bytes limit (all_read a b count bytes read) (omega arith)
+    ]
 
 -- ---- writing piece by piece
 

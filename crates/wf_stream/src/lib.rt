@@ -1,8 +1,8 @@
 //! Readers and writers, over those of std and over memory, that count their failed calls.
 //!
-//! A [`Source`] is a reader and a [`Sink`] a writer. [`Stream`] wraps the readers and writers of std; [`Bytes`] and [`Output`]
-//! are over memory. [`read_piece`] reads once, [`read_up_to`] reads to the end or a limit, and [`write_all`] writes all of some
-//! bytes.
+//! A [`Source`] is a reader and a [`Sink`] a writer, which may take two buffers in one call. [`Stream`] wraps the readers and
+//! writers of std; [`Bytes`] and [`Output`] are over memory. [`read_piece`] reads once, [`read_onto`] and [`read_up_to`] read to
+//! the end or a limit, and [`write_all`] writes all of some bytes.
 //!
 //! **Model.** Of a source, the bytes still to be read and the most bytes that a call returns; of a sink, the bytes written; each
 //! if known. Of both, the number of failed calls. `specs/Reading.antt` states the effect of a call.
@@ -21,4 +21,4 @@ mod memory;
 mod stream;
 
 pub use memory::{Bytes, Output};
-pub use stream::{Sink, Source, Stream, read_piece, read_up_to, write_all};
+pub use stream::{Sink, Source, Stream, read_onto, read_piece, read_up_to, write_all};

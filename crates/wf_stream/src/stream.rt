@@ -1,5 +1,5 @@
 //! Readers and writers that count their failures.
-ghost use Rattle.std.specs.Prelude.{◌≡◌, ◌≢◌, ◌<◌, ◌≤◌, ℕ, List, None, Option, IfErr, IfOk, IfSome, OnErr, OnOk, length, take};
+ghost use Rattle.std.specs.Prelude.{◌≡◌, ◌≢◌, ◌<◌, ◌≤◌, ◌++◌, ℕ, List, None, Option, IfErr, IfOk, IfSome, OnErr, OnOk, length, take};
 ghost use Rattle.std.specs.Io.{ReadsAtMost, WritesAtMost};
 ghost use Rattle.std.specs.Io.KnownBytes.{Appends, Consumes, IsAtEnd, Keeps, ReadConsumes, WriteAppends};
 ghost use Rattle.std.specs.IoError.{error_kind};
@@ -46,6 +46,24 @@ pub trait Sink {
         ensures bytes { WriteAppends (written self.old) (written self.new) result buf.now }
         ensures cause { Counts result (failures self.old) (failures self.new) }
         ensures failed { OnErr result (fails self.old self.new) };
+
+    /// Writes some bytes from the front of two buffers, one after the other, and returns their number: at least one, unless both
+    /// are empty. A writer that can write both in one call of the system does so.
+    #[tactic(auto, using(crate::specs::KnownLaws::writes_first, crate::specs::KnownLaws::writes_second, crate::specs::KnownLaws::most_first, crate::specs::KnownLaws::most_second))]
+    fn write_pair(&mut self, one: &[u8], two: &[u8]) -> io::Result<usize>
+        ensures bound { WritesAtMost result (one.now ++ two.now) }
+        ensures some { IfOk result (λ count. 0 < length (one.now ++ two.now) → 0 < count) }
+        ensures bytes { WriteAppends
+            (written self.old) (written self.new) result (one.now ++ two.now) }
+        ensures cause { Counts result (failures self.old) (failures self.new) }
+        ensures failed { OnErr result (fails self.old self.new) }
+    {
+        if one.is_empty() {
+            self.write(two)
+        } else {
+            self.write(one)
+        }
+    }
 }
 
 /// Any reader or writer of std, with a count of its failed calls.
@@ -180,7 +198,33 @@ pub fn read_piece<S: Source>(source: &mut S, bytes: &mut Vec<u8>, room: usize) -
     Ok(count)
 }
 
+/// Reads to the end, or `limit` bytes, appends them, and returns their number: fewer than the limit only at the end. Err: the error
+/// of a failed read, or `OutOfMemory` if the buffer can't be grown; what was read before is appended.
+#[tactic(auto, using(crate::specs::KnownLaws::nothing_read, crate::specs::KnownLaws::reads_more, crate::specs::KnownLaws::takes_read))]
+pub fn read_onto<S: Source>(source: &mut S, bytes: &mut Vec<u8>, limit: usize) -> io::Result<usize>
+    ensures read { IfOk result (λ count.
+        ReadsPiece count (S.left source.old) (S.left source.new) bytes.old.items bytes.new.items) }
+    ensures within { IfOk result (λ count. count ≤ limit) }
+    ensures most { TakesUpTo limit (S.left source.old) (S.left source.new) }
+    ensures end { IfOk result (λ count. count < limit → IsAtEnd (S.left source.new)) }
+    ensures calm { OnOk result (S.failures source.new ≡ S.failures source.old) }
+    ensures cause { IfErr result (IsReadError (S.failures source.old) (S.failures source.new)) }
+    ensures memory { IfErr result (IsMemoryAlone (S.failures source.old) (S.failures source.new)) }
+{
+    let mut count = 0;
+    while count < limit {
+        let room = limit - count;
+        match read_piece(source, bytes, room) {
+            Ok(0) => return Ok(count),
+            Ok(more) => count += more,
+            Err(error) => return Err(error),
+        }
+    }
+    Ok(count)
+}
+
 /// Reads to the end, or `limit` bytes. Err: the error of a failed read, or `OutOfMemory` if the buffer can't be grown.
+#[tactic(auto, using(crate::specs::KnownLaws::first_read, crate::specs::KnownLaws::all_read))]
 pub fn read_up_to<S: Source>(alloc: Global, source: &mut S, limit: usize) -> io::Result<Vec<u8>>
     // If the bytes are known, the result is their prefix.
     ensures first { IfOk result (λ bytes.
@@ -195,15 +239,10 @@ pub fn read_up_to<S: Source>(alloc: Global, source: &mut S, limit: usize) -> io:
     ensures memory { IfErr result (IsMemoryAlone (S.failures source.old) (S.failures source.new)) }
 {
     let mut bytes = Vec::new(alloc);
-    while bytes.len() < limit {
-        let room = limit - bytes.len();
-        match read_piece(source, &mut bytes, room) {
-            Ok(0) => return Ok(bytes),
-            Ok(_) => {}
-            Err(error) => return Err(error),
-        }
+    match read_onto(source, &mut bytes, limit) {
+        Ok(_) => Ok(bytes),
+        Err(error) => Err(error),
     }
-    Ok(bytes)
 }
 
 /// Writes all the bytes. Err: the number of bytes written before a call failed.

@@ -3,8 +3,8 @@
 //!
 //! Standard input is a table of cases (`wf_test_table` defines its format). The program compares each answer with the expected one and
 //! writes each difference, with the counts on the last line. [`played`] has the questions about scripts, [`fused`] that about runs in which a
-//! tape fails, [`commands`] those about the commands' output, [`lines`] those about command lines, [`folders`] those about a farm's folder, and [`questions`] all by their
-//! names.
+//! tape fails, [`commands`] those about the commands' output, [`lines`] those about command lines, [`folders`] those about a farm's folder,
+//! [`process`] that about a whole process, and [`questions`] all by their names.
 //!
 //! It has no contract of its own: its answers are those of `wf_play`, `wf_farm` and `wf_commands`.
 #![tactic(auto)]
@@ -15,6 +15,7 @@ mod folders;
 mod fused;
 mod lines;
 mod played;
+mod process;
 mod questions;
 mod recorder;
 

@@ -1,5 +1,5 @@
 //! The questions by their names.
-use crate::{broken, commands, folders, fused, lines, played};
+use crate::{broken, commands, folders, fused, lines, played, process};
 use std::net::{Net, TcpListener, TcpStream};
 use wf_farm::Copies;
 use wf_link::Connection;
@@ -21,6 +21,7 @@ impl<'r, R: Net<Listener = TcpListener, Stream = TcpStream>> Questions for Comma
             "farm_file" => folders::farm_file(asked, answer),
             "fused" => fused::fused(asked, answer),
             "line" => lines::line_of(asked, answer),
+            "program" => process::program_of(asked, answer),
             "run" => lines::run(asked, &mut Connection::new(self.0), answer),
             "script" => played::script(asked, &mut Copies, answer),
             "script_losing" => played::script_losing(asked, answer),

@@ -1,7 +1,8 @@
 //! A server that tells what it is asked to serve, and the files that it has.
-ghost use Rattle.std.specs.Prelude.{◌≡◌, None, length};
+ghost use Rattle.std.specs.Prelude.{◌≡◌, length};
 ghost use Rattle.wf_commands.specs.Counting.{FailsLast};
 ghost use Rattle.wf_serve.specs.Fault.{CountsWrites};
+ghost use Rattle.wf_test_commands.specs.Files.{content_at, is_file};
 
 use std::alloc::Global;
 use wf_commands::server::{ServeFault, Server};
@@ -34,10 +35,10 @@ pub(crate) struct Recorder<'a> {
 }
 
 impl<'a> Tapes for Recorder<'a> {
-    ghost content = { λ _ _. None };
+    ghost content = { λ recorder path. content_at recorder.tape.now path };
 
     fn read(&self, alloc: Global, path: &str) -> Result<Vec<u8>, TapeReadFault> {
-        if path != TAPE_PATH && path != FIRST_PATH && path != SECOND_PATH {
+        if !is_file(path) {
             return Err(TapeReadFault::Failed);
         }
         match self.tape.to_vec(alloc) {
@@ -47,7 +48,7 @@ impl<'a> Tapes for Recorder<'a> {
     }
 
     fn folder(&self, path: &str) -> Option<Survey> {
-        if path == FOLDER_PATH {
+        if path == FOLDER_PATH && !is_file(path) {
             Some(two_tapes())
         } else {
             None
@@ -60,6 +61,14 @@ impl<'a> Tapes for Recorder<'a> {
         }
         Ok((2, Start::TakenOver))
     }
+}
+
+/// Whether one of the files is at a path.
+#[tactic(auto, unfolding(crate::specs::Files::is_file))]
+fn is_file(path: &str) -> bool
+    ensures { result ≡ is_file path.now }
+{
+    path == TAPE_PATH || path == FIRST_PATH || path == SECOND_PATH
 }
 
 /// What is in the folder `farm`: two tapes, and no file `farm`.

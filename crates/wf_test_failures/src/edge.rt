@@ -98,3 +98,17 @@ fn a_request_that_finds_no_memory_leaves_the_node_as_it_was(rt: HostRuntime) {
     assert!(&rt; asked_again(&rt, alloc, &mut node, PUBLISH) == (Outcome::Sent(409, 92), 0));
     drop(node);
 }
+
+#[test]
+fn a_node_knows_the_number_of_nodes(rt: HostRuntime) {
+    for count in [1, 3, 64] {
+        let node = first_node(
+            &rt,
+            rt.alloc(),
+            MemoryTape::new(Vec::new(rt.alloc())),
+            count,
+        );
+        assert!(&rt; node.n() == count);
+        drop(node);
+    }
+}

@@ -10,11 +10,16 @@ mod carrier;
 #[cfg(test)]
 mod catch_up;
 #[cfg(test)]
+mod crossing;
+#[cfg(test)]
 mod disk;
 #[cfg(test)]
 mod edge;
 #[cfg(test)]
 mod farm;
+#[cfg(test)]
+mod listing;
+mod machine;
 #[cfg(test)]
 mod map;
 #[cfg(test)]

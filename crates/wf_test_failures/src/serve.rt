@@ -1,17 +1,22 @@
-//! Nodes that are served at a listener, on one thread: the clients send their requests before the server accepts. If an
-//! allocation failed, everything is repeated once, in another folder.
+//! Nodes that are served, on one thread: the clients send their requests to a listener of the test's own before the server accepts
+//! there. If an allocation failed, everything is repeated once, in another folder.
 ghost use Rattle.std.specs.Prelude.{◌≤◌};
 ghost use Rattle.wf_service.specs.Service.{IsService};
 
-use crate::tape::{TORN, holds, new_folder};
-use crate::value::PUBLISH;
+use crate::machine::Machine;
+use crate::tape::{TORN, TRIED, holds, new_folder};
+use crate::value::{MAP_A, PUBLISH};
 use std::alloc::Global;
 use std::fs;
 use std::io::{Read, Write};
 use std::net::{IpAddr, Ipv4Addr, Net, TcpListener, TcpStream};
 use std::process::Abort;
-use wf_serve::{ServeFault, Service, listen, serve, serve_at};
+use std::rt::Files;
+use wf_serve::{ServeFault, Service, listen, serve};
 use wf_stream::Output;
+
+/// The record of the published map `a` up to its text.
+const PUBLISHED: &[u8] = &[2, 4, 0, 0, 0, 166, 0, 1];
 
 /// The file `farm` of a folder of two nodes.
 const FILE_OF_TWO: &[u8] =
@@ -26,6 +31,10 @@ const AFTER_PUBLISH: &[u8] =
 /// The responses to clients that ask nodes 0, 1 and 2 for their status after a restart.
 const AFTER_START: &[u8] =
     b"HTTP/1.1 200 OK\r\nContent-Type: text/plain\r\nContent-Length: 33\r\nConnection: close\r\n\r\nnode 0 published 1 proposal none\nHTTP/1.1 200 OK\r\nContent-Type: text/plain\r\nContent-Length: 33\r\nConnection: close\r\n\r\nnode 1 published 1 proposal none\nHTTP/1.1 200 OK\r\nContent-Type: text/plain\r\nContent-Length: 33\r\nConnection: close\r\n\r\nnode 2 published 1 proposal none\n";
+
+/// The responses to a client that publishes the second map at node 0, and to those that ask nodes 1 and 2 for their status.
+const AFTER_SECOND: &[u8] =
+    b"HTTP/1.1 202 Accepted\r\nContent-Type: text/plain\r\nContent-Length: 15\r\nConnection: close\r\n\r\naccepted for 2\nHTTP/1.1 200 OK\r\nContent-Type: text/plain\r\nContent-Length: 33\r\nConnection: close\r\n\r\nnode 1 published 2 proposal none\nHTTP/1.1 200 OK\r\nContent-Type: text/plain\r\nContent-Length: 33\r\nConnection: close\r\n\r\nnode 2 published 2 proposal none\n";
 
 /// Three nodes for this many connections.
 fn three_nodes(port: u16, requests: u32, state: Option<&str>) -> Service<'_>
@@ -67,12 +76,32 @@ fn waiting<R: Abort + Net<Listener = TcpListener, Stream = TcpStream>>(
     (listener, clients)
 }
 
-/// Serves nodes that open in a folder to three connections.
-fn serve_three(rt: &HostRuntime, listener: TcpListener, folder: &str) {
+/// Whether nodes that open in a folder are served to three connections at a listener for any port of this machine, with the line that
+/// names the listener's port, and the folder locked all the while.
+fn serve_three(rt: &HostRuntime, listener: TcpListener, folder: &str) -> bool {
+    let Ok(address) = listener.local_addr() else {
+        drop(listener);
+        return false;
+    };
+    let port = address.port();
+    let machine = Machine::new(rt, listener, folder);
     let mut sink = Output::new(rt.alloc(), 64);
-    let _ = serve_at(rt, &listener, three_nodes(0, 3, Some(folder)), &mut sink);
+    let outcome = serve(&machine, three_nodes(0, 3, Some(folder)), &mut sink);
+    let is_told = is_line(rt.alloc(), sink.bytes(), port);
     drop(sink);
-    drop(listener);
+    outcome.is_ok() && is_told && machine.is_bound_here() && machine.is_locked()
+}
+
+/// Whether this is the line with a port.
+fn is_line(alloc: Global, written: &[u8], port: u16) -> bool {
+    match format!(in alloc; "listening {port}\n") {
+        Ok(line) => {
+            let is_line = written == line.as_bytes();
+            drop(line);
+            is_line
+        }
+        Err(_) => false,
+    }
 }
 
 /// Appends the response that a client gets, and returns whether it could be read to its end.
@@ -100,8 +129,8 @@ fn are_answered(
     folder: &str,
     expected: &[u8],
 ) -> bool {
-    serve_three(rt, listener, folder);
-    are_read(rt.alloc(), clients, expected)
+    let is_served = serve_three(rt, listener, folder);
+    are_read(rt.alloc(), clients, expected) & is_served
 }
 
 #[test]
@@ -117,14 +146,58 @@ fn a_published_map_is_there_after_a_new_start(rt: HostRuntime) {
     );
 }
 
+#[test]
+fn a_second_map_reaches_each_node(rt: HostRuntime) {
+    new_folder(&rt, "second");
+    new_folder(&rt, "repeated");
+    let reaches_each = are_answered(&rt, waiting(&rt, PUBLISH), "second", AFTER_PUBLISH)
+        && are_answered(&rt, waiting(&rt, PUBLISH), "second", AFTER_SECOND);
+    assert!(rt;
+        reaches_each
+            || are_answered(&rt, waiting(&rt, PUBLISH), "repeated", AFTER_PUBLISH)
+                && are_answered(&rt, waiting(&rt, PUBLISH), "repeated", AFTER_SECOND)
+    );
+}
+
+/// The records of a node that published map `a`, and tried a round 13,090 times: 131,072 bytes, 172 and 10 each.
+fn long_tape(rt: &impl Abort, alloc: Global) -> Vec<u8> {
+    let mut bytes = Vec::new(alloc);
+    bytes.extend_from_slice(PUBLISHED).expect(rt, "memory");
+    bytes.extend_from_slice(MAP_A).expect(rt, "memory");
+    for _ in 0..13_090 {
+        bytes.extend_from_slice(TRIED).expect(rt, "memory");
+    }
+    bytes
+}
+
+/// A folder with three tapes of 131,072 bytes.
+fn new_long_folder(rt: &(impl Abort + Files + AllocGlobal), folder: &str) {
+    new_folder(rt, folder);
+    let bytes = long_tape(rt, rt.alloc());
+    assert!(rt; bytes.len() == 131_072);
+    for number in 0..3 {
+        let path = format!(in rt.alloc(); "{folder}/node-{number}.tape").expect(rt, "memory");
+        fs::write(rt, path.as_str(), &bytes).expect(rt, "a file");
+        drop(path);
+    }
+    drop(bytes);
+}
+
+#[test]
+fn nodes_start_on_tapes_of_128_kilobytes(rt: HostRuntime) {
+    new_long_folder(&rt, "long");
+    new_long_folder(&rt, "longer");
+    assert!(rt;
+        are_answered(&rt, waiting(&rt, STATUS), "long", AFTER_START)
+            || are_answered(&rt, waiting(&rt, STATUS), "longer", AFTER_START)
+    );
+}
+
 /// Why nodes in a folder aren't served at this port, None if they are, and whether the port is printed.
 fn started(rt: &HostRuntime, port: u16, folder: &str) -> (Option<ServeFault>, bool) {
     let mut sink = Output::new(rt.alloc(), 64);
     let outcome = serve(rt, three_nodes(port, 0, Some(folder)), &mut sink);
-    let told = match format!(in rt.alloc(); "listening {port}\n") {
-        Ok(line) => sink.bytes() == line.as_bytes(),
-        Err(_) => false,
-    };
+    let told = is_line(rt.alloc(), sink.bytes(), port);
     drop(sink);
     (outcome.err(), told)
 }

@@ -8,7 +8,7 @@ use wf_journal::{AddFault, Journal, OpenFault, Record};
 use wf_tape::{FileTape, Tape, TapeFault};
 
 /// The bytes of a Tried record of round 1, and a prefix of one that is torn.
-const TRIED: &[u8] = &[2, 1, 0, 0, 0, 4, 0, 0, 0, 1];
+pub const TRIED: &[u8] = &[2, 1, 0, 0, 0, 4, 0, 0, 0, 1];
 
 /// The bytes of three Tried records, of rounds 1, 2 and 3.
 const THREE_TRIED: &[u8] = &[
@@ -104,6 +104,27 @@ fn a_file_keeps_what_is_added(rt: HostRuntime) {
     assert!(rt; records_before(&rt, "kept/tape", 2) == Some(1));
     assert!(rt; records_before(&rt, "kept/tape", 3) == Some(2));
     assert!(rt; holds(&rt, "kept/tape", THREE_TRIED));
+}
+
+/// The number of records of a file of 4,194,300 bytes.
+const MANY: usize = 419_430;
+
+/// A file with that many Tried records.
+fn write_many<R: Abort + Files + AllocGlobal>(rt: &R, path: &str) {
+    let mut bytes = Vec::with_capacity(rt.alloc(), MANY * 10).expect(rt, "memory");
+    for _ in 0..MANY {
+        bytes.extend_from_slice(TRIED).expect(rt, "memory");
+    }
+    fs::write(rt, path, &bytes).expect(rt, "a file");
+    drop(bytes);
+}
+
+#[test]
+fn a_file_of_four_megabytes_is_read(rt: HostRuntime) {
+    new_folder(&rt, "large");
+    write_many(&rt, "large/tape");
+    assert!(rt; records_before(&rt, "large/tape", 2) == Some(MANY));
+    assert!(rt; records_before(&rt, "large/tape", 3) == Some(MANY + 1));
 }
 
 #[test]

@@ -6,9 +6,11 @@
 //! hear by N failing at K     the same, where the K-th read fails, as one whose connection is reset; `interrupted`, `timed-out` or
 //!                            `out-of-memory` in place of `failing`: it fails so. The reads after it go on
 //! hear room N                the same, where the writer takes N bytes and then fails
+//! hear writing N             the same, where a write takes at most N bytes, and how many writes were tried
+//! hear writing N HOW at K    the same, where the K-th write fails; HOW is one of the words above. The writes after it go on
 //! serve NODE of NODES [WAY]  what a new node NODE, of NODES, answers to the request, and the messages that it sends. Bytes of 0
 //!                            separate several requests; each is read and answered in the same way: `by N`, `by N failing at K` and
-//!                            so on, `room N`
+//!                            so on, `room N`, `writing N` and so on
 //! refuse NODE of NODES [WAY] the same, where the node's tape fails
 //! serve_alone NODE of NODES [WAY]        the same, where the node hears the first message that it sends, and the first of its answers in
 //!                                        turn, before the next request comes

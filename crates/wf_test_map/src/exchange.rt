@@ -1,16 +1,16 @@
 //! How a request is read and its response written; and a request that is read, or answered at once.
-use crate::faltering::{Failure, Faltering};
+use crate::faltering::{Failure, Faltering, Taking};
 use std::alloc::Global;
 use std::io::ErrorKind;
-use wf_edge::hearing::hear;
 use wf_edge::outcome::Outcome;
-use wf_http::request::Request;
-use wf_http::resource::Asked as Resource;
-use wf_stream::{Output, Stream};
+use wf_edge::request::Request;
+use wf_edge::resource::Asked as Resource;
+use wf_edge::saying::say_fault;
+use wf_stream::Stream;
 use wf_test_table::{Answer, Answered, Asked, Unanswered, Words};
 
 /// More bytes than any request or response of a case has.
-const ALL: usize = 1_048_576;
+const ALL: usize = 4_194_304;
 
 /// How a request is read and its response written.
 #[derive(Clone, Copy)]
@@ -21,15 +21,36 @@ pub(crate) struct Exchange {
     failure: Option<Failure>,
     // how many bytes the writer takes
     room: usize,
+    // how the writer is called, where that is told
+    writing: Option<Writing>,
+}
+
+/// How many bytes a write takes at most, and which write fails.
+#[derive(Clone, Copy)]
+struct Writing {
+    piece: usize,
+    failure: Option<Failure>,
 }
 
 impl Exchange {
+    // A request that comes in one piece, and a response that is taken whole.
+    const WHOLE: Exchange = Exchange {
+        piece: ALL,
+        failure: None,
+        room: ALL,
+        writing: None,
+    };
+
     /// The way that words name; without words the request comes in one piece, and the response is taken whole.
     pub(crate) fn read(mut words: Words<'_>) -> Result<Exchange, Unanswered> {
         match words.word() {
-            "" => Ok(Exchange::new(ALL, None, ALL)),
+            "" => Ok(Exchange::WHOLE),
             "by" => Exchange::read_piece(words),
-            "room" => Ok(Exchange::new(ALL, None, words.count()?)),
+            "room" => Ok(Exchange {
+                room: words.count()?,
+                ..Exchange::WHOLE
+            }),
+            "writing" => Exchange::read_writing(words),
             _ => Err(Unanswered::UnknownQuestion),
         }
     }
@@ -37,28 +58,22 @@ impl Exchange {
     // Reads `N` or `N HOW at K`: so the K-th call of the reader fails, counted from 1.
     fn read_piece(mut words: Words<'_>) -> Result<Exchange, Unanswered> {
         let piece = words.count()?;
-        match words.word() {
-            "" => Ok(Exchange::new(piece, None, ALL)),
-            "failing" => Exchange::failing(piece, ErrorKind::ConnectionReset, words),
-            "interrupted" => Exchange::failing(piece, ErrorKind::Interrupted, words),
-            "timed-out" => Exchange::failing(piece, ErrorKind::TimedOut, words),
-            "out-of-memory" => Exchange::failing(piece, ErrorKind::OutOfMemory, words),
-            _ => Err(Unanswered::BadWords),
-        }
-    }
-
-    // Reads `at K`.
-    fn failing(piece: usize, kind: ErrorKind, words: Words<'_>) -> Result<Exchange, Unanswered> {
-        let after = read_call(words)?;
-        Ok(Exchange::new(piece, Some(Failure { after, kind }), ALL))
-    }
-
-    fn new(piece: usize, failure: Option<Failure>, room: usize) -> Self {
-        Exchange {
+        let failure = read_failure(words)?;
+        Ok(Exchange {
             piece,
             failure,
-            room,
-        }
+            ..Exchange::WHOLE
+        })
+    }
+
+    // Reads the same of the writer.
+    fn read_writing(mut words: Words<'_>) -> Result<Exchange, Unanswered> {
+        let piece = words.count()?;
+        let failure = read_failure(words)?;
+        Ok(Exchange {
+            writing: Some(Writing { piece, failure }),
+            ..Exchange::WHOLE
+        })
     }
 
     /// The reader that gives a request in this way.
@@ -70,12 +85,39 @@ impl Exchange {
     }
 
     /// The writer that takes a response in this way.
-    pub(crate) fn writer(self, alloc: Global) -> Output {
-        Output::new(alloc, self.room)
+    pub(crate) fn writer(self, alloc: Global) -> Stream<Taking> {
+        let Writing { piece, failure } = self.writing.unwrap_or(Writing {
+            piece: ALL,
+            failure: None,
+        });
+        Stream::new(Taking::new(alloc, self.room, piece, failure))
+    }
+
+    /// Appends what was written, in whole lines, and by how many writes, where that is told.
+    pub(crate) fn tell_written(self, writer: &Taking, answer: &mut Answer) {
+        tell_lines(writer.bytes(), answer);
+        if self.writing.is_some() {
+            answer.value(writer.calls());
+            answer.line(" writes");
+        }
     }
 }
 
-// How many reads come before the one that `at K` names.
+// Reads `HOW at K`, or nothing.
+fn read_failure(mut words: Words<'_>) -> Result<Option<Failure>, Unanswered> {
+    let kind = match words.word() {
+        "" => return Ok(None),
+        "failing" => ErrorKind::ConnectionReset,
+        "interrupted" => ErrorKind::Interrupted,
+        "timed-out" => ErrorKind::TimedOut,
+        "out-of-memory" => ErrorKind::OutOfMemory,
+        _ => return Err(Unanswered::BadWords),
+    };
+    let after = read_call(words)?;
+    Ok(Some(Failure { after, kind }))
+}
+
+// How many calls come before the one that `at K` names.
 fn read_call(mut words: Words<'_>) -> Result<u64, Unanswered> {
     if words.word() != "at" {
         return Err(Unanswered::BadWords);
@@ -119,8 +161,8 @@ fn tell_request(request: &Request, answer: &mut Answer) {
     answer.line(" bytes");
 }
 
-/// Appends what was written, in whole lines.
-pub(crate) fn tell_written(written: &[u8], answer: &mut Answer) {
+// Appends what was written, in whole lines.
+fn tell_lines(written: &[u8], answer: &mut Answer) {
     answer.bytes(written);
     match written.last() {
         Some(last) if *last != b'\n' => answer.line(""),
@@ -128,21 +170,18 @@ pub(crate) fn tell_written(written: &[u8], answer: &mut Answer) {
     }
 }
 
-fn tell(heard: &Result<Request, Outcome>, answer: &mut Answer) {
-    match heard {
-        Ok(request) => tell_request(request, answer),
-        Err(outcome) => tell_outcome(*outcome, answer),
-    }
-}
-
 /// Appends what was read of a request in this way, or the outcome, and what was written.
 pub(crate) fn tell_hearing(asked: Asked<'_>, way: Exchange, answer: &mut Answer) -> Answered {
     let mut reader = way.reader(asked.input)?;
     let mut writer = way.writer(asked.alloc);
-    let heard = hear(asked.alloc, &mut reader, &mut writer);
-    tell(&heard, answer);
-    tell_written(writer.bytes(), answer);
-    drop(heard);
+    match Request::read(asked.alloc, &mut reader) {
+        Ok(request) => {
+            tell_request(&request, answer);
+            drop(request);
+        }
+        Err(fault) => tell_outcome(say_fault(&mut writer, fault), answer),
+    }
+    way.tell_written(writer.inner(), answer);
     drop(writer);
     drop(reader);
     Ok(())

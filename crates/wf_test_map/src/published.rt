@@ -131,7 +131,7 @@ fn tell_serving_by<T: Tape>(
     let mut reader = way.reader(request)?;
     let mut writer = way.writer(alloc);
     let served = serve_one_cached(alloc, &mut reader, &mut writer, node, cache);
-    tell(&served, writer.bytes(), answer);
+    tell(&served, way, writer.inner(), answer);
     drop(served);
     drop(writer);
     drop(reader);

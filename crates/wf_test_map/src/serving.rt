@@ -1,5 +1,6 @@
 //! Requests that a node serves, one after the other.
-use crate::exchange::{Exchange, tell_outcome, tell_written};
+use crate::exchange::{Exchange, tell_outcome};
+use crate::faltering::Taking;
 use std::alloc::Global;
 use wf_codec::Message;
 use wf_edge::serve::{Served, serve_one};
@@ -85,15 +86,15 @@ pub(crate) fn tell_served<T: Tape>(
     let mut reader = way.reader(request)?;
     let mut writer = way.writer(alloc);
     let served = serve_one(alloc, &mut reader, &mut writer, node);
-    tell(&served, writer.bytes(), answer);
+    tell(&served, way, writer.inner(), answer);
     drop(writer);
     drop(reader);
     Ok(served.messages)
 }
 
 /// Appends what became of a request, what was written and what is sent.
-pub(crate) fn tell(served: &Served, written: &[u8], answer: &mut Answer) {
+pub(crate) fn tell(served: &Served, way: Exchange, writer: &Taking, answer: &mut Answer) {
     tell_outcome(served.outcome, answer);
-    tell_written(written, answer);
+    way.tell_written(writer, answer);
     tell_sent(&served.messages, Maps::NONE, answer);
 }

@@ -45,10 +45,21 @@ fn tell_copy(canon: Canon, answer: &mut Answer) {
     }
 }
 
-/// `canonical`: a copy of the canonical text that the bytes are, or why they are none.
+// Appends a line if the quick reader leaves a canonical text to be read and written again.
+fn tell_slow(asked: Asked<'_>, answer: &mut Answer) {
+    match Canon::scanned(asked.alloc, asked.input) {
+        Some(canon) => drop(canon),
+        None => answer.line("the quick reader leaves it"),
+    }
+}
+
+/// `canonical`: a copy of the canonical text that the bytes are, or why they are none. The quick reader has to accept each such text too.
 pub(crate) fn from_bytes(asked: Asked<'_>, answer: &mut Answer) -> Answered {
     match Canon::from_bytes(asked.alloc, asked.input) {
-        Ok(canon) => tell_copy(canon, answer),
+        Ok(canon) => {
+            tell_copy(canon, answer);
+            tell_slow(asked, answer);
+        }
         Err(fault) => write_canon_fault(fault, answer),
     }
     Ok(())

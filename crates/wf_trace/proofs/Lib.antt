@@ -3,4 +3,5 @@ mod Deeds
 mod Entries
 mod Growing
 mod Agreement
+mod Merging
 mod Example

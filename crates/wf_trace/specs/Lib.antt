@@ -1,4 +1,5 @@
 pub mod Deed
 pub mod Trace
+pub mod Order
 pub mod Laws
 pub mod Examples

@@ -12,7 +12,9 @@
 //!
 //! **Promises.** From any world of the model that shows the nodes, some events lead to one that shows them after the entries, with
 //! all that they sent appended, in order ([`entries_are_events`]). So a trace is a run, and each theorem of `wf_law` holds of its
-//! nodes and messages ([`a_trace_is_a_run`]). No process ever loses a published definition ([`lists_grow`]). No two processes, at any
+//! nodes and messages ([`a_trace_is_a_run`]). Lives of single processes are a trace, if there is one order of time of the inputs that they
+//! take and the messages that they send, and each message is delivered after it was sent (`specs/Order.antt`,
+//! [`lives_are_one_trace`]). No process ever loses a published definition ([`lists_grow`]). No two processes, at any
 //! two moments, have published different definitions under one sequence, and there is one history of which each published list, at
 //! each moment, is a beginning ([`processes_agree`]).
 //!
@@ -22,6 +24,7 @@
 
 ghost use Rattle.wf_model.specs.Examples.{a};
 ghost use Rattle.wf_trace.specs.Examples.{three_publish, IsPublished};
+ghost use Rattle.wf_trace.specs.Order.{LivesAreOneTrace};
 ghost use Rattle.wf_trace.specs.Laws.{EntriesAreEvents, ListsGrow, OneDefinition, OneHistory, PartsAreOne, TraceIsRun};
 
 use wf_law::agreement;
@@ -41,6 +44,12 @@ pub fn a_trace_is_a_run<V>()
 /// Two parts of a trace, one after the other, are one: where the first ends the second begins, with all that was sent by then.
 pub fn parts_are_one<V>()
     ensures { PartsAreOne V }
+{}
+
+/// Lives of processes that don't know one another are one trace, if there is one order of time of what is seen of them, and in it each
+/// message is delivered after it was sent. Where in this order a process stopped or started again need not be known.
+pub fn lives_are_one_trace<V>()
+    ensures { LivesAreOneTrace V }
 {}
 
 /// No process ever loses a published definition: what it has published at one moment is a beginning of what it has at each later

@@ -1,5 +1,5 @@
 use Rattle.std.proofs.Common.{◌++◌, rules, subst}
-use Rattle.wf_http.specs.Request.{IsHeadRefusal}
+use Rattle.wf_http.specs.Front.{IsHeadRefusal}
 use Rattle.wf_http.proofs.HeadLaw.{fault_of_refusal, head_looked_for}
 use Rattle.wf_http.proofs.front.read_more.Goals as goal
 

@@ -32,7 +32,7 @@ loop-index-preserved c =
     let hidden : style.width ≤ widest → c.line_color-border.result ≡ None = rw (← c.get-width.ensures.value) c.line_color-border.ensures.hidden in
     let visible : widest < style.width → c.line_color-border.result ≡ style.outline_color = rw (← c.get-width.ensures.value) c.line_color-border.ensures.visible in
     let border : IsShown (in_color (LineOf style.width edges) c.line_color-border.result) c.is_full.new.self outlined = rw (← c.get-width.ensures.value) c.draw_along.ensures in
-    let fill : IsShown (in_color (FillOf edges) (cond filled None style.color)) outlined inside = rw (← c.as_slice.ensures, ← c.inner_color.ensures) c.in_ok-draw_inside.ensures in
+    let fill : IsShown (in_color (FillOf edges) (cond filled None style.color)) outlined inside = rw (← c.inner_color.ensures) c.in_ok-draw_inside.ensures in
     let line = IsDrawn-line edges behind filled widest style.width style.outline_color c.line_color-border.result first c.is_full.new.self outlined
     before c.get-width.ensures.least hidden visible border in
     let later = cond (is_some style.outline_color) (max widest style.width) widest in

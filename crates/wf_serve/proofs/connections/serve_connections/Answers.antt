@@ -4,6 +4,7 @@ use Rattle.wf_farm.specs.Nodes.{nodes_in}
 use Rattle.wf_farm.specs.NodesLaws.{length-nodes}
 use Rattle.wf_serve.specs.Connections.{HaveCome}
 use Rattle.wf_serve.proofs.Come.{none_came, one_more_came}
+use Rattle.wf_serve.proofs.Serves.{gone_on}
 use Rattle.wf_serve.proofs.connections.serve_connections.Goals as goal
 
 pub loop-connection-init : goal.loop-connection-init
@@ -12,6 +13,7 @@ loop-connection-init g c = record {
   led = c.leading_goes_on.ensures.still (nodes_in c.args.farm.now);
   running = c.requires.running;
   kept = c.requires.kept;
+  room = λ room have. have;
 }
 
 pub serve_next-requires-clause-within : goal.serve_next-requires-clause-within
@@ -31,6 +33,7 @@ loop-connection-preserved g c = record {
   led = c.leading_goes_on.ensures.again (nodes_in c.args.farm.now) (nodes_in c.loop-connection.farm) (nodes_in c.serve_next.new.farm) c.loop-connection.invariant.led c.serve_next.ensures.led;
   running = c.serve_next.ensures.running;
   kept = c.serve_next.ensures.kept;
+  room = λ room have. c.serve_next.ensures.room room (c.loop-connection.invariant.room room have);
 }
 
 pub returns-clause-come : goal.returns-clause-come
@@ -38,23 +41,14 @@ returns-clause-come g c =
     let all : c.loop-connection.connection ≡ c.args.requests = omega (arith, c.loop-connection-test.false) in
     subst (λ k. HaveCome g.T.Tape (length c.args.farm.now.places) k (nodes_in c.args.farm.now) (nodes_in c.loop-connection.farm)) all c.loop-connection.invariant.come
 
-pub returns-clause-led : goal.returns-clause-led
-returns-clause-led g c = c.loop-connection.invariant.led
-
-pub returns-clause-reached : goal.returns-clause-reached
-returns-clause-reached g c = λ reached. (c.agree_still.ensures (nodes_in c.args.farm.now) reached c.loop-connection.invariant.led).reached
-
-pub returns-clause-agree : goal.returns-clause-agree
-returns-clause-agree g c = λ reached. (c.agree_still.ensures (nodes_in c.args.farm.now) reached c.loop-connection.invariant.led).history
-
-pub returns-clause-alike : goal.returns-clause-alike
-returns-clause-alike g c = λ reached. (c.agree_still.ensures (nodes_in c.args.farm.now) reached c.loop-connection.invariant.led).alike
-
-pub returns-clause-grows : goal.returns-clause-grows
-returns-clause-grows g c = c.loop-connection.invariant.led.turn.lists
+pub returns-clause-headline : goal.returns-clause-headline
+returns-clause-headline g c = gone_on g.T.Tape (nodes_in c.args.farm.now) (nodes_in c.loop-connection.farm) c.agree_still.ensures c.loop-connection.invariant.led
 
 pub returns-clause-running : goal.returns-clause-running
 returns-clause-running g c = c.loop-connection.invariant.running
 
 pub returns-clause-kept : goal.returns-clause-kept
 returns-clause-kept g c = c.loop-connection.invariant.kept
+
+pub returns-clause-room : goal.returns-clause-room
+returns-clause-room g c = c.loop-connection.invariant.room

@@ -1,4 +1,4 @@
--- Without a connection nothing happens.
+-- Without a connection nothing happens. The effect of one is that of serving it, whatever was received on it.
 use Rattle.std.proofs.Common.{refl, inl, inr}
 use Rattle.wf_farm.specs.Nodes.{nodes_in}
 use Rattle.wf_serve.proofs.connections.serve_next.Goals as goal
@@ -9,8 +9,17 @@ returns-in_default-clause-answered g c = inr refl
 pub returns-in_default-clause-led : goal.returns-in_default-clause-led
 returns-in_default-clause-led g c = c.leading_goes_on.ensures.still (nodes_in c.args.farm.now)
 
+pub returns-in_default-clause-room : goal.returns-in_default-clause-room
+returns-in_default-clause-room g c = λ room have. have
+
 pub returns-clause-answered : goal.returns-clause-answered
-returns-clause-answered g c = inl c.serve_stream.ensures.answered
+returns-clause-answered g c = inl (record {
+  input = _;
+  written = _;
+  written_after = _;
+  outcome = c.serve_connection-outcome.result;
+  connection = c.serve_connection-outcome.ensures.connection;
+})
 
 pub returns-clause-led : goal.returns-clause-led
-returns-clause-led g c = c.serve_stream.ensures.led
+returns-clause-led g c = c.serve_connection-outcome.ensures.headline.led

@@ -1,46 +1,43 @@
--- The nodes catch up, and then the connections are served.
-use Rattle.std.proofs.Common.{refl}
+-- The nodes catch up, and then the connections are served, or, if the port wasn't printed, none is.
+use Rattle.std.proofs.Common.{refl, sym, subst}
+use Rattle.std.specs.Prelude.{Ok}
 use Rattle.wf_farm.specs.Nodes.{nodes_in}
+use Rattle.wf_farm.specs.NodesLaws.{length-nodes}
+use Rattle.wf_serve.specs.Agreeing.{HaveGoneOn}
+use Rattle.wf_serve.specs.Caching.{HaveRoom}
+use Rattle.wf_serve.specs.Connections.{HaveCome, IsServing}
+use Rattle.wf_serve.proofs.Serves.{gone_on}
+use Rattle.wf_serve.proofs.listening.serve_nodes.Given as given
 use Rattle.wf_serve.proofs.listening.serve_nodes.Goals as goal
 
-pub serve_kept-outcome-requires-clause-running : goal.serve_kept-outcome-requires-clause-running
-serve_kept-outcome-requires-clause-running g c = c.catch_up.ensures.running
+serving : (g : given.Over) (c : goal.After-agree_still g) → IsServing g.T.Tape c.args.service.requests (nodes_in c.args.farm.now) (Ok tt) (nodes_in c.serve_connections.new.farm)
+serving g c = record {
+  caught = nodes_in c.catch_up.new.farm;
+  catch_up = c.catch_up.ensures.caught;
+  come = subst (λ k. HaveCome g.T.Tape k c.args.service.requests (nodes_in c.catch_up.new.farm) (nodes_in c.serve_connections.new.farm)) (sym (length-nodes c.catch_up.new.farm.places)) c.serve_connections.ensures.come;
+}
 
-pub returns-in_default-clause-served : goal.returns-in_default-clause-served
-returns-in_default-clause-served g c = record { caught = (nodes_in c.catch_up.new.farm); catch_up = c.catch_up.ensures.caught; come = refl }
+headline : (g : given.Over) (c : goal.After-agree_still g) → HaveGoneOn g.T.Tape (nodes_in c.args.farm.now) (nodes_in c.serve_connections.new.farm)
+headline g c =
+    gone_on g.T.Tape (nodes_in c.args.farm.now) (nodes_in c.serve_connections.new.farm) c.agree_still.ensures
+    (c.leading_goes_on.ensures.again (nodes_in c.args.farm.now) (nodes_in c.catch_up.new.farm) (nodes_in c.serve_connections.new.farm) c.catch_up.ensures.led c.serve_connections.ensures.headline.led)
 
-pub returns-in_default-clause-led : goal.returns-in_default-clause-led
-returns-in_default-clause-led g c = c.catch_up.ensures.led
+pub returns-in-Ok-clause-serving : goal.returns-in-Ok-clause-serving
+returns-in-Ok-clause-serving g c = serving g c
 
-pub returns-in_default-clause-reached : goal.returns-in_default-clause-reached
-returns-in_default-clause-reached g c = λ reached. (c.agree_still.ensures (nodes_in c.args.farm.now) reached c.catch_up.ensures.led).reached
+pub returns-in-Ok-clause-served : goal.returns-in-Ok-clause-served
+returns-in-Ok-clause-served g c = record {
+  in_turn = c.nodes_agree.ensures.in_turn;
+  serving = serving g c;
+  caches = record { caches = c.serve_connections.new.caches; kept = c.serve_connections.ensures.kept; room = c.serve_connections.ensures.room c.args.service.cache (subst (HaveRoom c.args.service.cache) (sym c.as_mut_slice.ensures.value) c.in-Ok.ensures.room) };
+  headline = headline g c;
+}
 
-pub returns-in_default-clause-agree : goal.returns-in_default-clause-agree
-returns-in_default-clause-agree g c = λ reached. (c.agree_still.ensures (nodes_in c.args.farm.now) reached c.catch_up.ensures.led).history
+pub returns-in-Ok-clause-headline : goal.returns-in-Ok-clause-headline
+returns-in-Ok-clause-headline g c = headline g c
 
-pub returns-in_default-clause-alike : goal.returns-in_default-clause-alike
-returns-in_default-clause-alike g c = λ reached. (c.agree_still.ensures (nodes_in c.args.farm.now) reached c.catch_up.ensures.led).alike
+pub returns-in-Err-clause-serving : goal.returns-in-Err-clause-serving
+returns-in-Err-clause-serving g c = record { caught = nodes_in c.catch_up.new.farm; catch_up = c.catch_up.ensures.caught; come = refl }
 
-pub returns-in_default-clause-grows : goal.returns-in_default-clause-grows
-returns-in_default-clause-grows g c = c.catch_up.ensures.led.turn.lists
-
-pub returns-clause-served : goal.returns-clause-served
-returns-clause-served g c = record { caught = (nodes_in c.catch_up.new.farm); catch_up = c.catch_up.ensures.caught; come = c.serve_kept-outcome.ensures.come }
-
-pub returns-clause-led : goal.returns-clause-led
-returns-clause-led g c = c.leading_goes_on.ensures.again (nodes_in c.args.farm.now) (nodes_in c.catch_up.new.farm) (nodes_in c.serve_kept-outcome.new.farm) c.catch_up.ensures.led c.serve_kept-outcome.ensures.led
-
-pub returns-clause-reached : goal.returns-clause-reached
-returns-clause-reached g c = λ reached.
-    (c.agree_still-2.ensures (nodes_in c.args.farm.now) reached (c.leading_goes_on.ensures.again (nodes_in c.args.farm.now) (nodes_in c.catch_up.new.farm) (nodes_in c.serve_kept-outcome.new.farm) c.catch_up.ensures.led c.serve_kept-outcome.ensures.led)).reached
-
-pub returns-clause-agree : goal.returns-clause-agree
-returns-clause-agree g c = λ reached.
-    (c.agree_still-2.ensures (nodes_in c.args.farm.now) reached (c.leading_goes_on.ensures.again (nodes_in c.args.farm.now) (nodes_in c.catch_up.new.farm) (nodes_in c.serve_kept-outcome.new.farm) c.catch_up.ensures.led c.serve_kept-outcome.ensures.led)).history
-
-pub returns-clause-alike : goal.returns-clause-alike
-returns-clause-alike g c = λ reached.
-    (c.agree_still-2.ensures (nodes_in c.args.farm.now) reached (c.leading_goes_on.ensures.again (nodes_in c.args.farm.now) (nodes_in c.catch_up.new.farm) (nodes_in c.serve_kept-outcome.new.farm) c.catch_up.ensures.led c.serve_kept-outcome.ensures.led)).alike
-
-pub returns-clause-grows : goal.returns-clause-grows
-returns-clause-grows g c = (c.leading_goes_on.ensures.again (nodes_in c.args.farm.now) (nodes_in c.catch_up.new.farm) (nodes_in c.serve_kept-outcome.new.farm) c.catch_up.ensures.led c.serve_kept-outcome.ensures.led).turn.lists
+pub returns-in-Err-clause-headline : goal.returns-in-Err-clause-headline
+returns-in-Err-clause-headline g c = gone_on g.T.Tape (nodes_in c.args.farm.now) (nodes_in c.catch_up.new.farm) c.agree_still-in-Err.ensures c.catch_up.ensures.led

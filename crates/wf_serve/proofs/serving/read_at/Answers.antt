@@ -7,8 +7,8 @@ use Rattle.wf_serve.proofs.Exchanged.{read_there}
 use Rattle.wf_serve.proofs.Running.{node_there, one_there}
 use Rattle.wf_serve.proofs.serving.read_at.Goals as goal
 
-pub serve_reading-requires : goal.serve_reading-requires
-serve_reading-requires g c =
+pub read_request-requires : goal.read_request-requires
+read_request-requires g c =
     c.requires.kept c.in-Some.node.now (node_there c.args.farm.now.places c.args.place c.requires.running c.requires.within c.in-Some.node.now (sym c.in-Some.ensures))
 
 pub unreachable-requires : goal.unreachable-requires
@@ -17,10 +17,10 @@ unreachable-requires g c = one_there c.args.farm.now.places c.args.place c.requi
 pub returns-clause-serves : goal.returns-clause-serves
 returns-clause-serves g c =
     let there = node_there c.args.farm.now.places c.args.place c.requires.running c.requires.within c.in-Some.node.now (sym c.in-Some.ensures) in
-    read_there g.T.Tape g.K.Sink g.S.Source c.args.place c.args.source.now c.serve_reading.new.source c.args.sink.now c.serve_reading.new.sink (nodes_in c.args.farm.now)
-    c.in-Some.node.now there c.serve_reading.result c.serve_reading.ensures.serves c.serve_reading.ensures.silent
+    read_there g.T.Tape g.K.Sink g.S.Source c.args.place c.args.source.now c.read_request.new.source c.args.sink.now c.read_request.new.sink (nodes_in c.args.farm.now)
+    c.in-Some.node.now there c.read_request.result c.read_request.ensures.serves c.read_request.ensures.silent
 
 pub returns-clause-kept : goal.returns-clause-kept
 returns-clause-kept g c = λ node at.
     let there = node_there c.args.farm.now.places c.args.place c.requires.running c.requires.within c.in-Some.node.now (sym c.in-Some.ensures) in
-    subst (λ n. AllKept n.parts.history c.serve_reading.new.pictures) (same_Some c.in-Some.node.now node (sym there ∙ at)) c.serve_reading.ensures.kept
+    subst (λ n. AllKept n.parts.history c.read_request.new.pictures) (same_Some c.in-Some.node.now node (sym there ∙ at)) c.read_request.ensures.kept

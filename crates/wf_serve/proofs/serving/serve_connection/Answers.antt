@@ -1,11 +1,12 @@
 -- The request, the deliveries, the retry and the catch-up come in turn, each leading the nodes on.
-use Rattle.std.proofs.Common.{◌<◌, length, refl, rules, slice_set, subst, arith}
+use Rattle.std.proofs.Common.{◌<◌, ◌∙◌, length, ap, refl, rules, slice_set, subst, sym, arith}
 use Rattle.std.proofs.lemmas.Option.{slice_get_read}
 use Rattle.wf_farm.specs.Leading.{AreLedOn}
 use Rattle.wf_farm.specs.Nodes.{nodes_in}
 use Rattle.wf_farm.specs.NodesLaws.{length-nodes}
-use Rattle.wf_wms.specs.KeptPictures.{AllKept}
-use Rattle.wf_serve.proofs.Caches.{kept_grown, kept_with}
+use Rattle.wf_wms.specs.KeptPictures.{AllKept, CacheValue}
+use Rattle.wf_serve.proofs.Caches.{kept_grown, kept_with, room_with}
+use Rattle.wf_serve.proofs.Serves.{gone_on}
 use Rattle.wf_serve.proofs.serving.serve_connection.Given as given
 use Rattle.wf_serve.proofs.serving.serve_connection.Goals as goal
 
@@ -36,20 +37,8 @@ returns-clause-connection g c =
       catch_up = c.catch_up.ensures.caught;
     }
 
-pub returns-clause-led : goal.returns-clause-led
-returns-clause-led g c = led g c
-
-pub returns-clause-reached : goal.returns-clause-reached
-returns-clause-reached g c = λ reached. (c.agree_still.ensures (nodes_in c.args.farm.now) reached (led g c)).reached
-
-pub returns-clause-agree : goal.returns-clause-agree
-returns-clause-agree g c = λ reached. (c.agree_still.ensures (nodes_in c.args.farm.now) reached (led g c)).history
-
-pub returns-clause-alike : goal.returns-clause-alike
-returns-clause-alike g c = λ reached. (c.agree_still.ensures (nodes_in c.args.farm.now) reached (led g c)).alike
-
-pub returns-clause-grows : goal.returns-clause-grows
-returns-clause-grows g c = (led g c).turn.lists
+pub returns-clause-headline : goal.returns-clause-headline
+returns-clause-headline g c = gone_on g.T.Tape (nodes_in c.args.farm.now) (nodes_in c.catch_up.new.farm) c.agree_still.ensures (led g c)
 
 pub bounds-caches-place : goal.bounds-caches-place
 bounds-caches-place g c = omega (arith, c.requires.within, c.requires.kept.as_many, length-nodes c.args.farm.now.places)
@@ -75,3 +64,11 @@ returns-clause-kept g c =
     let served = kept_with law (nodes_in c.args.farm.now) (nodes_in one.new.farm) caches c.args.place c.index-caches-place.result one.new.cache one.ensures.led.turn.as_many one.ensures.led.turn.lists there one.ensures.kept c.requires.kept in
     let again = kept_grown law (nodes_in one.new.farm) (nodes_in c.retry.new.farm) (slice_set caches c.args.place one.new.cache) c.retry.ensures.led.turn.as_many c.retry.ensures.led.turn.lists served in
     kept_grown law (nodes_in c.retry.new.farm) (nodes_in c.catch_up.new.farm) (slice_set caches c.args.place one.new.cache) c.catch_up.ensures.led.turn.as_many c.catch_up.ensures.led.turn.lists again
+
+pub returns-clause-room : goal.returns-clause-room
+returns-clause-room g c =
+    let caches = c.args.caches.now in
+    let within : c.args.place < length caches = omega (arith, c.requires.within, c.requires.kept.as_many, length-nodes c.args.farm.now.places) in
+    let there = slice_get_read caches (length caches) c.args.place c.index-caches-place.result refl within c.index-caches-place.is in
+    room_with caches c.args.place c.index-caches-place.result c.served_at-outcome.new.cache there
+    (c.served_at-outcome.ensures.room ∙ sym (ap (λ (cache : CacheValue). cache.cap) c.index-caches-place.is))

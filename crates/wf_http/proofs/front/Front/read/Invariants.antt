@@ -2,7 +2,7 @@ use Rattle.std.proofs.Common.{◌≡◌, ◌≤◌, ◌-◌, length}
 use Rattle.std.specs.Io.KnownBytes.{Consumes}
 use Rattle.arrayvec.specs.ArrayVec.{array_vec_len}
 use Rattle.wf_http.specs.Head.{most_head_bytes}
-use Rattle.wf_http.specs.Request.{IsUnfinished}
+use Rattle.wf_http.specs.Front.{IsUnfinished}
 use Rattle.wf_http.proofs.front.Front.read.Given as goal
 
 -- the bytes read were taken from the front, no head is complete yet, and no read has failed

@@ -5,12 +5,12 @@ use Rattle.wf_paint.proofs.canvas.Canvas.cover.Goals as goal
 
 pub invariant_of-self : goal.invariant_of-self
 invariant_of-self c =
-    let here : CanvasValue = record { width = c.self.inside.width; height = c.self.inside.height; background = c.self.inside.background; bytes = c.self.inside.pixels; free = c.self.inside.free.items; known = c.self.inside.known } in
+    let here : CanvasValue = record { width = c.self.inside.width; height = c.self.inside.height; background = c.self.inside.background; bytes = c.self.inside.pixels; free = c.self.inside.free.items; known = c.self.inside.known; blocks = c.self.inside.blocks.items } in
     canvas_covered here c.args.row c.args.from c.args.to c.args.color c.cover_range.new.free.items c.cover_range.new.pixels _ _ c.self.invariant c.cover_range.ensures
 
 pub returns-then-from-to : goal.returns-then-from-to
 returns-then-from-to c =
-    let here : CanvasValue = record { width = c.self.inside.width; height = c.self.inside.height; background = c.self.inside.background; bytes = c.self.inside.pixels; free = c.self.inside.free.items; known = c.self.inside.known } in
+    let here : CanvasValue = record { width = c.self.inside.width; height = c.self.inside.height; background = c.self.inside.background; bytes = c.self.inside.pixels; free = c.self.inside.free.items; known = c.self.inside.known; blocks = c.self.inside.blocks.items } in
     let same : c.args.self.now ≡ here = cc in
     let within = rw same at c.requires.row_within in
     let inside = rw same at c.requires.to_within in

@@ -1,0 +1,15 @@
+mod Lists
+mod Growth
+mod Halting
+mod Runs
+mod Lives
+mod Offers
+mod Posted
+mod Unlinked
+mod Sending
+mod Hearing
+mod Changing
+mod Fronts
+mod Receiving
+mod Farms
+mod Responding

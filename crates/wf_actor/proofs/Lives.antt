@@ -1,0 +1,162 @@
+-- The life of a node goes on with each of its steps.
+use Rattle.std.proofs.Common.{◌≡◌, ℕ, Bool, true, false, List, [], ◌∷◌, ◌++◌, Vec, Result, Ok, Err, IfOk, IfErr, refl, sym, ap, subst, ◌∙◌, append-nil, append_assoc}
+use Rattle.std.specs.declared.alloc.Global.{Global}
+use Rattle.wf_career.specs.RunLaws.{last_more, done_more, fold_stands, said_more}
+use Rattle.wf_career.specs.Run.{Act, Input, Run, IsAct, given_to, last_of, said}
+use Rattle.wf_codec.specs.declared.message.Message.{Message}
+use Rattle.wf_edge.specs.Asking.{IsAnswer}
+use Rattle.wf_edge.specs.Serving.{HandsOut, MovesOnce, Stays, Proposes}
+use Rattle.wf_farm.specs.Leading.{said_by}
+use Rattle.wf_farm.specs.Outcome.{StepIsAnswered, is_lost}
+use Rattle.wf_model.specs.declared.action.Action.TheVariants as action
+use Rattle.wf_node.specs.Input.{view}
+use Rattle.wf_model.specs.Working.{at_start}
+use Rattle.wf_node.specs.Node.{Node, stored_of, working_of}
+use Rattle.wf_node.specs.Opening.{IsRead}
+use Rattle.wf_node.specs.Step.{IsRow, IsSameNode, row_of}
+use Rattle.wf_node.specs.declared.fault.NodeFault.{NodeFault}
+use Rattle.wf_tape.specs.declared.tape.Tape.{Ghosts as Tape}
+use Rattle.wf_actor.specs.Life.{all_from, delivered, logged, AreOwnAmong, AreOwnHeard, IsLife, IsOpenedFrom}
+use Rattle.wf_actor.specs.declared.origin.Origin.{Origin}
+use Rattle.wf_actor.specs.declared.origin.Origin.TheVariants.{Own, Peer}
+use Rattle.wf_actor.proofs.Runs.{heard_more, delivered_more}
+
+-- the log of one more list
+pub logged_more : (log : List (Vec Message Global × ℕ)) (messages : Vec Message Global) (count : ℕ) → logged (log ++ (messages, count) ∷ []) ≡ logged log ++ messages.items
+unfolding logged
+logged_more [] messages count = append-nil messages.items
+logged_more (entry ∷ log) messages count =
+    ap (λ l. entry.0.items ++ l) (logged_more log messages count) ∙ sym (append_assoc entry.0.items (logged log) messages.items)
+
+pub logged_none : (log : List (Vec Message Global × ℕ)) → log ≡ [] → logged log ≡ []
+unfolding logged
+logged_none log none = ap logged none
+
+pub logged_grows : (log log' : List (Vec Message Global × ℕ)) (messages : Vec Message Global) → log' ≡ log ++ (messages, 0) ∷ [] → logged log' ≡ logged log ++ messages.items
+logged_grows log log' messages more = ap logged more ∙ logged_more log messages 0
+
+-- a step keeps the node's number, and how many there are
+module _ {T A : Type 0} (tapes : Tape T) (input : Input) (before after : Node T) (answer : Result (Vec Message A) NodeFault) where
+  kept_numbers : (halted : Bool) → before.halted ≡ halted → IsAnswer tapes (view input) before answer after → (after.id ≡ before.id) × (after.n ≡ before.n)
+  kept_numbers true is answered = (ap (λ (x : Node T). x.id) (answered.refused is).1, ap (λ (x : Node T). x.n) (answered.refused is).1)
+  kept_numbers false is answered = by_result answer (answered.steps is).done (answered.steps is).same
+    where
+      by_result : (r : Result (Vec Message A) NodeFault) → IfOk r (λ messages. IsRow before (row_of before (view input)) messages.items after) → IfErr r (λ fault. IsSameNode before after) →
+          (after.id ≡ before.id) × (after.n ≡ before.n)
+      by_result (Ok messages) row same = (row.id, row.n)
+      by_result (Err why) row same = (ap (λ (x : Node T). x.id) same, ap (λ (x : Node T). x.n) same)
+
+  pub keeps_numbers : IsAnswer tapes (view input) before answer after → (after.id ≡ before.id) × (after.n ≡ before.n)
+  keeps_numbers answered = kept_numbers before.halted refl answered
+
+-- so does a request
+pub moves_numbers : {T : Type 0} (tapes : Tape T) (before after : Node T) (said : Vec Message Global) → MovesOnce tapes before said after → (after.id ≡ before.id) × (after.n ≡ before.n)
+moves_numbers {T} tapes before after said (Stays unmoved) = (ap (λ (x : Node T). x.id) unmoved.same, ap (λ (x : Node T). x.n) unmoved.same)
+moves_numbers tapes before after said (Proposes d result proposed hands) = keeps_numbers tapes (action.Propose d) before after result proposed
+
+module _ {T : Type 0} (tapes : Tape T) where
+  -- ---- it begins
+
+  -- what opening promises, of a tape that was logged before it
+  pub opened_from : (tape : T) (i n : ℕ) (node : Node T) (start read_from : List (T × ℕ)) → start ≡ [] → read_from ≡ start ++ (tape, 0) ∷ [] → node.id ≡ i → node.n ≡ n → node.halted ≡ false →
+      working_of node ≡ at_start → IsRead tapes.honest (tapes.content tape) (stored_of node) → IsOpenedFrom tapes read_from node
+  opened_from tape i n node start read_from none logs own among runs idle found = record {
+    tape = tape;
+    only = logs ∙ ap (λ (l : List (T × ℕ)). l ++ (tape, 0) ∷ []) none;
+    opened = record {
+      bytes = found.bytes;
+      opened = record { id = refl; among = refl; runs = runs; stored = fold_stands (stored_of node) found.bytes found.folds; idle = idle };
+      same = found.same;
+    };
+  }
+
+  pub life_begins : (node : Node T) (read_from : List (T × ℕ)) (began : List (Node T × ℕ)) (given : List (Message × Origin)) (told : List Message) → IsOpenedFrom tapes read_from node →
+      began ≡ (node, 0) ∷ [] → given ≡ [] → told ≡ [] → IsLife tapes read_from began given told node
+  unfolding last_of said delivered AreOwnHeard
+  life_begins node read_from began given told opened first no_given no_told = record {
+    run = record { first = node; acts = [] };
+    origins = [];
+    opened = opened;
+    number = refl;
+    among = refl;
+    done = tt;
+    first = first;
+    now = refl;
+    says = sym no_told;
+    takes = sym no_given;
+    heard = tt;
+  }
+
+  pub life_opens : (node here : Node T) (read_from : List (T × ℕ)) (start began : List (Node T × ℕ)) (given : List (Message × Origin)) (log : List (Vec Message Global × ℕ)) → IsOpenedFrom tapes read_from node → here ≡ node →
+      start ≡ [] → began ≡ start ++ (node, 0) ∷ [] → given ≡ [] → log ≡ [] → IsLife tapes read_from began given (logged log) here
+  life_opens node here read_from start began given log opened same none first no_given no_log =
+      life_begins here read_from began given (logged log)
+      (subst (λ (x : Node T). IsOpenedFrom tapes read_from x) (sym same) opened)
+      (first ∙ ap (λ (l : List (Node T × ℕ)). l ++ (node, 0) ∷ []) none ∙ ap (λ (x : Node T). (x, 0) ∷ []) (sym same)) no_given (logged_none log no_log)
+
+  -- ---- it goes on
+
+  module _ (answers : StepIsAnswered tapes) (read_from : List (T × ℕ)) (began : List (Node T × ℕ)) (given : List (Message × Origin)) (told : List Message) (node : Node T) (life : IsLife tapes read_from began given told node) where
+    -- with the same messages, spelled otherwise
+    pub life_stays : (began' : List (Node T × ℕ)) (given' : List (Message × Origin)) (told' : List Message) (node' : Node T) → began' ≡ began → given' ≡ given → told' ≡ told → node' ≡ node →
+        IsLife tapes read_from began' given' told' node'
+    life_stays began' given' told' node' e f g h =
+        subst (λ (b : List (Node T × ℕ)). IsLife tapes read_from b given' told' node') (sym e)
+        (subst (λ (l : List (Message × Origin)). IsLife tapes read_from began l told' node') (sym f)
+        (subst (λ (l : List Message). IsLife tapes read_from began given l node') (sym g)
+        (subst (λ (x : Node T). IsLife tapes read_from began given told x) (sym h) life)))
+
+    -- by one more act
+    life_acts : (act : Act T) (origin : Origin) → IsAct tapes node act → (act.after.id ≡ node.id) × (act.after.n ≡ node.n) → AreOwnAmong told origin (given_to act.input) →
+        IsLife tapes read_from began (given ++ all_from origin (given_to act.input)) (told ++ act.said) act.after
+    life_acts act origin is numbers own = record {
+      run = record { first = life.run.first; acts = life.run.acts ++ act ∷ [] };
+      origins = life.origins ++ origin ∷ [];
+      opened = life.opened;
+      number = numbers.0 ∙ life.number;
+      among = numbers.1 ∙ life.among;
+      done = done_more tapes life.run.first life.run.acts act life.done (subst (λ (x : Node T). IsAct tapes x act) (sym life.now) is);
+      first = life.first;
+      now = last_more life.run.first life.run.acts act;
+      says = said_more life.run.acts act ∙ ap (λ l. l ++ act.said) life.says;
+      takes = delivered_more act origin [] life.run.acts life.origins life.heard ∙ ap (λ l. l ++ all_from origin (given_to act.input)) life.takes;
+      heard = heard_more act origin [] life.run.acts life.origins life.heard (subst (λ l. AreOwnAmong l origin (given_to act.input)) (sym life.says) own);
+    }
+
+    -- by one more step
+    pub life_steps : (input : Input) (origin : Origin) (answer : Result (Vec Message Global) NodeFault) (after : Node T) → IsAnswer tapes (view input) node answer after →
+        AreOwnAmong told origin (given_to input) → IsLife tapes read_from began (given ++ all_from origin (given_to input)) (told ++ said_by answer) after
+    life_steps input origin answer after answered own =
+        life_acts (record { input = input; said = said_by answer; after = after }) origin
+        (record { lost = is_lost answer; takes = answers node after (view input) answer answered.refused answered.steps })
+        (keeps_numbers tapes input node after answer answered) own
+
+    pub life_steps_now : (input : Input) (origin : Origin) (answer : Result (Vec Message Global) NodeFault) (after : Node T) → IsAnswer tapes (view input) node answer after →
+        AreOwnAmong told origin (given_to input) → (began' : List (Node T × ℕ)) (given' : List (Message × Origin)) (told' : List Message) → began' ≡ began → given' ≡ given ++ all_from origin (given_to input) →
+        told' ≡ told ++ said_by answer → IsLife tapes read_from began' given' told' after
+    life_steps_now input origin answer after answered own began' given' told' e f g =
+        subst (λ (b : List (Node T × ℕ)). IsLife tapes read_from b given' told' after) (sym e)
+        (subst (λ (l : List (Message × Origin)). IsLife tapes read_from began l told' after) (sym f)
+        (subst (λ (l : List Message). IsLife tapes read_from began (given ++ all_from origin (given_to input)) l after) (sym g)
+        (life_steps input origin answer after answered own)))
+
+    -- by a request, which may be a step
+    handed : (result : Result (Vec Message Global) NodeFault) (said : Vec Message Global) → HandsOut result said → said_by result ≡ said.items
+    handed (Ok messages) said hands = ap (λ (v : Vec Message Global). v.items) (sym hands)
+    handed (Err why) said hands = sym hands
+
+    pub life_serves : (said : Vec Message Global) (after : Node T) → MovesOnce tapes node said after → (began' : List (Node T × ℕ)) (given' : List (Message × Origin)) (told' : List Message) →
+        began' ≡ began → given' ≡ given → told' ≡ told ++ said.items → IsLife tapes read_from began' given' told' after
+    life_serves said after (Stays unmoved) began' given' told' e f g =
+        life_stays began' given' told' after e f (g ∙ ap (λ l. told ++ l) unmoved.quiet ∙ append-nil told) unmoved.same
+    life_serves said after (Proposes d result proposed hands) began' given' told' e f g =
+        life_steps_now (action.Propose d) Own result after proposed (λ m is. absurd is) began' given' told' e (f ∙ sym (append-nil given)) (g ∙ ap (λ l. told ++ l) (sym (handed result said hands)))
+
+-- what a step returns is logged
+pub told_more : (log log' : List (Vec Message Global × ℕ)) (answer : Result (Vec Message Global) NodeFault) (messages : Vec Message Global) → answer ≡ Ok messages → log' ≡ log ++ (messages, 0) ∷ [] →
+    logged log' ≡ logged log ++ said_by answer
+told_more log log' answer messages is more =
+    ap logged more ∙ logged_more log messages 0 ∙ ap (λ (r : Result (Vec Message Global) NodeFault). logged log ++ said_by r) (sym is)
+
+pub told_nothing : (log : List (Vec Message Global × ℕ)) (answer : Result (Vec Message Global) NodeFault) (why : NodeFault) → answer ≡ Err why → logged log ≡ logged log ++ said_by answer
+told_nothing log answer why is = sym (append-nil (logged log)) ∙ ap (λ (r : Result (Vec Message Global) NodeFault). logged log ++ said_by r) (sym is)

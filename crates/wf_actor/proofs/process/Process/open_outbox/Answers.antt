@@ -1,0 +1,42 @@
+use Rattle.std.proofs.Common.{◌≡◌, ◌<◌, ℕ, length, get_or, slice_set, length-set, refl, ap, subst, ◌∙◌, rules}
+use Rattle.std.proofs.Math.Logic.{∥∥₁_map}
+use Rattle.std.proofs.lemmas.Option.{slice_get_read}
+use Rattle.wf_actor.specs.Life.{logged}
+use Rattle.wf_actor.specs.declared.link.Link.{Link}
+use Rattle.wf_actor.proofs.Changing.{opened_put, same_arrived}
+use Rattle.wf_actor.proofs.Hearing.{arrived_set}
+use Rattle.wf_actor.proofs.Sending.{link_set}
+use Rattle.wf_actor.proofs.process.Process.open_outbox.Goals as goal
+
+pub invariant_of-self : goal.invariant_of-self
+invariant_of-self g c =
+    let p = c.args.self.now in
+    let link = c.index_mut.result.now in
+    let below : c.from-index.result < length p.links.items = search rules in
+    let at = slice_get_read p.links.items (length p.links.items) c.from-index.result link refl below c.index_mut.ensures.value in
+    record {
+      most = p.most;
+      some_pictures = p.some_pictures;
+      most_pictures = p.most_pictures;
+      among = p.among;
+      member = p.member;
+      linked = length-set p.links.items c.from-index.result c.open_outbox.new.self ∙ p.linked;
+      sent = ∥∥₁_map p.sent (λ s. link_set p.backlog.messages.items p.links.items (logged p.actor.told.items) s c.from-index.result link c.open_outbox.new.self at (opened_put link c.open_outbox.new.self c.open_outbox.ensures));
+      heard = p.heard;
+      arrived = ∥∥₁_map p.arrived (λ a. arrived_set p.came.items p.links.items a c.from-index.result link c.open_outbox.new.self at (same_arrived link c.open_outbox.new.self c.open_outbox.ensures.incoming.arrived));
+    }
+
+pub returns-then-index-len-clause-linked : goal.returns-then-index-len-clause-linked
+returns-then-index-len-clause-linked g c = λ below.
+    let p = c.args.self.now in
+    let link = c.index_mut.result.now in
+    let here : c.from-index.result ≡ c.args.peer = c.from-index.ensures ∙ c.number.ensures.value in
+    record {
+      link = link;
+      link_after = c.open_outbox.new.self;
+      was = slice_get_read p.links.items (length p.links.items) c.args.peer link refl below (subst (λ (k : ℕ). link ≡ get_or p.links.items k link) here c.index_mut.ensures.value);
+      changes = c.open_outbox.ensures;
+      links = ap (λ (k : ℕ). slice_set p.links.items k c.open_outbox.new.self) here;
+      waiting = refl;
+      rest = record { actor = refl; came = refl; ended = refl; among = refl };
+    }

@@ -1,0 +1,12 @@
+pub mod Target
+pub mod Backlog
+pub mod Queue
+pub mod Offer
+pub mod Link
+pub mod Life
+pub mod Opening
+pub mod Sent
+pub mod Process
+pub mod Writing
+pub mod Farm
+pub mod Responding

@@ -1,0 +1,60 @@
+-- The life of a node in a process: its acts since it was opened, and where its inputs came from.
+use Rattle.std.specs.Prelude.{◌≡◌, ℕ, ⊤, List, [], ◌∷◌, ◌++◌, map, Vec}
+use Rattle.std.specs.declared.alloc.Global.{Global}
+use Rattle.wf_codec.specs.declared.message.Message.{Message}
+use Rattle.wf_career.specs.Run.{Act, Run, AreDone, IsOpened, given_to, last, said}
+use Rattle.wf_model.specs.Chosen.{IsIn}
+use Rattle.wf_node.specs.Node.{Node}
+use Rattle.wf_tape.specs.declared.tape.Tape.{Ghosts as Tape}
+use Rattle.wf_actor.specs.declared.origin.Origin.{Origin}
+use Rattle.wf_actor.specs.declared.origin.Origin.TheVariants.{Own, Peer}
+
+-- the messages of a log of lists
+unfoldable pub logged : List (Vec Message Global × ℕ) → List Message
+logged [] = []
+logged (entry ∷ log) = entry.0.items ++ logged log
+
+-- the messages with where they came from
+abbrev pub all_from : Origin → List Message → List (Message × Origin)
+all_from origin messages = map (λ m. (m, origin)) messages
+
+-- what was delivered by these acts, with where it came from
+unfoldable pub delivered : {T : Type 0} → List (Act T) → List Origin → List (Message × Origin)
+delivered [] origins = []
+delivered (act ∷ acts) [] = []
+delivered (act ∷ acts) (origin ∷ origins) = all_from origin (given_to act.input) ++ delivered acts origins
+
+-- each message that comes from the process itself is one of these
+abbrev pub AreOwnAmong : List Message → Origin → List Message → Type 0
+AreOwnAmong told Own messages = (m : Message) → IsIn m messages → IsIn m told
+AreOwnAmong told (Peer peer) messages = ⊤
+
+-- Each act has its origin, and each message of its own that an act delivers is one of these, or was returned by an earlier act.
+unfoldable pub AreOwnHeard : {T : Type 0} → List Message → List (Act T) → List Origin → Type 0
+AreOwnHeard told [] [] = ⊤
+AreOwnHeard told [] (origin ∷ origins) = ⊥
+AreOwnHeard told (act ∷ acts) [] = ⊥
+AreOwnHeard told (act ∷ acts) (origin ∷ origins) = AreOwnAmong told origin (given_to act.input) × AreOwnHeard (told ++ act.said) acts origins
+
+module _ {T : Type 0} (tapes : Tape T) where
+  -- The node was opened from the tape that the log has, and from no other: from what was read of it, which is its content if it is honest.
+  pub record IsOpenedFrom (read_from : List (T × ℕ)) (node : Node T) : Type 0 where
+    pub tape : T
+    pub only : read_from ≡ (tape, 0) ∷ []
+    pub opened : IsOpened tapes node.n node.id tape node
+
+  -- A node that was opened from the tape that `read_from` has, as the node that `began` has, is this one by now, by the acts of a run of
+  -- `wf_career`. By them it was given exactly these messages, and returned exactly these, and of its own messages it was given only what
+  -- it had returned.
+  pub record IsLife (read_from : List (T × ℕ)) (began : List (Node T × ℕ)) (given : List (Message × Origin)) (told : List Message) (node : Node T) : Type 0 where
+    pub run : Run T
+    pub origins : List Origin
+    pub opened : IsOpenedFrom read_from run.first
+    pub number : node.id ≡ run.first.id
+    pub among : node.n ≡ run.first.n
+    pub done : AreDone tapes run.first run.acts
+    pub first : began ≡ (run.first, 0) ∷ []
+    pub now : last run ≡ node
+    pub says : said run.acts ≡ told
+    pub takes : delivered run.acts origins ≡ given
+    pub heard : AreOwnHeard [] run.acts origins

@@ -1,0 +1,165 @@
+ghost use Rattle.std.specs.Prelude.{◌≡◌, ◌∷◌, []};
+ghost use Rattle.wf_actor.specs.Life.{logged, IsLife};
+
+use crate::cached::CachedNode;
+use crate::note::{note, tell};
+use crate::origin::Origin;
+use http_server::Log;
+use std::alloc::Global;
+use wf_ballot::NodeId;
+use wf_codec::Message;
+use wf_edge::serve::Served;
+use wf_farm::a_step_is_answered;
+use wf_journal::OpenFault;
+use wf_node::{Input, Node, NodeFault};
+use wf_stream::{Sink, Source};
+use wf_tape::Tape;
+use wf_wms::cache::Cache;
+
+/// A node and its life since it was opened. A clause sees the node, and logs that only proofs read: the tape from which it was opened, as
+/// the tape was then; the node as it was opened; each message that it was given, with where that came from; and all messages that it
+/// returned.
+#[derive(Drop)]
+pub struct Actor<T: Tape> {
+    pub(crate) node: CachedNode<T>,
+    pub(crate) read_from: Log<T, usize>,
+    pub(crate) began: Log<Node<T>, usize>,
+    pub(crate) given: Log<Message, Origin>,
+    pub(crate) told: Log<Vec<Message>, usize>,
+    ghost lived: { ∥ IsLife T.Tape read_from.items began.items given.items (logged told.items) node ∥₁ },
+}
+
+impl<T: Tape> Actor<T> {
+    ghost use Rattle.std.specs.Prelude.{◌++◌, ◌<◌, ◌≤◌, ◌≢◌, ℕ, List, IfOk, IfErr};
+    ghost use Rattle.wf_actor.specs.Life.{all_from, AreOwnAmong, IsOpenedFrom};
+    ghost use Rattle.wf_actor.specs.Opening.{IsOpened};
+    ghost use Rattle.wf_def.specs.Definition.{Definition};
+    ghost use Rattle.wf_career.specs.Run.{given_to};
+    ghost use Rattle.wf_edge.specs.Asking.{IsAnswer};
+    ghost use Rattle.wf_edge.specs.Hearing.{CountsHearing};
+    ghost use Rattle.wf_edge.specs.Saying.{CountsSaying};
+    ghost use Rattle.wf_edge.specs.Serving.{IsEnding, IsOutcome, MovesOnce};
+    ghost use Rattle.wf_farm.specs.Leading.{said_by};
+    ghost use Rattle.wf_edge.specs.Request.{TakesRequest};
+    ghost use Rattle.wf_journal.specs.Journal.{Follows, ReadsSame, IsWhyFailed};
+    ghost use Rattle.wf_node.specs.Input.{view};
+    ghost use Rattle.wf_node.specs.Opening.{IsWhyBad};
+    ghost use Rattle.wf_tape.specs.Change.{Stays};
+    ghost use Rattle.wf_wms.specs.KeptPictures.{AllKept};
+
+    /// Node `id` of `n` as its tape has it, as [`Node::open`] opens it. Nothing was given to it yet.
+    pub(crate) fn open(
+        alloc: Global,
+        tape: T,
+        id: NodeId,
+        n: u8,
+        cache: Cache,
+    ) -> Result<Actor<T>, (T, OpenFault)>
+        requires nodes { n ≤ 64 }
+        requires member { id < n }
+        requires cache { (history : List Definition) → AllKept history cache }
+        ensures opened { IfOk result (λ actor. IsOpened T.Tape tape id n actor.node) }
+        ensures read_from { IfOk result (λ actor. actor.read_from.items ≡ (tape, 0) ∷ []) }
+        ensures began { IfOk result (λ actor. actor.began.items ≡ (actor.node, 0) ∷ []) }
+        ensures given { IfOk result (λ actor. actor.given.items ≡ []) }
+        ensures told { IfOk result (λ actor. logged actor.told.items ≡ []) }
+        ensures unchanged { T.honest →
+            IfErr result (λ e. e.1 ≢ OpenFault.TapeFailed → Stays T.Tape tape e.0) }
+        ensures bad { T.honest → IfErr result (λ e. IsWhyBad e.1 (T.content tape)) }
+        ensures failed { IfErr result (λ e. IsWhyFailed e.1 (T.failed tape) (T.failed e.0)) }
+        ensures images { T.honest →
+            IfErr result (λ e. Follows ReadsSame (T.images tape) (T.images e.0)) }
+    {
+        let read_from = Log::new().and(&tape, &0);
+        match Node::open(alloc, tape, id, n) {
+            Ok(node) => Ok(Actor::begin(node, read_from, cache)),
+            Err(refusal) => {
+                drop(cache);
+                Err(refusal)
+            }
+        }
+    }
+
+    /// The life of a node that was just opened, from the tape that the log has.
+    fn begin(node: Node<T>, read_from: Log<T, usize>, cache: Cache) -> Actor<T>
+        requires opened { IsOpenedFrom T.Tape read_from.items node }
+        requires cache { (history : List Definition) → AllKept history cache }
+        ensures node { result.node ≡ node }
+        ensures read_from { result.read_from.items ≡ read_from.items }
+        ensures began { result.began.items ≡ (node, 0) ∷ [] }
+        ensures given { result.given.items ≡ [] }
+        ensures told { logged result.told.items ≡ [] }
+    {
+        let began = Log::new().and(&node, &0);
+        let given = Log::new();
+        let told = Log::new();
+        let node = CachedNode::new(node, cache);
+        Actor {
+            node,
+            read_from,
+            began,
+            given,
+            told,
+        }
+    }
+
+    /// A step of the node, whose messages are returned. A message that the input delivers comes from that origin.
+    pub(crate) fn step(
+        &mut self,
+        alloc: Global,
+        input: Input,
+        origin: Origin,
+    ) -> Result<Vec<Message>, NodeFault>
+        requires { ∥ AreOwnAmong (logged self.old.told.items) origin (given_to input) ∥₁ }
+        ensures answer { IsAnswer T.Tape (view input) self.old.node result self.new.node }
+        ensures read_from { self.new.read_from.items ≡ self.old.read_from.items }
+        ensures began { self.new.began.items ≡ self.old.began.items }
+        ensures given { self.new.given.items ≡
+            self.old.given.items ++ all_from origin (given_to input) }
+        ensures told { logged self.new.told.items ≡
+            logged self.old.told.items ++ said_by result }
+    {
+        // The theorem: what a step promises is one of the things that a node does with an input.
+        a_step_is_answered::<T>();
+        note(&mut self.given, &input, origin);
+        let answer = self.node.step(alloc, input);
+        tell(&mut self.told, &answer);
+        answer
+    }
+
+    /// Serves one request by the node, as [`wf_edge::serve::serve_one_cached`] does. A publish may be a step of the node; its messages are returned.
+    pub(crate) fn serve<S: Source, K: Sink>(
+        &mut self,
+        alloc: Global,
+        source: &mut S,
+        sink: &mut K,
+    ) -> Served
+        ensures outcome { IsOutcome T.Tape (S.left source.old) (K.written sink.old)
+            (K.written sink.new) self.old.node result.messages self.new.node result.outcome }
+        ensures moves { MovesOnce T.Tape self.old.node result.messages self.new.node }
+        ensures takes { TakesRequest
+            (S.piece source.old) (S.left source.old) (S.left source.new) }
+        ensures reads { CountsHearing result.outcome (S.failures source.old) (S.failures source.new) }
+        ensures writes { CountsSaying result.outcome (K.failures sink.old) (K.failures sink.new) }
+        ensures last { IsEnding T.Tape K.Sink (S.left source.old) sink.old sink.new
+            self.old.node result.messages self.new.node result.outcome }
+        ensures read_from { self.new.read_from.items ≡ self.old.read_from.items }
+        ensures began { self.new.began.items ≡ self.old.began.items }
+        ensures given { self.new.given.items ≡ self.old.given.items }
+        ensures told { logged self.new.told.items ≡
+            logged self.old.told.items ++ result.messages.items }
+    {
+        a_step_is_answered::<T>();
+        let served = self.node.serve(alloc, source, sink);
+        self.told = self.told.and(&served.messages, &0);
+        served
+    }
+
+    /// Its life, always. The call does nothing.
+    pub fn always_lived(&self)
+        ensures { ∥ IsLife T.Tape self.now.read_from.items self.now.began.items
+            self.now.given.items (logged self.now.told.items) self.now.node ∥₁ }
+    {
+        let _ = &self.began;
+    }
+}

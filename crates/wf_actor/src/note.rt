@@ -1,0 +1,31 @@
+//! What logs note of a step.
+
+ghost use Rattle.std.specs.Prelude.{◌≡◌, ◌++◌};
+ghost use Rattle.wf_actor.specs.Life.{all_from, logged};
+ghost use Rattle.wf_career.specs.Run.{given_to};
+ghost use Rattle.wf_farm.specs.Leading.{said_by};
+
+use crate::origin::Origin;
+use http_server::Log;
+use wf_codec::Message;
+use wf_node::{Input, NodeFault};
+
+/// Notes the message that the input delivers, if it does, with where it comes from.
+pub(crate) fn note(given: &mut Log<Message, Origin>, input: &Input, origin: Origin)
+    ensures { given.new.items ≡ given.old.items ++ all_from origin (given_to input.now) }
+{
+    match input {
+        Input::Deliver(message) => *given = given.and(message, &origin),
+        Input::Propose(_) | Input::Retry | Input::CatchUp => {}
+    }
+}
+
+/// Notes the messages of a step.
+pub(crate) fn tell(told: &mut Log<Vec<Message>, usize>, answer: &Result<Vec<Message>, NodeFault>)
+    ensures { logged told.new.items ≡ logged told.old.items ++ said_by answer.now }
+{
+    match answer {
+        Ok(messages) => *told = told.and(messages, &0),
+        Err(_) => {}
+    }
+}

@@ -1,0 +1,325 @@
+ghost use Rattle.std.specs.Prelude.{◌≡◌, ◌<◌, ◌≤◌, length};
+ghost use Rattle.wf_actor.specs.Life.{logged};
+ghost use Rattle.wf_farm.specs.Giving.{tells_halt};
+ghost use Rattle.wf_actor.specs.Sent.{AreArrivedCome, AreGivenCome, AreSent};
+
+use crate::actor::Actor;
+use crate::backlog::Backlog;
+use crate::link::Link;
+use crate::origin::Origin;
+use crate::parts::{Parts, make_room, send};
+use crate::target::{Target, reply_target};
+use http_server::Log;
+use std::alloc::Global;
+use wf_ballot::{NodeId, Seq};
+use wf_canon::Canon;
+use wf_codec::Message;
+use wf_journal::OpenFault;
+use wf_learner::History;
+use wf_node::{Input, Node, NodeFault};
+use wf_proposer::Standing;
+use wf_tape::Tape;
+
+/// One node of a farm in a process of its own. A clause sees its actor, its own messages that wait for it, the ends of its
+/// connections by node, and logs that only proofs read: what the receivers returned, with the peer; and the runs that have ended.
+#[derive(Drop)]
+pub struct Process<T: Tape> {
+    pub(crate) actor: Actor<T>,
+    pub(crate) n: u8,
+    pub(crate) backlog: Backlog,
+    pub(crate) links: Vec<Link>,
+    pub(crate) pictures: usize,
+    pub(crate) came: Log<Vec<Message>, NodeId>,
+    pub(crate) ended: Log<Actor<T>, usize>,
+    ghost most: { n ≤ 64 },
+    ghost some_pictures: { 1 ≤ pictures },
+    ghost most_pictures: { pictures ≤ 64 },
+    ghost among: { actor.node.n ≡ n },
+    ghost member: { actor.node.id < n },
+    ghost linked: { length links.items ≡ n },
+    ghost sent: { ∥ AreSent backlog.messages.items links.items (logged actor.told.items) ∥₁ },
+    ghost heard: { ∥ AreGivenCome came.items actor.given.items ∥₁ },
+    ghost arrived: { ∥ AreArrivedCome came.items links.items ∥₁ },
+}
+
+impl<T: Tape> Process<T> {
+    ghost use Rattle.std.specs.Prelude.{◌≢◌, ◌++◌, ◌∷◌, [], List, None, IfErr, IfOk, IfSome, OnErr, OnOk};
+    ghost use Rattle.wf_actor.specs.Opening.{IsOpened};
+    ghost use Rattle.wf_actor.specs.Process.{waiting_in, HearsOwn, IsActed, IsBegun, IsHeard, IsOwnPopped};
+    ghost use Rattle.wf_actor.specs.Life.{AreOwnAmong, IsLife};
+    ghost use Rattle.wf_actor.specs.Sent.{AreCome};
+    ghost use Rattle.wf_actor.specs.declared.target.Target.TheVariants as target;
+    ghost use Rattle.wf_actor.specs.Link.{AreUnlinked};
+    ghost use Rattle.wf_actor.specs.declared.origin.Origin.TheVariants as origin;
+    ghost use Rattle.wf_career.specs.Run.{given_to};
+    ghost use Rattle.wf_codec.specs.declared.message.Message.TheVariants as message;
+    ghost use Rattle.wf_journal.specs.Journal.{Follows, ReadsSame, IsWhyFailed};
+    ghost use Rattle.wf_model.specs.Chosen.{IsIn};
+    ghost use Rattle.wf_model.specs.declared.action.Action.TheVariants as action;
+    ghost use Rattle.wf_node.specs.Opening.{IsWhyBad};
+    ghost use Rattle.wf_node.specs.Node.{working_of};
+    ghost use Rattle.wf_proposer.specs.Standing.{standing_of};
+    ghost use Rattle.wf_tape.specs.Change.{Stays};
+
+    /// Node `id` of `n` on its tape, with a cache for `pictures` pictures. No message waits, and there are no connections. An error
+    /// returns the tape: those of [`Node::open`], and P3 also if there is no memory for the process, before the tape is read.
+    pub fn open(
+        alloc: Global,
+        tape: T,
+        id: NodeId,
+        n: u8,
+        pictures: usize,
+    ) -> Result<Process<T>, (T, OpenFault)>
+        requires nodes { n ≤ 64 }
+        requires member { id < n }
+        requires least { 1 ≤ pictures }
+        requires most { pictures ≤ 64 }
+        ensures opened { IfOk result (λ process. IsOpened T.Tape tape id n process.actor.node) }
+        ensures read_from { IfOk result (λ process.
+            process.actor.read_from.items ≡ (tape, 0) ∷ []) }
+        ensures begun { IfOk result (λ process. IsBegun process) }
+        ensures n { IfOk result (λ process. process.n ≡ n) }
+        ensures ended { IfOk result (λ process. process.ended.items ≡ []) }
+        ensures unchanged { T.honest →
+            IfErr result (λ e. e.1 ≢ OpenFault.TapeFailed → Stays T.Tape tape e.0) }
+        ensures bad { T.honest → IfErr result (λ e. IsWhyBad e.1 (T.content tape)) }
+        ensures failed { IfErr result (λ e. IsWhyFailed e.1 (T.failed tape) (T.failed e.0)) }
+        ensures images { T.honest →
+            IfErr result (λ e. Follows ReadsSame (T.images tape) (T.images e.0)) }
+    {
+        let Ok((parts, cache)) = make_room(alloc, n, pictures) else {
+            return Err((tape, OpenFault::Memory));
+        };
+        match Actor::open(alloc, tape, id, n, cache) {
+            Ok(actor) => Ok(Process::assemble(actor, n, pictures, parts)),
+            Err(refusal) => {
+                drop(parts);
+                Err(refusal)
+            }
+        }
+    }
+
+    /// A new process of this actor: nothing waits, and there are no connections.
+    fn assemble(actor: Actor<T>, n: u8, pictures: usize, parts: Parts) -> Process<T>
+        requires most { n ≤ 64 }
+        requires some_pictures { 1 ≤ pictures }
+        requires most_pictures { pictures ≤ 64 }
+        requires among { actor.node.n ≡ n }
+        requires member { actor.node.id < n }
+        requires links { AreUnlinked n parts.links.items }
+        requires backlog { parts.backlog.messages.items ≡ [] }
+        requires began { actor.began.items ≡ (actor.node, 0) ∷ [] }
+        requires given { actor.given.items ≡ [] }
+        requires told { logged actor.told.items ≡ [] }
+        ensures actor { result.actor ≡ actor }
+        ensures n { result.n ≡ n }
+        ensures begun { IsBegun result }
+        ensures ended { result.ended.items ≡ [] }
+    {
+        let Parts { backlog, links } = parts;
+        Process {
+            actor,
+            n,
+            backlog,
+            links,
+            pictures,
+            came: Log::new(),
+            ended: Log::new(),
+        }
+    }
+
+    /// The node. It can only be read.
+    pub fn node(&self) -> &Node<T>
+        ensures { result.now ≡ self.now.actor.node }
+    {
+        self.actor.node.get()
+    }
+
+    /// The number of nodes of the farm.
+    pub fn n(&self) -> u8
+        ensures value { result ≡ self.now.n }
+        ensures most { result ≤ 64 }
+    {
+        self.n
+    }
+
+    /// Whether the tape failed: then each act returns N5 and sends nothing, and what reads is answered by what was published before.
+    #[tactic(auto, using(crate::proofs::Halting::halt_told))]
+    pub fn is_halted(&self) -> bool
+        ensures { result ≡ self.now.actor.node.halted }
+    {
+        is_halt(self.node().retry_refusal())
+    }
+
+    /// How many of its own messages wait for the node.
+    pub fn waiting(&self) -> usize
+        ensures { result ≡ length (waiting_in self.now) }
+    {
+        self.backlog.len()
+    }
+
+    /// Proposes a definition for the next sequence. Its messages go to every node, the process's own too. Err: N2 to N4 if the step table
+    /// rejects the proposal, N5 if the node is halted, and then nothing has changed; N1 if an allocation failed, N6 if the tape did.
+    pub fn propose(&mut self, alloc: Global, canon: Canon) -> Result<(), NodeFault>
+        ensures { IsActed T.Tape (action.Propose canon) origin.Own target.Everyone
+            self.old result self.new }
+    {
+        self.act(alloc, Input::Propose(canon), Origin::Own, Target::Everyone)
+    }
+
+    /// Begins the running proposal anew, in a new round if it needs one. Its messages go to every node. Err: N7 if no proposal runs,
+    /// otherwise as of [`Process::propose`].
+    pub fn retry(&mut self, alloc: Global) -> Result<(), NodeFault>
+        ensures { IsActed T.Tape action.Retry origin.Own target.Everyone
+            self.old result self.new }
+    {
+        self.act(alloc, Input::Retry, Origin::Own, Target::Everyone)
+    }
+
+    /// Asks a peer, and no other node, for what is published from the next sequence on. Err: N1, N5 or N6.
+    pub fn catch_up(&mut self, alloc: Global, peer: NodeId) -> Result<(), NodeFault>
+        ensures { IsActed T.Tape action.CatchUp origin.Own (target.Only peer)
+            self.old result self.new }
+    {
+        self.act(alloc, Input::CatchUp, Origin::Own, Target::Only(peer))
+    }
+
+    /// Delivers the first of its own messages that wait to the node. The answer goes to whom it is for. None: no message waits. Err: N1,
+    /// and the message is lost, as if the network had lost it; N5 or N6.
+    pub fn hear_own(&mut self, alloc: Global) -> Option<Result<(), NodeFault>>
+        ensures { HearsOwn T.Tape self.old result self.new }
+    {
+        if self.waiting() == 0 {
+            return None;
+        }
+        match self.pop_own() {
+            Some(message) => {
+                let own = self.node().id();
+                Some(self.give(alloc, message, Origin::Own, own))
+            }
+            None => None,
+        }
+    }
+
+    /// Takes out the first of its own messages that wait.
+    fn pop_own(&mut self) -> Option<Message>
+        ensures some { IfSome result (λ m. IsOwnPopped m self.old self.new) }
+        ensures told { IfSome result (λ m. ∥ IsIn m (logged self.new.actor.told.items) ∥₁) }
+        ensures none { result ≡ None → waiting_in self.old ≡ [] }
+    {
+        match self.backlog.pop() {
+            Some(message) => Some(message),
+            None => None,
+        }
+    }
+
+    /// Delivers a message to the node, which comes from that node. The answer goes to whom it is for.
+    pub(crate) fn give(
+        &mut self,
+        alloc: Global,
+        message: Message,
+        origin: Origin,
+        from: NodeId,
+    ) -> Result<(), NodeFault>
+        requires own { ∥ AreOwnAmong (logged self.old.actor.told.items) origin (message ∷ []) ∥₁ }
+        requires come { ∥ AreCome self.old.came.items origin (message ∷ []) ∥₁ }
+        ensures { IsHeard T.Tape message origin from self.old result self.new }
+    {
+        let target = reply_target(&message, from);
+        self.act(alloc, Input::Deliver(message), origin, target)
+    }
+
+    /// Gives the node an input, which comes from there, and its messages to whom they are for.
+    fn act(
+        &mut self,
+        alloc: Global,
+        input: Input,
+        origin: Origin,
+        target: Target,
+    ) -> Result<(), NodeFault>
+        requires own { ∥ AreOwnAmong (logged self.old.actor.told.items) origin (given_to input) ∥₁ }
+        requires come { ∥ AreCome self.old.came.items origin (given_to input) ∥₁ }
+        ensures { IsActed T.Tape input origin target self.old result self.new }
+    {
+        let own = self.node().id();
+        match self.actor.step(alloc, input, origin) {
+            Ok(messages) => {
+                send(&mut self.backlog, &mut self.links, own, messages, target);
+                Ok(())
+            }
+            Err(fault) => Err(fault),
+        }
+    }
+
+    /// The life of the node in this run, always: some run of `wf_career`, from what was read of the tape on which it was opened, of which
+    /// its logs tell. The call does nothing.
+    pub fn always_lived(&self)
+        ensures { ∥ IsLife T.Tape self.now.actor.read_from.items self.now.actor.began.items
+            self.now.actor.given.items (logged self.now.actor.told.items) self.now.actor.node ∥₁ }
+    {
+        self.actor.always_lived();
+    }
+
+    /// Always: what was put into any outbox, and what waits for the node itself, the node returned in this run; and what was given to it
+    /// from a peer, a receiver of that peer returned. The call does nothing.
+    pub fn always_heard(&self)
+        ensures sent { ∥ AreSent (waiting_in self.now) self.now.links.items
+            (logged self.now.actor.told.items) ∥₁ }
+        ensures heard { ∥ AreGivenCome self.now.came.items self.now.actor.given.items ∥₁ }
+    {
+        let _ = &self.came;
+    }
+}
+
+impl<T: Tape + Drop> Process<T> {
+    ghost use Rattle.std.specs.Prelude.{◌≢◌, ◌++◌, ◌∷◌, [], IfErr, OnErr, OnOk};
+    ghost use Rattle.wf_actor.specs.Opening.{IsOpened};
+    ghost use Rattle.wf_actor.specs.Process.{IsBegun};
+    ghost use Rattle.wf_journal.specs.Journal.{IsWhyFailed};
+    ghost use Rattle.wf_node.specs.Opening.{IsWhyBad};
+    ghost use Rattle.wf_tape.specs.Change.{Stays};
+
+    /// The next run of the process, on a tape from which its node is opened; the old node is dropped with its tape. Nothing waits, and
+    /// there are no connections. Err: nothing has changed, and the tape is returned as [`Process::open`] returns it.
+    pub fn reopen(&mut self, alloc: Global, tape: T) -> Result<(), (T, OpenFault)>
+        ensures opened { OnOk result
+            (IsOpened T.Tape tape self.old.actor.node.id self.old.n self.new.actor.node) }
+        ensures read_from { OnOk result (self.new.actor.read_from.items ≡ (tape, 0) ∷ []) }
+        ensures begun { OnOk result (IsBegun self.new) }
+        ensures n { self.new.n ≡ self.old.n }
+        ensures ended { OnOk result
+            (self.new.ended.items ≡ self.old.ended.items ++ (self.old.actor, 0) ∷ []) }
+        ensures same { OnErr result (self.new ≡ self.old) }
+        ensures unchanged { T.honest →
+            IfErr result (λ e. e.1 ≢ OpenFault.TapeFailed → Stays T.Tape tape e.0) }
+        ensures bad { T.honest → IfErr result (λ e. IsWhyBad e.1 (T.content tape)) }
+        ensures failed { IfErr result (λ e. IsWhyFailed e.1 (T.failed tape) (T.failed e.0)) }
+    {
+        match Process::open(alloc, tape, self.node().id(), self.n, self.pictures) {
+            Ok(mut next) => {
+                next.ended = self.ended.and(&self.actor, &0);
+                *self = next;
+                Ok(())
+            }
+            Err(refusal) => Err(refusal),
+        }
+    }
+}
+
+/// Whether that is the error of a halted node.
+fn is_halt(refusal: Option<NodeFault>) -> bool
+    ensures { result ≡ tells_halt refusal }
+{
+    match refusal {
+        Some(NodeFault::Halted) => true,
+        Some(
+            NodeFault::Memory
+            | NodeFault::Busy
+            | NodeFault::SequenceFull
+            | NodeFault::RoundsFull
+            | NodeFault::TapeFailed
+            | NodeFault::Nothing,
+        )
+        | None => false,
+    }
+}

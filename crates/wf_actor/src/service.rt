@@ -1,0 +1,46 @@
+//! Clients of a process.
+
+use crate::parts::send;
+use crate::process::Process;
+use crate::target::Target;
+use std::alloc::Global;
+use wf_edge::outcome::Outcome;
+use wf_edge::serve::Served;
+use wf_stream::{Sink, Source};
+use wf_tape::Tape;
+
+impl<T: Tape> Process<T> {
+    ghost use Rattle.wf_actor.specs.Process.{IsServedBy};
+    ghost use Rattle.wf_edge.specs.Hearing.{CountsHearing};
+    ghost use Rattle.wf_edge.specs.Saying.{CountsSaying};
+    ghost use Rattle.wf_edge.specs.Request.{TakesRequest};
+
+    /// Serves one request, as [`wf_edge::serve::serve_one_cached`] does: what reads is answered by the node's history and the pictures
+    /// that are kept; POST /publish is an act if its checks pass, and its messages go to every node, whether or not the response is
+    /// written. Where the reader fails before the request is complete, nothing is written and nothing has changed.
+    pub fn serve<S: Source, K: Sink>(
+        &mut self,
+        alloc: Global,
+        source: &mut S,
+        sink: &mut K,
+    ) -> Outcome
+        ensures served { IsServedBy T.Tape S.Source K.Sink
+            source.old source.new sink.old sink.new self.old result self.new }
+        ensures takes { TakesRequest
+            (S.piece source.old) (S.left source.old) (S.left source.new) }
+        ensures reads { CountsHearing result (S.failures source.old) (S.failures source.new) }
+        ensures writes { CountsSaying result (K.failures sink.old) (K.failures sink.new) }
+    {
+        let own = self.node().id();
+        let served = self.actor.serve(alloc, source, sink);
+        let Served { outcome, messages } = served;
+        send(
+            &mut self.backlog,
+            &mut self.links,
+            own,
+            messages,
+            Target::Everyone,
+        );
+        outcome
+    }
+}

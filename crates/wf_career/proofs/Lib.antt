@@ -1,0 +1,11 @@
+mod Lists
+mod Lives
+mod Careers
+mod Farms
+mod Answering
+mod Replicas
+mod Going
+mod Leaving
+mod Opening
+mod Acting
+mod Started

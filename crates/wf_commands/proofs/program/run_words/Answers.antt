@@ -1,0 +1,19 @@
+-- The run of the line that the words ask for.
+use Rattle.wf_commands.proofs.Ended.{listed_line, served_line}
+use Rattle.wf_commands.proofs.program.run_words.Goals as goal
+
+pub returns-in-Serve-clause-run : goal.returns-in-Serve-clause-run
+returns-in-Serve-clause-run g c = (
+  c.in-Ok.line,
+  c.in-Ok.ensures.asked,
+  served_line _ _ _ _ _ _ _ _ _ c.in-Ok.line c.in-Serve.service c.in-Serve.is c.serve.result c.served.result c.served.ensures
+      c.serve.ensures.served c.serve.ensures.writes c.end.ensures.told c.end.ensures.status,
+)
+
+pub returns-in-Tape-clause-run : goal.returns-in-Tape-clause-run
+returns-in-Tape-clause-run g c = (
+  c.in-Ok.line,
+  c.in-Ok.ensures.asked,
+  listed_line _ _ _ _ _ _ _ _ _ c.in-Ok.line c.in-Tape.file c.in-Tape.map c.in-Tape.is c.run_tape.result
+      c.run_tape.ensures.done c.run_tape.ensures.writes c.end-in-Tape.ensures.told c.end-in-Tape.ensures.status,
+)

@@ -1,0 +1,98 @@
+-- What was heard never falls.
+use Rattle.std.proofs.Common.{◌≡◌, ◌≢◌, ◌∙◌, ℕ, ◌<◌, ◌-◌, ◌⊎◌, Bool, true, false, List, length, inl, inr, refl, sym, ap, subst, arith, get_or-set_other, get_or-set_same}
+use Rattle.std.specs.Prelude.{Option, Some, None, slice_set, cond}
+use Rattle.std.proofs.lemmas.Bool.{cases_lt}
+use Rattle.std.proofs.lemmas.List.{get_or_past}
+use Rattle.wf_ballot.specs.Ballot.{Ballot, below}
+use Rattle.wf_ballot.specs.OrderLaws.{below-asymmetric, below-irreflexive}
+use Rattle.wf_model.specs.Message.{Message, Prepare, Promise, Accept, Accepted, Nack, Chosen, Ask}
+use Rattle.wf_model.specs.Stored.{raised}
+use Rattle.wf_peer.specs.Progress.{HasKept, IsNoLess, IsNoLower, both_promised, together}
+use Rattle.wf_peer.specs.Sender.{NeverFalls, heard_of, promised, published_to, told_by, tried}
+use Rattle.wf_peer.specs.declared.progress.Progress.{Progress}
+
+pub no_lower_self : (promise : Option Ballot) → IsNoLower promise promise
+no_lower_self None = tt
+no_lower_self (Some b) = below-irreflexive b
+
+no_lower_by : (p b : Ballot) (t : Bool) → below p b ≡ t → IsNoLower (Some p) (cond t (Some b) (Some p))
+no_lower_by p b true above = below-asymmetric p b above
+no_lower_by p b false above = below-irreflexive p
+
+pub no_lower_raised : (promise : Option Ballot) (b : Ballot) → IsNoLower promise (raised promise b)
+unfolding raised
+no_lower_raised None b = tt
+no_lower_raised (Some p) b = no_lower_by p b (below p b) refl
+
+pub no_less_self : (p : Progress) → IsNoLess p p
+no_less_self p = record { mark = refl; starts = omega arith; life = λ same. refl; round = omega arith; promise = no_lower_self p.promise; published = omega arith }
+
+by_tried : (p : Progress) (r : ℕ) → IsNoLess p (tried p r)
+by_tried p r = record { mark = refl; starts = omega arith; life = λ same. refl; round = omega arith; promise = no_lower_self p.promise; published = omega arith }
+
+by_promised : (p : Progress) (b : Ballot) → IsNoLess p (promised p b)
+by_promised p b = record { mark = refl; starts = omega arith; life = λ same. refl; round = omega arith; promise = no_lower_raised p.promise b; published = omega arith }
+
+by_published : (p : Progress) (s : ℕ) → IsNoLess p (published_to p s)
+by_published p s = record { mark = refl; starts = omega arith; life = λ same. refl; round = omega arith; promise = no_lower_self p.promise; published = omega arith }
+
+by_told : {V : Type 0} (p : Progress) (m : Message V) → IsNoLess p (told_by p m)
+by_told p (Prepare s b) = by_tried p b.round
+by_told p (Promise sender s b votes) = by_promised p b
+by_told p (Accept s b d) = by_tried p b.round
+by_told p (Accepted sender s b) = by_promised p b
+by_told p (Nack sender s b promise) = by_promised p promise
+by_told p (Chosen s d) = by_published p s
+by_told p (Ask s) = by_published p (s - 1)
+
+-- ---- together they are no less than what was heard
+
+no_lower_both : (heard said : Option Ballot) → IsNoLower heard (both_promised heard said)
+no_lower_both heard None = no_lower_self heard
+no_lower_both heard (Some b) = no_lower_raised heard b
+
+by_together : (heard said : Progress) → HasKept (Some heard) said → IsNoLess heard (together (Some heard) said)
+by_together heard said kept = elim kept [
+  | inl same ↦ record { mark = same.mark; starts = omega (arith, same.starts); life = λ e. same.life; round = omega arith; promise = no_lower_both heard.promise said.promise; published = omega arith }
+  | inr more ↦ record { mark = more.mark; starts = more.starts; life = more.life; round = omega arith; promise = no_lower_both heard.promise said.promise; published = omega arith }
+]
+
+pub nothing_falls : (heard : List (Option Progress)) → NeverFalls heard heard
+nothing_falls heard = λ i p at. (p, at, no_less_self p)
+
+-- ---- one is set
+
+equal_or_not : (i k : ℕ) → (i ≡ k) ⊎ (i ≢ k)
+equal_or_not i k = elim (cases_lt i k) [
+  | inl less ↦ inr (λ (e : i ≡ k). omega (arith, less, e))
+  | inr no_less ↦ elim (cases_lt k i) [ inl more ↦ inr (λ (e : i ≡ k). omega (arith, more, e)) | inr no_more ↦ inl (omega arith) ]
+]
+
+within : (heard : List (Option Progress)) (i : ℕ) (p : Progress) → heard_of heard i ≡ Some p → i < length heard
+within heard i p at = elim (cases_lt i (length heard)) [
+  | inl less ↦ less
+  | inr past ↦ let none : heard_of heard i ≡ None = get_or_past heard i None past in absurd cc
+]
+
+-- what is set is no less than what was heard
+falls_by : (old new : List (Option Progress)) (node : ℕ) (q : Progress) → ((p : Progress) → heard_of old node ≡ Some p → IsNoLess p q) → new ≡ slice_set old node (Some q) → NeverFalls old new
+falls_by old new node q no_less is = λ i p at. elim (equal_or_not i node) [
+  | inl same ↦
+      let there : heard_of old node ≡ Some p = ap (heard_of old) (sym same) ∙ at in
+      let lt : node < length old = within old node p there in
+      let now : heard_of new i ≡ Some q = ap (heard_of new) same ∙ ap (λ (l : List (Option Progress)). heard_of l node) is ∙ get_or-set_same old node (Some q) None lt in
+      (q, now, no_less p there)
+  | inr other ↦
+      let now : heard_of new i ≡ Some p = ap (λ (l : List (Option Progress)). heard_of l i) is ∙ get_or-set_other old node i (Some q) None other ∙ at in
+      (p, now, no_less_self p)
+]
+
+pub falls_by_greeting : (old new : List (Option Progress)) (node : ℕ) (said : Progress) → HasKept (heard_of old node) said →
+    new ≡ slice_set old node (Some (together (heard_of old node) said)) → NeverFalls old new
+falls_by_greeting old new node said kept is =
+    falls_by old new node (together (heard_of old node) said) (λ p at. subst (λ (h : Option Progress). IsNoLess p (together h said)) (sym at) (by_together p said (subst (λ (h : Option Progress). HasKept h said) at kept))) is
+
+pub falls_by_message : {V : Type 0} (old new : List (Option Progress)) (node : ℕ) (p : Progress) (m : Message V) → heard_of old node ≡ Some p →
+    new ≡ slice_set old node (Some (told_by p m)) → NeverFalls old new
+falls_by_message old new node p m there is =
+    falls_by old new node (told_by p m) (λ h at. let same : h ≡ p = cc in subst (λ (x : Progress). IsNoLess x (told_by p m)) (sym same) (by_told p m)) is

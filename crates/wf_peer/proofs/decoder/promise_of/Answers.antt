@@ -1,0 +1,10 @@
+-- No ballot's bytes are all zeros.
+use Rattle.std.proofs.Common.{◌≡◌, ◌∙◌, [], ◌∷◌, sym, arith}
+use Rattle.std.proofs.lemmas.Grind.{common_steps}
+use Rattle.wf_peer.proofs.Decoded.{only_none}
+use Rattle.wf_peer.proofs.decoder.promise_of.Goals as goal
+
+pub returns-in-0-clause-each : goal.returns-in-0-clause-each
+returns-in-0-clause-each c = λ p is e.
+    let zeros : c.args.bytes.now ≡ 0 ∷ 0 ∷ 0 ∷ 0 ∷ 0 ∷ [] = grind (arith, common_steps) in
+    only_none p is (sym zeros ∙ e)

@@ -1,0 +1,51 @@
+-- Who may send a message, and what it tells of its sender's progress.
+use Rattle.std.specs.Prelude.{◌≡◌, ℕ, ◌-◌, max, List, slice_index_or, slice_set, Option, Some, None}
+use Rattle.wf_ballot.specs.Ballot.{Ballot}
+use Rattle.wf_model.specs.Message.{Message, Prepare, Promise, Accept, Accepted, Nack, Chosen, Ask}
+use Rattle.wf_model.specs.Stored.{raised}
+use Rattle.wf_peer.specs.declared.progress.Progress.{Progress}
+use Rattle.wf_peer.specs.Progress.{IsNoLess}
+
+-- an answer names its sender, and a request's ballot is its sender's; a Chosen or an Ask may be any node's
+abbrev pub IsFrom : {V : Type 0} → ℕ → Message V → Type 0
+IsFrom node (Prepare s b) = b.node ≡ node
+IsFrom node (Promise sender s b votes) = sender ≡ node
+IsFrom node (Accept s b d) = b.node ≡ node
+IsFrom node (Accepted sender s b) = sender ≡ node
+IsFrom node (Nack sender s b promise) = sender ≡ node
+IsFrom node (Chosen s d) = Unit {0}
+IsFrom node (Ask s) = Unit {0}
+
+-- ---- what a message tells of its sender: it tried the round of its ballot; it made the promise of its answer; it published what it
+-- says is chosen, and what comes before the sequence that it asks for
+abbrev pub tried : Progress → ℕ → Progress
+tried p round = record p { round = max p.round round }
+
+abbrev pub promised : Progress → Ballot → Progress
+promised p b = record p { promise = raised p.promise b }
+
+abbrev pub published_to : Progress → ℕ → Progress
+published_to p s = record p { published = max p.published s }
+
+abbrev pub told_by : {V : Type 0} → Progress → Message V → Progress
+told_by p (Prepare s b) = tried p b.round
+told_by p (Promise sender s b votes) = promised p b
+told_by p (Accept s b d) = tried p b.round
+told_by p (Accepted sender s b) = promised p b
+told_by p (Nack sender s b promise) = promised p promise
+told_by p (Chosen s d) = published_to p s
+told_by p (Ask s) = published_to p (s - 1)
+
+-- ---- what was heard of each node of a farm, that of node i at index i
+
+abbrev pub heard_of : List (Option Progress) → ℕ → Option Progress
+heard_of heard i = slice_index_or heard i None
+
+-- after a node's message: where it greeted, what that tells
+abbrev pub with_told : {V : Type 0} → List (Option Progress) → ℕ → Option Progress → Message V → List (Option Progress)
+with_told heard i None m = heard
+with_told heard i (Some p) m = slice_set heard i (Some (told_by p m))
+
+-- nothing that was heard falls
+abbrev pub NeverFalls : (old new : List (Option Progress)) → Type 0
+NeverFalls old new = (i : ℕ) (p : Progress) → heard_of old i ≡ Some p → (q : Progress) × (heard_of new i ≡ Some q) × IsNoLess p q

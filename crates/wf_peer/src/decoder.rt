@@ -1,0 +1,167 @@
+//! Greetings out of bytes.
+ghost use Rattle.std.specs.Prelude.{◌≡◌, ◌≢◌, ◌<◌, ◌^◌, ◌++◌, ℕ, List, Option, Some, Ok, length, IfErr, IfOk, IfNone, IfSome, IsErrOf};
+ghost use Rattle.std.specs.Int.{w16, w32, to_be_bytes};
+ghost use Rattle.wf_ballot.specs.Ballot.{Ballot as BallotValue};
+ghost use Rattle.wf_peer.specs.Greeting.{IsGreeting, IsProgress, IsPromise, body_bytes, greeting_bytes, greeting_length, progress_bytes, promise_bytes, peer_version};
+ghost use Rattle.wf_peer.specs.declared.greeting.Greeting.{Greeting as GreetingValue};
+ghost use Rattle.wf_peer.specs.declared.progress.Progress.{Progress as ProgressValue};
+
+use crate::encoder::GREETING_MARK;
+use crate::fault::GreetingFault;
+use crate::greeting::Greeting;
+use crate::progress::Progress;
+use wf_ballot::{Ballot, NodeId, Seq};
+use wf_folder::{FarmName, after};
+
+/// The bytes of the version, those of `PEER_VERSION`.
+const VERSION_BYTES: &[u8] = &[0, 1];
+
+/// The number of bytes of a greeting after its version.
+const BODY: usize = 113;
+
+/// The number of bytes of a node's progress.
+const PROGRESS: usize = 47;
+
+/// The greeting that bytes begin with. `Short`: they may go on as one, and more are needed. Any other error stays, whatever follows.
+#[tactic(auto, unfolding(crate::specs::Greeting::greeting_bytes))]
+pub fn decode(bytes: &[u8]) -> Result<Greeting, GreetingFault>
+    ensures greeting { IfOk result IsGreeting }
+    ensures front { IfOk result (λ g. (rest : List ℕ) × (bytes.now ≡ greeting_bytes g ++ rest)) }
+    ensures each { (g : GreetingValue) (rest : List ℕ) → IsGreeting g → bytes.now ≡ greeting_bytes g ++ rest → result ≡ Ok g }
+    ensures short { IsErrOf result GreetingFault.Short → length bytes.now < greeting_length }
+{
+    match after(bytes, GREETING_MARK) {
+        Some(rest) => decode_body(after_version(rest)?),
+        None => Err(fault_of_mark(bytes)),
+    }
+}
+
+/// The error of bytes that don't begin as a greeting does.
+pub(crate) fn fault_of_mark(bytes: &[u8]) -> GreetingFault
+    ensures { result ≡ GreetingFault.Short → length bytes.now < 8 }
+{
+    if bytes.len() < GREETING_MARK.len() {
+        GreetingFault::Short
+    } else {
+        GreetingFault::NotANode
+    }
+}
+
+/// What follows this version.
+pub(crate) fn after_version(bytes: &[u8]) -> Result<&[u8], GreetingFault>
+    ensures ok { IfOk result (λ rest. bytes.now ≡ to_be_bytes w16 peer_version ++ rest.now) }
+    ensures err { IfErr result (λ _. (rest : List ℕ) → bytes.now ≢ to_be_bytes w16 peer_version ++ rest) }
+    ensures short { IsErrOf result GreetingFault.Short → length bytes.now < 2 }
+{
+    match after(bytes, VERSION_BYTES) {
+        Some(rest) => Ok(rest),
+        None => Err(fault_of_version(bytes)),
+    }
+}
+
+/// The error of bytes that don't begin with this version.
+fn fault_of_version(bytes: &[u8]) -> GreetingFault
+    ensures { result ≡ GreetingFault.Short → length bytes.now < 2 }
+{
+    match bytes {
+        [high, low, ..] => GreetingFault::OtherVersion(u16::from_be_bytes([*high, *low])),
+        _ => GreetingFault::Short,
+    }
+}
+
+/// The greeting with whose bytes after its version bytes begin.
+fn decode_body(bytes: &[u8]) -> Result<Greeting, GreetingFault>
+    ensures greeting { IfOk result IsGreeting }
+    ensures front { IfOk result (λ g. (rest : List ℕ) × (bytes.now ≡ body_bytes g ++ rest)) }
+    ensures each { (g : GreetingValue) (rest : List ℕ) → IsGreeting g → bytes.now ≡ body_bytes g ++ rest → result ≡ Ok g }
+    ensures short { IsErrOf result GreetingFault.Short → length bytes.now < 113 }
+{
+    if bytes.len() < BODY {
+        return Err(GreetingFault::Short);
+    }
+    let (body, _) = bytes.split_at(BODY);
+    match body_of(body) {
+        Some(greeting) => Ok(greeting),
+        None => Err(GreetingFault::Malformed),
+    }
+}
+
+/// The greeting with these bytes after its version.
+fn body_of(bytes: &[u8]) -> Option<Greeting>
+    requires { length bytes.now ≡ 113 }
+    ensures greeting { IfSome result IsGreeting }
+    ensures some { IfSome result (λ g. bytes.now ≡ body_bytes g) }
+    ensures each { (g : GreetingValue) → IsGreeting g → bytes.now ≡ body_bytes g → result ≡ Some g }
+{
+    let (farm, rest) = bytes.split_at(32);
+    let (numbers, rest) = rest.split_at(2);
+    let (progress, digest) = rest.split_at(PROGRESS);
+    let farm = FarmName::from_bytes(farm)?;
+    let node = NodeId::new(numbers[1])?;
+    let progress = progress_of(progress)?;
+    Some(Greeting {
+        farm,
+        nodes: numbers[0],
+        node,
+        progress,
+        digest: array(digest),
+    })
+}
+
+/// The progress with these bytes.
+fn progress_of(bytes: &[u8]) -> Option<Progress>
+    requires { length bytes.now ≡ 47 }
+    ensures progress { IfSome result IsProgress }
+    ensures some { IfSome result (λ p. bytes.now ≡ progress_bytes p) }
+    ensures each { (p : ProgressValue) → IsProgress p → bytes.now ≡ progress_bytes p → result ≡ Some p }
+{
+    let (mark, rest) = bytes.split_at(16);
+    let (starts, rest) = rest.split_at(4);
+    let (life, rest) = rest.split_at(16);
+    let (round, rest) = rest.split_at(4);
+    let (promise, published) = rest.split_at(5);
+    let promise = promise_of(promise)?;
+    let published = Seq::from_bytes(published)?;
+    Some(Progress {
+        mark: array(mark),
+        starts: number_of(starts),
+        life: array(life),
+        round: number_of(round),
+        promise,
+        published,
+    })
+}
+
+/// The promise with these bytes.
+fn promise_of(bytes: &[u8]) -> Option<Option<Ballot>>
+    ensures promise { IfSome result IsPromise }
+    ensures some { IfSome result (λ p. bytes.now ≡ promise_bytes p) }
+    ensures each { (p : Option BallotValue) → IsPromise p → bytes.now ≡ promise_bytes p → result ≡ Some p }
+{
+    match bytes {
+        [0, 0, 0, 0, 0] => Some(None),
+        _ => match Ballot::from_bytes(bytes) {
+            Some(ballot) => Some(Some(ballot)),
+            None => None,
+        },
+    }
+}
+
+/// The number with these bytes.
+fn number_of(bytes: &[u8]) -> u32
+    requires { length bytes.now ≡ 4 }
+    ensures bytes { bytes.now ≡ to_be_bytes w32 result }
+    ensures each { (n : ℕ) → n < 2 ^ 32 → bytes.now ≡ to_be_bytes w32 n → result ≡ n }
+{
+    u32::from_be_bytes(array(bytes))
+}
+
+/// Bytes as an array.
+fn array<const N: usize>(bytes: &[u8]) -> [u8; N]
+    requires { length bytes.now ≡ N }
+    ensures { result ≡ bytes.now }
+{
+    let mut array = [0; N];
+    array.copy_from_slice(bytes);
+    array
+}

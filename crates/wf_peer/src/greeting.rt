@@ -1,0 +1,25 @@
+use crate::progress::Progress;
+use wf_ballot::NodeId;
+use wf_folder::FarmName;
+
+/// The version of what nodes say to each other: of greetings and replies, and that messages follow. It isn't the program's. Nodes of
+/// unequal versions don't talk.
+pub const PEER_VERSION: u16 = 1;
+
+/// The number of bytes of a greeting.
+pub const GREETING_BYTES: usize = 123;
+
+/// What a node says first on a connection to a peer.
+#[derive(Clone, Copy, Debug, PartialEq, Eq)]
+pub struct Greeting {
+    /// The name of its farm.
+    pub farm: FarmName,
+    /// The number of the farm's nodes.
+    pub nodes: u8,
+    /// Which of them it is.
+    pub node: NodeId,
+    /// How far it is.
+    pub progress: Progress,
+    /// The digest of its history up to its last published sequence.
+    pub digest: [u8; 32],
+}

@@ -1,0 +1,166 @@
+//! What was last heard of each peer.
+use crate::progress::Progress;
+use std::marker::Model;
+use wf_ballot::{Ballot, NodeId, Seq};
+use wf_codec::Message;
+
+/// What was last heard of each node that a farm may have, in the order of the nodes; nothing of one that never greeted.
+#[derive(Clone, Copy)]
+pub struct Heard {
+    pub(crate) nodes: [Option<Progress>; 64],
+}
+
+impl Model for Heard {
+    ghost use Rattle.std.specs.Prelude.{List, Option};
+    ghost use Rattle.wf_peer.specs.declared.progress.Progress.{Progress};
+
+    ghost Value = { List (Option Progress) };
+
+    ghost view = { λ heard. heard.nodes };
+
+    ghost inverse = { λ nodes. record { nodes = nodes } };
+}
+
+impl Heard {
+    ghost use Rattle.std.specs.Prelude.{◌≡◌, Some, None, List, Option, replicate, slice_set};
+    ghost use Rattle.wf_codec.specs.Message.{view};
+    ghost use Rattle.wf_peer.specs.Progress.{HasKept, together};
+    ghost use Rattle.wf_peer.specs.Sender.{NeverFalls, heard_of, with_told};
+
+    /// Nothing was heard of any node.
+    pub fn new() -> Heard
+        ensures { result ≡ replicate 64 None }
+    {
+        Heard { nodes: [None; 64] }
+    }
+
+    /// What was last heard of a node, if anything was.
+    pub fn of(&self, node: NodeId) -> Option<Progress>
+        ensures { result ≡ heard_of self.now node }
+    {
+        match self.nodes.get(node.number() as usize) {
+            Some(progress) => *progress,
+            None => None,
+        }
+    }
+
+    /// A node that was let in greeted with this progress: together with what was heard of it, that is kept.
+    pub fn greet(&mut self, node: NodeId, progress: Progress)
+        requires { HasKept (heard_of self.old node) progress }
+        ensures value { self.new ≡ slice_set self.old node (Some (together (heard_of self.old node) progress)) }
+        ensures falls { NeverFalls self.old self.new }
+    {
+        let progress = together(self.of(node), &progress);
+        self.put(node, progress);
+    }
+
+    /// Sets what was heard of a node.
+    fn put(&mut self, node: NodeId, progress: Progress)
+        ensures { self.new ≡ slice_set self.old node (Some progress) }
+    {
+        self.nodes[node.number() as usize] = Some(progress);
+    }
+
+    /// A message came from a node that greeted: what it tells of the node's progress is kept. From another one nothing is.
+    #[tactic(auto, using(crate::proofs::Kept::nothing_falls))]
+    pub fn hear(&mut self, node: NodeId, message: &Message)
+        ensures value { self.new ≡ with_told self.old node (heard_of self.old node) (view message.now) }
+        ensures falls { NeverFalls self.old self.new }
+    {
+        let Some(progress) = self.of(node) else {
+            return;
+        };
+        self.put(node, told_by(&progress, message));
+    }
+}
+
+ghost use Rattle.std.specs.Prelude.{◌≡◌, ◌≤◌};
+ghost use Rattle.wf_ballot.specs.Sequence.{IsSequence};
+ghost use Rattle.wf_codec.specs.Message.{view};
+ghost use Rattle.wf_model.specs.Stored.{raised};
+ghost use Rattle.wf_peer.specs.Progress.{both_promised, together};
+ghost use Rattle.wf_peer.specs.Sender.{promised, published_to, told_by, tried};
+
+/// The progress that was heard, if any was, and the one that is said, together.
+fn together(heard: Option<Progress>, said: &Progress) -> Progress
+    ensures { result ≡ together heard said.now }
+{
+    let Some(heard) = heard else {
+        return *said;
+    };
+    let number = heard.published.number().max(said.published.number());
+    Progress {
+        round: heard.round.max(said.round),
+        promise: both_promised(heard.promise, said.promise),
+        published: Seq::new(number).unwrap(),
+        ..*said
+    }
+}
+
+/// The higher one of two promises.
+fn both_promised(heard: Option<Ballot>, said: Option<Ballot>) -> Option<Ballot>
+    ensures { result ≡ both_promised heard said }
+{
+    match said {
+        Some(ballot) => Some(raised(heard, ballot)),
+        None => heard,
+    }
+}
+
+/// The progress that a message of the node tells.
+fn told_by(progress: &Progress, message: &Message) -> Progress
+    ensures { result ≡ told_by progress.now (view message.now) }
+{
+    match message {
+        Message::Prepare(_, ballot) => tried(progress, *ballot),
+        Message::Promise(_, ballot, _) => promised(progress, *ballot),
+        Message::Accept(_, ballot, _) => tried(progress, *ballot),
+        Message::Accepted(_, _, ballot) => promised(progress, *ballot),
+        Message::Nack(_, _, _, promise) => promised(progress, *promise),
+        Message::Chosen(slot, _) => published_to(progress, slot.number()),
+        Message::Ask(slot) => published_to(progress, slot.number() - 1),
+    }
+}
+
+/// The progress of a node that tried the round of this ballot.
+fn tried(progress: &Progress, ballot: Ballot) -> Progress
+    ensures { result ≡ tried progress.now ballot.round }
+{
+    Progress {
+        round: progress.round.max(ballot.round()),
+        ..*progress
+    }
+}
+
+/// The progress of a node that promised this ballot.
+fn promised(progress: &Progress, ballot: Ballot) -> Progress
+    ensures { result ≡ promised progress.now ballot }
+{
+    Progress {
+        promise: Some(raised(progress.promise, ballot)),
+        ..*progress
+    }
+}
+
+/// The promise, raised to this ballot.
+#[tactic(auto, unfolding(wf_model::specs::Stored::raised))]
+fn raised(promise: Option<Ballot>, ballot: Ballot) -> Ballot
+    ensures { Some result ≡ raised promise ballot }
+{
+    match promise {
+        Some(promise) if !promise.is_below(ballot) => promise,
+        _ => ballot,
+    }
+}
+
+/// The progress of a node that published this sequence.
+fn published_to(progress: &Progress, number: u16) -> Progress
+    requires { IsSequence number }
+    ensures { result ≡ published_to progress.now number }
+{
+    let number = progress.published.number().max(number);
+    Progress {
+        published: Seq::new(number).unwrap(),
+        ..*progress
+    }
+}

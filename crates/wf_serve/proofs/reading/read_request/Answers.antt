@@ -1,0 +1,15 @@
+use Rattle.std.proofs.Common.{refl}
+use Rattle.wf_edge.specs.EndingLaws.{fault_serves, read_serves}
+use Rattle.wf_serve.proofs.reading.read_request.Goals as goal
+
+pub returns-in-Wms-clause-serves : goal.returns-in-Wms-clause-serves
+returns-in-Wms-clause-serves g c =
+    read_serves g.S.Source g.K.Sink g.T.Tape c.args.source.now c.read.new.source c.args.sink.now c.args.sink.now c.answer_request-served.new.sink
+    c.in-Ok.request c.args.node.now c.args.node.now c.answer_request-served.result.messages c.answer_request-served.result.outcome
+    c.in-Ok.ensures.ok refl c.in-Ok.ensures.reads c.answer_request-served.ensures.served
+
+pub returns-in-Err-clause-serves : goal.returns-in-Err-clause-serves
+returns-in-Err-clause-serves g c =
+    fault_serves g.S.Source g.K.Sink g.T.Tape c.args.source.now c.read.new.source c.args.sink.now c.say_fault.new.sink c.args.node.now c.in-Err.fault
+    c.say_fault.result c.in-Err.ensures.err c.in-Err.ensures.reads c.say_fault.ensures.said c.say_fault.ensures.writes c.say_fault.ensures.last
+    c.new.result c.new.ensures.items

@@ -1,0 +1,339 @@
+//! The whole program in a process of the cases' own.
+ghost use Rattle.std.specs.Io.{WritesAtMost};
+
+use std::alloc::{Allocator, Global};
+use std::cell::RefCell;
+use std::env::FillError;
+use std::fmt::Display;
+use std::fs::{File, Metadata, OpenOptions};
+use std::io;
+use std::io::{BufRead, ErrorKind, Lines, Read};
+use std::net::{Net, SocketAddr, TcpListener, TcpStream};
+use std::process::ExitCode;
+use std::rt::{Clock, Env, Files};
+use std::time::Duration;
+use wf_commands::program::program;
+use wf_test_table::escape::unescape;
+use wf_test_table::{Answer, Answered, Asked, Unanswered};
+
+/// Which of its standard streams is broken.
+#[derive(Clone, Copy, PartialEq)]
+enum Broken {
+    Nothing,
+    Input,
+    Output,
+    Errors,
+}
+
+/// A process whose words are the lines of a text, and whose standard input is these bytes. It has no file, no port is free, no
+/// connection is accepted, and its clocks stand at 0.
+struct Process<'a> {
+    alloc: Global,
+    words: &'a [u8],
+    input: &'a [u8],
+    broken: Broken,
+    output: RefCell<Answer>,
+    errors: RefCell<Answer>,
+}
+
+impl<'a> Alloc for Process<'a> {
+    type A = Global;
+
+    fn alloc(&self) -> Global {
+        self.alloc
+    }
+}
+
+/// Copies a word to the front of a buffer.
+fn fill(word: &[u8], buf: &mut [u8]) -> Result<usize, FillError>
+    ensures { WritesAtMost result buf.new }
+{
+    match buf.get_mut(..word.len()) {
+        Some(front) => {
+            front.copy_from_slice(word);
+            Ok(word.len())
+        }
+        None => Err(FillError::TooLong),
+    }
+}
+
+impl<'a> Env for Process<'a> {
+    fn arg(&self, i: usize, buf: &mut [u8]) -> Result<usize, FillError> {
+        if i == 0 {
+            return fill(b"wfarm", buf);
+        }
+        if self.words.is_empty() {
+            return Err(FillError::NotPresent);
+        }
+        match self.words.split(|byte| *byte == b'\n').nth(i - 1) {
+            Some(word) => fill(word, buf),
+            None => Err(FillError::NotPresent),
+        }
+    }
+
+    fn var(&self, _name: &str, _buf: &mut [u8]) -> Result<usize, FillError> {
+        Err(FillError::NotPresent)
+    }
+
+    fn var_at(&self, _i: usize, _buf: &mut [u8]) -> Result<usize, FillError> {
+        Err(FillError::NotPresent)
+    }
+}
+
+/// What a process reads.
+#[derive(Drop)]
+struct Given<'a> {
+    rest: &'a [u8],
+    is_broken: bool,
+}
+
+impl<'a> Read for Given<'a> {
+    fn read(&mut self, buf: &mut [u8]) -> io::Result<usize> {
+        if self.is_broken {
+            return Err(io::Error::from(ErrorKind::ConnectionReset));
+        }
+        self.rest.read(buf)
+    }
+}
+
+impl<'a> BufRead for Given<'a> {
+    fn fill_buf(&mut self) -> io::Result<&[u8]> {
+        if self.is_broken {
+            return Err(io::Error::from(ErrorKind::ConnectionReset));
+        }
+        Ok(self.rest)
+    }
+
+    fn consume(&mut self, amount: usize) {
+        self.rest = self.rest.get(amount..).unwrap_or(&[]);
+    }
+}
+
+impl<'a> Input for Process<'a> {
+    type Reader = Given<'a>;
+
+    fn read_line<A: Allocator + Clone>(&self, _buf: &mut String<A>) -> io::Result<usize> {
+        Ok(0)
+    }
+
+    fn lines<A: Allocator>(&self, alloc: A) -> Lines<Given<'a>, A> {
+        self.reader().lines(alloc)
+    }
+
+    fn reader(&self) -> Given<'a> {
+        Given {
+            rest: self.input,
+            is_broken: self.broken == Broken::Input,
+        }
+    }
+}
+
+impl<'a> Process<'a> {
+    /// Appends bytes to what was written to a standard stream.
+    fn append(&self, stream: &RefCell<Answer>, name: Broken, bytes: &[u8]) -> io::Result<()> {
+        if self.broken == name {
+            return Err(io::Error::from(ErrorKind::BrokenPipe));
+        }
+        match stream.try_borrow_mut() {
+            Ok(mut answer) => {
+                answer.bytes(bytes);
+                Ok(())
+            }
+            Err(_) => Err(io::Error::from(ErrorKind::Other)),
+        }
+    }
+
+    /// Appends a value as it is printed, and an end.
+    fn append_value<D: Display + Drop>(
+        &self,
+        stream: &RefCell<Answer>,
+        name: Broken,
+        value: D,
+        end: &str,
+    ) -> io::Result<()> {
+        match format!(in self.alloc; "{value}{end}") {
+            Ok(text) => {
+                let appended = self.append(stream, name, text.as_bytes());
+                drop(text);
+                appended
+            }
+            Err(_) => Err(io::Error::from(ErrorKind::OutOfMemory)),
+        }
+    }
+}
+
+impl<'a> Print for Process<'a> {
+    fn print<D: Display + Drop>(&self, value: D) -> io::Result<()> {
+        self.append_value(&self.output, Broken::Output, value, "")
+    }
+
+    fn println<D: Display + Drop>(&self, value: D) -> io::Result<()> {
+        self.append_value(&self.output, Broken::Output, value, "\n")
+    }
+
+    fn write_all(&self, bytes: &[u8]) -> io::Result<()> {
+        self.append(&self.output, Broken::Output, bytes)
+    }
+}
+
+impl<'a> Eprint for Process<'a> {
+    fn eprint<D: Display + Drop>(&self, value: D) -> io::Result<()> {
+        self.append_value(&self.errors, Broken::Errors, value, "")
+    }
+
+    fn eprintln<D: Display + Drop>(&self, value: D) -> io::Result<()> {
+        self.append_value(&self.errors, Broken::Errors, value, "\n")
+    }
+}
+
+impl<'a> Clock for Process<'a> {
+    fn monotonic(&self) -> io::Result<Duration> {
+        Ok(Duration::ZERO)
+    }
+
+    fn since_1970(&self) -> io::Result<Duration> {
+        Ok(Duration::ZERO)
+    }
+}
+
+/// The error of a file that isn't there.
+fn missing() -> io::Error {
+    io::Error::from(ErrorKind::NotFound)
+}
+
+impl<'a> Files for Process<'a> {
+    type File = File;
+
+    type Dir = &'a [u8];
+
+    fn open_file(&self, _how: &OpenOptions, _path: &str) -> io::Result<File> {
+        Err(missing())
+    }
+
+    fn open_dir(&self, _path: &str) -> io::Result<&'a [u8]> {
+        Err(missing())
+    }
+
+    fn metadata(&self, _path: &str) -> io::Result<Metadata> {
+        Err(missing())
+    }
+
+    fn symlink_metadata(&self, _path: &str) -> io::Result<Metadata> {
+        Err(missing())
+    }
+
+    fn copy(&self, _from: &str, _to: &str) -> io::Result<u64> {
+        Err(missing())
+    }
+
+    fn rename(&self, _from: &str, _to: &str) -> io::Result<()> {
+        Err(missing())
+    }
+
+    fn remove_file(&self, _path: &str) -> io::Result<()> {
+        Err(missing())
+    }
+
+    fn create_dir(&self, _path: &str) -> io::Result<()> {
+        Err(missing())
+    }
+
+    fn remove_dir(&self, _path: &str) -> io::Result<()> {
+        Err(missing())
+    }
+
+    fn remove_dir_all<B: Allocator>(&self, _alloc: B, _path: &str) -> io::Result<()> {
+        Err(missing())
+    }
+}
+
+impl<'a> Net for Process<'a> {
+    type Stream = TcpStream;
+
+    type Listener = TcpListener;
+
+    fn bind(&self, _addr: SocketAddr) -> io::Result<TcpListener> {
+        Err(io::Error::from(ErrorKind::AddrInUse))
+    }
+
+    fn connect(&self, _addr: SocketAddr) -> io::Result<TcpStream> {
+        Err(io::Error::from(ErrorKind::ConnectionRefused))
+    }
+}
+
+/// Appends an exit status: 0, 1 or 2.
+fn tell_status(code: ExitCode, answer: &mut Answer) {
+    answer.text("status ");
+    answer.line(if code == ExitCode::from(0) {
+        "0"
+    } else if code == ExitCode::from(1) {
+        "1"
+    } else if code == ExitCode::from(2) {
+        "2"
+    } else {
+        "above 2"
+    });
+}
+
+/// Appends what was written to a standard stream, each line after a mark.
+fn tell_lines(mark: &str, written: Answer, answer: &mut Answer) -> Answered {
+    let told = match written.written() {
+        Ok(bytes) => {
+            for line in bytes.split_inclusive(|byte| *byte == b'\n') {
+                answer.text(mark);
+                answer.bytes(line);
+            }
+            Ok(())
+        }
+        Err(_) => Err(Unanswered::Memory),
+    };
+    drop(written);
+    told
+}
+
+fn tell_process(asked: Asked<'_>, broken: Broken, words: &[u8], answer: &mut Answer) -> Answered {
+    let process = Process {
+        alloc: asked.alloc,
+        words,
+        input: asked.input,
+        broken,
+        output: RefCell::new(Answer::new(asked.alloc)),
+        errors: RefCell::new(Answer::new(asked.alloc)),
+    };
+    let code = program(&process);
+    let Process {
+        alloc: _,
+        words: _,
+        input: _,
+        broken: _,
+        output,
+        errors,
+    } = process;
+    tell_lines("", output.into_inner(), answer)?;
+    tell_lines("error: ", errors.into_inner(), answer)?;
+    tell_status(code, answer);
+    Ok(())
+}
+
+/// `program BROKEN WORDS`: what a process of the program writes to its standard output, what to its standard error, and its exit
+/// status. BROKEN is the standard stream that fails, `input`, `output` or `errors`, or `nothing`. WORDS are the command line's, spelled
+/// with escapes, with `\n` between. The process has no file and no port.
+pub(crate) fn program_of(mut asked: Asked<'_>, answer: &mut Answer) -> Answered {
+    let broken = match asked.words.word() {
+        "nothing" => Broken::Nothing,
+        "input" => Broken::Input,
+        "output" => Broken::Output,
+        "errors" => Broken::Errors,
+        _ => return Err(Unanswered::BadWords),
+    };
+    let mut words = Answer::new(asked.alloc);
+    let told = match unescape(asked.words.rest(), &mut words) {
+        Ok(()) => match words.written() {
+            Ok(bytes) => tell_process(asked, broken, bytes, answer),
+            Err(_) => Err(Unanswered::Memory),
+        },
+        Err(unanswered) => Err(unanswered),
+    };
+    drop(words);
+    told
+}

@@ -1,0 +1,10 @@
+//! The program `wfarm` on an input with an error: it writes the report of `check`, and its exit status is 1. The stored run of `wfarm`
+//! itself is one that succeeds.
+#![tactic(auto)]
+
+use std::process::ExitCode;
+use wf_commands::program::program;
+
+fn main(rt: HostRuntime) -> ExitCode {
+    program(&rt)
+}

@@ -1,0 +1,155 @@
+//! A machine on which a listener of a test's own is bound, and which looks after the lock of a folder.
+use std::alloc::{Allocator, Global};
+use std::cell::{Cell, RefCell};
+use std::fmt::Display;
+use std::fs::{File, Metadata, OpenOptions};
+use std::io::ErrorKind;
+use std::net::{IpAddr, Ipv4Addr, Net, SocketAddr, TcpListener, TcpStream};
+use std::rt::{Clock, Files};
+use std::time::Duration;
+use std::{fs, io};
+
+/// The machine, but that it gives one listener for the first address that is asked for, and tries to lock a folder whenever its clock is
+/// read, as it is for each read and each write of a connection.
+#[derive(Drop)]
+pub(crate) struct Machine<'a> {
+    rt: &'a HostRuntime,
+    listener: RefCell<Option<TcpListener>>,
+    asked: Cell<Option<SocketAddr>>,
+    folder: &'a str,
+    is_loose: Cell<bool>,
+}
+
+impl<'a> Machine<'a> {
+    pub(crate) fn new(rt: &'a HostRuntime, listener: TcpListener, folder: &'a str) -> Self {
+        Machine {
+            rt,
+            listener: RefCell::new(Some(listener)),
+            asked: Cell::new(None),
+            folder,
+            is_loose: Cell::new(false),
+        }
+    }
+
+    /// Whether any port of this machine alone was asked for.
+    pub(crate) fn is_bound_here(&self) -> bool {
+        match self.asked.get() {
+            Some(address) => {
+                address.ip() == IpAddr::V4(Ipv4Addr::LOCALHOST) && address.port() == 0
+            }
+            None => false,
+        }
+    }
+
+    /// Whether the folder was locked whenever the clock was read.
+    pub(crate) fn is_locked(&self) -> bool {
+        !self.is_loose.get()
+    }
+
+    /// Remembers it if the folder isn't locked.
+    fn look(&self) {
+        if let Ok(folder) = fs::open(self.rt, self.folder) {
+            if folder.try_lock().is_ok() {
+                self.is_loose.set(true);
+            }
+            drop(folder);
+        }
+    }
+}
+
+impl<'a> Alloc for Machine<'a> {
+    type A = Global;
+
+    fn alloc(&self) -> Global {
+        self.rt.alloc()
+    }
+}
+
+impl<'a> Eprint for Machine<'a> {
+    fn eprint<D: Display + Drop>(&self, value: D) -> io::Result<()> {
+        self.rt.eprint(value)
+    }
+
+    fn eprintln<D: Display + Drop>(&self, value: D) -> io::Result<()> {
+        self.rt.eprintln(value)
+    }
+}
+
+impl<'a> Clock for Machine<'a> {
+    fn monotonic(&self) -> io::Result<Duration> {
+        self.look();
+        self.rt.monotonic()
+    }
+
+    fn since_1970(&self) -> io::Result<Duration> {
+        self.rt.since_1970()
+    }
+}
+
+impl<'a> Net for Machine<'a> {
+    type Stream = TcpStream;
+
+    type Listener = TcpListener;
+
+    fn bind(&self, addr: SocketAddr) -> io::Result<TcpListener> {
+        self.asked.set(Some(addr));
+        match self.listener.try_replace(None) {
+            Ok(Some(listener)) => Ok(listener),
+            Ok(None) | Err(None) => Err(io::Error::from(ErrorKind::AddrInUse)),
+            Err(Some(listener)) => {
+                drop(listener);
+                Err(io::Error::from(ErrorKind::AddrInUse))
+            }
+        }
+    }
+
+    fn connect(&self, addr: SocketAddr) -> io::Result<TcpStream> {
+        self.rt.connect(addr)
+    }
+}
+
+impl<'a> Files for Machine<'a> {
+    type File = File;
+
+    type Dir = <HostRuntime as Files>::Dir;
+
+    fn open_file(&self, how: &OpenOptions, path: &str) -> io::Result<File> {
+        self.rt.open_file(how, path)
+    }
+
+    fn open_dir(&self, path: &str) -> io::Result<<HostRuntime as Files>::Dir> {
+        self.rt.open_dir(path)
+    }
+
+    fn metadata(&self, path: &str) -> io::Result<Metadata> {
+        self.rt.metadata(path)
+    }
+
+    fn symlink_metadata(&self, path: &str) -> io::Result<Metadata> {
+        self.rt.symlink_metadata(path)
+    }
+
+    fn copy(&self, from: &str, to: &str) -> io::Result<u64> {
+        self.rt.copy(from, to)
+    }
+
+    fn rename(&self, from: &str, to: &str) -> io::Result<()> {
+        self.rt.rename(from, to)
+    }
+
+    fn remove_file(&self, path: &str) -> io::Result<()> {
+        self.rt.remove_file(path)
+    }
+
+    fn create_dir(&self, path: &str) -> io::Result<()> {
+        self.rt.create_dir(path)
+    }
+
+    fn remove_dir(&self, path: &str) -> io::Result<()> {
+        self.rt.remove_dir(path)
+    }
+
+    fn remove_dir_all<B: Allocator>(&self, alloc: B, path: &str) -> io::Result<()> {
+        self.rt.remove_dir_all(alloc, path)
+    }
+}

@@ -1,0 +1,3 @@
+pub mod CatchUp
+pub mod Moment
+pub mod Waits

@@ -1,0 +1,13 @@
+//! When a stream was silent for too long.
+ghost use Rattle.std.specs.Prelude.{◌≤◌, ◌+◌, ◌↔◌, IsTrue};
+ghost use Rattle.wf_timing.specs.Moment.{silence};
+
+/// For how many milliseconds a peer's stream may be silent: five heartbeats.
+pub const SILENCE: u64 = 5_000;
+
+/// Whether a stream on which something came last at the moment `heard` was silent for too long, and is to be closed.
+pub fn is_silent(heard: u64, now: u64) -> bool
+    ensures { IsTrue result ↔ (heard + silence ≤ now) }
+{
+    now.saturating_sub(heard) >= SILENCE
+}
