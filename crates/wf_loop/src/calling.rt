@@ -1,0 +1,212 @@
+//! The connections of a node to its peers: they are opened, written on, and tried again.
+
+use crate::context::Context;
+use crate::dial::Turned;
+use crate::event::{Event, Why};
+use crate::mesh::{Mesh, id_of};
+use std::alloc::Global;
+use std::net::Net;
+use std::time::Clock;
+use wf_actor::Process;
+use wf_ballot::NodeId;
+use wf_peer::{Rejection, Reply, encode};
+use wf_tape::Tape;
+
+/// The most nodes of a farm.
+const MOST_NODES: usize = 64;
+
+impl Mesh {
+    /// Lets the connection to a peer go on.
+    pub(crate) fn turn<R: Clock + Eprint + AllocGlobal, T: Tape + Drop>(
+        &mut self,
+        context: &Context<'_, '_, R>,
+        process: &mut Process<T>,
+        index: usize,
+    ) {
+        let Some(peer) = id_of(index) else {
+            return;
+        };
+        let Some(dial) = self.dials.get_mut(index) else {
+            return;
+        };
+        match dial.turn(process, peer) {
+            Turned::Same => {}
+            Turned::Answered(reply) => self.open(context, process, index, peer, reply),
+            Turned::Ended(why) => self.end(context, process, index, peer, why),
+        }
+    }
+
+    /// Opens the connection to a peer, whose reply has come.
+    fn open<R: Clock + Eprint + AllocGlobal, T: Tape + Drop>(
+        &mut self,
+        context: &Context<'_, '_, R>,
+        process: &mut Process<T>,
+        index: usize,
+        peer: NodeId,
+        reply: Reply,
+    ) {
+        let published = process.node().published().number();
+        if let Some(why) = self.why_not(peer, reply, published) {
+            self.end(context, process, index, peer, why);
+            return;
+        }
+        self.was_let_in = true;
+        if let Some(dial) = self.dials.get_mut(index) {
+            dial.open();
+            context.log.write(&Event::Connected {
+                peer: index,
+                address: dial.address(),
+            });
+        }
+        process.open_outbox(context.alloc(), peer);
+        self.catch_up.connect(index, context.time);
+    }
+
+    /// Why the connection to a peer doesn't open, by its reply.
+    fn why_not(&mut self, peer: NodeId, reply: Reply, published: u16) -> Option<Why> {
+        match reply {
+            Reply::Greeting(greeting) => match self.admit_peer(Some(peer), &greeting) {
+                Ok(()) => None,
+                Err(why) => Some(Why::Rejected(why)),
+            },
+            Reply::Rejected(why) => {
+                if why == Rejection::OtherHistory {
+                    self.note_difference(peer, published);
+                }
+                if why.ends_a_node() || (why == Rejection::OtherHistory && !self.was_let_in) {
+                    self.end = Some(why);
+                }
+                Some(Why::RejectedBy(why))
+            }
+        }
+    }
+
+    /// Ends the connection to a peer.
+    fn end<R: Clock + Eprint, T: Tape + Drop>(
+        &mut self,
+        context: &Context<'_, '_, R>,
+        process: &mut Process<T>,
+        index: usize,
+        peer: NodeId,
+        why: Why,
+    ) {
+        let Some(dial) = self.dials.get_mut(index) else {
+            return;
+        };
+        let was_open = dial.is_open();
+        dial.end(context.time);
+        process.close_outbox(peer);
+        if was_open || !matches!(why, Why::Closed | Why::Failed) {
+            context.log.write(&Event::Lost { peer: index, why });
+        }
+    }
+
+    /// Connects to the peers to which there is no connection, and ends attempts that take too long.
+    pub(crate) fn connect<R: Net + Clock + Eprint + AllocGlobal, T: Tape + Drop>(
+        &mut self,
+        context: &Context<'_, '_, R>,
+        process: &mut Process<T>,
+    ) {
+        let Some(greeting) = self.greeting(process) else {
+            return;
+        };
+        let mut bytes = Vec::new(context.alloc());
+        if encode(&greeting, &mut bytes).is_err() {
+            return;
+        }
+        for index in 0..self.dials.len() {
+            if index != self.plan.own.node.number() as usize {
+                self.connect_to(context, process, index, bytes.as_slice());
+            }
+        }
+    }
+
+    /// Connects to a peer, if there is no connection and it is time to, and ends an attempt that takes too long.
+    fn connect_to<R: Net + Clock + Eprint + AllocGlobal, T: Tape + Drop>(
+        &mut self,
+        context: &Context<'_, '_, R>,
+        process: &mut Process<T>,
+        index: usize,
+        greeting: &[u8],
+    ) {
+        let Some(peer) = id_of(index) else {
+            return;
+        };
+        if self.is_late(index, context.time) {
+            self.end(context, process, index, peer, Why::Silent);
+        }
+        if let Some(dial) = self.dials.get_mut(index) {
+            dial.connect(context, index, greeting);
+        }
+    }
+
+    /// Whether an attempt to connect takes too long.
+    fn is_late(&self, index: usize, time: u64) -> bool {
+        match self.dials.get(index) {
+            Some(dial) => dial.is_late(time),
+            None => false,
+        }
+    }
+
+    /// Whether messages can be sent to a peer.
+    fn is_open(&self, index: usize) -> bool {
+        match self.dials.get(index) {
+            Some(dial) => dial.is_open(),
+            None => false,
+        }
+    }
+
+    /// Asks a peer for the definitions that the node lacks, if it is time to.
+    pub(crate) fn ask_next<T: Tape + Drop>(
+        &mut self,
+        alloc: Global,
+        process: &mut Process<T>,
+        time: u64,
+    ) {
+        let mut connected = [false; MOST_NODES];
+        for (flag, dial) in connected.iter_mut().zip(self.dials.iter()) {
+            *flag = dial.is_open();
+        }
+        let published = process.node().published().number();
+        if let Some(peer) = self.catch_up.ask(time, published, connected.as_slice()) {
+            ask(alloc, process, peer);
+        }
+    }
+
+    /// Asks each peer for the next definition: peers hear by this that the node is there.
+    pub(crate) fn ask_all<T: Tape + Drop>(&mut self, alloc: Global, process: &mut Process<T>) {
+        for index in 0..self.dials.len() {
+            if self.is_open(index) {
+                ask(alloc, process, index);
+            }
+        }
+    }
+
+    /// Writes what waits for the peers.
+    pub(crate) fn send<R: Clock + Eprint + AllocGlobal, T: Tape + Drop>(
+        &mut self,
+        context: &Context<'_, '_, R>,
+        process: &mut Process<T>,
+    ) {
+        for index in 0..self.dials.len() {
+            if waits(process, index) {
+                self.turn(context, process, index);
+            }
+        }
+    }
+}
+
+/// Asks a peer for the next definition.
+fn ask<T: Tape + Drop>(alloc: Global, process: &mut Process<T>, peer: usize) {
+    if let Some(peer) = id_of(peer) {
+        let _ = process.catch_up(alloc, peer);
+    }
+}
+
+/// Whether bytes wait for a peer.
+fn waits<T: Tape + Drop>(process: &Process<T>, peer: usize) -> bool {
+    match id_of(peer) {
+        Some(peer) => process.remaining(peer) != 0,
+        None => false,
+    }
+}

@@ -1,0 +1,239 @@
+//! The connection to a peer, on which this node sends.
+
+use crate::context::Context;
+use crate::event::Why;
+use crate::socket::{Done, read, register, write};
+use crate::token::Socket;
+use mio::net::TcpStream;
+use std::alloc::Global;
+use std::io::ErrorKind;
+use std::net::{Net, SocketAddr};
+use wf_actor::Process;
+use wf_ballot::NodeId;
+use wf_client::outgoing::Outgoing;
+use wf_peer::{GREETING_BYTES, GreetingFault, Reply, decode_reply};
+use wf_stream::{Sink, Stream};
+use wf_tape::Tape;
+use wf_timing::{Alarm, Backoff};
+
+/// The most reads of one turn.
+const MOST_READS: u32 = 8;
+
+/// The most writes of one turn.
+const MOST_WRITES: u32 = 4_096;
+
+/// The least time between two attempts to connect, in milliseconds.
+const LEAST_WAIT: u64 = 50;
+
+/// The greatest time between two attempts to connect, in milliseconds.
+const MOST_WAIT: u64 = 800;
+
+/// The time for a connection to open, in milliseconds.
+const OPENING_MILLIS: u64 = 3_000;
+
+/// The connection to a peer, open, in progress, or to be tried again.
+#[derive(Drop)]
+pub(crate) struct Dial {
+    address: SocketAddr,
+    stream: Option<TcpStream>,
+    greeting: Outgoing,
+    reply: Vec<u8>,
+    is_open: bool,
+    since: u64,
+    due: Alarm,
+    backoff: Backoff,
+}
+
+/// What came of a connection's turn.
+#[derive(Clone, Copy, PartialEq, Eq)]
+pub(crate) enum Turned {
+    /// Nothing new.
+    Same,
+    /// The peer's reply to the greeting has come.
+    Answered(Reply),
+    /// It has ended.
+    Ended(Why),
+}
+
+impl Dial {
+    /// No connection yet.
+    pub(crate) fn new(alloc: Global, address: SocketAddr) -> Self {
+        Dial {
+            address,
+            stream: None,
+            greeting: Outgoing::new(alloc),
+            reply: Vec::new(alloc),
+            is_open: false,
+            since: 0,
+            due: Alarm { due: 0 },
+            backoff: Backoff::new(LEAST_WAIT, MOST_WAIT),
+        }
+    }
+
+    /// The peer's address.
+    pub(crate) fn address(&self) -> SocketAddr {
+        self.address
+    }
+
+    /// Whether messages can be sent on it.
+    pub(crate) fn is_open(&self) -> bool {
+        self.is_open
+    }
+
+    /// It is open from now on.
+    pub(crate) fn open(&mut self) {
+        self.is_open = true;
+    }
+
+    /// Connects, if there is no connection and it is time to.
+    pub(crate) fn connect<R: Net + AllocGlobal>(
+        &mut self,
+        context: &Context<'_, '_, R>,
+        index: usize,
+        greeting: &[u8],
+    ) {
+        if self.stream.is_some() || !self.due.is_due(context.time) {
+            return;
+        }
+        self.greeting = Outgoing::new(context.alloc());
+        self.reply = Vec::new(context.alloc());
+        self.is_open = false;
+        self.since = context.time;
+        let _ = self.greeting.write(greeting);
+        match connected(context, self.address, index) {
+            Some(stream) => self.stream = Some(stream),
+            None => self.postpone(context.time),
+        }
+    }
+
+    /// Tries again later.
+    fn postpone(&mut self, now: u64) {
+        self.due = Alarm::after(now, self.backoff.wait());
+    }
+
+    /// Whether it hasn't opened in time.
+    pub(crate) fn is_late(&self, now: u64) -> bool {
+        self.stream.is_some() && !self.is_open && OPENING_MILLIS <= now.saturating_sub(self.since)
+    }
+
+    /// Ends the connection.
+    pub(crate) fn end(&mut self, now: u64) {
+        self.stream = None;
+        self.is_open = false;
+        self.postpone(now);
+    }
+
+    /// Writes what waits, and reads what came.
+    pub(crate) fn turn<T: Tape + Drop>(
+        &mut self,
+        process: &mut Process<T>,
+        peer: NodeId,
+    ) -> Turned {
+        let Some(mut stream) = self.stream.take() else {
+            return Turned::Same;
+        };
+        let turned = self.turn_at(process, peer, &mut stream);
+        self.stream = Some(stream);
+        turned
+    }
+
+    /// Writes what waits to its stream, and reads what came.
+    fn turn_at<T: Tape + Drop>(
+        &mut self,
+        process: &mut Process<T>,
+        peer: NodeId,
+        stream: &mut TcpStream,
+    ) -> Turned {
+        if let Some(why) = self.greet(stream) {
+            return Turned::Ended(why);
+        }
+        let turned = self.hear(stream);
+        if turned != Turned::Same || !self.is_open {
+            return turned;
+        }
+        send(process, peer, stream)
+    }
+
+    /// Writes the rest of the greeting.
+    fn greet(&mut self, stream: &mut TcpStream) -> Option<Why> {
+        for _ in 0..u64::MAX {
+            if self.greeting.is_taken() {
+                return None;
+            }
+            match write(stream, self.greeting.rest()) {
+                Done::Bytes(count) => {
+                    self.backoff.reset();
+                    let count = count.min(self.greeting.remaining());
+                    self.greeting.advance(count);
+                }
+                Done::Blocked => return None,
+                Done::Closed => return Some(Why::Closed),
+                Done::Failed => return Some(Why::Failed),
+            }
+        }
+        None
+    }
+
+    /// Reads the peer's reply; nothing else may come.
+    fn hear(&mut self, stream: &mut TcpStream) -> Turned {
+        let mut piece = [0u8; GREETING_BYTES];
+        for _ in 0..MOST_READS {
+            match read(stream, &mut piece) {
+                Done::Bytes(count) => {
+                    let count = count.min(GREETING_BYTES);
+                    match self.take_in(&piece[..count]) {
+                        Turned::Same => {}
+                        turned => return turned,
+                    }
+                }
+                Done::Blocked => return Turned::Same,
+                Done::Closed => return Turned::Ended(Why::Closed),
+                Done::Failed => return Turned::Ended(Why::Failed),
+            }
+        }
+        Turned::Same
+    }
+
+    /// Takes in a piece of the reply.
+    fn take_in(&mut self, piece: &[u8]) -> Turned {
+        if self.is_open || GREETING_BYTES < self.reply.len().saturating_add(piece.len()) {
+            return Turned::Ended(Why::Talkative);
+        }
+        if self.reply.extend_from_slice(piece).is_err() {
+            return Turned::Ended(Why::Memory);
+        }
+        match decode_reply(self.reply.as_slice()) {
+            Ok(reply) => Turned::Answered(reply),
+            Err(GreetingFault::Short) => Turned::Same,
+            Err(fault) => Turned::Ended(Why::BadGreeting(fault)),
+        }
+    }
+}
+
+/// A connection to an address, in progress. None: it can't begin.
+fn connected<R: Net>(
+    context: &Context<'_, '_, R>,
+    address: SocketAddr,
+    index: usize,
+) -> Option<TcpStream> {
+    let mut stream = TcpStream::connect(context.rt, address).ok()?;
+    let _ = stream.set_nodelay(true);
+    match register(context.registry, &mut stream, Socket::Dial(index)) {
+        Ok(()) => Some(stream),
+        Err(_) => None,
+    }
+}
+
+/// Writes what waits for a peer.
+fn send<T: Tape + Drop>(process: &mut Process<T>, peer: NodeId, stream: &TcpStream) -> Turned {
+    let mut sink = Stream::new(stream);
+    for _ in 0..MOST_WRITES {
+        match process.write_to(peer, &mut sink) {
+            Ok(0) => return Turned::Same,
+            Ok(_) => {}
+            Err(error) if error.kind() == ErrorKind::WouldBlock => return Turned::Same,
+            Err(_) => return Turned::Ended(Why::Failed),
+        }
+    }
+    Turned::Same
+}

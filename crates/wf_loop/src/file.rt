@@ -1,0 +1,28 @@
+//! The files of a node's folder that are replaced whole.
+
+use std::alloc::{AllocError, Global};
+use std::fs::{OpenFile, OpenOptions};
+use std::io::Write;
+use std::rt::Files;
+use std::{fs, io};
+
+/// Writes a file, and syncs it.
+pub fn write_file<R: Files>(rt: &R, path: &str, bytes: &[u8]) -> io::Result<()> {
+    let mut options = OpenOptions::new();
+    options.write(true).create(true).truncate(true);
+    let mut file = options.open(rt, path)?;
+    file.write_all(bytes)?;
+    file.sync_all()
+}
+
+/// Puts these bytes in the place of a file: they are written and synced under a second name first, which is then renamed. The folder
+/// isn't synced: after a power cut either file may be there, whole.
+pub fn replace<R: Files>(rt: &R, path: &str, second: &str, bytes: &[u8]) -> io::Result<()> {
+    write_file(rt, second, bytes)?;
+    fs::rename(rt, second, path)
+}
+
+/// The path of a file in a folder.
+pub fn path_in(alloc: Global, folder: &str, name: &str) -> Result<String, AllocError> {
+    format!(in alloc; "{folder}/{name}")
+}

@@ -1,0 +1,140 @@
+//! A connection from a peer, on which this node hears.
+
+use crate::event::Why;
+use crate::socket::{Done, read, write};
+use mio::net::TcpStream;
+use std::alloc::Global;
+use wf_ballot::NodeId;
+use wf_client::outgoing::Outgoing;
+use wf_peer::{
+    GREETING_BYTES, Greeting, GreetingFault, Rejection, decode, encode, encode_rejection,
+};
+use wf_stream::Sink;
+use wf_timing::is_silent;
+
+/// The most bytes of a piece.
+pub(crate) const PIECE_BYTES: usize = 4_096;
+
+/// A connection from a peer.
+#[derive(Drop)]
+pub(crate) struct Heard {
+    stream: TcpStream,
+    from: Option<NodeId>,
+    greeting: Vec<u8>,
+    reply: Outgoing,
+    last: u64,
+}
+
+/// What came in one piece.
+#[derive(Clone, Copy, PartialEq, Eq)]
+pub(crate) enum Came {
+    /// Nothing now.
+    Nothing,
+    /// A part of a greeting, or of a message.
+    Part,
+    /// The greeting of a peer.
+    Greeting(Greeting),
+    /// This many bytes of a peer, at the front of the buffer.
+    Bytes(NodeId, usize),
+    /// It has ended.
+    Ended(Why),
+}
+
+impl Heard {
+    /// A connection that was accepted now.
+    pub(crate) fn new(alloc: Global, stream: TcpStream, now: u64) -> Self {
+        Heard {
+            stream,
+            from: None,
+            greeting: Vec::new(alloc),
+            reply: Outgoing::new(alloc),
+            last: now,
+        }
+    }
+
+    /// The peer, once it has greeted.
+    pub(crate) fn from(&self) -> Option<NodeId> {
+        self.from
+    }
+
+    /// Its stream.
+    pub(crate) fn stream(&mut self) -> &mut TcpStream {
+        &mut self.stream
+    }
+
+    /// Whether nothing came for too long.
+    pub(crate) fn is_silent(&self, now: u64) -> bool {
+        is_silent(self.last, now)
+    }
+
+    /// Lets the peer in: from now on its messages come.
+    pub(crate) fn let_in(&mut self, alloc: Global, peer: NodeId, own: &Greeting) -> Option<Why> {
+        let mut bytes = Vec::new(alloc);
+        if encode(own, &mut bytes).is_err() || self.reply.write(&bytes).is_err() {
+            return Some(Why::Memory);
+        }
+        self.from = Some(peer);
+        self.send()
+    }
+
+    /// Says why the peer isn't let in.
+    pub(crate) fn reject(&mut self, alloc: Global, why: Rejection) {
+        let mut bytes = Vec::new(alloc);
+        if encode_rejection(why, &mut bytes).is_ok() && self.reply.write(&bytes).is_ok() {
+            let _ = self.send();
+        }
+    }
+
+    /// Writes the rest of the answer to the greeting.
+    pub(crate) fn send(&mut self) -> Option<Why> {
+        for _ in 0..u64::MAX {
+            if self.reply.is_taken() {
+                return None;
+            }
+            match write(&mut self.stream, self.reply.rest()) {
+                Done::Bytes(count) => {
+                    let count = count.min(self.reply.remaining());
+                    self.reply.advance(count);
+                }
+                Done::Blocked => return None,
+                Done::Closed => return Some(Why::Closed),
+                Done::Failed => return Some(Why::Failed),
+            }
+        }
+        None
+    }
+
+    /// Reads once, into a buffer.
+    pub(crate) fn hear(&mut self, piece: &mut [u8; PIECE_BYTES], now: u64) -> Came {
+        let room = match self.from {
+            None => GREETING_BYTES.saturating_sub(self.greeting.len()),
+            Some(_) => PIECE_BYTES,
+        };
+        let room = room.min(PIECE_BYTES);
+        match read(&mut self.stream, &mut piece[..room]) {
+            Done::Bytes(count) => {
+                self.last = now;
+                let count = count.min(room);
+                match self.from {
+                    Some(from) => Came::Bytes(from, count),
+                    None => self.take_greeting(&piece[..count]),
+                }
+            }
+            Done::Blocked => Came::Nothing,
+            Done::Closed => Came::Ended(Why::Closed),
+            Done::Failed => Came::Ended(Why::Failed),
+        }
+    }
+
+    /// Takes in a piece of the greeting.
+    fn take_greeting(&mut self, piece: &[u8]) -> Came {
+        if self.greeting.extend_from_slice(piece).is_err() {
+            return Came::Ended(Why::Memory);
+        }
+        match decode(self.greeting.as_slice()) {
+            Ok(greeting) => Came::Greeting(greeting),
+            Err(GreetingFault::Short) => Came::Part,
+            Err(fault) => Came::Ended(Why::BadGreeting(fault)),
+        }
+    }
+}

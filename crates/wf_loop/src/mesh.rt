@@ -1,0 +1,443 @@
+//! The connections to and from the peers of a node.
+
+use crate::admin::PeerState;
+use crate::context::Context;
+use crate::dial::Dial;
+use crate::event::{Event, Why};
+use crate::heard::{Came, Heard, PIECE_BYTES};
+use crate::notes::Notes;
+use crate::plan::Plan;
+use crate::socket::{register, register_again};
+use crate::token::Socket;
+use mio::net::{TcpListener, TcpStream};
+use std::alloc::{AllocError, Global};
+use std::net::SocketAddr;
+use std::rt::Files;
+use std::time::Clock;
+use wf_actor::Process;
+use wf_ballot::{NodeId, SEQUENCES};
+use wf_peer::{Greeting, Heard as HeardOf, Progress, Rejection};
+use wf_tape::Tape;
+use wf_timing::CatchUp;
+
+/// The most pieces that a turn reads of a peer.
+const MOST_PIECES: u32 = 64;
+
+/// The most connections from peers at once.
+const HEARD_SLOTS: usize = 128;
+
+/// A peer whose history differs up to a sequence.
+#[derive(Clone, Copy)]
+pub(crate) struct Differing {
+    pub(crate) peer: usize,
+    pub(crate) sequence: u16,
+}
+
+/// The connections to and from the peers of a node, and what is known of them.
+#[derive(Drop)]
+pub(crate) struct Mesh {
+    pub(crate) plan: Plan,
+    listener: TcpListener,
+    pub(crate) dials: Vec<Dial>,
+    heards: Vec<Option<Heard>>,
+    pub(crate) states: Vec<PeerState>,
+    pub(crate) notes: Notes,
+    pub(crate) catch_up: CatchUp,
+    pub(crate) was_let_in: bool,
+    // the peer whose history differs, and a sequence up to which it does
+    pub(crate) differs: Option<Differing>,
+    // what a peer said for which the node has to end
+    pub(crate) end: Option<Rejection>,
+    // whether more waits to be read
+    pub(crate) is_busy: bool,
+}
+
+/// A connection to each node, none of them open.
+fn dials_of(alloc: Global, peers: &[SocketAddr]) -> Result<Vec<Dial>, AllocError> {
+    let mut dials = Vec::new(alloc);
+    for address in peers {
+        dials.push(Dial::new(alloc, *address))?;
+    }
+    Ok(dials)
+}
+
+/// Free slots for the connections from peers.
+fn free_slots(alloc: Global) -> Result<Vec<Option<Heard>>, AllocError> {
+    let mut slots = Vec::new(alloc);
+    for _ in 0..HEARD_SLOTS {
+        slots.push(None)?;
+    }
+    Ok(slots)
+}
+
+/// Nothing is known of the peers.
+fn unknown_peers(alloc: Global, count: usize) -> Result<Vec<PeerState>, AllocError> {
+    let mut states = Vec::new(alloc);
+    for _ in 0..count {
+        states.push(PeerState::default())?;
+    }
+    Ok(states)
+}
+
+impl Mesh {
+    /// No connection yet.
+    pub(crate) fn new(
+        alloc: Global,
+        plan: Plan,
+        listener: TcpListener,
+        heard: HeardOf,
+        time: u64,
+    ) -> Result<Self, AllocError> {
+        let dials = dials_of(alloc, plan.peers.as_slice())?;
+        let heards = free_slots(alloc)?;
+        let states = unknown_peers(alloc, plan.peers.len())?;
+        let notes = Notes::new(alloc, plan.own, heard)?;
+        Ok(Mesh {
+            plan,
+            listener,
+            dials,
+            heards,
+            states,
+            notes,
+            catch_up: CatchUp::new(time),
+            was_let_in: false,
+            differs: None,
+            end: None,
+            is_busy: false,
+        })
+    }
+
+    /// How far the node is, with the round and the promise of its start: peers compare these at the first greeting of a start alone, and
+    /// hear the later ones in messages.
+    pub(crate) fn progress<T: Tape + Drop>(&self, process: &Process<T>) -> Progress {
+        Progress {
+            published: process.node().published(),
+            ..self.plan.start
+        }
+    }
+
+    /// This node's greeting now. None: an allocation failed.
+    pub(crate) fn greeting<T: Tape + Drop>(&mut self, process: &Process<T>) -> Option<Greeting> {
+        self.notes.extend(process.node().history());
+        let progress = self.progress(process);
+        self.notes.greeting(progress)
+    }
+
+    /// Writes what was heard of the peers to the node's folder, if more was heard than it has.
+    pub(crate) fn save<R: Files + AllocGlobal>(&mut self, rt: &R) {
+        let Mesh { plan, notes, .. } = self;
+        notes.save(rt, plan.folder.as_str());
+    }
+
+    /// Accepts connections from peers.
+    pub(crate) fn accept<R: Clock + Eprint + AllocGlobal, T: Tape + Drop>(
+        &mut self,
+        context: &Context<'_, '_, R>,
+        process: &mut Process<T>,
+    ) {
+        for _ in 0..HEARD_SLOTS {
+            let Ok((stream, address)) = self.listener.accept() else {
+                return;
+            };
+            self.admit(context, process, stream, address);
+        }
+    }
+
+    /// Puts a connection from a peer's address into a free slot.
+    fn admit<R: Clock + Eprint + AllocGlobal, T: Tape + Drop>(
+        &mut self,
+        context: &Context<'_, '_, R>,
+        process: &mut Process<T>,
+        mut stream: TcpStream,
+        address: SocketAddr,
+    ) {
+        if !is_known(self.plan.peers.as_slice(), address) {
+            context.log.write(&Event::Dropped {
+                peer: None,
+                why: Why::UnknownAddress,
+            });
+            return;
+        }
+        let Some(index) = first_free(self.heards.as_slice()) else {
+            context.log.write(&Event::Dropped {
+                peer: None,
+                why: Why::NoSlot,
+            });
+            return;
+        };
+        let _ = stream.set_nodelay(true);
+        if register(context.registry, &mut stream, Socket::Heard(index)).is_ok() {
+            let heard = Heard::new(context.alloc(), stream, context.time);
+            self.hear_out(context, process, index, heard);
+        }
+    }
+
+    /// Reads what came from a peer, a bounded part of it, and delivers it.
+    pub(crate) fn hear<R: Clock + Eprint + AllocGlobal, T: Tape + Drop>(
+        &mut self,
+        context: &Context<'_, '_, R>,
+        process: &mut Process<T>,
+        index: usize,
+    ) {
+        let Some(slot) = self.heards.get_mut(index) else {
+            return;
+        };
+        let Some(heard) = slot.take() else {
+            return;
+        };
+        self.hear_out(context, process, index, heard);
+    }
+
+    /// Reads what came on a connection from a peer, and keeps it in its slot unless it has ended.
+    fn hear_out<R: Clock + Eprint + AllocGlobal, T: Tape + Drop>(
+        &mut self,
+        context: &Context<'_, '_, R>,
+        process: &mut Process<T>,
+        index: usize,
+        mut heard: Heard,
+    ) {
+        match self.read(context, process, &mut heard) {
+            None => {
+                if self.is_busy {
+                    register_again(context.registry, heard.stream(), Socket::Heard(index));
+                }
+                if let Some(slot) = self.heards.get_mut(index) {
+                    *slot = Some(heard);
+                }
+            }
+            Some(why) => {
+                let peer = number_of(heard.from());
+                drop(heard);
+                context.log.write(&Event::Dropped { peer, why });
+            }
+        }
+    }
+
+    /// Reads what came on a connection, a bounded part of it. Some: it has ended.
+    fn read<R: Clock + Eprint + AllocGlobal, T: Tape + Drop>(
+        &mut self,
+        context: &Context<'_, '_, R>,
+        process: &mut Process<T>,
+        heard: &mut Heard,
+    ) -> Option<Why> {
+        let mut piece = [0u8; PIECE_BYTES];
+        for _ in 0..MOST_PIECES {
+            match heard.hear(&mut piece, context.time) {
+                Came::Nothing => return heard.send(),
+                Came::Part => {}
+                Came::Greeting(greeting) => {
+                    if let Some(why) = self.let_in(context, process, heard, &greeting) {
+                        return Some(why);
+                    }
+                }
+                Came::Bytes(from, count) => {
+                    let piece = piece.split_at(count.min(PIECE_BYTES)).0;
+                    if let Some(why) = self.deliver(context, process, from, piece) {
+                        return Some(why);
+                    }
+                }
+                Came::Ended(why) => return Some(why),
+            }
+        }
+        self.is_busy = true;
+        None
+    }
+
+    /// Lets a peer in that has greeted, in the place of an older connection from it. Some: it isn't let in.
+    fn let_in<R: Clock + Eprint + AllocGlobal, T: Tape + Drop>(
+        &mut self,
+        context: &Context<'_, '_, R>,
+        process: &mut Process<T>,
+        heard: &mut Heard,
+        greeting: &Greeting,
+    ) -> Option<Why> {
+        if let Err(why) = self.admit_peer(None, greeting) {
+            heard.reject(context.alloc(), why);
+            return Some(Why::Rejected(why));
+        }
+        let peer = greeting.node;
+        self.close_older(context, peer);
+        let Some(own) = self.greeting(process) else {
+            return Some(Why::Memory);
+        };
+        process.open_receiver(context.alloc(), peer);
+        // its answers can come from now on
+        let number = peer.number() as usize;
+        self.catch_up.connect(number, context.time);
+        context.log.write(&Event::Accepted { peer: number });
+        heard.let_in(context.alloc(), peer, &own)
+    }
+
+    /// Whether a peer is let in that greets so. Whether its history differs is noted.
+    pub(crate) fn admit_peer(
+        &mut self,
+        place: Option<NodeId>,
+        greeting: &Greeting,
+    ) -> Result<(), Rejection> {
+        let admitted = self.notes.admit(place, greeting);
+        if admitted == Err(Rejection::OtherHistory) {
+            self.note_difference(greeting.node, greeting.progress.published.number());
+        } else if admitted == Ok(()) && self.differs_from(greeting.node) {
+            self.differs = None;
+        }
+        admitted
+    }
+
+    /// Notes that a peer's history differs up to a sequence.
+    pub(crate) fn note_difference(&mut self, peer: NodeId, sequence: u16) {
+        self.differs = Some(Differing {
+            peer: peer.number() as usize,
+            sequence,
+        });
+    }
+
+    /// Whether the history of this peer differed.
+    fn differs_from(&self, peer: NodeId) -> bool {
+        match self.differs {
+            Some(differing) => differing.peer == peer.number() as usize,
+            None => false,
+        }
+    }
+
+    /// Closes the connections of a peer, in whose place a newer one comes.
+    fn close_older<R: Clock + Eprint>(&mut self, context: &Context<'_, '_, R>, peer: NodeId) {
+        for slot in &mut self.heards {
+            if is_of(slot, peer) {
+                *slot = None;
+                context.log.write(&Event::Dropped {
+                    peer: Some(peer.number() as usize),
+                    why: Why::Replaced,
+                });
+            }
+        }
+    }
+
+    /// Judges what came from a peer, and delivers it. Some: the connection has ended.
+    fn deliver<R: AllocGlobal, T: Tape + Drop>(
+        &mut self,
+        context: &Context<'_, '_, R>,
+        process: &mut Process<T>,
+        peer: NodeId,
+        piece: &[u8],
+    ) -> Option<Why> {
+        let Ok(count) = process.receive(peer, piece) else {
+            return Some(Why::BadMessage);
+        };
+        if let Some(state) = self.states.get_mut(peer.number() as usize) {
+            state.heard = state.heard.saturating_add(count as u64);
+        }
+        for _ in 0..count {
+            if !self.notes.admits(process, peer) {
+                process.open_receiver(context.alloc(), peer);
+                return Some(Why::WrongSender);
+            }
+            let _ = process.hear(context.alloc(), peer);
+        }
+        None
+    }
+
+    /// Closes the connections from peers on which nothing came for too long. Once the last sequence is published nobody asks any more,
+    /// and none is closed.
+    pub(crate) fn close_silent<R: Clock + Eprint>(
+        &mut self,
+        context: &Context<'_, '_, R>,
+        published: u16,
+    ) {
+        if published == SEQUENCES {
+            return;
+        }
+        for slot in &mut self.heards {
+            if is_silent_at(slot, context.time) {
+                let peer = peer_in(slot);
+                *slot = None;
+                context.log.write(&Event::Dropped {
+                    peer,
+                    why: Why::Silent,
+                });
+            }
+        }
+    }
+
+    /// Closes all connections: the node was opened anew.
+    pub(crate) fn close_all(&mut self, time: u64) {
+        for dial in &mut self.dials {
+            dial.end(time);
+        }
+        for slot in &mut self.heards {
+            *slot = None;
+        }
+    }
+
+    /// Notes which peers are connected, and how many messages to them were dropped.
+    pub(crate) fn note_states<T: Tape + Drop>(&mut self, process: &Process<T>) {
+        for (index, state) in self.states.iter_mut().enumerate() {
+            state.is_connected = match self.dials.get(index) {
+                Some(dial) => dial.is_open(),
+                None => false,
+            };
+            if let Some(peer) = id_of(index) {
+                state.lost = process.dropped(peer);
+            }
+        }
+    }
+}
+
+/// Whether nothing came for too long on the connection in a slot.
+fn is_silent_at(slot: &Option<Heard>, time: u64) -> bool {
+    match slot {
+        Some(heard) => heard.is_silent(time),
+        None => false,
+    }
+}
+
+/// The number of the peer in a slot, if it is known.
+fn peer_in(slot: &Option<Heard>) -> Option<usize> {
+    match slot {
+        Some(heard) => number_of(heard.from()),
+        None => None,
+    }
+}
+
+/// Whether a connection is one of this peer.
+fn is_of(slot: &Option<Heard>, peer: NodeId) -> bool {
+    match slot {
+        Some(heard) => heard.from() == Some(peer),
+        None => false,
+    }
+}
+
+/// The number of a node, if it is known.
+fn number_of(node: Option<NodeId>) -> Option<usize> {
+    match node {
+        Some(node) => Some(node.number() as usize),
+        None => None,
+    }
+}
+
+/// The node of a number.
+pub(crate) fn id_of(number: usize) -> Option<NodeId> {
+    match u8::try_from(number) {
+        Ok(number) => NodeId::new(number),
+        Err(_) => None,
+    }
+}
+
+/// Whether a connection comes from a peer's address; its port is any.
+fn is_known(peers: &[SocketAddr], address: SocketAddr) -> bool {
+    for peer in peers {
+        if peer.ip() == address.ip() {
+            return true;
+        }
+    }
+    false
+}
+
+/// The first free slot.
+fn first_free(slots: &[Option<Heard>]) -> Option<usize> {
+    for (index, slot) in slots.iter().enumerate() {
+        if slot.is_none() {
+            return Some(index);
+        }
+    }
+    None
+}

@@ -1,0 +1,113 @@
+//! What was heard of the peers, and the digests of this node's history.
+
+use crate::file::{path_in, replace};
+use std::alloc::{AllocError, Global};
+use std::io;
+use std::rt::Files;
+use wf_actor::Process;
+use wf_ballot::NodeId;
+use wf_digest::Digests;
+use wf_learner::History;
+use wf_peer::{Greeting, Heard, Own, Progress, Rejection, admit, is_from};
+use wf_tape::Tape;
+
+/// What was heard of the peers, and the digests of this node's history.
+#[derive(Drop)]
+pub(crate) struct Notes {
+    own: Own,
+    heard: Heard,
+    digests: Digests,
+    // whether more was heard than the file has
+    is_new: bool,
+}
+
+impl Notes {
+    /// What was heard before, and the digest of no history.
+    pub(crate) fn new(alloc: Global, own: Own, heard: Heard) -> Result<Self, AllocError> {
+        Ok(Notes {
+            own,
+            heard,
+            digests: Digests::new(alloc)?,
+            is_new: false,
+        })
+    }
+
+    /// Whether a peer may send the message that has arrived from it; then what it tells of the peer is kept.
+    pub(crate) fn admits<T: Tape>(&mut self, process: &Process<T>, peer: NodeId) -> bool {
+        let Some(message) = process.arrived(peer) else {
+            return true;
+        };
+        if !is_from(message, peer) {
+            return false;
+        }
+        let before = self.heard.of(peer);
+        self.heard.hear(peer, message);
+        self.is_new = self.is_new || self.heard.of(peer) != before;
+        true
+    }
+
+    /// Writes what was heard to the file `heard` of a folder, if more was heard than it has. Where that fails it is tried again later.
+    pub(crate) fn save<R: Files + AllocGlobal>(&mut self, rt: &R, folder: &str) {
+        if self.is_new && write_heard(rt, folder, &self.heard).is_ok() {
+            self.is_new = false;
+        }
+    }
+
+    /// Takes in what was published since.
+    pub(crate) fn extend(&mut self, history: &History) {
+        let _ = self.digests.extend(history);
+    }
+
+    /// The digest of the history up to a sequence.
+    pub(crate) fn digest_at(&self, number: u16) -> Option<[u8; 32]> {
+        let seq = wf_ballot::Seq::new(number)?;
+        self.digests.at(seq)
+    }
+
+    /// This node's greeting.
+    pub(crate) fn greeting(&self, progress: Progress) -> Option<Greeting> {
+        let digest = self.digests.at(progress.published)?;
+        Some(Greeting {
+            farm: self.own.farm,
+            nodes: self.own.nodes,
+            node: self.own.node,
+            progress,
+            digest,
+        })
+    }
+
+    /// Whether a peer that greets so is let in; then that is kept.
+    pub(crate) fn admit(
+        &mut self,
+        place: Option<NodeId>,
+        greeting: &Greeting,
+    ) -> Result<(), Rejection> {
+        let node = greeting.node;
+        let digest = self.digests.at(greeting.progress.published);
+        admit(&self.own, place, self.heard.of(node), digest, greeting)?;
+        self.heard.greet(node, greeting.progress);
+        self.is_new = true;
+        Ok(())
+    }
+
+    /// The latest sequence that was heard of.
+    pub(crate) fn latest(&self, nodes: usize) -> u16 {
+        let mut latest = 0;
+        for number in 0..nodes.min(64) {
+            if let Some(node) = NodeId::new(number as u8) {
+                if let Some(progress) = self.heard.of(node) {
+                    latest = progress.published.number().max(latest);
+                }
+            }
+        }
+        latest
+    }
+}
+
+/// Writes what was heard to the file `heard` of a folder.
+fn write_heard<R: Files + AllocGlobal>(rt: &R, folder: &str, heard: &Heard) -> io::Result<()> {
+    let text = heard.text(rt.alloc())?;
+    let path = path_in(rt.alloc(), folder, "heard")?;
+    let second = path_in(rt.alloc(), folder, "heard.new")?;
+    replace(rt, path.as_str(), second.as_str(), &text)
+}

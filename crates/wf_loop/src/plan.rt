@@ -1,0 +1,53 @@
+//! Which node of a farm it is, and where the others are.
+
+use std::alloc::AllocError;
+use std::net::SocketAddr;
+use thiserror::Error;
+use wf_peer::{Own, Progress};
+
+/// Which node of a farm it is, and where the others are.
+#[derive(Drop)]
+pub struct Plan {
+    /// The farm and the node.
+    pub own: Own,
+    /// How far the node was at this start.
+    pub start: Progress,
+    /// The node's folder.
+    pub folder: String,
+    /// The addresses of all nodes, that of node i at index i: as many as the farm has nodes.
+    pub peers: Vec<SocketAddr>,
+    /// Where clients come.
+    pub http: SocketAddr,
+    /// Where peers come.
+    pub listen: SocketAddr,
+    /// Where the operator comes, if anywhere.
+    pub admin: Option<SocketAddr>,
+    /// The number of clients at once.
+    pub clients: usize,
+}
+
+/// Why a node doesn't begin.
+#[derive(Clone, Copy, Debug, PartialEq, Eq, Error)]
+pub enum LoopFault {
+    /// The system gives no poll.
+    #[error("no poll")]
+    Poll,
+    /// The clients' address is taken, or not permitted.
+    #[error("the address of --http is taken or not permitted")]
+    Http,
+    /// The peers' address is taken, or not permitted.
+    #[error("the address of --listen is taken or not permitted")]
+    Listen,
+    /// The operator's address is taken, or not permitted.
+    #[error("the address of --admin is taken or not permitted")]
+    Admin,
+    /// An allocation failed.
+    #[error("out of memory")]
+    Memory,
+}
+
+impl From<AllocError> for LoopFault {
+    fn from(_: AllocError) -> Self {
+        LoopFault::Memory
+    }
+}

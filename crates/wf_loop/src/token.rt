@@ -1,0 +1,70 @@
+//! The tokens of sockets: which socket an event is about.
+
+/// The first token of the connections to peers: that of node i is this plus i.
+const DIAL: usize = 64;
+
+/// The first token of the connections from peers.
+const HEARD: usize = 128;
+
+/// The first token of the operator's connections.
+const ASKER: usize = 512;
+
+/// The first token of clients.
+const CLIENT: usize = 1_024;
+
+/// A socket.
+#[derive(Clone, Copy, Debug, PartialEq, Eq)]
+pub(crate) enum Socket {
+    /// The listener for clients.
+    Http,
+    /// The listener for peers.
+    Listen,
+    /// The listener for the operator.
+    Admin,
+    /// The connection to the node of this number.
+    Dial(usize),
+    /// The connection in this slot, from a peer.
+    Heard(usize),
+    /// The operator's connection in this slot.
+    Asker(usize),
+    /// The client in this slot.
+    Client(usize),
+}
+
+impl Socket {
+    /// Its token.
+    pub(crate) fn token(self) -> usize {
+        match self {
+            Socket::Http => 0,
+            Socket::Listen => 1,
+            Socket::Admin => 2,
+            Socket::Dial(index) => DIAL.saturating_add(index),
+            Socket::Heard(index) => HEARD.saturating_add(index),
+            Socket::Asker(index) => ASKER.saturating_add(index),
+            Socket::Client(index) => CLIENT.saturating_add(index),
+        }
+    }
+
+    /// The socket of a token.
+    pub(crate) fn of(token: usize) -> Socket {
+        match token {
+            0 => Socket::Http,
+            1 => Socket::Listen,
+            2 => Socket::Admin,
+            _ => Socket::of_connection(token),
+        }
+    }
+
+    /// The connection of a token.
+    fn of_connection(token: usize) -> Socket {
+        if token < HEARD {
+            Socket::Dial(token.saturating_sub(DIAL))
+        } else if token < ASKER {
+            Socket::Heard(token - HEARD)
+        } else if token < CLIENT {
+            Socket::Asker(token - ASKER)
+        } else {
+            Socket::Client(token - CLIENT)
+        }
+    }
+}
