@@ -1,4 +1,4 @@
-"""A farm of the built program, `wfarm serve` on a free port of this machine: started, asked, ended and killed."""
+"""A farm of the built program on free ports of this machine: `wfarm serve`, or nodes in processes of their own (`wfarm node`)."""
 
 import pathlib
 import re
@@ -101,3 +101,57 @@ class Farm:
         self.process.kill()
         self.process.wait()
         self.process.stdout.close()
+
+
+def free_ports(count):
+    """Ports that nothing listens at now."""
+    held = [socket.create_server(("127.0.0.1", 0)) for _ in range(count)]
+    ports = [each.getsockname()[1] for each in held]
+    for each in held:
+        each.close()
+    return ports
+
+
+class Node:
+    """A node in a process of its own, on a folder of its own. `before` are words before the program's."""
+
+    def __init__(self, program, number, folder, peers, clients, operator):
+        self.program, self.number, self.folder, self.peers = str(program), number, pathlib.Path(folder), peers
+        self.clients, self.operator = f"127.0.0.1:{clients}", f"127.0.0.1:{operator}"
+        self.process = None
+
+    def init(self, farm, nodes):
+        self.folder.mkdir(parents=True)
+        words = ["init", "--state", str(self.folder), "--farm", farm, "--id", str(self.number), "--nodes", str(nodes)]
+        subprocess.run([self.program, *words], check=True, capture_output=True)
+
+    def start(self, before=(), **settings):
+        words = ["node", "--state", str(self.folder), "--peers", self.peers, "--http", self.clients, "--admin", self.operator, "--log"]
+        with (self.folder.parent / f"log-{self.number}").open("ab") as log:
+            self.process = subprocess.Popen([*before, self.program, *words], stdin=subprocess.DEVNULL, stdout=log, stderr=log, **settings)
+
+    def kill(self):
+        """Ends the node by SIGKILL, wherever it is."""
+        if self.process is not None:
+            self.process.kill()
+            self.process.wait()
+            self.process = None
+
+    def published(self):
+        """The last sequence that the node has published; None where it doesn't answer."""
+        try:
+            with urllib.request.urlopen(f"http://{self.clients}/status", timeout=20) as answer:
+                return int(re.match(rb"node \d+ published (\d+) ", answer.read())[1])
+        except (OSError, TypeError):
+            return None
+
+
+def nodes_in(program, folder, farm, count=3):
+    """New nodes of a farm, not started yet."""
+    ports = free_ports(3 * count)
+    peers = ",".join(f"127.0.0.1:{port}" for port in ports[:count])
+    nodes = [Node(program, number, pathlib.Path(folder) / f"node-{number}", peers, ports[count + number], ports[2 * count + number])
+             for number in range(count)]
+    for node in nodes:
+        node.init(farm, count)
+    return nodes

@@ -23,6 +23,7 @@ from kit import TOP, git, load_rt, stamp_libraries
 
 TICKS = os.sysconf("SC_CLK_TCK")
 PARTS = ("proof", "tests", "edits")
+LEAST = 2.5  # processor minutes of a crate that has a row of its own
 COSTS = TOP / "docs" / "CI.md"
 MARKS = "<!-- gate_cost.py: begin -->\n", "<!-- gate_cost.py: end -->\n"
 
@@ -82,15 +83,18 @@ def look(seen, gate):
 
 
 def table(seen):
-    """The lines of the table: processor minutes per crate."""
+    """The lines of the table: processor minutes per crate, of those that take two and a half at least, and of all others together."""
     cost = collections.defaultdict(lambda: dict.fromkeys(PARTS, 0.0))
     for (crate, part), minutes in seen.values():
         cost[crate][part] += minutes
     rows = sorted(cost.items(), key=lambda it: -sum(it[1].values()))
+    large = [(f"`{crate}`", parts) for crate, parts in rows if sum(parts.values()) >= LEAST]
+    small = [parts for _, parts in rows[len(large):]]
+    others = (f"{len(small)} others", {it: sum(parts[it] for parts in small) for it in PARTS})
     lines = ["| Crate | Proof | Tests | Edits | Sum |", "|---|---|---|---|---|"]
-    for crate, parts in rows:
+    for name, parts in [*large, others]:
         figures = " | ".join(f"{parts[it]:.1f}" for it in PARTS)
-        lines.append(f"| `{crate}` | {figures} | {sum(parts.values()):.1f} |")
+        lines.append(f"| {name} | {figures} | {sum(parts.values()):.1f} |")
     return "\n".join(lines) + "\n"
 
 

@@ -1,12 +1,13 @@
 #!/usr/bin/python3
 """Tries the page of examples/viewer in a real browser, over the built program: not in CI.
 
-Usage: tools/try_viewer.py [PROGRAM] [--shots FOLDER] [--wms ADDRESS]    (default crates/wfarm/out/wfarm)
+Usage: tools/try_viewer.py [PROGRAM] [--nodes] [--shots FOLDER] [--wms ADDRESS]    (default crates/wfarm/out/wfarm)
 
 It serves the page by nginx with examples/nginx.conf (its port, certificate, publishers and folder changed), opens it in headless
 Chromium, and looks at what it shows: each tile's pixels beside the farm's own bytes, labels across borders, which node drew each
 tile, publishes, older sequences, errors, keyboard and window. Between nginx and the farm stands a relay that counts connections, so
-that the tool knows for itself which node answered. With --wms it also looks at another WMS 1.3.0 through the page, such as MapServer
+that the tool knows for itself which node answered. Then it looks at three nodes in processes of their own, of which one is ended and
+started again, through examples/viewer/local.conf (`--nodes`: at these alone). With --wms it also looks at another WMS 1.3.0 through the page, such as MapServer
 (an address up to the query, `http://127.0.0.1:8090/wms?map=county`). Screenshots go to the folder.
 
 It needs Debian's nginx-light, libjs-leaflet, chromium, chromium-driver, python3-selenium and openssl.
@@ -34,7 +35,7 @@ from selenium.webdriver.common.keys import Keys
 
 HERE = pathlib.Path(__file__).resolve().parent
 sys.path.insert(0, str(HERE))
-from farm import Farm  # noqa: E402
+from farm import Farm, nodes_in  # noqa: E402
 
 EXAMPLES = HERE.parent / "examples"
 NODES = 3
@@ -140,6 +141,10 @@ class Nginx:
         (folder / "nginx.conf").write_text(
             f"daemon off; pid {folder}/pid; error_log {folder}/log;\nevents {{}}\nhttp {{ access_log off; {types}\n{temporary}{site}\n}}\n",
             encoding="utf-8")
+        self.start(folder)
+
+    def start(self, folder):
+        """Starts nginx with the configuration in the folder, and waits until it listens."""
         self.process = subprocess.Popen(["nginx", "-e", f"{folder}/log", "-p", str(folder), "-c", f"{folder}/nginx.conf"])
         for _ in range(100):
             try:
@@ -159,6 +164,28 @@ class Nginx:
     def end(self):
         self.process.terminate()
         self.process.wait()
+
+
+class LocalNginx(Nginx):
+    """nginx with examples/viewer/local.conf, its ports changed, and a log of what was asked."""
+
+    def __init__(self, folder, base):
+        self.folder = folder
+        with socket.create_server(("127.0.0.1", 0)) as free:
+            self.port = free.getsockname()[1]
+        self.address = f"http://127.0.0.1:{self.port}/"
+        site = (EXAMPLES / "viewer" / "local.conf").read_text(encoding="utf-8")
+        for said, here in ((":8081", f":{self.port}"), ("/tmp/wfarm-viewer", f"{folder}/local"), ("127.0.0.1:741$1", f"127.0.0.1:{base // 10}$1"),
+                           ("root .;", f"root {EXAMPLES / 'viewer'};"), ("access_log off;", f"log_format asked $request_uri; access_log {folder}/asked asked;")):
+            assert said in site, said
+            site = site.replace(said, here)
+        (folder / "nginx.conf").write_text(site, encoding="utf-8")
+        self.start(folder)
+
+    def drew(self, path):
+        """The node that was asked last for this path."""
+        asked = (self.folder / "asked").read_text().splitlines()
+        return [int(it.split("/")[2]) for it in asked if it.startswith("/node/") and it.partition("/node/")[2][2:] == path][-1]
 
 
 class Look:
@@ -461,6 +488,97 @@ def try_ends(page, farm, relay, look, program):
     return again
 
 
+def free_base():
+    """A port that ends in 0, and with the next two is free."""
+    for base in range(21_010, 60_000, 10):
+        try:
+            for port in range(base, base + 3):
+                socket.create_server(("127.0.0.1", port)).close()
+            return base
+        except OSError:
+            continue
+    raise OSError("no ports are free")
+
+
+def asking(node):
+    """Asks one node by its own address."""
+    def ask(path, body=None):
+        with urllib.request.urlopen(f"http://{node.clients}/{path}", data=body, timeout=60) as it:
+            return it.status, it.read()
+    return ask
+
+
+def lines_of(page):
+    return page.text("nodes").splitlines()
+
+
+def try_nodes(page, look, folder, program):
+    """Three nodes in processes of their own, each at an address of its own."""
+    base = free_base()
+    nodes = nodes_in(program, folder / "nodes", "viewer")
+    for number, node in enumerate(nodes):
+        node.clients = f"127.0.0.1:{base + number}"
+        node.start()
+    nginx = LocalNginx(folder, base)
+    try:
+        page.browser.get(f"{nginx.address}?nodes=node/0,node/1,node/2")
+        look_at_all(page, look, nginx, nodes)
+        look_at_two(page, look, nginx, nodes, folder)
+        look_at_links(page, look)
+    finally:
+        nginx.end()
+        for node in nodes:
+            node.kill()
+
+
+def look_at_all(page, look, nginx, nodes):
+    """All nodes are there: each tile is asked at one that is known."""
+    look.within(30, "three nodes are seen at 0", lambda: [it.split()[:4] for it in lines_of(page)] == [["node", str(k), "published", "0"] for k in range(NODES)])
+    asking(nodes[0])("publish", (ACROSS % (1, "200 220 190")).encode())
+    look.within(15, "a publish is seen", lambda: page.text("shown") == "1 of 1" and page.loaded())
+    page.zoom(2)
+    look.within(30, "tiles at level 2", page.loaded)
+    page.click("tint")
+    look.within(60, "each is tinted by its node", lambda: page.loaded() and all(it["by"] for it in page.tiles()))
+    tiles = page.tiles()
+    true = sum(it["by"] == f"node {nginx.drew(it['path'])}" for it in tiles)
+    look(f"of {len(tiles)} tiles the node is right of {true}", true == len(tiles))
+    look("all three drew some", {it["by"] for it in tiles} == {f"node {k}" for k in range(NODES)})
+    good, bad = alike(tiles, asking(nodes[0]))
+    look(f"{good} have the pixels that node 0 gives, {bad} don't", not bad)
+    page.shoot("nodes")
+
+
+def look_at_two(page, look, nginx, nodes, folder):
+    """One node is ended, and started again."""
+    nodes[2].kill()
+    look.within(15, "an ended node is shown as gone, with the time", lambda: re.search(r"\(gone since [\d:]+", lines_of(page)[2]) is not None)
+    page.zoom(3)
+    look.within(60, "its tiles come from the others", lambda: page.loaded() and {it["by"] for it in page.tiles()} == {"node 0", "node 1"})
+    good, bad = alike(page.tiles(), asking(nodes[1]))
+    look(f"{good} have the pixels that node 1 gives, {bad} don't", not bad)
+    (folder / "next.map").write_text(ACROSS % (2, "230 150 120"), encoding="utf-8")
+    page.publish(folder / "next.map")
+    look.within(20, "two nodes publish", lambda: page.text("answer") == "Published as sequence 2." and page.text("shown") == "2 of 2")
+    page.shoot("gone")
+    nodes[2].start()
+    look.within(30, "the node is back, and at 2", lambda: "gone" not in page.text("nodes") and lines_of(page)[2].startswith("node 2 published 2 "))
+    look.within(60, "and draws again", lambda: page.loaded() and {it["by"] for it in page.tiles()} == {f"node {k}" for k in range(NODES)})
+
+
+def look_at_links(page, look):
+    """Two sequences side by side, and the address of what is shown."""
+    page.click("tint")
+    page.set_to("other", 1)
+    page.click("compare")
+    look.within(30, "both maps carry their sequence", lambda: page.loaded("right") and (page.text("left-number"), page.text("right-number")) == ("sequence 2", "sequence 1"))
+    where = page.run("const it = state.maps.left.map; return [it.getZoom(), it.getCenter().lng.toFixed(3)]")
+    page.browser.get(page.run("return document.getElementById('link').href"))
+    page.browser.refresh()
+    look.within(40, "the link shows the same", lambda: page.loaded("right") and (page.text("left-number"), page.text("right-number")) == ("sequence 2", "sequence 1")
+                and page.run("const it = state.maps.left.map; return [it.getZoom(), it.getCenter().lng.toFixed(3)]") == where)
+
+
 def try_other(page, nginx, look, wms):
     query = wms.partition("?")[2]
     page.browser.get(f"{nginx.address}?" + urllib.parse.urlencode({"wms": f"other?{query}&" if query else "other"}))
@@ -503,41 +621,51 @@ def open_browser():
     return browser
 
 
+def try_farm(page, look, folder, given):
+    """A farm of one process, behind a proxy."""
+    program, relay = str(given.program), Relay()
+    farm = Farm(program, 1_000_000, None)
+    relay.aim(farm.port)
+    nginx = Nginx(folder, relay, given.wms)
+    try:
+        page.browser.get(nginx.address)
+        try_first_maps(page, relay, look)
+        try_renderers(page, relay, look)
+        try_history(page, relay, look)
+        try_publishing(page, relay, look, folder, nginx)
+        try_keyboard(page, look)
+        try_systems(page, relay, look)
+        try_odd_maps(page, relay, look)
+        try_window(page, look)
+        farm = try_ends(page, farm, relay, look, program)
+        if given.wms:
+            try_other(page, nginx, look, given.wms)
+    finally:
+        nginx.end()
+        farm.process.kill()
+        farm.process.wait()
+
+
 def main():
     parser = argparse.ArgumentParser(description=__doc__, formatter_class=argparse.RawDescriptionHelpFormatter)
     parser.add_argument("program", nargs="?", default=HERE.parent / "crates" / "wfarm" / "out" / "wfarm")
+    parser.add_argument("--nodes", action="store_true")
     parser.add_argument("--shots", type=pathlib.Path)
     parser.add_argument("--wms")
     given = parser.parse_args()
     if given.shots:
         given.shots.mkdir(parents=True, exist_ok=True)
-    program, look, relay = str(given.program), Look(), Relay()
+    look = Look()
     with tempfile.TemporaryDirectory(prefix="wfarm-viewer-") as name:
-        folder = pathlib.Path(name)
-        farm = Farm(program, 1_000_000, None)
-        relay.aim(farm.port)
-        nginx = Nginx(folder, relay, given.wms)
         page = Page(open_browser(), given.shots)
         try:
-            page.browser.get(nginx.address)
-            try_first_maps(page, relay, look)
-            try_renderers(page, relay, look)
-            try_history(page, relay, look)
-            try_publishing(page, relay, look, folder, nginx)
-            try_keyboard(page, look)
-            try_systems(page, relay, look)
-            try_odd_maps(page, relay, look)
-            try_window(page, look)
-            farm = try_ends(page, farm, relay, look, program)
-            if given.wms:
-                try_other(page, nginx, look, given.wms)
+            if not given.nodes:
+                try_farm(page, look, pathlib.Path(name), given)
+            try_nodes(page, look, pathlib.Path(name), str(given.program))
             said = page.errors()
             look("nothing in the console: " + "; ".join(said[:3]), not said)
         finally:
             page.browser.quit()
-            nginx.end()
-            farm.process.kill()
-            farm.process.wait()
     print(f"{look.good} as they should be, {look.bad} not")
     return 1 if look.bad else 0
 

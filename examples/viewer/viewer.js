@@ -10,9 +10,12 @@ const TRIES = 3; // of a tile at whose side others connected
 const CALM = 3; // answers of /status in turn, before a tile and after it
 const byId = (id) => document.getElementById(id);
 
-// The server: the farm at this page's address, unless the page's address names another WMS, which has no history and no nodes.
-const other = new URLSearchParams(location.search).get('wms');
-const server = { address: other || 'wms', isFarm: !other };
+// The server: the farm at this page's address; with ?nodes=A,B,C one whose nodes have an address each, in the order of their numbers;
+// with ?wms=ADDRESS another WMS, which has no history and no nodes.
+const words = new URLSearchParams(location.search);
+const other = words.get('wms');
+const server = { address: other || 'wms', isFarm: !other, nodes: (words.get('nodes') || '').split(',').filter(Boolean) };
+const hasAddresses = server.nodes.length > 0;
 
 const state = {
   sequence: null, // the last one that is published, where the server has any
@@ -49,10 +52,16 @@ const wordsOf = (error) => (error instanceof Silence ? `The ${server.isFarm ? 'f
 
 // ---- requests
 
+// A path at a node that has an address of its own, and at the server otherwise.
+const pathAt = (node, path) => (hasAddresses ? `${server.nodes[node].replace(/\/$/, '')}/${path}` : path);
+
+// A picture of a sequence never changes, so the browser may keep it; all else is asked anew.
+const cacheFor = (path) => (/[?&]MAPSEQ=[1-9]/.test(path) ? 'default' : 'no-store');
+
 async function ask(path, more = {}) {
   let answer;
   try {
-    answer = await fetch(path, { cache: 'no-store', ...more });
+    answer = await fetch(path, { cache: cacheFor(path), ...more });
     return { status: answer.status, bytes: new Uint8Array(await answer.arrayBuffer()) };
   } catch (error) {
     throw error.name === 'AbortError' ? error : new Silence();
@@ -201,7 +210,7 @@ async function layersAt(sequence) {
     const [minx, miny, maxx, maxy] = extent();
     const box = crs() === 'EPSG:4326' ? [miny, minx, maxy, maxx] : [minx, miny, maxx, maxy];
     state.found.set(sequence, Promise.all(names.map(async (name) => {
-      const text = textOf(await get(queryOf(box, 1, [name], sequence)));
+      const text = textOf(await askAny(queryOf(box, 1, [name], sequence)));
       return text.startsWith('P6') || rejectionOf(text).code !== 'LayerNotDefined';
     })).then((there) => names.filter((_, k) => there[k])).catch((error) => {
       state.found.delete(sequence);
@@ -227,8 +236,8 @@ function alone(job) {
   return mine;
 }
 
-async function statusOf(signal) {
-  const line = textOf(await get('status', signal)).trim();
+async function statusOf(path, signal) {
+  const line = textOf(await get(path, signal)).trim();
   const found = /^node (\d+) published (\d+) proposal (.*)$/.exec(line);
   if (!found) throw new Rejection('The server says no status of a farm.');
   return { line, node: Number(found[1]), sequence: Number(found[2]), proposal: found[3] };
@@ -243,7 +252,7 @@ const nodesHere = () => [...state.nodes].filter(([, it]) => it.missed < 2).map((
 
 // Asks for /status: one more answer in turn, or the first one.
 async function hearTurn(signal) {
-  const { node } = await statusOf(signal);
+  const { node } = await statusOf('status', signal);
   turn.calm = node === turn.next ? turn.calm + 1 : 0;
   turn.next = (node + 1) % nodesHere().length;
   return turn.calm > 0;
@@ -258,8 +267,30 @@ async function awaitTurn(wanted, signal) {
   return false;
 }
 
+// Asks the node at its own address, and where it doesn't answer the next one that does: the bytes, and who gave them.
+async function askAddress(wanted, path, signal) {
+  const others = nodesHere().filter((it) => it !== wanted);
+  for (const node of [wanted, ...others]) {
+    try {
+      return { bytes: await get(pathAt(node, path), signal), node };
+    } catch (error) {
+      if (!(error instanceof Silence)) throw error;
+      missNode(node);
+    }
+  }
+  throw new Silence();
+}
+
+// What any node answers: the first that does, those first that published the most.
+async function askAny(path, signal) {
+  if (!hasAddresses) return get(path, signal);
+  const all = nodesHere().sort((a, b) => state.nodes.get(b).sequence - state.nodes.get(a).sequence);
+  return (await askAddress(all.length ? all[0] : 0, path, signal)).bytes;
+}
+
 // Asks a node, and says which one answered: null where that isn't known.
 async function askNode(wanted, path, signal) {
+  if (hasAddresses) return askAddress(wanted, path, signal);
   let bytes = null;
   for (let tries = 0; tries < TRIES; tries += 1) {
     let isSure = await awaitTurn(wanted, signal);
@@ -298,7 +329,7 @@ const isBehind = (bytes) => textOf(bytes.subarray(0, 1024)).includes('map sequen
 // Asks for a picture; a node that is behind doesn't have the sequence yet, and then the next one is asked.
 async function fetchTile(path, signal) {
   for (let left = nodesHere().length; ; left -= 1) {
-    const bytes = await get(path, signal);
+    const bytes = await askAny(path, signal);
     if (left < 1 || !isBehind(bytes)) return bytes;
   }
 }
@@ -311,7 +342,8 @@ async function drawTile(tile, canvas, coords, sequence, signal) {
   }
   const path = queryOf(boxOf(coords), TILE, names, sequence);
   if (tints()) {
-    const { bytes, node } = await alone(() => (signal.aborted ? { bytes: null } : askNode(nodeFor(coords, sequence), path, signal)));
+    const job = () => (signal.aborted ? { bytes: null } : askNode(nodeFor(coords, sequence), path, signal));
+    const { bytes, node } = await (hasAddresses ? job() : alone(job));
     if (bytes === null) return;
     const late = isBehind(bytes);
     await paint(late ? await fetchTile(path, signal) : bytes, canvas);
@@ -400,6 +432,38 @@ function redraw() {
     if (isNew) follow('right', 'left');
     state.maps.right.map.setView(state.maps.left.map.getCenter(), state.maps.left.map.getZoom(), { animate: false });
   }
+  if (isFirst) {
+    state.maps.left.map.on('moveend', sayWhatIsShown);
+    showLinked();
+  }
+  sayWhatIsShown();
+}
+
+// The numbers on the two maps, where both are there, and the address of what is shown.
+function sayWhatIsShown() {
+  const compares = !byId('right').hidden;
+  for (const [id, input] of [['left', 'sequence'], ['right', 'other']]) {
+    byId(`${id}-number`).hidden = !compares;
+    byId(`${id}-number`).textContent = `sequence ${byId(input).value}`;
+  }
+  const map = state.maps.left?.map;
+  if (!map) return;
+  const { lng, lat } = map.getCenter();
+  const view = { s: byId('sequence').value, x: lng.toFixed(6), y: lat.toFixed(6), z: map.getZoom(), ...(compares ? { beside: byId('other').value } : {}) };
+  byId('link').href = `${location.pathname}${location.search}#${new URLSearchParams(view)}`;
+}
+
+// Shows what the page's address says after '#', once the map is there.
+function showLinked() {
+  const view = new URLSearchParams(location.hash.slice(1));
+  if (!view.has('s') || !state.maps.left) return;
+  history.replaceState(null, '', location.pathname + location.search);
+  byId('sequence').value = view.get('s');
+  byId('compare').checked = view.has('beside');
+  if (view.has('beside')) byId('other').value = view.get('beside');
+  sayNumbers();
+  state.maps.left.map.setView([Number(view.get('y')), Number(view.get('x'))], Number(view.get('z')), { animate: false });
+  redraw();
 }
 
 function sayNumbers() {
@@ -431,7 +495,16 @@ function listChoices(id, choices) {
   byId(id).disabled = choices.length < 2;
 }
 
-const mostPublished = () => Math.max(...nodesHere().map((it) => state.nodes.get(it).sequence));
+const mostPublished = () => Math.max(0, ...nodesHere().map((it) => state.nodes.get(it).sequence));
+
+const sinceWords = (node) => (node.seen ? ` since ${new Date(node.seen).toLocaleTimeString()}` : '');
+
+// A node that doesn't answer: its line stays, grey, with the time of its last answer.
+function missNode(id) {
+  const it = state.nodes.get(id) || { line: `node ${id}`, node: id, sequence: 0, proposal: 'none', missed: 0 };
+  state.nodes.set(id, { ...it, missed: it.missed + 2 });
+  listNodes();
+}
 
 function listNodes() {
   const most = mostPublished();
@@ -440,8 +513,8 @@ function listNodes() {
     const swatch = L.DomUtil.create('span', 'swatch', item);
     swatch.style.background = colorOf(id);
     const isGone = node.missed > 1;
-    item.append(` ${node.line}${isGone ? ' (gone)' : node.sequence < most ? ' (behind)' : ''}`);
-    item.className = isGone || node.sequence < most ? 'behind' : '';
+    item.append(` ${node.line}${isGone ? ` (gone${sinceWords(node)})` : node.sequence < most ? ' (behind)' : ''}`);
+    item.className = isGone ? 'gone' : node.sequence < most ? 'behind' : '';
     return item;
   }));
 }
@@ -494,7 +567,7 @@ function beginAgain() {
 // Asks for the capabilities with the sequence that the page has: the exception CurrentUpdateSequence means that nothing is new.
 async function lookForNews() {
   const query = { SERVICE: 'WMS', VERSION: '1.3.0', REQUEST: 'GetCapabilities' };
-  const text = textOf(await get(addressOf(state.sequence === null ? query : { ...query, UPDATESEQUENCE: state.sequence })));
+  const text = textOf(await askAny(addressOf(state.sequence === null ? query : { ...query, UPDATESEQUENCE: state.sequence })));
   const exception = new DOMParser().parseFromString(text, 'text/xml').querySelector('ServiceException');
   if (!exception) {
     if (text !== state.text || !state.map) take(text);
@@ -510,13 +583,29 @@ async function lookForNews() {
 }
 
 // Each connection goes to the farm's next node, tiles' too. So nodes are asked until each known one has answered and none has been new.
+async function lookAtAddresses() {
+  await Promise.all(server.nodes.map(async (_, id) => {
+    try {
+      const it = await statusOf(pathAt(id, 'status'));
+      if (it.node !== id) throw new Rejection(`Address ${id} is node ${it.node}.`);
+      state.nodes.set(id, { ...it, missed: 0, seen: Date.now() });
+    } catch (error) {
+      if (!(error instanceof Silence)) throw error;
+      missNode(id);
+    }
+  }));
+  listNodes();
+  if (nodesHere().length) sayPublished();
+}
+
 async function lookAtNodes() {
+  if (hasAddresses) return lookAtAddresses();
   const came = new Set();
   let fresh = state.nodes.size === 0;
   const isDone = (old, asked) => (fresh ? old > 4 + came.size : old > 0 && nodesHere().every((it) => came.has(it)))
     || asked > 4 + 4 * Math.max(came.size, state.nodes.size);
   for (let old = 0, asked = 0; !isDone(old, asked); asked += 1) {
-    const it = await statusOf();
+    const it = await statusOf('status');
     old = came.has(it.node) ? old + 1 : 0;
     fresh ||= !state.nodes.has(it.node);
     came.add(it.node);
@@ -596,7 +685,8 @@ async function publish() {
   }
   const bytes = new Uint8Array(await file.arrayBuffer());
   try {
-    const { status, bytes: answer } = await alone(() => ask('publish', { method: 'POST', body: bytes }));
+    const node = nodesHere()[0] || 0;
+    const { status, bytes: answer } = await alone(() => ask(pathAt(node, 'publish'), { method: 'POST', body: bytes }));
     if (status === 502 || status === 504) throw new Silence();
     byId('answer').textContent = answerOf(status, textOf(answer).trim(), bytes);
   } catch (error) {
@@ -622,7 +712,7 @@ for (const id of ['sequence', 'other']) {
 }
 byId('compare').addEventListener('change', redraw);
 byId('tint').addEventListener('change', () => {
-  byId('how').hidden = !byId('tint').checked;
+  byId('how').hidden = hasAddresses || !byId('tint').checked;
   redraw();
 });
 byId('format').addEventListener('change', redraw);

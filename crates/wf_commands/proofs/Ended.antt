@@ -1,6 +1,6 @@
 -- From the result of a command to the run of its line.
 use Rattle.std.specs.Borrow.{Bor}
-use Rattle.std.proofs.Common.{◌≡◌, ◌∙◌, ℕ, Bool, List, [], ap, refl, subst, sym, inl, inr, arith}
+use Rattle.std.proofs.Common.{◌≡◌, ◌∙◌, ℕ, Bool, true, false, List, [], ap, refl, subst, sym, inl, inr, arith}
 use Rattle.std.specs.Prelude.{Option, Some, None, Result, Ok, Err, OnOk}
 use Rattle.std.specs.declared.io.ErrorKind.{ErrorKind as IoErrorKind}
 use Rattle.clap.specs.Walk.{Text}
@@ -18,7 +18,7 @@ use Rattle.wf_tape.specs.declared.tape.Tape.{Ghosts as Tape}
 use Rattle.wf_commands.specs.Counting.{CountsReads, CountsWrites}
 use Rattle.wf_commands.specs.Ending.{left_to_report, rejection_status, reported, run_status, unreadable_status}
 use Rattle.wf_commands.specs.Folder.{Contents, HasFolderListing, IsTapeDone}
-use Rattle.wf_commands.specs.Program.{IsProcess, IsDone, IsRun, IsRunOf, Serves}
+use Rattle.wf_commands.specs.Program.{IsNodeProcess, IsProcess, IsDone, IsRun, IsRunOf, Serves}
 use Rattle.wf_commands.specs.Run.{HasListing, HasMap, IsTapeWriting, IsWhyUnlisted, IsWhyUnwritten, most_read}
 use Rattle.wf_commands.specs.Serving.{IsMachineServing, run_outcome}
 use Rattle.wf_commands.specs.declared.ending.Ending.{Ending}
@@ -27,6 +27,11 @@ use Rattle.wf_commands.specs.declared.fault.RunFault.TheVariants as faults
 use Rattle.wf_line.specs.CommandLine.{IsRejection}
 use Rattle.wf_line.specs.declared.line.Line.{Line}
 use Rattle.wf_line.specs.declared.line.Line.TheVariants as lines
+use Rattle.clap.specs.Simple.{subcommand_of}
+use Rattle.wf_line.specs.NodeCommandLine.{AsksNode, IsNodeRejection, names_node_command, node_program}
+use Rattle.wf_line.specs.declared.node_line.NodeCommand.{NodeCommand}
+use Rattle.wf_node_command.specs.Done as nodes
+use Rattle.wf_node_command.specs.declared.fault.CommandFault.{CommandFault}
 
 -- a reader that isn't called has given nothing
 pub nothing_read : (input : Option (List ℕ)) → TakesUpTo 0 input input
@@ -103,11 +108,22 @@ machine_serves inside outside service old new result told served = record { told
 
 -- ---- the process
 
-module _ (serves : Serves) (contents : Contents) (status : ℕ) where
+module _ {T : Type 0} (tapes : Tape T) (status : ℕ) where
+  pub node_run : (words : List Text) → names_node_command words ≡ true → (command : NodeCommand) → AsksNode (subcommand_of node_program words) command →
+      (result : Result (Unit {0}) CommandFault) → nodes.IsDone tapes command result → status ≡ nodes.command_status result → IsNodeProcess tapes status
+  node_run words own command asked result done is = inl (record { words = words; own = own; command = command; asked = asked; result = result; done = done; is = is })
+
+  pub node_rejected : (words : List Text) → names_node_command words ≡ true → (kind : ErrorKind) → IsNodeRejection words kind → (printed : Bool) × (status ≡ rejection_status kind printed) →
+      IsNodeProcess tapes status
+  node_rejected words own kind why is = inr (record { words = words; own = own; kind = kind; why = why; printed = is.0; is = is.1 })
+
+module _ {T : Type 0} (serves : Serves) (contents : Contents) (tapes : Tape T) (status : ℕ) where
   pub process_run : (words : List Text) (input left old new : Option (List ℕ)) (reads reads_after writes writes_after : ℕ) (ending : Ending) →
-      IsRun serves contents words input left old new reads reads_after writes writes_after ending → status ≡ ending.status → IsProcess serves contents status
-  process_run words input left old new reads reads_after writes writes_after ending run is = inl (record {
+      IsRun serves contents words input left old new reads reads_after writes writes_after ending → names_node_command words ≡ false → status ≡ ending.status →
+      IsProcess serves contents tapes status
+  process_run words input left old new reads reads_after writes writes_after ending run other is = inl (record {
     words = words;
+    other = other;
     input = input;
     left = left;
     old = old;
@@ -121,8 +137,11 @@ module _ (serves : Serves) (contents : Contents) (status : ℕ) where
     is = is;
   })
 
-  pub process_rejected : (words : List Text) (kind : ErrorKind) → IsRejection words kind → (printed : Bool) × (status ≡ rejection_status kind printed) → IsProcess serves contents status
+  pub process_rejected : (words : List Text) (kind : ErrorKind) → IsRejection words kind → (printed : Bool) × (status ≡ rejection_status kind printed) → IsProcess serves contents tapes status
   process_rejected words kind why is = inr (inl (record { words = words; kind = kind; why = why; printed = is.0; is = is.1 }))
 
-  pub process_unreadable : (kind : IoErrorKind) → status ≡ unreadable_status kind → IsProcess serves contents status
-  process_unreadable kind is = inr (inr (record { kind = kind; is = is }))
+  pub process_unreadable : (kind : IoErrorKind) → status ≡ unreadable_status kind → IsProcess serves contents tapes status
+  process_unreadable kind is = inr (inr (inl (record { kind = kind; is = is })))
+
+  pub process_of_node : IsNodeProcess tapes status → IsProcess serves contents tapes status
+  process_of_node is = inr (inr (inr is))

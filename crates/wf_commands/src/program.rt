@@ -1,12 +1,14 @@
 //! The program: from the command line to the exit status.
-ghost use Rattle.std.specs.Prelude.{◌≡◌, ◌≤◌, Bool, None, IfErr, IfOk, OnErr, map};
+ghost use Rattle.std.specs.Prelude.{◌≡◌, ◌≤◌, Bool, true, None, IfErr, IfOk, OnErr, map};
 ghost use Rattle.std.specs.IoError.{error_kind};
 ghost use Rattle.clap.specs.Values.{kind_of};
 ghost use Rattle.std.specs.Process.{exit_status};
 ghost use Rattle.wf_line.specs.CommandLine.{IsRejection, IsWhyRejected};
 ghost use Rattle.wf_commands.specs.Counting.{FailsLast};
 ghost use Rattle.wf_commands.specs.Ending.{is_found, is_written, left_to_report, run_status, reported, rejection_status, unreadable_status};
-ghost use Rattle.wf_commands.specs.Program.{IsProcess, IsRun};
+ghost use Rattle.wf_commands.specs.Program.{IsNodeProcess, IsProcess, IsRun};
+ghost use Rattle.wf_line.specs.NodeCommandLine.{names_node_command};
+ghost use Rattle.wf_node_command.specs.Done.{command_status};
 ghost use Rattle.wf_commands.specs.Serving.{IsMachineServing, run_outcome};
 
 use crate::ending::Ending;
@@ -27,8 +29,10 @@ use std::{env, io};
 use wf_farm::Carrier;
 use wf_line::arguments::line;
 use wf_line::line::Line;
+use wf_line::node_arguments::{names_node_command, node_command};
 use wf_link::Connection;
 use wf_mapfile::fault::MapFault;
+use wf_node_command::CommandFault;
 use wf_stream::{Sink, Source, Stream};
 use wf_tape::{FileTape, MemoryTape, Tape};
 
@@ -213,10 +217,45 @@ fn words<R: Env + AllocGlobal>(rt: &R) -> io::Result<Vec<String>> {
     Ok(env::args(rt)?.skip(1).collect(rt.alloc())?)
 }
 
+// Prints the line of an error of a command about a node, if there is one, and returns the exit status.
+fn report_node<R: Eprint>(rt: &R, outcome: Result<(), CommandFault>) -> ExitCode
+    ensures status { exit_status result ≡ command_status outcome }
+    ensures low { exit_status result ≤ 2 }
+{
+    match outcome {
+        Ok(()) => ExitCode::from(0),
+        Err(fault) => {
+            let _ = eprintln!(rt; "{fault}");
+            ExitCode::from(fault.status())
+        }
+    }
+}
+
+// Runs a command line about a node in a process of its own, which is served as long as the process lives.
+#[tactic(auto, using(crate::proofs::Ended::node_run, crate::proofs::Ended::node_rejected))]
+fn run_node<'a, S: AsStr, R: Files<File = File> + Clock + Print + Eprint + Net + AllocGlobal>(
+    rt: &'a R,
+    words: &[S],
+) -> ExitCode
+    requires { names_node_command (map S.text words.now) ≡ true }
+    ensures low { exit_status result ≤ 2 }
+    ensures ended { IsNodeProcess ⟦<FileTape<&'a R> as Tape>⟧ (exit_status result) }
+{
+    match node_command(rt.alloc(), words) {
+        Ok(command) => report_node(rt, wf_node_command::run(rt, &command, u64::MAX)),
+        Err(error) => {
+            let code = rejection(rt, &error);
+            drop(error);
+            code
+        }
+    }
+}
+
 /// Runs the command line, as by [`run_words`] with the words of the process, its standard input and output, the machine as server,
-/// and a connection of the machine to itself as carrier. Returns the exit status: 0 for success; 1 for an error, with one line on
-/// standard error, except for a failed write; 2 for a bad command line, with the parser's text there.
-#[tactic(auto, using(crate::proofs::Ended::process_run, crate::proofs::Ended::process_rejected, crate::proofs::Ended::process_unreadable))]
+/// and a connection of the machine to itself as carrier; or a command about a node in a process of its own, as by
+/// [`wf_node_command::run`] with as many turns as there can be. Returns the exit status: 0 for success; 1 for an error, with one line on
+/// standard error, except for a failed write; 2 for a bad command line, with a line or the parser's text there.
+#[tactic(auto, using(crate::proofs::Ended::process_run, crate::proofs::Ended::process_rejected, crate::proofs::Ended::process_unreadable, crate::proofs::Ended::process_of_node))]
 pub fn program<
     'a,
     R: Env
@@ -229,9 +268,10 @@ pub fn program<
         + AllocGlobal,
 >(rt: &'a R) -> ExitCode
     ensures low { exit_status result ≤ 2 }
-    // What the process did: of `serve` what was served, by nodes on tapes in memory or in files.
+    // What the process did: of `serve` what was served, by nodes on tapes in memory or in files; of `node` how its node lived.
     ensures ended { IsProcess (λ service old new outcome. IsMachineServing ⟦<MemoryTape as Tape>⟧
-        ⟦<FileTape<&'a R> as Tape>⟧ service old new outcome) (λ _. None) (exit_status result) }
+        ⟦<FileTape<&'a R> as Tape>⟧ service old new outcome) (λ _. None)
+        ⟦<FileTape<&'a R> as Tape>⟧ (exit_status result) }
 {
     let words = match words(rt) {
         Ok(words) => words,
@@ -241,6 +281,11 @@ pub fn program<
             return code;
         }
     };
+    if names_node_command(&words) {
+        let code = run_node(rt, &words);
+        drop(words);
+        return code;
+    }
     let outcome = run_words(
         rt.alloc(),
         &words,

@@ -1,2 +1,4 @@
 pub mod CommandLine
 pub mod Line
+pub mod NodeCommandLine
+pub mod NodeLine

@@ -90,6 +90,11 @@ const MOST_CACHE: i64 = 64;
 /// The number of pictures that each node keeps by default.
 const DEFAULT_CACHE: u32 = 16;
 
+const NODES_HELP: &str = "Nodes in processes of their own:
+  init   Makes the folder of a node
+  node   Serves one node of a farm, whose other nodes are other processes
+wfarm help init and wfarm help node tell of these";
+
 const SERVE_HELP: &str =
     "GET /wms?QUERY answers a WMS request, POST /publish proposes the mapfile in its body, GET /status reports a node.
 Node c mod N serves connection c, counted from 0.
@@ -258,7 +263,7 @@ fn requests_argument<'a>(alloc: Global) -> Arg<'a>
 }
 
 // `--cache C`.
-fn cache_argument<'a>(alloc: Global) -> Arg<'a>
+pub(crate) fn cache_argument<'a>(alloc: Global) -> Arg<'a>
     ensures rule { rule_of result ≡ cache_rule }
     ensures local { result.global ≡ false }
 {
@@ -270,7 +275,7 @@ fn cache_argument<'a>(alloc: Global) -> Arg<'a>
 }
 
 // `--state DIR`.
-fn state_argument<'a>(alloc: Global) -> Arg<'a>
+pub(crate) fn state_argument<'a>(alloc: Global) -> Arg<'a>
     ensures rule { rule_of result ≡ state_rule }
     ensures local { result.global ≡ false }
 {
@@ -281,7 +286,7 @@ fn state_argument<'a>(alloc: Global) -> Arg<'a>
 }
 
 // `--log`.
-fn log_argument<'a>(alloc: Global) -> Arg<'a>
+pub(crate) fn log_argument<'a>(alloc: Global) -> Arg<'a>
     ensures rule { rule_of result ≡ log_rule }
     ensures local { result.global ≡ false }
 {
@@ -321,6 +326,7 @@ fn first_command<'a>(alloc: Global) -> Result<Command<'a>, AllocError>
     Command::new(alloc, "wfarm")
         .version(VERSION)
         .about("Runs a farm of Web Map Service servers that publish one history of maps")
+        .after_help(NODES_HELP)
         .no_binary_name(true)
         .subcommand_required(true)
         .subcommand(caps)
@@ -441,7 +447,7 @@ fn tape<'a>(found: &ArgMatches<'a>) -> Option<Line<'a>>
 }
 
 // The number in least..=most that an argument spells.
-fn number(word: &str, least: u32, most: u32) -> Option<u32>
+pub(crate) fn number(word: &str, least: u32, most: u32) -> Option<u32>
     ensures some { IfSome result (IsNumber word.now least most) }
     ensures none { IfNone result ((number : ℕ) → ¬ (IsNumber word.now least most number)) }
 {
@@ -453,7 +459,7 @@ fn number(word: &str, least: u32, most: u32) -> Option<u32>
 
 // The number parsed for an option.
 #[tactic(auto, using(crate::proofs::Named::word_in_row))]
-fn number_of<'a>(found: &ArgMatches<'a>, id: &str, least: u32, most: u32) -> Option<u32>
+pub(crate) fn number_of<'a>(found: &ArgMatches<'a>, id: &str, least: u32, most: u32) -> Option<u32>
     ensures some { IfSome result (IsNumberOf (rows_in found.now) id.now least most) }
     ensures none { IfNone result
         ((number : ℕ) → ¬ (IsNumberOf (rows_in found.now) id.now least most number)) }
@@ -476,7 +482,7 @@ fn cache<'a>(found: &ArgMatches<'a>) -> Option<u32>
 
 // Whether a flag was given.
 #[tactic(auto, using(crate::proofs::Named::word_in_row))]
-fn is_set<'a>(found: &ArgMatches<'a>, id: &str) -> bool
+pub(crate) fn is_set<'a>(found: &ArgMatches<'a>, id: &str) -> bool
     ensures { result ≡ is_set (first_of id.now (rows_in found.now)) }
 {
     match found.get_str(id) {

@@ -11,7 +11,7 @@ use Rattle.wf_wms.specs.KeptPictures.{AllKept, CacheValue, GrowthKeepsAll}
 use Rattle.wf_serve.specs.Caching.{AreEmpty, AreKept, HaveRoom, IsKeptAt, KeepRoom}
 
 -- the element at an index of a list
-there_is : {A : Type 0} (xs : List A) (i : ℕ) → i < length xs → (x : A) × (slice_get xs i ≡ Some x)
+pub there_is : {A : Type 0} (xs : List A) (i : ℕ) → i < length xs → (x : A) × (slice_get xs i ≡ Some x)
 there_is [] i within = absurd (omega arith)
 there_is (x ∷ xs) zero within = (x, refl)
 there_is (x ∷ xs) (suc i) within = there_is xs i (omega arith)

@@ -1,18 +1,16 @@
 -- An exchange with a node of the farm is its part of a connection, or of what the farm itself asks it.
 use Rattle.std.proofs.Common.{◌≡◌, ◌∙◌, ℕ, false, List, [], Vec, refl, sym, subst, arith}
-use Rattle.std.specs.Prelude.{slice_get, Option, Some, Result, Ok, Err, IfOk}
+use Rattle.std.specs.Prelude.{slice_get, Some}
 use Rattle.std.proofs.lemmas.Option.{same_Some}
 use Rattle.std.specs.declared.alloc.Global.{Global}
 use Rattle.wf_codec.specs.declared.message.Message.{Message}
 use Rattle.wf_def.specs.Definition.{Definition}
 use Rattle.wf_edge.specs.Growth.{kept_on}
-use Rattle.wf_edge.specs.Serving.{IsServed, Serves}
+use Rattle.wf_edge.specs.Serving.{IsServed}
 use Rattle.wf_edge.specs.declared.outcome.Outcome.{Outcome}
-use Rattle.wf_edge.specs.declared.serve.Served.{Served}
 use Rattle.wf_farm.specs.Delivering.{AnyPart, AreDelivered, AreDeliveries, AreHandedOut, EachGrows, First, IsDelivered, Lead, StandFor}
 use Rattle.wf_farm.specs.DeliveringLaws.{halted_itself, keeps_turn_itself}
 use Rattle.wf_farm.specs.Exchange.{IsExchange}
-use Rattle.wf_farm.specs.PlaceLaws.{set_same}
 use Rattle.wf_farm.specs.declared.delivering.Pumped.{Pumped}
 use Rattle.wf_edge.specs.Request.{Request}
 use Rattle.wf_model.specs.Stored.{Stored}
@@ -20,10 +18,9 @@ use Rattle.wf_model.specs.Table.{Input}
 use Rattle.wf_model.specs.World.{steps}
 use Rattle.wf_node.specs.Node.{Node}
 use Rattle.wf_serve.specs.Caching.{IsKeptAt}
-use Rattle.wf_serve.specs.Serving.{AreHeard, IsAsked, IsAskedAndHeard, IsServedAndHeard}
-use Rattle.wf_serve.specs.Visiting.{IsAnsweredAt, IsReadAt}
+use Rattle.wf_serve.specs.Serving.{AreHeard, IsAsked, IsAskedAndHeard}
+use Rattle.wf_serve.specs.Visiting.{IsAnsweredAt}
 use Rattle.wf_stream.specs.declared.stream.Sink.{Ghosts as Sink}
-use Rattle.wf_stream.specs.declared.stream.Source.{Ghosts as Source}
 use Rattle.wf_tape.specs.declared.tape.Tape.{Ghosts as Tape}
 use Rattle.wf_wms.specs.KeptPictures.{AllKept, CacheValue, GrowthKeepsAll}
 
@@ -56,7 +53,8 @@ module _ {T C : Type 0} (tapes : Tape T) (asks : C → Node T → Vec Message Gl
   -- The node answered a request.
   pub answered : {K : Type 0} (sinks : Sink K) (request : Request) (sink sink_after : K) (outcome : Outcome) →
       ((before after : Node T) (said : Vec Message Global) → asks client before said after next → IsServed tapes sinks request sink sink_after before said after outcome) →
-      IsAnsweredAt tapes sinks place request sink sink_after nodes outcome after
+      IsAnsweredAt tapes sinks place request sink sink_after nodes outcome pumped after
+  unfolding heard
   answered sinks request sink sink_after outcome is = record {
     said = exchange.said;
     answered = exchange.middle;
@@ -65,71 +63,35 @@ module _ {T C : Type 0} (tapes : Tape T) (asks : C → Node T → Vec Message Gl
     changed = record { was = exchange.asked.was; is = exchange.asked.is };
     served = is exchange.asked.before exchange.asked.after exchange.said exchange.asked.asked;
     hearing = heard;
+    lost = refl;
+    stopped = refl;
   }
 
 -- Nothing was sent, so nothing is delivered.
-nothing_led : {T : Type 0} (stands : ℕ → Stored Definition → Type 0) (nodes : List (Node T)) → AreDelivered stands 0 nodes [] nodes
+pub nothing_led : {T : Type 0} (stands : ℕ → Stored Definition → Type 0) (nodes : List (Node T)) → AreDelivered stands 0 nodes [] nodes
 unfolding Lead AreDeliveries steps
 nothing_led stands nodes = record { sent = []; lead = λ w shows. record { events = []; deliveries = tt; at_most = omega arith; shows = shows } }
 
-nothing_heard : {T : Type 0} (tapes : Tape T) (nodes : List (Node T)) (said : Vec Message Global) → said.items ≡ [] → AreHeard tapes nodes said nodes
-nothing_heard tapes nodes said silent = record {
+unfoldable pub nothing_heard : {T : Type 0} (tapes : Tape T) (nodes nodes_after : List (Node T)) (said : Vec Message Global) → said.items ≡ [] → nodes_after ≡ nodes → AreHeard tapes nodes said nodes_after
+nothing_heard tapes nodes nodes_after said silent same = record {
   deliveries = 0;
   lost = 0;
-  delivered = subst (λ ms. IsDelivered tapes nodes ms 0 nodes) (sym silent) (record {
+  delivered = subst (λ ns. IsDelivered tapes nodes said.items 0 ns) (sym same) (subst (λ ms. IsDelivered tapes nodes ms 0 nodes) (sym silent) (record {
     any = nothing_led AnyPart nodes;
     on_tape = λ honest left may. nothing_led (StandFor left) nodes;
     halted = halted_itself nodes;
     turn = keeps_turn_itself nodes;
     most = omega arith;
-  });
+  }));
   stopped = false;
-  handed = λ some. subst (λ ms. AreHandedOut tapes nodes ms 0 0 false nodes) (sym silent) (record {
+  handed = λ some. subst (λ ns. AreHandedOut tapes nodes said.items 0 0 false ns) (sym same) (subst (λ ms. AreHandedOut tapes nodes ms 0 0 false nodes) (sym silent) (record {
     come = record { whole = 0; some = 0; done = 0 };
     sent = [];
     handed = First;
     count = refl;
     ended = (refl, refl);
-  });
+  }));
 }
-
-module _ {T K S : Type 0} (tapes : Tape T) (sinks : Sink K) (sources : Source S) (place : ℕ) (source source_after : S) where
-  -- The node that served a request that only reads.
-  pub read_and_heard : (sink sink_after : K) (nodes : List (Node T)) (sent : Vec Message Global) (outcome : Outcome) →
-      IsReadAt tapes sinks sources place source source_after sink sink_after nodes sent outcome →
-      IsServedAndHeard tapes place (sources.left source) (sinks.written sink) (sinks.written sink_after) nodes outcome nodes
-  read_and_heard sink sink_after nodes sent outcome is = record {
-    said = sent;
-    served = nodes;
-    request = record {
-      before = is.node;
-      after = is.node;
-      changed = record { was = is.at; is = sym (set_same nodes place is.node is.at) };
-      served = is.serves.outcome;
-      moves = is.serves.moves;
-    };
-    hearing = nothing_heard tapes nodes sent is.silent;
-  }
-
-  -- A request that only reads was served by the node that is there.
-  pub read_there : (sink sink_after : K) (nodes : List (Node T)) (node : Node T) → slice_get nodes place ≡ Some node → (result : Result Served Request) →
-      IfOk result (λ served. Serves tapes sinks sources source source_after sink sink_after node served.messages node served.outcome) →
-      IfOk result (λ served. served.messages.items ≡ []) →
-      IfOk result (λ served. IsReadAt tapes sinks sources place source source_after sink sink_after nodes served.messages served.outcome)
-  read_there sink sink_after nodes node at (Ok served) serves silent = record { node = node; at = at; serves = serves; silent = silent }
-  read_there sink sink_after nodes node at (Err request) serves silent = tt
-
-  -- A publish that was answered is a request that was served.
-  pub answered_and_heard : (first sink sink_after : K) (request : Request) (nodes after : List (Node T)) (outcome : Outcome) →
-      (is : IsAnsweredAt tapes sinks place request sink sink_after nodes outcome after) →
-      Serves tapes sinks sources source source_after first sink_after is.before is.said is.after outcome →
-      IsServedAndHeard tapes place (sources.left source) (sinks.written first) (sinks.written sink_after) nodes outcome after
-  answered_and_heard first sink sink_after request nodes after outcome is serves = record {
-    said = is.said;
-    served = is.answered;
-    request = record { before = is.before; after = is.after; changed = is.changed; served = serves.outcome; moves = serves.moves };
-    hearing = is.hearing;
-  }
 
 -- The pictures of the node at an index are still of its maps when these have grown.
 pub kept_at_on : {T : Type 0} → GrowthKeepsAll → (nodes after : List (Node T)) (place : ℕ) (cache : CacheValue) (before : Node T) → slice_get nodes place ≡ Some before →

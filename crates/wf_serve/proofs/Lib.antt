@@ -10,5 +10,6 @@ mod Opened
 mod Running
 mod New
 mod Published
+mod Responded
 mod Serves
 mod Shortened

@@ -1,5 +1,5 @@
 -- New nodes that catch up are new still: all of them have published nothing.
-use Rattle.std.proofs.Common.{◌≡◌, ◌∙◌, List, length, slice_get, Some, ap, subst, sym}
+use Rattle.std.proofs.Common.{◌≡◌, ◌∙◌, List, length, ap, subst, sym}
 use Rattle.wf_def.specs.Definition.{Definition}
 use Rattle.wf_farm.specs.CatchUp.{LevelRests, StandLevel}
 use Rattle.wf_farm.specs.Leading.{AreFresh, IsFresh}

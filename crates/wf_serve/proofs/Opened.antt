@@ -6,7 +6,7 @@ use Rattle.wf_farm.specs.declared.place.Place.{Place}
 use Rattle.wf_farm.specs.declared.place.Place.TheVariants.{Running}
 use Rattle.wf_farm.specs.Nodes.{nodes_from, nodes_of}
 use Rattle.wf_farm.specs.NodesLaws.{length-nodes, long_from, none_run, one_more_node, one_more_runs}
-use Rattle.wf_serve.specs.Opening.{AreOpened}
+use Rattle.wf_serve.specs.Opening.{AreOpened, WasRead, WereRead}
 use Rattle.wf_node.specs.Node.{Node}
 
 -- the element at an index of a list with one more at its end: the one that was there, or the last one
@@ -30,16 +30,28 @@ one_more_among n nodes node turns next of = λ i x e. elim (more_at nodes node i
 -- No node is opened yet.
 pub none_opened : (T : Type 0) (n : ℕ) → AreOpened {T = T} n []
 unfolding StandAmong nodes_from
-none_opened T n = record { in_turn = λ i node e. absurd (none-some node e); running = none_run T }
+none_opened T n = record { in_turn = λ i node e. absurd (none-some node e); running = none_run T; read = record { each = λ i node e. absurd (none-some node e) } }
+
+one_more_read : {T : Type 0} (nodes : List (Node T)) (node : Node T) → WereRead nodes → WasRead node → WereRead (nodes ++ node ∷ [])
+one_more_read nodes node were was = record {
+  each = λ i x e. elim (more_at nodes node i x e) [
+    | inl before ↦ were.each i x before
+    | inr last ↦ subst WasRead last.1 was
+  ];
+}
 
 -- One more is.
-pub one_more : {T : Type 0} (n : ℕ) (places : List (Place T)) (node : Node T) → AreOpened n places → node.id ≡ length places → node.n ≡ n → AreOpened n (places ++ Running node ∷ [])
-one_more n places node are next of = record {
+pub one_more : {T : Type 0} (n : ℕ) (places : List (Place T)) (node : Node T) → AreOpened n places → node.id ≡ length places → node.n ≡ n → WasRead node → AreOpened n (places ++ Running node ∷ [])
+one_more n places node are next of was = record {
   in_turn = subst (StandAmong n) (sym (one_more_node n 0 places node)) (one_more_among n (nodes_from n 0 places) node are.in_turn (next ∙ sym (long_from n 0 places)) of);
   running = one_more_runs places node are.running;
+  read = subst WereRead (sym (one_more_node n 0 places node)) (one_more_read (nodes_from n 0 places) node are.read was);
 }
 
 -- Once there are n nodes, each is at the index of its number.
 pub in_place : {T : Type 0} (n : ℕ) (places : List (Place T)) → length places ≡ n → AreOpened n places → StandInTurn (nodes_of places)
 in_place n places long are =
     subst (λ k. StandAmong k (nodes_of places)) (sym (length-nodes places)) (subst (λ k. StandAmong k (nodes_from k 0 places)) (sym long) are.in_turn)
+
+pub read_in_place : {T : Type 0} (n : ℕ) (places : List (Place T)) → length places ≡ n → AreOpened n places → WereRead (nodes_of places)
+read_in_place n places long are = subst (λ k. WereRead (nodes_from k 0 places)) (sym long) are.read

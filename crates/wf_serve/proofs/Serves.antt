@@ -6,6 +6,7 @@ use Rattle.wf_farm.specs.Delivering.{AnyPart}
 use Rattle.wf_farm.specs.Leading.{AreFresh, AreLedOn, AreReached}
 use Rattle.wf_node.specs.Node.{Node}
 use Rattle.wf_serve.specs.Agreeing.{AgreeStill, HaveGoneOn}
+use Rattle.wf_serve.specs.Opening.{WereRead}
 use Rattle.wf_serve.specs.Served.{HasServed, HaveServed}
 use Rattle.wf_serve.specs.declared.fault.ServeFault.{ServeFault}
 use Rattle.wf_service.specs.declared.service.Service.{Service}
@@ -33,10 +34,10 @@ module _ {M F : Type 0} (inside : Tape M) (outside : Tape F) (service : Service)
     files = λ some. absurd (none_is_some service.state none some);
   }
 
-  in_files : (nodes after : List (Node F)) → IsSome service.state → length nodes ≡ service.nodes → HaveServed outside service.requests service.cache nodes after → HasServed inside outside service
-  in_files nodes after some many have = record {
+  in_files : (nodes after : List (Node F)) → IsSome service.state → length nodes ≡ service.nodes → WereRead nodes → HaveServed outside service.requests service.cache nodes after → HasServed inside outside service
+  in_files nodes after some many read have = record {
     memory = λ none. absurd (none_is_some service.state none some);
-    files = λ is. record { nodes = nodes; nodes_after = after; as_many = many; have = have };
+    files = λ is. record { nodes = nodes; nodes_after = after; as_many = many; read = read; have = have };
   }
 
   pub served_in_memory : (nodes : List (Node M)) (result : Result (Unit {0}) ServeFault) → service.state ≡ None → length nodes ≡ service.nodes → AreFresh nodes → AreReached AnyPart nodes →
@@ -44,10 +45,10 @@ module _ {M F : Type 0} (inside : Tape M) (outside : Tape F) (service : Service)
   served_in_memory nodes (Ok done) none many fresh reached have = in_memory nodes have.0 none many fresh reached have.1
   served_in_memory nodes (Err why) none many fresh reached have = tt
 
-  pub served_in_files : (nodes : List (Node F)) (result : Result (Unit {0}) ServeFault) → IsSome service.state → length nodes ≡ service.nodes →
+  pub served_in_files : (nodes : List (Node F)) (result : Result (Unit {0}) ServeFault) → IsSome service.state → length nodes ≡ service.nodes → WereRead nodes →
       OnOk result ((after : List (Node F)) × HaveServed outside service.requests service.cache nodes after) → OnOk result (HasServed inside outside service)
-  served_in_files nodes (Ok done) some many have = in_files nodes have.0 some many have.1
-  served_in_files nodes (Err why) some many have = tt
+  served_in_files nodes (Ok done) some many read have = in_files nodes have.0 some many read have.1
+  served_in_files nodes (Err why) some many read have = tt
 
 -- the nodes that were served, whoever holds them
 pub some_served : {T : Type 0} (tapes : Tape T) (requests room : ℕ) (nodes after : List (Node T)) (result : Result (Unit {0}) ServeFault) → OnOk result (HaveServed tapes requests room nodes after) →

@@ -4,9 +4,10 @@ use Rattle.std.specs.Prelude.{Result, Ok, Err, IfOk}
 use Rattle.wf_def.specs.Definition.{Definition}
 use Rattle.wf_model.specs.Stored.{Stored}
 use Rattle.wf_model.specs.Working.{at_start}
-use Rattle.wf_node.specs.Images.{AllStandFor}
+use Rattle.wf_node.specs.Images.{AllStandFor, StandsFor}
 use Rattle.wf_node.specs.Node.{Node, stored_of, working_of}
-use Rattle.wf_node.specs.Opening.{IsFoldOf}
+use Rattle.wf_node.specs.Opening.{IsFoldOf, IsRead}
+use Rattle.wf_serve.specs.Opening.{WasRead}
 use Rattle.wf_serve.specs.Shortening.{IsOpened, IsShort}
 use Rattle.wf_tape.specs.declared.tape.Tape.{Ghosts as Tape}
 
@@ -25,3 +26,15 @@ opened_again {T} tapes tape node (Ok (after, is_short)) running working stored s
       stands = λ h. subst (λ (s : Stored Definition). AllStandFor s (tapes.images after.tape)) (sym part) (stands h);
       short = short;
     }
+
+-- and has stored what the bytes stand for that were read when it opened
+pub read_again : {T E : Type 0} (tapes : Tape T) (tape : T) (node : Node T) (result : Result (Node T × Bool) E) → node.halted ≡ false → working_of node ≡ at_start →
+    IsRead tapes.honest (tapes.content tape) (stored_of node) → IfOk result (λ x. x.0 ≡ record node { tape = x.0.tape }) → IfOk result (λ x. WasRead x.0)
+read_again tapes tape node (Err e) running working found same = tt
+read_again {T} tapes tape node (Ok (after, is_short)) running working found same = record {
+  bytes = found.bytes;
+  runs = ap (λ (m : Node T). m.halted) same ∙ running;
+  idle = ap (λ (m : Node T). working_of m) same ∙ working;
+  stored = subst (λ (s : Stored Definition). StandsFor s found.bytes) (sym (ap (λ (m : Node T). stored_of m) same))
+      (record { records = found.folds.records; reads = (found.folds.rest, found.folds.tape.reads); folds = found.folds.folds });
+}

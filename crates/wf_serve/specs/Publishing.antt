@@ -11,6 +11,7 @@ use Rattle.wf_farm.specs.Publishing.{AllPublish, NoneHalted}
 use Rattle.wf_edge.specs.Request.{Request, BeginsWith}
 use Rattle.wf_node.specs.Node.{Node}
 use Rattle.wf_serve.specs.Serving.{HaveCaughtUp, IsConnection}
+use Rattle.wf_serve.specs.declared.outcome.ConnectionOutcome.{ConnectionOutcome}
 use Rattle.wf_tape.specs.declared.tape.Tape.{Ghosts as Tape}
 
 -- the status of the response to an accepted map (RFC 9110, 15.3.3)
@@ -32,6 +33,12 @@ pub record HavePublished {T : Type 0} (input : Option (List ℕ)) (nodes : List 
   pub map : Definition
   pub is_map : IsMapOf request.body map
   pub published : AllPublish nodes map
+
+-- What three new nodes accepted over a connection they have all published, if none of the deliveries was lost, they went on until none
+-- was left, and no node is halted.
+abbrev pub AcceptedMeansPublished : {T : Type 0} → Option (List ℕ) → List (Node T) → ConnectionOutcome → List (Node T) → Type 0
+AcceptedMeansPublished input nodes outcome nodes_after =
+    length nodes ≡ 3 → AreFresh nodes → WasAccepted outcome.request → outcome.deliveries.lost ≡ 0 → outcome.deliveries.stopped ≡ false → NoneHalted nodes_after → HavePublished input nodes_after
 
 module _ {T : Type 0} (tapes : Tape T) where
   -- A connection to one of three new nodes was answered so; none of the deliveries of the node's messages was lost, they went on until

@@ -6,6 +6,7 @@ use Rattle.wf_node.specs.Node.{Node}
 use Rattle.wf_serve.specs.Agreeing.{HaveGoneOn}
 use Rattle.wf_serve.specs.Caching.{HaveCaches}
 use Rattle.wf_serve.specs.Connections.{IsServing}
+use Rattle.wf_serve.specs.Opening.{WereRead}
 use Rattle.wf_service.specs.declared.service.Service.{Service}
 use Rattle.wf_tape.specs.declared.tape.Tape.{Ghosts as Tape}
 
@@ -19,11 +20,13 @@ module _ {T : Type 0} (tapes : Tape T) where
     pub caches : HaveCaches room nodes_after
     pub headline : HaveGoneOn tapes nodes nodes_after
 
-  -- There were as many nodes as the service has, and they served its number of connections, with caches of its size.
+  -- There were as many nodes as the service has, opened from what was read of their tapes, and they served its number of connections, with
+  -- caches of its size.
   pub record Served (service : Service) : Type 0 where
     pub nodes : List (Node T)
     pub nodes_after : List (Node T)
     pub as_many : length nodes ≡ service.nodes
+    pub read : WereRead nodes
     pub have : HaveServed service.requests service.cache nodes nodes_after
 
   -- They were new ones, to which the model's start leads.

@@ -1,26 +1,34 @@
 -- How a node of a farm answers a request: one that only reads from what it has published, a publish by a step that the others hear of.
-use Rattle.std.specs.Prelude.{◌≡◌, ℕ, List, [], slice_get, Some, Vec}
+use Rattle.std.specs.Prelude.{◌≡◌, ◌⊎◌, ℕ, false, List, slice_get, Some, Result, Ok, Err, Vec}
 use Rattle.std.specs.declared.alloc.Global.{Global}
 use Rattle.wf_codec.specs.declared.message.Message.{Message}
-use Rattle.wf_edge.specs.Serving.{IsServed, Serves}
-use Rattle.wf_edge.specs.declared.outcome.Outcome.{Outcome}
+use Rattle.wf_edge.specs.Ending.{IsFaultEnded}
+use Rattle.wf_edge.specs.Page.{status_at}
 use Rattle.wf_edge.specs.Request.{Request}
+use Rattle.wf_edge.specs.Saying.{CountsSaying, IsFaultSaid}
+use Rattle.wf_edge.specs.Serving.{IsRead, IsServed}
+use Rattle.wf_edge.specs.declared.outcome.Outcome.{Outcome}
+use Rattle.wf_farm.specs.declared.delivering.Pumped.{Pumped}
+use Rattle.wf_http.specs.declared.fault.RequestFault.{RequestFault}
 use Rattle.wf_node.specs.Node.{Node}
 use Rattle.wf_serve.specs.Serving.{AreHeard, IsChangedAt}
+use Rattle.wf_serve.specs.declared.outcome.ConnectionOutcome.{ConnectionOutcome}
 use Rattle.wf_stream.specs.declared.stream.Sink.{Ghosts as Sink}
-use Rattle.wf_stream.specs.declared.stream.Source.{Ghosts as Source}
 use Rattle.wf_tape.specs.declared.tape.Tape.{Ghosts as Tape}
 
+-- Nothing was delivered.
+abbrev pub no_deliveries : Pumped
+no_deliveries = record { deliveries = 0; lost = 0; stopped = false }
+
 module _ {T K : Type 0} (tapes : Tape T) (sinks : Sink K) where
-  -- The node at index `place` served the request that was received. It is unchanged, and sent nothing.
-  pub record IsReadAt {S : Type 0} (sources : Source S) (place : ℕ) (source source_after : S) (sink sink_after : K) (nodes : List (Node T)) (sent : Vec Message Global) (outcome : Outcome) : Type 0 where
+  -- The node at index `place` answered the request from what it has published. It stays as it is, and sends nothing.
+  pub record IsReadAt (place : ℕ) (request : Request) (sink sink_after : K) (nodes : List (Node T)) (outcome : Outcome) : Type 0 where
     pub node : Node T
     pub at : slice_get nodes place ≡ Some node
-    pub serves : Serves tapes sinks sources source source_after sink sink_after node sent node outcome
-    pub silent : sent.items ≡ []
+    pub read : IsRead sinks request node.parts.history (status_at node) sink sink_after outcome
 
   -- The node at index `place` answered the request, and its messages were delivered.
-  pub record IsAnsweredAt (place : ℕ) (request : Request) (sink sink_after : K) (nodes : List (Node T)) (outcome : Outcome) (nodes_after : List (Node T)) : Type 0 where
+  pub record IsAnsweredAt (place : ℕ) (request : Request) (sink sink_after : K) (nodes : List (Node T)) (outcome : Outcome) (pumped : Pumped) (nodes_after : List (Node T)) : Type 0 where
     -- the node's messages, and the nodes by then
     pub said : Vec Message Global
     pub answered : List (Node T)
@@ -30,3 +38,25 @@ module _ {T K : Type 0} (tapes : Tape T) (sinks : Sink K) where
     pub changed : IsChangedAt place nodes before after answered
     pub served : IsServed tapes sinks request sink sink_after before said after outcome
     pub hearing : AreHeard tapes answered said nodes_after
+    -- what is told of the deliveries
+    pub lost : hearing.lost ≡ pumped.lost
+    pub stopped : hearing.stopped ≡ pumped.stopped
+
+  -- the reply to a request: one that only reads, which leaves the nodes as they are, or a publish
+  abbrev pub IsReply : ℕ → Request → K → K → List (Node T) → ConnectionOutcome → List (Node T) → Type 0
+  IsReply place request sink sink_after nodes outcome nodes_after =
+      (IsReadAt place request sink sink_after nodes outcome.request × (outcome.deliveries ≡ no_deliveries) × (nodes_after ≡ nodes))
+      ⊎ IsAnsweredAt place request sink sink_after nodes outcome.request outcome.deliveries nodes_after
+
+  -- There is no request, for a reason. Its rejection was written, or nothing, and the nodes are as they were.
+  pub record IsRejected (why : RequestFault) (sink sink_after : K) (nodes : List (Node T)) (outcome : ConnectionOutcome) (nodes_after : List (Node T)) : Type 0 where
+    pub said : IsFaultSaid why (sinks.written sink) (sinks.written sink_after) outcome.request
+    pub writes : CountsSaying outcome.request (sinks.failures sink) (sinks.failures sink_after)
+    pub last : IsFaultEnded sinks why sink sink_after outcome.request
+    pub quiet : outcome.deliveries ≡ no_deliveries
+    pub same : nodes_after ≡ nodes
+
+  -- the response to what was heard
+  abbrev pub IsResponse : ℕ → Result Request RequestFault → K → K → List (Node T) → ConnectionOutcome → List (Node T) → Type 0
+  IsResponse place (Ok request) sink sink_after nodes outcome nodes_after = IsReply place request sink sink_after nodes outcome nodes_after
+  IsResponse place (Err why) sink sink_after nodes outcome nodes_after = IsRejected why sink sink_after nodes outcome nodes_after

@@ -7,16 +7,15 @@ ghost use Rattle.wf_serve.specs.Agreeing.{HaveGoneOn};
 ghost use Rattle.wf_serve.specs.Caching.{AreKept, KeepRoom};
 ghost use Rattle.wf_serve.specs.Connections.{HaveCome, MayBeAnswered};
 
-use crate::limited::Limited;
+use crate::incoming::Incoming;
 use crate::log::Log;
-use crate::noted::Noted;
+use crate::outgoing::Outgoing;
 use crate::parting::part;
 use crate::serving::{agree_still, serve_connection};
 use crate::watch::Watch;
 use std::net::{TcpListener, TcpStream};
 use std::time::{Clock, Duration};
 use wf_farm::{Farm, leading_goes_on};
-use wf_stream::Stream;
 use wf_tape::Tape;
 use wf_wms::cache::Cache;
 
@@ -98,11 +97,11 @@ fn serve_next<R: Clock + Eprint + AllocGlobal, T: Tape>(
         return;
     };
     let time = Duration::from_secs(PEER_SECONDS);
-    let mut source = Stream::new(Noted::new(Limited::new(rt, &stream, time)));
-    let mut sink = Stream::new(Noted::new(Limited::new(rt, &stream, time)));
+    let mut source = Incoming::new(rt, &stream, time);
+    let mut sink = Outgoing::new(rt, &stream, time);
     let outcome = serve_connection(rt.alloc(), &mut source, &mut sink, farm, caches, place);
-    watch.hear(place, outcome, source.inner().first(), sink.inner().first());
+    watch.hear(place, outcome.request, source.first(), sink.first());
     watch.look(farm);
-    part(rt, &stream, outcome);
+    part(rt, &stream, outcome.request);
     drop(stream);
 }

@@ -11,11 +11,12 @@
 //! it. A [`Log`] writes each [`Event`] on standard error, a [`Fault`] with its [`Cause`].
 //!
 //! **Promises.**
-//! - A connection is an exchange with the farm's node at the given index (`Farm::exchange` of `wf_farm`). The node serves the request
-//!   with its cache, as `wf_edge`'s `serve_one_cached` does, while each other node is unchanged, and each cache's pictures are of its
-//!   node's maps throughout (`specs/Caching.antt`). Then exactly the messages that the node sent are delivered to all nodes, and those
-//!   sent in reply. Then, if a proposal of that node still runs, the node is asked once to restart it, and the messages that it sends
-//!   are delivered likewise; otherwise nothing happens. Then the nodes catch up (`specs/Serving.antt`).
+//! - A connection is served by the farm's node at the given index with its cache, as by `wf_edge`'s `serve_one_cached`: the request is
+//!   read first; one that only reads is answered from what the node has published, and a publish is an exchange (`Farm::exchange` of
+//!   `wf_farm`; `specs/Visiting.antt`). Each other node is unchanged, and each cache's pictures are of its node's maps throughout
+//!   (`specs/Caching.antt`). Then exactly the messages that the node sent are delivered to all nodes, and those sent in reply. Then, if
+//!   a proposal of that node still runs, the node is asked once to restart it, and the messages that it sends are delivered likewise;
+//!   otherwise nothing happens. Then the nodes catch up (`specs/Serving.antt`).
 //! - Many connections: connection c, counted from 0, is served so by node c mod n, or changes nothing if it can't be accepted
 //!   (`specs/Connections.antt`).
 //! - Catching up: each node that is behind asks one that has published the most, which answers to it alone. If no delivery was lost,
@@ -38,13 +39,15 @@
 //! - [`serve`] promises all of it of the nodes that it opens: there are as many as the service has, each at its own index, new ones if it
 //!   has no folder; they served its number of connections, each with a cache for its number of pictures (`specs/Served.antt`).
 //! - A map that one of three new nodes accepted over a connection is published on all three, if no delivery was lost, the deliveries
-//!   didn't stop early and no tape failed ([`an_accepted_map_is_published`], `specs/Publishing.antt`). New nodes that caught up before
-//!   are new still ([`caught_up_nodes_stay_new`]), and what the first connection published all of them have published after any later
-//!   ones ([`the_first_map_is_published`], `specs/First.antt`).
+//!   didn't stop early and no tape failed (`published` of [`serve_connection`], whose [`ConnectionOutcome`] tells of the deliveries;
+//!   [`an_accepted_map_is_published`], `specs/Publishing.antt`). New nodes that caught up before are new still
+//!   ([`caught_up_nodes_stay_new`]), and what the first connection published all of them have published after any later ones
+//!   ([`the_first_map_is_published`], `specs/First.antt`).
 //!
 //! **Doesn't.** It doesn't state that memory suffices for a delivery, what a file holds, what the log's lines are, what a socket receives or sends, that a connection is
-//! accepted, which port the system chooses, how long a client is waited for, nor that a proposal is published: sockets and clocks
-//! have no model. Tests cover these, as do runs of the built program that aren't in CI.
+//! accepted, which port the system chooses, how long a client is waited for, that a response is one write where the socket takes all of
+//! it, nor that a proposal is published: sockets and clocks have no model. Tests cover these (`wf_test_failures`), as do runs of the
+//! built program that aren't in CI.
 #![tactic(auto)]
 
 mod caching;
@@ -53,16 +56,18 @@ mod connections;
 mod event;
 mod fault;
 mod holding;
+mod incoming;
 mod limited;
 mod listening;
 mod log;
 mod marking;
 mod noted;
 mod opening;
+mod outcome;
+mod outgoing;
 mod parting;
 mod port;
 mod publishing;
-mod reading;
 mod serving;
 mod shortening;
 mod survey;
@@ -75,6 +80,7 @@ pub use event::{Cause, Event, Fault, Level};
 pub use fault::ServeFault;
 pub use listening::{serve, serve_nodes};
 pub use log::Log;
+pub use outcome::ConnectionOutcome;
 pub use port::listen;
 pub use publishing::{
     an_accepted_map_is_published, caught_up_nodes_stay_new, the_first_map_is_published,

@@ -1,16 +1,15 @@
 //! A peer with a time limit.
-ghost use Rattle.std.specs.Prelude.{◌<◌, IfOk};
-ghost use Rattle.std.specs.Counts.{IsPrefixLen};
+ghost use Rattle.std.specs.Prelude.{◌<◌, ◌++◌, IfOk};
 ghost use Rattle.std.specs.Duration.{as_nanos};
+ghost use Rattle.std.specs.Io.{ReadsAtMost, WritesAtMost};
 
 use std::io;
-use std::io::{ErrorKind, Read, Write};
+use std::io::{ErrorKind, IoSlice, Read};
 use std::net::TcpStream;
 use std::time::{Clock, Duration, Instant};
 
 /// One direction of a connection, with one time limit for all its reads or writes together. The time starts with the first call,
-/// and a call still waiting at its end is given up. At the end of the time the input counts as ended, so that a client that stays
-/// gets the response to what it has sent; a write after it fails.
+/// and a call still waiting at its end is given up.
 #[derive(Drop)]
 pub(crate) struct Limited<'a, R: Clock> {
     clock: &'a R,
@@ -28,6 +27,53 @@ impl<'a, R: Clock> Limited<'a, R> {
             time,
             end: None,
         }
+    }
+
+    /// Reads once, and again if a signal interrupted it. `TimedOut` or `WouldBlock` if the time ends before bytes come.
+    pub(crate) fn read(&mut self, buf: &mut [u8]) -> io::Result<usize>
+        ensures { ReadsAtMost result buf.new }
+    {
+        for _ in 0..u64::MAX {
+            match self.read_once(buf) {
+                Err(error) if error.kind() == ErrorKind::Interrupted => {}
+                outcome => return outcome,
+            }
+        }
+        Err(io::Error::from(ErrorKind::TimedOut))
+    }
+
+    /// Writes once, some bytes from the front of two buffers, and again if a signal interrupted it. `TimedOut` or `WouldBlock` if the
+    /// time ends before the peer takes any.
+    pub(crate) fn write(&mut self, one: &[u8], two: &[u8]) -> io::Result<usize>
+        ensures { WritesAtMost result (one.now ++ two.now) }
+    {
+        for _ in 0..u64::MAX {
+            match self.write_once(one, two) {
+                Err(error) if error.kind() == ErrorKind::Interrupted => {}
+                outcome => return outcome,
+            }
+        }
+        Err(io::Error::from(ErrorKind::TimedOut))
+    }
+
+    /// Sets what is left of the time, and reads: two calls of the system.
+    fn read_once(&mut self, buf: &mut [u8]) -> io::Result<usize>
+        ensures { ReadsAtMost result buf.new }
+    {
+        let left = self.left()?;
+        self.stream.set_read_timeout(Some(left))?;
+        let mut stream = self.stream;
+        stream.read(buf)
+    }
+
+    /// Sets what is left of the time, and writes both buffers at once: two calls of the system.
+    fn write_once(&mut self, one: &[u8], two: &[u8]) -> io::Result<usize>
+        ensures { WritesAtMost result (one.now ++ two.now) }
+    {
+        let left = self.left()?;
+        self.stream.set_write_timeout(Some(left))?;
+        self.stream
+            .write_vectored(&[IoSlice::new(one), IoSlice::new(two)])
     }
 
     /// The remaining time. `TimedOut` if there is none.
@@ -50,23 +96,6 @@ impl<'a, R: Clock> Limited<'a, R> {
     }
 }
 
-impl<'a, R: Clock> Limited<'a, R> {
-    /// Reads once. `TimedOut` or `WouldBlock` if the time ends before bytes come.
-    fn read_in_time(&mut self, buf: &mut [u8]) -> io::Result<usize>
-        ensures { IfOk result (λ n. IsPrefixLen n buf.new) }
-    {
-        let left = self.left()?;
-        self.stream.set_read_timeout(Some(left))?;
-        let mut stream = self.stream;
-        stream.read(buf)
-    }
-}
-
-/// Whether an error says that the time has ended: the system reports it in one of two ways.
-fn is_timeout(kind: ErrorKind) -> bool {
-    matches!(kind, ErrorKind::TimedOut | ErrorKind::WouldBlock)
-}
-
 /// The time from now to `end`. `TimedOut` if that is reached.
 fn time_between(now: Instant, end: Instant) -> io::Result<Duration>
     ensures { IfOk result (λ left. 0 < as_nanos left) }
@@ -76,26 +105,4 @@ fn time_between(now: Instant, end: Instant) -> io::Result<Duration>
         return Err(io::Error::from(ErrorKind::TimedOut));
     }
     Ok(left)
-}
-
-impl<'a, R: Clock> Read for Limited<'a, R> {
-    fn read(&mut self, buf: &mut [u8]) -> io::Result<usize> {
-        match self.read_in_time(buf) {
-            Err(error) if is_timeout(error.kind()) => Ok(0),
-            read => read,
-        }
-    }
-}
-
-impl<'a, R: Clock> Write for Limited<'a, R> {
-    fn write(&mut self, buf: &[u8]) -> io::Result<usize> {
-        let left = self.left()?;
-        self.stream.set_write_timeout(Some(left))?;
-        let mut stream = self.stream;
-        stream.write(buf)
-    }
-
-    fn flush(&mut self) -> io::Result<()> {
-        Ok(())
-    }
 }

@@ -1,31 +1,26 @@
 //! The first bytes of a connection's request and response.
 
-use std::io;
-use std::io::{Read, Write};
-
 /// The number of bytes that are kept.
 const KEPT_BYTES: usize = 256;
 
-/// One direction of a connection, whose first bytes are kept for the log.
+/// The first bytes of one direction of a connection, for the log.
 #[derive(Drop)]
-pub(crate) struct Noted<S> {
-    inner: S,
+pub(crate) struct Noted {
     first: [u8; 256],
     count: usize,
 }
 
-impl<S> Noted<S> {
-    /// A direction not used yet.
-    pub(crate) fn new(inner: S) -> Self {
+impl Noted {
+    /// None yet.
+    pub(crate) fn new() -> Self {
         Noted {
-            inner,
             first: [0; KEPT_BYTES],
             count: 0,
         }
     }
 
-    /// Its first bytes.
-    pub(crate) fn first(&self) -> &[u8] {
+    /// The bytes.
+    pub(crate) fn bytes(&self) -> &[u8] {
         match self.first.get(..self.count) {
             Some(first) => first,
             None => &[],
@@ -33,7 +28,7 @@ impl<S> Noted<S> {
     }
 
     /// Keeps bytes as long as there is room.
-    fn note(&mut self, bytes: &[u8]) {
+    pub(crate) fn note(&mut self, bytes: &[u8]) {
         for byte in bytes {
             if self.count >= KEPT_BYTES {
                 return;
@@ -42,24 +37,16 @@ impl<S> Noted<S> {
             self.count += 1;
         }
     }
-}
 
-impl<S: Read> Read for Noted<S> {
-    fn read(&mut self, buf: &mut [u8]) -> io::Result<usize> {
-        let count = self.inner.read(buf)?;
-        self.note(&buf[..count]);
-        Ok(count)
-    }
-}
-
-impl<S: Write> Write for Noted<S> {
-    fn write(&mut self, buf: &[u8]) -> io::Result<usize> {
-        let count = self.inner.write(buf)?;
-        self.note(&buf[..count]);
-        Ok(count)
-    }
-
-    fn flush(&mut self) -> io::Result<()> {
-        self.inner.flush()
+    /// Keeps this many first bytes of two buffers, one after the other, as long as there is room.
+    pub(crate) fn note_pair(&mut self, one: &[u8], two: &[u8], count: usize) {
+        match one.get(..count) {
+            Some(front) => self.note(front),
+            None => {
+                self.note(one);
+                let rest = count.saturating_sub(one.len());
+                self.note(two.get(..rest).unwrap_or(&[]));
+            }
+        }
     }
 }

@@ -1,10 +1,10 @@
 //! Opening the nodes.
 ghost use Rattle.std.specs.Prelude.{◌≡◌, ◌<◌, ◌≤◌, ◌+◌, length, IfOk, IfSome, OnOk, string_bytes};
 ghost use Rattle.wf_farm.specs.Farm.{size};
-ghost use Rattle.wf_farm.specs.Nodes.{AllRun};
+ghost use Rattle.wf_farm.specs.Nodes.{AllRun, nodes_in};
 ghost use Rattle.wf_folder.specs.Admission.{IsStart};
 ghost use Rattle.wf_serve.specs.Folder.{tape_path};
-ghost use Rattle.wf_serve.specs.Opening.{AreOpened};
+ghost use Rattle.wf_serve.specs.Opening.{AreOpened, WasRead, WereRead};
 
 use crate::check::{cause_of_rejection, check_tapes};
 use crate::event::{Cause, Event};
@@ -37,6 +37,7 @@ pub(crate) fn open_folder<'a, R: Files<File = File> + Eprint + Clock + AllocGlob
     requires most { n ≤ 64 }
     ensures size { IfOk result (λ opened. size opened.0 ≡ n) }
     ensures running { IfOk result (λ opened. AllRun opened.0.places) }
+    ensures read { IfOk result (λ opened. WereRead (nodes_in opened.0)) }
 {
     let held = hold(rt, folder)?;
     match open_held(rt, log, n, folder) {
@@ -61,6 +62,7 @@ fn open_held<'a, R: Files + Eprint + Clock + AllocGlobal>(
     requires most { n ≤ 64 }
     ensures size { IfOk result (λ farm. size farm ≡ n) }
     ensures running { IfOk result (λ farm. AllRun farm.places) }
+    ensures read { IfOk result (λ farm. WereRead (nodes_in farm)) }
 {
     let survey = inspect(rt, folder)?;
     match admit(n, survey.found, survey.tapes.as_slice()) {
@@ -84,6 +86,7 @@ fn open_admitted<'a, R: Files + Eprint + Clock + AllocGlobal>(
     requires start { IsStart n survey.now.found survey.now.tapes start }
     ensures size { IfOk result (λ farm. size farm ≡ n) }
     ensures running { IfOk result (λ farm. AllRun farm.places) }
+    ensures read { IfOk result (λ farm. WereRead (nodes_in farm)) }
 {
     check_tapes(rt, folder, n, survey.tapes.as_slice())?;
     match start {
@@ -105,6 +108,7 @@ fn open_own<'a, R: Files + Eprint + Clock + AllocGlobal>(
     requires most { n ≤ 64 }
     ensures size { IfOk result (λ farm. size farm ≡ n) }
     ensures running { IfOk result (λ farm. AllRun farm.places) }
+    ensures read { IfOk result (λ farm. WereRead (nodes_in farm)) }
 {
     write_folder(log, folder, file);
     in_files(rt, log, n, folder)
@@ -122,6 +126,7 @@ fn open_new<'a, R: Files + Eprint + Clock + AllocGlobal>(
     requires most { n ≤ 64 }
     ensures size { IfOk result (λ farm. size farm ≡ n) }
     ensures running { IfOk result (λ farm. AllRun farm.places) }
+    ensures read { IfOk result (λ farm. WereRead (nodes_in farm)) }
 {
     let file = new_file(rt, n, beginning)?;
     write_folder(log, folder, &file);
@@ -162,6 +167,7 @@ fn in_files<'a, R: Files + Eprint + Clock + AllocGlobal>(
     requires most { n ≤ 64 }
     ensures size { IfOk result (λ farm. size farm ≡ n) }
     ensures running { IfOk result (λ farm. AllRun farm.places) }
+    ensures read { IfOk result (λ farm. WereRead (nodes_in farm)) }
 {
     let mut places = Vec::new(rt.alloc());
     for number in 0..n {
@@ -252,6 +258,7 @@ fn id_of(number: u8) -> NodeId
 fn put<T: Tape + Drop>(places: &mut Vec<Place<T>>, node: Node<T>, n: u8) -> Result<(), Cause>
     requires next { node.id ≡ length places.old.items }
     requires of { node.n ≡ n }
+    requires read { WasRead node }
     requires opened { AreOpened n places.old.items }
     ensures opened { OnOk result (AreOpened n places.new.items) }
     ensures size { OnOk result (length places.new.items ≡ length places.old.items + 1) }

@@ -1,10 +1,10 @@
 //! Closing a connection after its response.
 
-use crate::limited::Limited;
+use crate::incoming::Incoming;
 use std::net::{Shutdown, TcpStream};
 use std::time::{Clock, Duration};
 use wf_edge::outcome::Outcome;
-use wf_stream::{Source, Stream};
+use wf_stream::Source;
 
 /// The time for which a client may go on sending after its response, in seconds.
 const PARTING_SECONDS: u64 = 1;
@@ -21,12 +21,10 @@ const LEAST_REFUSAL: u16 = 400;
 /// with unread bytes, the system could discard the rest of the response. A client that has sent nothing after its request isn't
 /// waited for, unless the request was rejected: then it may still be sending it.
 pub(crate) fn part<R: Clock>(clock: &R, stream: &TcpStream, outcome: Outcome) {
-    if stream.shutdown(Shutdown::Write).is_err() {
-        return;
-    }
-    if is_refusal(outcome) || has_more(stream) {
+    let may_send = is_refusal(outcome) || has_more(stream);
+    if may_send && stream.shutdown(Shutdown::Write).is_ok() {
         let time = Duration::from_secs(PARTING_SECONDS);
-        drop_all(&mut Stream::new(Limited::new(clock, stream, time)));
+        drop_all(&mut Incoming::new(clock, stream, time));
     }
 }
 

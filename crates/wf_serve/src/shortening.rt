@@ -2,6 +2,7 @@
 ghost use Rattle.std.specs.Prelude.{◌≡◌, ◌<◌, ◌≤◌, false, IfErr, IfOk};
 ghost use Rattle.wf_node.specs.Images.{AllStandFor};
 ghost use Rattle.wf_node.specs.Node.{stored_of};
+ghost use Rattle.wf_serve.specs.Opening.{WasRead};
 ghost use Rattle.wf_serve.specs.Shortening.{IsLeft, IsOpened, IsShort};
 
 use std::alloc::Global;
@@ -27,6 +28,7 @@ pub fn open_shortened<T: Tape>(
     ensures id { IfOk result (λ x. x.0.id ≡ id) }
     ensures n { IfOk result (λ x. x.0.n ≡ n) }
     ensures opened { IfOk result (λ x. IsOpened T.Tape tape x.0 x.1) }
+    ensures read { IfOk result (λ x. WasRead x.0) }
     ensures left { T.honest → IfErr result (IsLeft T.Tape tape) }
 {
     match Node::open(alloc, tape, id, n) {

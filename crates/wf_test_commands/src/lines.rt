@@ -29,7 +29,7 @@ fn tell_service(service: Service<'_>, answer: &mut Answer) {
     answer.line("");
 }
 
-fn tell_bracketed(text: &str, answer: &mut Answer) {
+pub(crate) fn tell_bracketed(text: &str, answer: &mut Answer) {
     answer.texts(&[" [", text, "]"]);
 }
 
@@ -64,20 +64,24 @@ fn tell_line(asked_for: Line<'_>, answer: &mut Answer) {
 }
 
 // The exit status of a rejected command line, whose text is printed.
-fn status_of(error: Error) -> u8 {
+pub(crate) fn status_of(error: Error) -> u8 {
     let status = rejection_status(error.kind(), true);
     drop(error);
     status
 }
 
-fn tell_rejection(status: u8, answer: &mut Answer) {
+pub(crate) fn tell_rejection(status: u8, answer: &mut Answer) {
     answer.text("rejected with status ");
     answer.value(status);
     answer.line("");
 }
 
 // The words between the separators; none where there is nothing.
-fn words_of<'a>(alloc: Global, text: &'a str, separator: char) -> Result<Vec<&'a str>, Unanswered> {
+pub(crate) fn words_of<'a>(
+    alloc: Global,
+    text: &'a str,
+    separator: char,
+) -> Result<Vec<&'a str>, Unanswered> {
     let mut words = Vec::new(alloc);
     if !text.is_empty() {
         for word in text.split(separator) {

@@ -6,28 +6,30 @@ use std::cell::RefCell;
 use std::env::FillError;
 use std::fmt::Display;
 use std::fs::{File, Metadata, OpenOptions};
-use std::io;
 use std::io::{BufRead, ErrorKind, Lines, Read};
 use std::net::{Net, SocketAddr, TcpListener, TcpStream};
 use std::process::ExitCode;
 use std::rt::{Clock, Env, Files};
 use std::time::Duration;
+use std::{fs, io};
 use wf_commands::program::program;
 use wf_test_table::escape::unescape;
 use wf_test_table::{Answer, Answered, Asked, Unanswered};
 
-/// Which of its standard streams is broken.
+/// Which of its standard streams is broken, or that another program has the folder `new`.
 #[derive(Clone, Copy, PartialEq)]
 enum Broken {
     Nothing,
     Input,
     Output,
     Errors,
+    Held,
 }
 
-/// A process whose words are the lines of a text, and whose standard input is these bytes. It has no file, no port is free, no
-/// connection is accepted, and its clocks stand at 0.
-struct Process<'a> {
+/// A process whose words are the lines of a text, and whose standard input is these bytes. It has the files of this machine, but finds
+/// no name in a folder, or one in the folder `full`; no port is free, no connection is accepted, and its clocks stand at 0.
+struct Process<'a, R> {
+    files: &'a R,
     alloc: Global,
     words: &'a [u8],
     input: &'a [u8],
@@ -36,7 +38,7 @@ struct Process<'a> {
     errors: RefCell<Answer>,
 }
 
-impl<'a> Alloc for Process<'a> {
+impl<'a, R> Alloc for Process<'a, R> {
     type A = Global;
 
     fn alloc(&self) -> Global {
@@ -57,7 +59,7 @@ fn fill(word: &[u8], buf: &mut [u8]) -> Result<usize, FillError>
     }
 }
 
-impl<'a> Env for Process<'a> {
+impl<'a, R> Env for Process<'a, R> {
     fn arg(&self, i: usize, buf: &mut [u8]) -> Result<usize, FillError> {
         if i == 0 {
             return fill(b"wfarm", buf);
@@ -109,7 +111,7 @@ impl<'a> BufRead for Given<'a> {
     }
 }
 
-impl<'a> Input for Process<'a> {
+impl<'a, R> Input for Process<'a, R> {
     type Reader = Given<'a>;
 
     fn read_line<A: Allocator + Clone>(&self, _buf: &mut String<A>) -> io::Result<usize> {
@@ -128,7 +130,7 @@ impl<'a> Input for Process<'a> {
     }
 }
 
-impl<'a> Process<'a> {
+impl<'a, R> Process<'a, R> {
     /// Appends bytes to what was written to a standard stream.
     fn append(&self, stream: &RefCell<Answer>, name: Broken, bytes: &[u8]) -> io::Result<()> {
         if self.broken == name {
@@ -162,7 +164,7 @@ impl<'a> Process<'a> {
     }
 }
 
-impl<'a> Print for Process<'a> {
+impl<'a, R> Print for Process<'a, R> {
     fn print<D: Display + Drop>(&self, value: D) -> io::Result<()> {
         self.append_value(&self.output, Broken::Output, value, "")
     }
@@ -176,7 +178,7 @@ impl<'a> Print for Process<'a> {
     }
 }
 
-impl<'a> Eprint for Process<'a> {
+impl<'a, R> Eprint for Process<'a, R> {
     fn eprint<D: Display + Drop>(&self, value: D) -> io::Result<()> {
         self.append_value(&self.errors, Broken::Errors, value, "")
     }
@@ -186,7 +188,7 @@ impl<'a> Eprint for Process<'a> {
     }
 }
 
-impl<'a> Clock for Process<'a> {
+impl<'a, R> Clock for Process<'a, R> {
     fn monotonic(&self) -> io::Result<Duration> {
         Ok(Duration::ZERO)
     }
@@ -196,58 +198,57 @@ impl<'a> Clock for Process<'a> {
     }
 }
 
-/// The error of a file that isn't there.
-fn missing() -> io::Error {
-    io::Error::from(ErrorKind::NotFound)
-}
-
-impl<'a> Files for Process<'a> {
+impl<'a, R: Files<File = File>> Files for Process<'a, R> {
     type File = File;
 
     type Dir = &'a [u8];
 
-    fn open_file(&self, _how: &OpenOptions, _path: &str) -> io::Result<File> {
-        Err(missing())
+    fn open_file(&self, how: &OpenOptions, path: &str) -> io::Result<File> {
+        self.files.open_file(how, path)
     }
 
-    fn open_dir(&self, _path: &str) -> io::Result<&'a [u8]> {
-        Err(missing())
+    fn open_dir(&self, path: &str) -> io::Result<&'a [u8]> {
+        Ok(if path.starts_with("full") {
+            b"keep\0"
+        } else {
+            b""
+        })
     }
 
-    fn metadata(&self, _path: &str) -> io::Result<Metadata> {
-        Err(missing())
+    fn metadata(&self, path: &str) -> io::Result<Metadata> {
+        self.files.metadata(path)
     }
 
-    fn symlink_metadata(&self, _path: &str) -> io::Result<Metadata> {
-        Err(missing())
+    fn symlink_metadata(&self, path: &str) -> io::Result<Metadata> {
+        self.files.symlink_metadata(path)
     }
 
-    fn copy(&self, _from: &str, _to: &str) -> io::Result<u64> {
-        Err(missing())
+    fn copy(&self, from: &str, to: &str) -> io::Result<u64> {
+        self.files.copy(from, to)
     }
 
-    fn rename(&self, _from: &str, _to: &str) -> io::Result<()> {
-        Err(missing())
+    fn rename(&self, from: &str, to: &str) -> io::Result<()> {
+        self.files.rename(from, to)
     }
 
-    fn remove_file(&self, _path: &str) -> io::Result<()> {
-        Err(missing())
+    fn remove_file(&self, path: &str) -> io::Result<()> {
+        self.files.remove_file(path)
     }
 
-    fn create_dir(&self, _path: &str) -> io::Result<()> {
-        Err(missing())
+    fn create_dir(&self, path: &str) -> io::Result<()> {
+        self.files.create_dir(path)
     }
 
-    fn remove_dir(&self, _path: &str) -> io::Result<()> {
-        Err(missing())
+    fn remove_dir(&self, path: &str) -> io::Result<()> {
+        self.files.remove_dir(path)
     }
 
-    fn remove_dir_all<B: Allocator>(&self, _alloc: B, _path: &str) -> io::Result<()> {
-        Err(missing())
+    fn remove_dir_all<B: Allocator>(&self, alloc: B, path: &str) -> io::Result<()> {
+        self.files.remove_dir_all(alloc, path)
     }
 }
 
-impl<'a> Net for Process<'a> {
+impl<'a, R> Net for Process<'a, R> {
     type Stream = TcpStream;
 
     type Listener = TcpListener;
@@ -291,8 +292,29 @@ fn tell_lines(mark: &str, written: Answer, answer: &mut Answer) -> Answered {
     told
 }
 
-fn tell_process(asked: Asked<'_>, broken: Broken, words: &[u8], answer: &mut Answer) -> Answered {
+/// Locks a folder as long as the handle lives.
+fn hold<R: Files<File = File>>(files: &R, folder: &str) -> Option<File> {
+    let handle = fs::open(files, folder).ok()?;
+    match handle.try_lock() {
+        Ok(()) => Some(handle),
+        Err(_) => None,
+    }
+}
+
+fn tell_process<R: Files<File = File>>(
+    files: &R,
+    asked: Asked<'_>,
+    broken: Broken,
+    words: &[u8],
+    answer: &mut Answer,
+) -> Answered {
+    let held = if broken == Broken::Held {
+        hold(files, "new")
+    } else {
+        None
+    };
     let process = Process {
+        files,
         alloc: asked.alloc,
         words,
         input: asked.input,
@@ -301,7 +323,9 @@ fn tell_process(asked: Asked<'_>, broken: Broken, words: &[u8], answer: &mut Ans
         errors: RefCell::new(Answer::new(asked.alloc)),
     };
     let code = program(&process);
+    drop(held);
     let Process {
+        files: _,
         alloc: _,
         words: _,
         input: _,
@@ -316,20 +340,26 @@ fn tell_process(asked: Asked<'_>, broken: Broken, words: &[u8], answer: &mut Ans
 }
 
 /// `program BROKEN WORDS`: what a process of the program writes to its standard output, what to its standard error, and its exit
-/// status. BROKEN is the standard stream that fails, `input`, `output` or `errors`, or `nothing`. WORDS are the command line's, spelled
-/// with escapes, with `\n` between. The process has no file and no port.
-pub(crate) fn program_of(mut asked: Asked<'_>, answer: &mut Answer) -> Answered {
+/// status. BROKEN is the standard stream that fails, `input`, `output` or `errors`, `nothing`, or `held` where another program has the
+/// folder `new`. WORDS are the command line's, spelled
+/// with escapes, with `\n` between. The process has the files of this machine, where each folder but `full` is listed as empty, and no port.
+pub(crate) fn program_of<R: Files<File = File>>(
+    files: &R,
+    mut asked: Asked<'_>,
+    answer: &mut Answer,
+) -> Answered {
     let broken = match asked.words.word() {
         "nothing" => Broken::Nothing,
         "input" => Broken::Input,
         "output" => Broken::Output,
         "errors" => Broken::Errors,
+        "held" => Broken::Held,
         _ => return Err(Unanswered::BadWords),
     };
     let mut words = Answer::new(asked.alloc);
     let told = match unescape(asked.words.rest(), &mut words) {
         Ok(()) => match words.written() {
-            Ok(bytes) => tell_process(asked, broken, bytes, answer),
+            Ok(bytes) => tell_process(files, asked, broken, bytes, answer),
             Err(_) => Err(Unanswered::Memory),
         },
         Err(unanswered) => Err(unanswered),

@@ -1,15 +1,18 @@
 //! The questions by their names.
-use crate::{broken, commands, folders, fused, lines, played, process};
+use crate::{broken, commands, folders, fused, lines, node_lines, played, process};
+use std::fs::File;
 use std::net::{Net, TcpListener, TcpStream};
+use std::rt::Files;
 use wf_farm::Copies;
 use wf_link::Connection;
 use wf_test_table::{Answer, Answered, Asked, Questions, Unanswered};
 
-/// All questions of this program. It opens connections of this machine to itself.
+/// All questions of this program. It opens files of this machine, and connections of it to itself.
 #[derive(Drop)]
 pub(crate) struct CommandQuestions<'r, R>(pub(crate) &'r R);
 
-impl<'r, R: Net<Listener = TcpListener, Stream = TcpStream>> Questions for CommandQuestions<'r, R> {
+impl<'r, R: Files<File = File> + Net<Listener = TcpListener, Stream = TcpStream>> Questions
+    for CommandQuestions<'r, R> {
     fn answer(&self, mut asked: Asked<'_>, answer: &mut Answer) -> Answered {
         match asked.words.word() {
             "admit" => folders::admitted(asked, answer),
@@ -21,7 +24,8 @@ impl<'r, R: Net<Listener = TcpListener, Stream = TcpStream>> Questions for Comma
             "farm_file" => folders::farm_file(asked, answer),
             "fused" => fused::fused(asked, answer),
             "line" => lines::line_of(asked, answer),
-            "program" => process::program_of(asked, answer),
+            "node_line" => node_lines::node_line(asked, answer),
+            "program" => process::program_of(self.0, asked, answer),
             "run" => lines::run(asked, &mut Connection::new(self.0), answer),
             "script" => played::script(asked, &mut Copies, answer),
             "script_losing" => played::script_losing(asked, answer),

@@ -18,6 +18,8 @@ mod edge;
 #[cfg(test)]
 mod farm;
 #[cfg(test)]
+mod limits;
+#[cfg(test)]
 mod listing;
 mod machine;
 #[cfg(test)]

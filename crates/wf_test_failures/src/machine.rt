@@ -1,4 +1,4 @@
-//! A machine on which a listener of a test's own is bound, and which looks after the lock of a folder.
+//! A machine on which a listener of a test's own is bound, whose clock a test sets, and which looks after the lock of a folder.
 use std::alloc::{Allocator, Global};
 use std::cell::{Cell, RefCell};
 use std::fmt::Display;
@@ -9,6 +9,17 @@ use std::rt::{Clock, Files};
 use std::time::Duration;
 use std::{fs, io};
 
+/// What the clock does when it is read.
+#[derive(Clone, Copy)]
+pub(crate) enum Reading {
+    /// It tells the time.
+    Now,
+    /// It tells the time after so many more seconds.
+    Later(u64),
+    /// It fails.
+    Fails(ErrorKind),
+}
+
 /// The machine, but that it gives one listener for the first address that is asked for, and tries to lock a folder whenever its clock is
 /// read, as it is for each read and each write of a connection.
 #[derive(Drop)]
@@ -18,16 +29,41 @@ pub(crate) struct Machine<'a> {
     asked: Cell<Option<SocketAddr>>,
     folder: &'a str,
     is_loose: Cell<bool>,
+    // The clock's first readings; after them it tells the time.
+    readings: &'a [Reading],
+    count: Cell<usize>,
 }
 
 impl<'a> Machine<'a> {
-    pub(crate) fn new(rt: &'a HostRuntime, listener: TcpListener, folder: &'a str) -> Self {
+    pub(crate) fn new(
+        rt: &'a HostRuntime,
+        listener: TcpListener,
+        folder: &'a str,
+        readings: &'a [Reading],
+    ) -> Self {
         Machine {
             rt,
             listener: RefCell::new(Some(listener)),
             asked: Cell::new(None),
             folder,
             is_loose: Cell::new(false),
+            readings,
+            count: Cell::new(0),
+        }
+    }
+
+    /// How often the clock was read.
+    pub(crate) fn readings(&self) -> usize {
+        self.count.get()
+    }
+
+    /// The clock's next reading.
+    fn next(&self) -> Reading {
+        let number = self.count.get();
+        self.count.set(number.saturating_add(1));
+        match self.readings.get(number) {
+            Some(reading) => *reading,
+            None => Reading::Now,
         }
     }
 
@@ -78,7 +114,12 @@ impl<'a> Eprint for Machine<'a> {
 impl<'a> Clock for Machine<'a> {
     fn monotonic(&self) -> io::Result<Duration> {
         self.look();
-        self.rt.monotonic()
+        let now = self.rt.monotonic()?;
+        match self.next() {
+            Reading::Now => Ok(now),
+            Reading::Later(seconds) => Ok(now.saturating_add(Duration::from_secs(seconds))),
+            Reading::Fails(kind) => Err(io::Error::from(kind)),
+        }
     }
 
     fn since_1970(&self) -> io::Result<Duration> {

@@ -37,7 +37,7 @@ const AFTER_SECOND: &[u8] =
     b"HTTP/1.1 202 Accepted\r\nContent-Type: text/plain\r\nContent-Length: 15\r\nConnection: close\r\n\r\naccepted for 2\nHTTP/1.1 200 OK\r\nContent-Type: text/plain\r\nContent-Length: 33\r\nConnection: close\r\n\r\nnode 1 published 2 proposal none\nHTTP/1.1 200 OK\r\nContent-Type: text/plain\r\nContent-Length: 33\r\nConnection: close\r\n\r\nnode 2 published 2 proposal none\n";
 
 /// Three nodes for this many connections.
-fn three_nodes(port: u16, requests: u32, state: Option<&str>) -> Service<'_>
+pub(crate) fn three_nodes(port: u16, requests: u32, state: Option<&str>) -> Service<'_>
     requires { requests ≤ 3 }
     ensures { IsService result }
 {
@@ -84,7 +84,7 @@ fn serve_three(rt: &HostRuntime, listener: TcpListener, folder: &str) -> bool {
         return false;
     };
     let port = address.port();
-    let machine = Machine::new(rt, listener, folder);
+    let machine = Machine::new(rt, listener, folder, &[]);
     let mut sink = Output::new(rt.alloc(), 64);
     let outcome = serve(&machine, three_nodes(0, 3, Some(folder)), &mut sink);
     let is_told = is_line(rt.alloc(), sink.bytes(), port);
@@ -105,7 +105,7 @@ fn is_line(alloc: Global, written: &[u8], port: u16) -> bool {
 }
 
 /// Appends the response that a client gets, and returns whether it could be read to its end.
-fn is_read(mut client: TcpStream, answers: &mut Vec<u8>) -> bool {
+pub(crate) fn is_read(mut client: TcpStream, answers: &mut Vec<u8>) -> bool {
     let is_read = client.read_to_end(answers).is_ok();
     drop(client);
     is_read

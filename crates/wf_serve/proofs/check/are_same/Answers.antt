@@ -1,5 +1,5 @@
 -- The test decides whether they are equal.
-use Rattle.std.proofs.Common.{◌≡◌, ◌∙◌, sym}
+use Rattle.std.proofs.Common.{◌∙◌, sym}
 use Rattle.std.proofs.lemmas.Bool.Decides.{not_from_Decides}
 use Rattle.wf_def.specs.Equality.{definition_eq}
 use Rattle.wf_def.specs.EqualityLaws.{definition_eq-Decides}

@@ -17,7 +17,7 @@ returns-clause-answered g c = inl (record {
   input = _;
   written = _;
   written_after = _;
-  outcome = c.serve_connection-outcome.result;
+  outcome = c.serve_connection-outcome.result.request;
   connection = c.serve_connection-outcome.ensures.connection;
 })
 

@@ -15,4 +15,4 @@ returns-in-Ok-new-clause-served g c =
 pub returns-in-Ok-open_folder-clause-served : goal.returns-in-Ok-open_folder-clause-served
 returns-in-Ok-open_folder-clause-served g c =
     let farm = c.in-Ok-open_folder.farm in
-    served_in_files _ _ c.args.service (nodes_in farm) c.serve_opened-outcome.result (ap is_some c.in-Some.is) (length-nodes farm.places ∙ c.in-Ok-open_folder.ensures.size) c.serve_opened-outcome.ensures.served
+    served_in_files _ _ c.args.service (nodes_in farm) c.serve_opened-outcome.result (ap is_some c.in-Some.is) (length-nodes farm.places ∙ c.in-Ok-open_folder.ensures.size) c.in-Ok-open_folder.ensures.read c.serve_opened-outcome.ensures.served

@@ -1,5 +1,5 @@
 -- The farm's nodes have caught up.
-use Rattle.std.proofs.Common.{◌≡◌, Bool, true, false, Result, Ok, Err, OnOk, length, is_err, arith}
+use Rattle.std.proofs.Common.{◌≡◌, true, false, Result, Ok, Err, OnOk, length, is_err, arith}
 use Rattle.wf_farm.specs.CatchUp.{StandLevel}
 use Rattle.wf_farm.specs.Nodes.{nodes_in}
 use Rattle.wf_farm.specs.NodesLaws.{all_run_on, length-nodes}

@@ -1,0 +1,4 @@
+pub mod LateAnswersLaw
+pub mod OfferLaw
+pub mod ReadingLaw
+pub mod SendersLaw

@@ -1,0 +1,4 @@
+pub mod LateAnswers
+pub mod Offer
+pub mod Reading
+pub mod Senders

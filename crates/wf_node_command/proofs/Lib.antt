@@ -1,0 +1,3 @@
+mod Listing
+mod Faults
+mod Started

@@ -1,0 +1,155 @@
+-- What a command did.
+use Rattle.std.specs.Prelude.{◌≡◌, ◌≤◌, ℕ, ⊤, List, [], Option, Some, None, Result, Ok, Err, IsSome, MatchOption, length, option_map}
+use Rattle.wf_actor.specs.Opening.{IsOpened}
+use Rattle.wf_actor.specs.Process.{IsBegun}
+use Rattle.wf_actor.specs.declared.process.Process.{Process}
+use Rattle.wf_folder.specs.Name.{IsNameText, padded}
+use Rattle.wf_folder.specs.NodeAdmission.{IsNodeRejection, IsNodeStart, IsSoundFind}
+use Rattle.wf_folder.specs.NodeFile.{IsNodeFile}
+use Rattle.wf_folder.specs.declared.node_admission.NodeFound.{NodeFound}
+use Rattle.wf_folder.specs.declared.node_admission.NodeRejection.{NodeRejection}
+use Rattle.wf_folder.specs.declared.node_file.NodeFile.{NodeFile}
+use Rattle.wf_folder.specs.declared.presence.Presence.{Presence}
+use Rattle.wf_line.specs.declared.node_line.InitLine.{InitLine}
+use Rattle.wf_line.specs.declared.node_line.NodeCommand.{NodeCommand}
+use Rattle.wf_line.specs.declared.node_line.NodeCommand.TheVariants as commands
+use Rattle.wf_line.specs.declared.node_line.NodeLine.{NodeLine}
+use Rattle.wf_loop.specs.Hub.{HasLived}
+use Rattle.wf_def.specs.Definition.{Definition}
+use Rattle.wf_model.specs.Stored.{Stored}
+use Rattle.wf_node.specs.Opening.{IsFoldOf}
+use Rattle.wf_tape.specs.declared.tape.Tape.{Ghosts as Tape}
+use Rattle.wf_node_command.specs.Address.{IsListFault, IsNoAddress, words_of}
+use Rattle.wf_node_command.specs.Fault.{IsFromSystem, fault_status}
+use Rattle.wf_node_command.specs.declared.fault.AddressOption.{AddressOption}
+use Rattle.wf_node_command.specs.declared.fault.AddressOption.TheVariants as options
+use Rattle.wf_node_command.specs.declared.fault.CommandFault.{CommandFault}
+use Rattle.wf_node_command.specs.declared.fault.CommandFault.TheVariants as faults
+
+-- ---- node
+
+-- what was found admits this start, of one of as many nodes as addresses are listed
+pub record IsAdmitted (line : NodeLine) (file : NodeFile) : Type 0 where
+  pub found : NodeFound
+  pub tape : Presence
+  pub sound : IsSoundFind found
+  pub start : IsNodeStart (length (words_of line.peers.now)) found tape file
+
+-- what was found is why the node may not start
+pub record IsRejected (line : NodeLine) (why : NodeRejection) : Type 0 where
+  pub found : NodeFound
+  pub tape : Presence
+  pub sound : IsSoundFind found
+  pub rejection : IsNodeRejection (length (words_of line.peers.now)) found tape why
+
+-- the value of an option, if it is given
+abbrev pub value_of : NodeLine → AddressOption → Option (List ℕ)
+value_of line options.Http = Some line.http.now
+value_of line options.Listen = option_map (λ word. word.now) line.listen
+value_of line options.Admin = option_map (λ word. word.now) line.admin
+
+-- it is given, and no address
+pub record IsBadOption (line : NodeLine) (option : AddressOption) : Type 0 where
+  pub word : List ℕ
+  pub is : value_of line option ≡ Some word
+  pub bad : IsNoAddress word
+
+-- Why a node didn't begin: the list or an option of the command line, what was found in the folder, or the system.
+abbrev pub IsNodeFault : NodeLine → CommandFault → Type 0
+IsNodeFault line (faults.BadPeer index) = IsListFault (words_of line.peers.now) (faults.BadPeer index)
+IsNodeFault line (faults.PeerCount count) = IsListFault (words_of line.peers.now) (faults.PeerCount count)
+IsNodeFault line (faults.BadAddress option) = IsBadOption line option
+IsNodeFault line (faults.Rejected why) = IsRejected line why
+IsNodeFault line fault = IsFromSystem fault
+
+module _ {T : Type 0} (tapes : Tape T) where
+  -- The process was just opened on a tape as the node of this file, of as many nodes as the file says.
+  pub record IsStarted (file : NodeFile) (process : Process T tapes) : Type 0 where
+    pub tape : T
+    pub opened : IsOpened tapes tape file.node file.nodes process.actor.node
+    pub begun : IsBegun process
+    pub among : process.n ≡ file.nodes
+
+  -- a process that was started so has lived, up to this one
+  pub record HasGoneOn (file : NodeFile) : Type 0 where
+    pub started : Process T tapes
+    pub is_started : IsStarted file started
+    pub process : Process T tapes
+    pub lived : HasLived tapes process
+
+  -- how the turns of a started node ended
+  abbrev pub IsEnd : NodeFile → Result (Unit {0}) CommandFault → Type 0
+  IsEnd file (Ok done) = HasGoneOn file
+  IsEnd file (Err (faults.Ended why)) = HasGoneOn file
+  IsEnd file (Err fault) = IsFromSystem fault
+
+  -- The node was served: its folder admitted the start, and its process has lived.
+  pub record HasServed (line : NodeLine) : Type 0 where
+    pub file : NodeFile
+    pub admitted : IsAdmitted line file
+    pub served : HasGoneOn file
+
+  -- What `node` did: it took its turns, or a peer ended it, and then it was served; or it didn't begin.
+  abbrev pub IsNodeDone : NodeLine → Result (Unit {0}) CommandFault → Type 0
+  IsNodeDone line (Ok done) = HasServed line
+  IsNodeDone line (Err (faults.Ended why)) = HasServed line
+  IsNodeDone line (Err fault) = IsNodeFault line fault
+
+-- ---- init
+
+-- a node opens on a tape with these bytes
+abbrev pub IsTape : List ℕ → Type 0
+IsTape bytes = (stored : Stored Definition) × IsFoldOf stored bytes
+
+-- the tape to begin with: an empty one, or that of `--from`, which is one on which a node opens
+abbrev pub IsFirstTape : InitLine → List ℕ → Type 0
+IsFirstTape line bytes = MatchOption line.from (bytes ≡ []) (λ from. IsTape bytes)
+
+-- The file is that of the line's node, which never started.
+pub record IsFirstFile (line : InitLine) (file : NodeFile) : Type 0 where
+  pub is : IsNodeFile file
+  pub node : file.node ≡ line.id
+  pub nodes : file.nodes ≡ line.nodes
+  pub starts : file.starts ≡ 0
+  pub farm : file.farm ≡ padded line.farm.now
+
+-- The folder was made: it had no names, and has the file of a node that never started, and its tape.
+pub record HasMade (line : InitLine) : Type 0 where
+  pub names : ℕ
+  pub none : names ≡ 0
+  pub file : NodeFile
+  pub is_first : IsFirstFile line file
+  pub tape : List ℕ
+  pub begins : IsFirstTape line tape
+
+-- the tape of `--from` can't be read, or is none; or an allocation failed
+abbrev pub IsFromFault : CommandFault → Type 0
+IsFromFault (faults.FromUnread kind) = ⊤
+IsFromFault (faults.FromBad offset) = ⊤
+IsFromFault faults.Memory = ⊤
+IsFromFault fault = ⊥
+
+-- why it wasn't
+abbrev pub IsInitFault : InitLine → CommandFault → Type 0
+IsInitFault line (faults.Id id nodes) = (id ≡ line.id) × (nodes ≡ line.nodes) × (line.nodes ≤ line.id)
+IsInitFault line faults.Name = ¬ (IsNameText line.farm.now)
+IsInitFault line (faults.NotEmpty why) = (names : ℕ) × ¬ (names ≡ 0)
+IsInitFault line (faults.FromUnread kind) = IsSome line.from
+IsInitFault line (faults.FromBad offset) = IsSome line.from
+IsInitFault line fault = IsFromSystem fault
+
+-- What `init` did.
+abbrev pub IsInitDone : InitLine → Result (Unit {0}) CommandFault → Type 0
+IsInitDone line (Ok done) = HasMade line
+IsInitDone line (Err fault) = IsInitFault line fault
+
+-- ---- either
+
+abbrev pub IsDone : {T : Type 0} → Tape T → NodeCommand → Result (Unit {0}) CommandFault → Type 0
+IsDone tapes (commands.Init line) result = IsInitDone line result
+IsDone tapes (commands.Node line) result = IsNodeDone tapes line result
+
+-- the exit status of a command
+abbrev pub command_status : Result (Unit {0}) CommandFault → ℕ
+command_status (Ok done) = 0
+command_status (Err fault) = fault_status fault

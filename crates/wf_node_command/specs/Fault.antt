@@ -1,0 +1,28 @@
+-- The exit status of an error, and the errors that the system causes.
+use Rattle.std.specs.Prelude.{ℕ, ⊤}
+use Rattle.wf_node_command.specs.declared.fault.CommandFault.{CommandFault}
+use Rattle.wf_node_command.specs.declared.fault.CommandFault.TheVariants as faults
+
+-- 2 for a bad command line
+abbrev pub fault_status : CommandFault → ℕ
+fault_status (faults.BadPeer index) = 2
+fault_status (faults.PeerCount count) = 2
+fault_status (faults.BadAddress option) = 2
+fault_status (faults.Id id nodes) = 2
+fault_status faults.Name = 2
+fault_status fault = 1
+
+-- The error is one that files, sockets or memory caused before a node began: none of the command line, of where a node may begin, or of
+-- what a peer said.
+abbrev pub IsFromSystem : CommandFault → Type 0
+IsFromSystem (faults.BadPeer index) = ⊥
+IsFromSystem (faults.PeerCount count) = ⊥
+IsFromSystem (faults.BadAddress option) = ⊥
+IsFromSystem (faults.Id id nodes) = ⊥
+IsFromSystem faults.Name = ⊥
+IsFromSystem (faults.NotEmpty why) = ⊥
+IsFromSystem (faults.Rejected why) = ⊥
+IsFromSystem (faults.FromUnread kind) = ⊥
+IsFromSystem (faults.FromBad offset) = ⊥
+IsFromSystem (faults.Ended why) = ⊥
+IsFromSystem fault = ⊤

@@ -1,0 +1,30 @@
+//! Runs a parsed command line.
+ghost use Rattle.wf_line.specs.NodeLine.{IsNodeCommandInRange};
+ghost use Rattle.wf_node_command.specs.Done.{IsDone};
+
+use crate::fault::CommandFault;
+use crate::init::init;
+use crate::node::node;
+use std::fs::File;
+use std::net::Net;
+use std::rt::Files;
+use std::time::Clock;
+use wf_line::node_line::NodeCommand;
+use wf_tape::{FileTape, Tape};
+
+/// Runs a command: `init` makes the folder of a node, and `node` serves it for this many turns, or until a peer tells it that it has to
+/// end; `init` takes none. A turn waits until a socket is ready, 0.1 seconds at most. Err: the cause, whose text is the line for
+/// standard error. After an error of `init` the folder may have a file without being a node's; it begins on no such folder.
+pub fn run<'a, R: Files<File = File> + Clock + Eprint + Net + AllocGlobal>(
+    rt: &'a R,
+    command: &NodeCommand<'_>,
+    turns: u64,
+) -> Result<(), CommandFault>
+    requires { IsNodeCommandInRange command.now }
+    ensures { IsDone ⟦<FileTape<&'a R> as Tape>⟧ command.now result }
+{
+    match command {
+        NodeCommand::Init(line) => init(rt, line),
+        NodeCommand::Node(line) => node(rt, line, turns),
+    }
+}

@@ -1,0 +1,134 @@
+//! Why a command ends with an error.
+ghost use Rattle.std.specs.Prelude.{◌≡◌, ◌≤◌};
+ghost use Rattle.wf_node_command.specs.Fault.{fault_status};
+
+use std::{fmt, io};
+use thiserror::Error;
+use wf_folder::{NodeRejection, NotEmpty};
+use wf_loop::LoopFault;
+use wf_peer::{HeardFault, Rejection};
+
+/// An option whose value is an address.
+#[derive(Clone, Copy, Debug)]
+pub enum AddressOption {
+    /// `--http`
+    Http,
+    /// `--listen`
+    Listen,
+    /// `--admin`
+    Admin,
+}
+
+impl fmt::Display for AddressOption {
+    fn fmt<W: fmt::Write>(&self, f: &mut fmt::Formatter<W>) -> fmt::Result {
+        f.write_str(match self {
+            AddressOption::Http => "--http",
+            AddressOption::Listen => "--listen",
+            AddressOption::Admin => "--admin",
+        })
+    }
+}
+
+/// Why a command ends with an error. Its text is the line on standard error.
+#[derive(Clone, Copy, Debug, Error)]
+pub enum CommandFault {
+    /// The word at this index of the list of peers isn't an address with a port.
+    #[error("bad address in --peers: that of node {0}")]
+    BadPeer(usize),
+    /// The list of peers has too many words.
+    #[error("--peers has {0} addresses, at most 64 are allowed")]
+    PeerCount(usize),
+    /// The value of this option isn't an address with a port.
+    #[error("bad address: {0}")]
+    BadAddress(AddressOption),
+    /// The node's number isn't below the number of nodes.
+    #[error("--id {0} isn't below --nodes {1}")]
+    Id(u8, u8),
+    /// No farm can have this name.
+    #[error("bad farm name: 1 to 32 letters, digits, -, . and _ are wanted")]
+    Name,
+    /// The folder isn't there, or can't be opened.
+    #[error("folder missing")]
+    NoFolder,
+    /// Another program has the folder.
+    #[error("folder held by another program")]
+    Held,
+    /// The folder of a new node isn't empty.
+    #[error("{0}")]
+    NotEmpty(NotEmpty),
+    /// A file of the folder can't be read.
+    #[error("the folder can't be read: {0}")]
+    Unread(io::ErrorKind),
+    /// A file of the folder can't be written.
+    #[error("the folder can't be written: {0}")]
+    Unwritten(io::ErrorKind),
+    /// The node may not start on the folder.
+    #[error("bad folder: {0}")]
+    Rejected(NodeRejection),
+    /// The file `heard` is bad.
+    #[error("bad file heard: {0}")]
+    Heard(HeardFault),
+    /// The file of `--from` can't be read.
+    #[error("--from can't be read: {0}")]
+    FromUnread(io::ErrorKind),
+    /// The tape of `--from` has a bad record at this byte offset.
+    #[error("--from isn't a tape: P2: a bad record at {0}")]
+    FromBad(usize),
+    /// The tape's file can't be read.
+    #[error("the tape can't be read: {0}")]
+    TapeUnread(io::ErrorKind),
+    /// The second copy of the tape that a start writes can't be written.
+    #[error("the tape can't be written anew: {0}")]
+    TapeUnwritten(io::ErrorKind),
+    /// The tape failed, and then didn't.
+    #[error("P1: the tape failed")]
+    TapeFailed,
+    /// The tape has a bad record at this byte offset.
+    #[error("the tape is damaged: P2: a bad record at {0}")]
+    TapeBad(usize),
+    /// The system gives no random bits.
+    #[error("no random bits")]
+    NoRandomBits,
+    /// An allocation failed.
+    #[error("out of memory")]
+    Memory,
+    /// The node's loop doesn't begin.
+    #[error("{0}")]
+    Loop(LoopFault),
+    /// A peer told the node that it has to end.
+    #[error("{0}")]
+    Ended(Rejection),
+}
+
+impl CommandFault {
+    /// The exit status: 2 for a bad command line, 1 for any other error.
+    pub fn status(self) -> u8
+        ensures value { result ≡ fault_status self }
+        ensures most { result ≤ 2 }
+    {
+        match self {
+            CommandFault::BadPeer(_)
+            | CommandFault::PeerCount(_)
+            | CommandFault::BadAddress(_)
+            | CommandFault::Id(..)
+            | CommandFault::Name => 2,
+            CommandFault::NoFolder
+            | CommandFault::Held
+            | CommandFault::NotEmpty(_)
+            | CommandFault::Unread(_)
+            | CommandFault::Unwritten(_)
+            | CommandFault::Rejected(_)
+            | CommandFault::Heard(_)
+            | CommandFault::FromUnread(_)
+            | CommandFault::FromBad(_)
+            | CommandFault::TapeUnread(_)
+            | CommandFault::TapeUnwritten(_)
+            | CommandFault::TapeFailed
+            | CommandFault::TapeBad(_)
+            | CommandFault::NoRandomBits
+            | CommandFault::Memory
+            | CommandFault::Loop(_)
+            | CommandFault::Ended(_) => 1,
+        }
+    }
+}

@@ -1,0 +1,426 @@
+//! `wfarm node`.
+ghost use Rattle.std.specs.Prelude.{◌≡◌, ◌≤◌, IfErr, IfNone, IfOk, List, Some, length, option_map, ℕ};
+ghost use Rattle.wf_folder.specs.NodeFile.{IsNodeFile};
+ghost use Rattle.wf_line.specs.NodeLine.{IsNodeInRange};
+ghost use Rattle.wf_loop.specs.Hub.{HasLived, process_of};
+ghost use Rattle.wf_node_command.specs.Address.{IsNoAddress, words_of};
+ghost use Rattle.wf_node_command.specs.Done.{IsAdmitted, IsEnd, IsNodeDone, IsNodeFault, IsStarted};
+ghost use Rattle.wf_node_command.specs.Fault.{IsFromSystem};
+
+use crate::addresses::{address, addresses};
+use crate::fault::{AddressOption, CommandFault};
+use crate::folder::{found_in, heard_in, hold, presence, replace_farm, tape_path};
+use crate::tape::{FileOpener, Opener, open_process, read_progress};
+use std::alloc::Global;
+use std::fs::File;
+use std::net::{Net, SocketAddr};
+use std::rt::Files;
+use std::time::Clock;
+use wf_ballot::NodeId;
+use wf_folder::{NodeFile, NodeFound, admit_node};
+use wf_line::node_line::NodeLine;
+use wf_loop::{Begun, Event, Hub, Log, Plan, Process};
+use wf_peer::{Heard, Own, Progress, Rejection};
+use wf_tape::{FileTape, Tape};
+use wf_timing::{Alarm, Backoff};
+
+/// The least and the greatest time between two attempts to open a tape that has failed, in milliseconds.
+const LEAST_REOPEN: u64 = 500;
+
+const MOST_REOPEN: u64 = 30_000;
+
+/// Where clients, peers and the operator come, and where all nodes' peers do.
+#[derive(Drop)]
+struct Places {
+    peers: Vec<SocketAddr>,
+    http: SocketAddr,
+    listen: Option<SocketAddr>,
+    admin: Option<SocketAddr>,
+}
+
+/// Serves a node for this many turns, or until a peer tells it that it has to end.
+#[tactic(auto, using(crate::proofs::Faults::not_begun, crate::proofs::Faults::not_started))]
+pub(crate) fn node<'a, R: Files<File = File> + Clock + Eprint + Net + AllocGlobal>(
+    rt: &'a R,
+    line: &NodeLine<'_>,
+    turns: u64,
+) -> Result<(), CommandFault>
+    requires { IsNodeInRange line.now }
+    ensures { IsNodeDone ⟦<FileTape<&'a R> as Tape>⟧ line.now result }
+{
+    let places = match places_of(rt.alloc(), line) {
+        Ok(places) => places,
+        Err(fault) => return Err(fault),
+    };
+    match hold(rt, line.state) {
+        Ok(held) => {
+            let ended = start(rt, line, places, turns);
+            drop(held);
+            ended
+        }
+        Err(fault) => {
+            drop(places);
+            Err(fault)
+        }
+    }
+}
+
+/// The addresses of a command line.
+#[tactic(auto, using(crate::proofs::Faults::list_fault, crate::proofs::Faults::bad_http, crate::proofs::Faults::bad_listen, crate::proofs::Faults::bad_admin, crate::proofs::Listing::as_many))]
+fn places_of(alloc: Global, line: &NodeLine<'_>) -> Result<Places, CommandFault>
+    ensures peers { IfOk result (λ places.
+        length places.peers.items ≡ length (words_of line.now.peers.now)) }
+    ensures most { IfOk result (λ places. length places.peers.items ≤ 64) }
+    ensures fault { IfErr result (IsNodeFault line.now) }
+{
+    let http = match address(line.http) {
+        Some(http) => http,
+        None => return Err(CommandFault::BadAddress(AddressOption::Http)),
+    };
+    let listen = match address_if_any(line.listen) {
+        Some(listen) => listen,
+        None => return Err(CommandFault::BadAddress(AddressOption::Listen)),
+    };
+    let admin = match address_if_any(line.admin) {
+        Some(admin) => admin,
+        None => return Err(CommandFault::BadAddress(AddressOption::Admin)),
+    };
+    match addresses(alloc, line.peers) {
+        Ok(peers) => Ok(Places {
+            peers,
+            http,
+            listen,
+            admin,
+        }),
+        Err(fault) => Err(fault),
+    }
+}
+
+/// The address that a word spells, if there is a word. None: it spells none.
+#[tactic(auto, using(crate::proofs::Listing::no_address))]
+fn address_if_any(word: Option<&str>) -> Option<Option<SocketAddr>>
+    ensures { IfNone result
+        ((text : List ℕ) × (option_map (λ w. w.now) word.entry ≡ Some text) × IsNoAddress text) }
+{
+    match word {
+        Some(word) => match address(word) {
+            Some(address) => Some(Some(address)),
+            None => None,
+        },
+        None => Some(None),
+    }
+}
+
+/// Starts the node on its folder, which is locked.
+#[tactic(auto, using(crate::proofs::Faults::not_begun))]
+fn start<'a, R: Files<File = File> + Clock + Eprint + Net + AllocGlobal>(
+    rt: &'a R,
+    line: &NodeLine<'_>,
+    places: Places,
+    turns: u64,
+) -> Result<(), CommandFault>
+    requires range { IsNodeInRange line.now }
+    requires peers { length places.peers.items ≡ length (words_of line.now.peers.now) }
+    requires most { length places.peers.items ≤ 64 }
+    ensures { IsNodeDone ⟦<FileTape<&'a R> as Tape>⟧ line.now result }
+{
+    match admitted(rt, line, places.peers.len() as u8) {
+        Ok(file) => start_as(rt, line, places, &file, turns),
+        Err(fault) => {
+            drop(places);
+            Err(fault)
+        }
+    }
+}
+
+/// The file of this start of one of so many nodes, by what is in the folder.
+#[tactic(auto, using(crate::proofs::Started::admitted_by, crate::proofs::Started::rejected_by, crate::proofs::Started::start_is_file, crate::proofs::Started::start_has_nodes, crate::proofs::Faults::system_of_node))]
+fn admitted<R: Files + AllocGlobal>(
+    rt: &R,
+    line: &NodeLine<'_>,
+    nodes: u8,
+) -> Result<NodeFile, CommandFault>
+    requires { nodes ≡ length (words_of line.now.peers.now) }
+    ensures admitted { IfOk result (IsAdmitted line.now) }
+    ensures file { IfOk result IsNodeFile }
+    ensures nodes { IfOk result (λ file. file.nodes ≡ nodes) }
+    ensures fault { IfErr result (IsNodeFault line.now) }
+{
+    let found = match found_in(rt, line.state) {
+        Ok(found) => found,
+        Err(fault) => return Err(fault),
+    };
+    let path = match tape_path(rt.alloc(), line.state, node_of(&found)) {
+        Ok(path) => path,
+        Err(fault) => return Err(fault),
+    };
+    let tape = match presence(rt, path.as_str()) {
+        Ok(tape) => tape,
+        Err(fault) => return Err(fault),
+    };
+    match admit_node(nodes, found, tape) {
+        Ok(file) => Ok(file),
+        Err(why) => Err(CommandFault::Rejected(why)),
+    }
+}
+
+/// The node whose file was found; 0 if none was.
+fn node_of(found: &NodeFound) -> u8 {
+    match found {
+        NodeFound::File(file) => file.node,
+        NodeFound::Nothing | NodeFound::Bad(_) => 0,
+    }
+}
+
+/// Starts the node on its folder, as this file says. The tape is opened first: where it doesn't open, no start is counted.
+#[tactic(auto, using(crate::proofs::Faults::not_started, crate::proofs::Started::served_by))]
+fn start_as<'a, R: Files<File = File> + Clock + Eprint + Net + AllocGlobal>(
+    rt: &'a R,
+    line: &NodeLine<'_>,
+    places: Places,
+    file: &NodeFile,
+    turns: u64,
+) -> Result<(), CommandFault>
+    requires range { IsNodeInRange line.now }
+    requires admitted { IsAdmitted line.now file.now }
+    requires file { IsNodeFile file.now }
+    requires nodes { file.now.nodes ≡ length places.peers.items }
+    ensures { IsNodeDone ⟦<FileTape<&'a R> as Tape>⟧ line.now result }
+{
+    let path = match tape_path(rt.alloc(), line.state, file.node) {
+        Ok(path) => path,
+        Err(fault) => {
+            drop(places);
+            return Err(fault);
+        }
+    };
+    serve_at(rt, line, places, file, path.as_str(), turns)
+}
+
+/// Serves the node of this file on the tape at this path.
+#[tactic(auto, using(crate::proofs::Faults::not_opened))]
+fn serve_at<'a, R: Files<File = File> + Clock + Eprint + Net + AllocGlobal>(
+    rt: &'a R,
+    line: &NodeLine<'_>,
+    places: Places,
+    file: &NodeFile,
+    path: &str,
+    turns: u64,
+) -> Result<(), CommandFault>
+    requires range { IsNodeInRange line.now }
+    requires file { IsNodeFile file.now }
+    requires nodes { file.now.nodes ≡ length places.peers.items }
+    ensures { IsEnd ⟦<FileTape<&'a R> as Tape>⟧ file.now result }
+{
+    match opened(rt, line, file, path) {
+        Ok((progress, process)) => match plan_of(rt.alloc(), line, places, file, progress) {
+            Ok(plan) => begin(rt, line, file, plan, process, path, turns),
+            Err(fault) => {
+                drop(process);
+                Err(fault)
+            }
+        },
+        Err(fault) => {
+            drop(places);
+            Err(fault)
+        }
+    }
+}
+
+/// How far the node of this file is, and its process on the tape at this path.
+fn opened<'a, R: Files + AllocGlobal>(
+    rt: &'a R,
+    line: &NodeLine<'_>,
+    file: &NodeFile,
+    path: &str,
+) -> Result<(Progress, Process<FileTape<&'a R>>), CommandFault>
+    requires range { IsNodeInRange line.now }
+    requires file { IsNodeFile file.now }
+    ensures started { IfOk result (λ opened. IsStarted ⟦<FileTape<&'a R> as Tape>⟧ file.now opened.1) }
+    ensures fault { IfErr result IsFromSystem }
+{
+    let (progress, tape) = match read_progress(rt, file, path) {
+        Ok(read) => read,
+        Err(fault) => return Err(fault),
+    };
+    match open_process(rt, file, tape, path, line.cache) {
+        Ok(process) => Ok((progress, process)),
+        Err(fault) => Err(fault),
+    }
+}
+
+/// Which node it is, and where the others are.
+fn plan_of(
+    alloc: Global,
+    line: &NodeLine<'_>,
+    places: Places,
+    file: &NodeFile,
+    start: Progress,
+) -> Result<Plan, CommandFault>
+    requires file { IsNodeFile file.now }
+    requires nodes { file.now.nodes ≡ length places.peers.items }
+    ensures { IfErr result IsFromSystem }
+{
+    let Places {
+        peers,
+        http,
+        listen,
+        admin,
+    } = places;
+    let Ok(folder) = String::from_str(alloc, line.state) else {
+        drop(peers);
+        return Err(CommandFault::Memory);
+    };
+    let own = peers[file.node as usize];
+    Ok(Plan {
+        own: Own {
+            farm: file.farm,
+            nodes: file.nodes,
+            node: NodeId::new(file.node).unwrap(),
+        },
+        start,
+        folder,
+        peers,
+        http,
+        listen: listen.unwrap_or(own),
+        admin,
+        clients: line.clients as usize,
+    })
+}
+
+/// Counts the start in the folder, and serves the node from then on.
+#[tactic(auto, using(crate::proofs::Faults::not_opened))]
+fn begin<'a, R: Files<File = File> + Clock + Eprint + Net + AllocGlobal>(
+    rt: &'a R,
+    line: &NodeLine<'_>,
+    file: &NodeFile,
+    plan: Plan,
+    process: Process<FileTape<&'a R>>,
+    path: &str,
+    turns: u64,
+) -> Result<(), CommandFault>
+    requires file { IsNodeFile file.now }
+    requires started { IsStarted ⟦<FileTape<&'a R> as Tape>⟧ file.now process }
+    ensures { IsEnd ⟦<FileTape<&'a R> as Tape>⟧ file.now result }
+{
+    match counted(rt, line, file) {
+        Ok(heard) => serve(
+            rt,
+            line,
+            file,
+            plan,
+            process,
+            heard,
+            &FileOpener { rt, path },
+            turns,
+        ),
+        Err(fault) => {
+            drop(plan);
+            drop(process);
+            Err(fault)
+        }
+    }
+}
+
+/// Counts the start in the folder's file. Ok is what was heard of the peers before.
+fn counted<R: Files + AllocGlobal>(
+    rt: &R,
+    line: &NodeLine<'_>,
+    file: &NodeFile,
+) -> Result<Heard, CommandFault>
+    requires { IsNodeFile file.now }
+    ensures { IfErr result IsFromSystem }
+{
+    let heard = match heard_in(rt, line.state) {
+        Ok(heard) => heard,
+        Err(fault) => return Err(fault),
+    };
+    match replace_farm(rt, line.state, file) {
+        Ok(()) => Ok(heard),
+        Err(fault) => Err(fault),
+    }
+}
+
+/// Serves the node.
+#[tactic(auto, using(crate::proofs::Started::gone_on))]
+fn serve<R: Files<File = File> + Clock + Eprint + Net + AllocGlobal, T: Tape + Drop, O: Opener<T>>(
+    rt: &R,
+    line: &NodeLine<'_>,
+    file: &NodeFile,
+    plan: Plan,
+    process: Process<T>,
+    heard: Heard,
+    opener: &O,
+    turns: u64,
+) -> Result<(), CommandFault>
+    requires started { IsStarted T.Tape file.now process }
+    ensures { IsEnd T.Tape file.now result }
+{
+    let log = Log::new(rt, line.log);
+    let listen = plan.listen;
+    let mut hub = match Hub::new(rt, plan, process, heard) {
+        Ok(hub) => hub,
+        Err(fault) => return Err(CommandFault::Loop(fault)),
+    };
+    if let Some(http) = hub.http() {
+        log.write(&Event::Listening { http, listen });
+    }
+    log.write(&Event::Opened {
+        node: file.node as usize,
+        published: hub.process().node().published().number(),
+    });
+    let ended = go_on(rt, &log, &mut hub, opener, turns);
+    drop(hub);
+    match ended {
+        Ok(()) => Ok(()),
+        Err(why) => Err(CommandFault::Ended(why)),
+    }
+}
+
+/// Takes that many turns, or fewer if a peer tells the node that it has to end; where the tape has failed, it is opened anew.
+fn go_on<R: Files<File = File> + Clock + Eprint + Net + AllocGlobal, T: Tape + Drop, O: Opener<T>>(
+    rt: &R,
+    log: &Log<'_, R>,
+    hub: &mut Hub<T>,
+    opener: &O,
+    turns: u64,
+) -> Result<(), Rejection>
+    // Whatever came in however many turns, the node has lived by its acts, was given only what receivers returned, and sent only what it
+    // returned.
+    ensures lived { HasLived T.Tape (process_of hub.new) }
+{
+    let mut backoff = Backoff::new(LEAST_REOPEN, MOST_REOPEN);
+    let mut due = Alarm { due: 0 };
+    for _ in 0..turns {
+        if let Begun::Ended(why) = hub.go_on(rt, log) {
+            return Err(why);
+        }
+        if hub.process().is_halted() && due.is_due(hub.time()) {
+            due = Alarm::after(hub.time(), backoff.wait());
+            if reopen(rt, log, hub, opener) {
+                backoff.reset();
+            }
+        }
+    }
+    hub.always_lived();
+    Ok(())
+}
+
+/// Opens the tape of a halted node anew. Returns whether it is open.
+fn reopen<R: Clock + Eprint + AllocGlobal, T: Tape + Drop, O: Opener<T>>(
+    rt: &R,
+    log: &Log<'_, R>,
+    hub: &mut Hub<T>,
+    opener: &O,
+) -> bool {
+    match opener.open() {
+        Some(tape) => match hub.reopen(rt, log, tape) {
+            Ok(()) => true,
+            Err(tape) => {
+                drop(tape);
+                false
+            }
+        },
+        None => false,
+    }
+}

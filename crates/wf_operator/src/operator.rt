@@ -1,0 +1,181 @@
+//! What the operator's port answers.
+
+use crate::lines::{canon_at, empty_map, push_line, text_of};
+use crate::page::Page;
+use crate::request::{Request, is_whole, number_of, request_of};
+use http::StatusCode;
+use std::alloc::{AllocError, Global};
+use wf_client::incoming::Incoming;
+use wf_client::outgoing::Outgoing;
+use wf_learner::History;
+use wf_visitors::{Reply, Server};
+
+/// The most lines of a history that one answer has.
+const MOST_LINES: u16 = 256;
+
+/// How a process is.
+#[derive(Clone, Copy, PartialEq, Eq)]
+pub enum Health {
+    /// It serves, and nothing is wrong.
+    Fine,
+    /// Its tape has failed.
+    Halted,
+    /// Its history and that of a node differ, up to this sequence.
+    Differs { peer: usize, sequence: u16 },
+    /// Its history and that of a reader differ, up to this sequence.
+    ReaderDiffers { sequence: u16 },
+}
+
+/// A process that tells an operator of itself.
+pub trait Operated {
+    /// What is published.
+    fn history(&self) -> &History;
+
+    /// The digest of the history up to a sequence, if it is known.
+    fn digest_at(&self, number: u16) -> Option<[u8; 32]>;
+
+    /// How it is.
+    fn health(&self) -> Health;
+
+    /// The latest sequence that it has heard of, if it has been behind for too long.
+    fn later(&self) -> Option<u16>;
+
+    /// Appends its metrics. The only error is allocation failure.
+    fn push_metrics(&self, text: &mut String) -> Result<(), AllocError>;
+}
+
+/// What answers the operator of a process.
+#[derive(Drop)]
+pub struct Operator<O> {
+    operated: O,
+}
+
+impl<O: Operated> Server for Operator<O> {
+    ghost responds = { λ _ _ _ _ _. Unit {0} };
+
+    fn answer(&mut self, alloc: Global, incoming: &Incoming, outgoing: &mut Outgoing) -> Reply {
+        if !incoming.is_closed() && !is_whole(incoming.bytes()) {
+            return Reply::Lacks(1);
+        }
+        if incoming.bytes().is_empty() {
+            return Reply::Nothing;
+        }
+        match respond(alloc, &self.operated, incoming.bytes()) {
+            Ok(page) => {
+                let (status, bytes) = page.send(outgoing);
+                Reply::Sent { status, bytes }
+            }
+            Err(AllocError) => Reply::Nothing,
+        }
+    }
+}
+
+impl<O: Operated> Operator<O> {
+    /// What answers the operator of this process.
+    pub fn new(operated: O) -> Self {
+        Operator { operated }
+    }
+}
+
+/// The page for a request.
+fn respond<O: Operated>(alloc: Global, operated: &O, bytes: &[u8]) -> Result<Page, AllocError> {
+    let Request {
+        method,
+        path,
+        query,
+    } = request_of(bytes);
+    if method != "GET" {
+        return Page::only_get(alloc);
+    }
+    match path {
+        "/healthz" => health_page(alloc, operated.health()),
+        "/readyz" => readiness_page(alloc, operated),
+        "/metrics" => metrics_page(alloc, operated),
+        "/map" => map_page(alloc, operated.history(), query),
+        "/history" => history_page(alloc, operated, query),
+        _ => Page::of(alloc, StatusCode::NOT_FOUND, "not found\n"),
+    }
+}
+
+/// Whether it serves, its tape stands, and no history differs.
+fn health_page(alloc: Global, health: Health) -> Result<Page, AllocError> {
+    match health {
+        Health::Fine => Page::of(alloc, StatusCode::OK, "ok\n"),
+        Health::Halted => Page::of(alloc, StatusCode::SERVICE_UNAVAILABLE, "halted\n"),
+        Health::Differs { peer, sequence } => Ok(Page::of_text(
+            StatusCode::SERVICE_UNAVAILABLE,
+            format!(in alloc; "history differs from node {peer} at sequence {sequence}\n")?,
+        )),
+        Health::ReaderDiffers { sequence } => Ok(Page::of_text(
+            StatusCode::SERVICE_UNAVAILABLE,
+            format!(in alloc; "history differs from a reader at sequence {sequence}\n")?,
+        )),
+    }
+}
+
+/// Whether it has all that it heard of.
+fn readiness_page<O: Operated>(alloc: Global, operated: &O) -> Result<Page, AllocError> {
+    let Some(heard) = operated.later() else {
+        return Page::of(alloc, StatusCode::OK, "ready\n");
+    };
+    let published = operated.history().published().number();
+    Ok(Page::of_text(
+        StatusCode::SERVICE_UNAVAILABLE,
+        format!(in alloc; "behind: published {published}, heard of {heard}\n")?,
+    ))
+}
+
+/// The metrics, in Prometheus' text form.
+fn metrics_page<O: Operated>(alloc: Global, operated: &O) -> Result<Page, AllocError> {
+    let mut text = String::new(alloc);
+    operated.push_metrics(&mut text)?;
+    Ok(Page::of_metrics(text))
+}
+
+/// The canonical text of a published map.
+fn map_page(alloc: Global, history: &History, query: &str) -> Result<Page, AllocError> {
+    let Some(number) = number_of(query, "seq=") else {
+        return malformed(alloc);
+    };
+    let text = if number == 0 {
+        empty_map(alloc, history)?
+    } else {
+        published_map(alloc, history, number)?
+    };
+    match text {
+        Some(text) => Ok(Page::of_text(StatusCode::OK, text)),
+        None => Page::of(alloc, StatusCode::NOT_FOUND, "not published\n"),
+    }
+}
+
+/// The canonical text of the map published under a sequence.
+fn published_map(
+    alloc: Global,
+    history: &History,
+    number: u16,
+) -> Result<Option<String>, AllocError> {
+    match canon_at(history, number) {
+        Some(canon) => text_of(alloc, canon),
+        None => Ok(None),
+    }
+}
+
+/// A line a sequence.
+fn history_page<O: Operated>(alloc: Global, operated: &O, query: &str) -> Result<Page, AllocError> {
+    let Some(from) = number_of(query, "from=") else {
+        return malformed(alloc);
+    };
+    let mut text = String::new(alloc);
+    let from = from.max(1);
+    for number in from..from.saturating_add(MOST_LINES) {
+        if let Some(canon) = canon_at(operated.history(), number) {
+            push_line(&mut text, number, operated.digest_at(number), canon)?;
+        }
+    }
+    Ok(Page::of_text(StatusCode::OK, text))
+}
+
+/// That a query isn't one.
+fn malformed(alloc: Global) -> Result<Page, AllocError> {
+    Page::of(alloc, StatusCode::BAD_REQUEST, "malformed\n")
+}

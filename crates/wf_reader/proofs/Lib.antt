@@ -1,0 +1,5 @@
+pub mod Fields
+pub mod Next
+pub mod Parts
+pub mod Sizes
+pub mod Texts

@@ -1,0 +1,14 @@
+use crate::answer::Answer;
+use crate::rejection::Rejection;
+
+/// The most bytes of a reply: the longest eight definitions, each behind its length, and 40 more.
+pub const MOST_REPLY_BYTES: usize = 524_360;
+
+/// The reply to a question.
+#[derive(Drop)]
+pub enum Reply {
+    /// What is published next.
+    Answer(Answer),
+    /// The question isn't answered, for this cause.
+    Rejected(Rejection),
+}

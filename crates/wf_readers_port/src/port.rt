@@ -1,0 +1,206 @@
+//! The readers' port.
+
+use crate::event::ReaderEvent;
+use crate::published::Published;
+use crate::reader::{Left, Reader};
+use mio::net::{TcpListener, TcpStream};
+use std::alloc::{AllocError, Global};
+use std::time::Clock;
+use wf_reader::Rejection;
+use wf_visitors::{Context, register, register_again};
+
+/// The most connections accepted in one turn.
+const MOST_ACCEPTED: usize = 64;
+
+/// For how long it is told that a reader's history differed, in milliseconds.
+const DIFFERS_MILLIS: u64 = 60_000;
+
+/// A reader's history that differed: up to which sequence, and when it was found.
+#[derive(Clone, Copy)]
+struct Difference {
+    sequence: u16,
+    time: u64,
+}
+
+/// The readers' port: a listener, and slots of its own.
+#[derive(Drop)]
+pub struct ReadersPort {
+    listener: Option<TcpListener>,
+    slots: Vec<Option<Reader>>,
+    // the token of slot 0
+    first: usize,
+    difference: Option<Difference>,
+}
+
+impl ReadersPort {
+    /// That many free slots, with the tokens from the first one on. The only error is allocation failure.
+    pub fn new(
+        alloc: Global,
+        count: usize,
+        listener: Option<TcpListener>,
+        first: usize,
+    ) -> Result<Self, AllocError> {
+        let mut slots = Vec::new(alloc);
+        for _ in 0..count {
+            slots.push(None)?;
+        }
+        Ok(ReadersPort {
+            listener,
+            slots,
+            first,
+            difference: None,
+        })
+    }
+
+    /// The number of readers.
+    pub fn taken(&self) -> usize {
+        self.slots.iter().filter(|slot| slot.is_some()).count()
+    }
+
+    /// The sequence up to which a reader's history differed, in the last minute.
+    pub fn differs(&self, time: u64) -> Option<u16> {
+        match self.difference {
+            Some(difference) if time.saturating_sub(difference.time) < DIFFERS_MILLIS => {
+                Some(difference.sequence)
+            }
+            _ => None,
+        }
+    }
+
+    /// Accepts connections, as long as there are some.
+    pub fn accept<R: Clock + Eprint + AllocGlobal>(&mut self, context: &Context<'_, '_, R>) {
+        for _ in 0..MOST_ACCEPTED {
+            let Some(stream) = self.accept_one() else {
+                return;
+            };
+            self.admit(context, stream);
+        }
+    }
+
+    /// The next connection, if there is one.
+    fn accept_one(&self) -> Option<TcpStream> {
+        match &self.listener {
+            Some(listener) => match listener.accept() {
+                Ok((stream, _)) => Some(stream),
+                Err(_) => None,
+            },
+            None => None,
+        }
+    }
+
+    /// Puts a newcomer into a free slot, else into that of the reader that has waited longest.
+    fn admit<R: Clock + Eprint + AllocGlobal>(
+        &mut self,
+        context: &Context<'_, '_, R>,
+        mut stream: TcpStream,
+    ) {
+        let Some(index) = place(self.slots.as_slice()) else {
+            return;
+        };
+        if self.take(index).is_some() {
+            context.log.write(&ReaderEvent::Replaced);
+        }
+        let _ = stream.set_nodelay(true);
+        if register(context.registry, &mut stream, self.token(index)).is_ok() {
+            self.put(index, Reader::new(context.alloc(), stream, context.time));
+        }
+    }
+
+    /// The token of the socket in a slot.
+    fn token(&self, index: usize) -> usize {
+        self.first.saturating_add(index)
+    }
+
+    /// Takes the reader out of a slot.
+    fn take(&mut self, index: usize) -> Option<Reader> {
+        match self.slots.get_mut(index) {
+            Some(slot) => slot.take(),
+            None => None,
+        }
+    }
+
+    /// Puts a reader into a slot.
+    fn put(&mut self, index: usize, reader: Reader) {
+        if let Some(slot) = self.slots.get_mut(index) {
+            *slot = Some(reader);
+        }
+    }
+
+    /// Answers the reader in a slot, a bounded number of its questions.
+    pub fn turn<R: Clock + Eprint + AllocGlobal>(
+        &mut self,
+        context: &Context<'_, '_, R>,
+        published: &Published<'_>,
+        index: usize,
+    ) {
+        let Some(mut reader) = self.take(index) else {
+            return;
+        };
+        match reader.turn(context.alloc(), published, context.time) {
+            Left::Here => self.put(index, reader),
+            Left::Busy => {
+                register_again(context.registry, reader.stream(), self.token(index));
+                self.put(index, reader);
+            }
+            Left::Gone => {}
+            Left::Rejected(why) => {
+                self.note(&why, context.time);
+                context.log.write(&ReaderEvent::Rejected(why));
+            }
+            Left::Malformed => context.log.write(&ReaderEvent::Malformed),
+        }
+    }
+
+    /// Notes that a reader's history differs.
+    fn note(&mut self, why: &Rejection, time: u64) {
+        if let Rejection::OtherHistory(seq) = why {
+            self.difference = Some(Difference {
+                sequence: seq.number(),
+                time,
+            });
+        }
+    }
+
+    /// Closes the readers that have asked nothing for too long.
+    pub fn tick(&mut self, time: u64) {
+        for slot in &mut self.slots {
+            if is_silent_at(slot, time) {
+                *slot = None;
+            }
+        }
+    }
+}
+
+/// Whether the reader in a slot has asked nothing for too long.
+fn is_silent_at(slot: &Option<Reader>, time: u64) -> bool {
+    match slot {
+        Some(reader) => reader.is_silent(time),
+        None => false,
+    }
+}
+
+/// The slot for a newcomer: the first free one, else that of the reader that has waited longest. None: there are no slots.
+fn place(slots: &[Option<Reader>]) -> Option<usize> {
+    let mut found: Option<(usize, u64)> = None;
+    for (index, slot) in slots.iter().enumerate() {
+        let since = match slot {
+            Some(reader) => reader.since(),
+            None => return Some(index),
+        };
+        if is_earlier(since, found) {
+            found = Some((index, since));
+        }
+    }
+    match found {
+        Some((index, _)) => Some(index),
+        None => None,
+    }
+}
+
+/// Whether that is earlier than what was found.
+fn is_earlier(since: u64, found: Option<(usize, u64)>) -> bool {
+    match found {
+        Some((_, earliest)) => since < earliest,
+        None => true,
+    }
+}

@@ -1,0 +1,163 @@
+//! A reader's connection.
+
+use crate::answered::Answered;
+use crate::answering::answer;
+use crate::published::Published;
+use mio::net::TcpStream;
+use std::alloc::Global;
+use wf_client::outgoing::Outgoing;
+use wf_reader::{QUESTION_BYTES, Rejection};
+use wf_stream::Sink;
+use wf_timing::is_silent;
+use wf_visitors::{Done, read, write};
+
+/// The most questions that a turn answers.
+const MOST_QUESTIONS: usize = 4;
+
+/// The most reads of a turn.
+const MOST_READS: usize = 64;
+
+/// A reader's connection: what has come of its question, what is to be written of the reply, and when it asked last.
+#[derive(Drop)]
+pub(crate) struct Reader {
+    stream: TcpStream,
+    question: Vec<u8>,
+    reply: Outgoing,
+    rejected: Option<Rejection>,
+    since: u64,
+}
+
+/// What a turn of a reader leaves.
+#[derive(Clone, Copy, PartialEq, Eq)]
+pub(crate) enum Left {
+    /// It waits.
+    Here,
+    /// There may be more to do.
+    Busy,
+    /// It has gone.
+    Gone,
+    /// It has gone: it was rejected.
+    Rejected(Rejection),
+    /// It has gone: what it sent isn't a question.
+    Malformed,
+}
+
+/// A step of a turn.
+#[derive(Clone, Copy, PartialEq, Eq)]
+enum Step {
+    More,
+    Done(Left),
+}
+
+impl Reader {
+    /// A reader that came now.
+    pub(crate) fn new(alloc: Global, stream: TcpStream, time: u64) -> Self {
+        Reader {
+            stream,
+            question: Vec::new(alloc),
+            reply: Outgoing::new(alloc),
+            rejected: None,
+            since: time,
+        }
+    }
+
+    /// Its stream.
+    pub(crate) fn stream(&mut self) -> &mut TcpStream {
+        &mut self.stream
+    }
+
+    /// When it asked last, or came.
+    pub(crate) fn since(&self) -> u64 {
+        self.since
+    }
+
+    /// Whether it has asked nothing for too long.
+    pub(crate) fn is_silent(&self, time: u64) -> bool {
+        is_silent(self.since, time)
+    }
+
+    /// Writes what is to be written, and answers what was asked, a bounded part of it.
+    pub(crate) fn turn(&mut self, alloc: Global, published: &Published<'_>, time: u64) -> Left {
+        for _ in 0..MOST_QUESTIONS {
+            match self.step(alloc, published, time) {
+                Step::More => {}
+                Step::Done(left) => return left,
+            }
+        }
+        Left::Busy
+    }
+
+    /// Writes the rest of a reply; once it is taken, reads a question, and replies to it.
+    fn step(&mut self, alloc: Global, published: &Published<'_>, time: u64) -> Step {
+        if let Some(left) = self.give() {
+            return Step::Done(left);
+        }
+        if let Some(left) = self.hear() {
+            return Step::Done(left);
+        }
+        let mut bytes = Vec::new(alloc);
+        match answer(alloc, published, self.question.as_slice(), &mut bytes) {
+            Answered::Short => Step::Done(Left::Here),
+            Answered::Replied(why) => {
+                self.rejected = why;
+                self.reply_with(alloc, bytes, time)
+            }
+            Answered::Malformed => Step::Done(Left::Malformed),
+            Answered::Memory => Step::Done(Left::Gone),
+        }
+    }
+
+    /// The reply is to be written, and the next question to be heard.
+    fn reply_with(&mut self, alloc: Global, bytes: Vec<u8>, time: u64) -> Step {
+        self.question = Vec::new(alloc);
+        self.reply = Outgoing::new(alloc);
+        self.since = time;
+        match self.reply.write(bytes.as_slice()) {
+            Ok(_) => Step::More,
+            Err(_) => Step::Done(Left::Gone),
+        }
+    }
+
+    /// Writes what is to be written. None: it was all taken, and a question may come.
+    fn give(&mut self) -> Option<Left> {
+        for _ in 0..u64::MAX {
+            if self.reply.is_taken() {
+                return match self.rejected {
+                    Some(why) => Some(Left::Rejected(why)),
+                    None => None,
+                };
+            }
+            match write(&mut self.stream, self.reply.rest()) {
+                Done::Bytes(count) => {
+                    let count = count.min(self.reply.remaining());
+                    self.reply.advance(count);
+                }
+                Done::Blocked => return Some(Left::Here),
+                Done::Closed | Done::Failed => return Some(Left::Gone),
+            }
+        }
+        Some(Left::Busy)
+    }
+
+    /// Reads a question, and nothing after it. None: it is whole.
+    fn hear(&mut self) -> Option<Left> {
+        let mut piece = [0u8; QUESTION_BYTES];
+        for _ in 0..MOST_READS {
+            let missing = QUESTION_BYTES.saturating_sub(self.question.len());
+            if missing == 0 {
+                return None;
+            }
+            match read(&mut self.stream, &mut piece[..missing]) {
+                Done::Bytes(count) => {
+                    let count = count.min(missing);
+                    if self.question.extend_from_slice(&piece[..count]).is_err() {
+                        return Some(Left::Gone);
+                    }
+                }
+                Done::Blocked => return Some(Left::Here),
+                Done::Closed | Done::Failed => return Some(Left::Gone),
+            }
+        }
+        Some(Left::Busy)
+    }
+}

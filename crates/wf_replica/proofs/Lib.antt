@@ -1,0 +1,5 @@
+pub mod Answered
+pub mod Growth
+pub mod Heard
+pub mod Said
+pub mod Told

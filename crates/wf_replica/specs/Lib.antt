@@ -1,0 +1,7 @@
+pub mod Asking
+pub mod FarmFile
+pub mod Follower
+pub mod Growth
+pub mod Laws
+pub mod Learning
+pub mod Service

@@ -1,0 +1,32 @@
+//! The record of a published definition, as it is on tapes.
+
+ghost use Rattle.std.specs.Prelude.{◌≡◌, ◌+◌, ◌≤◌, ◌++◌, length, vec_len, vec_capacity, IfOk};
+ghost use Rattle.wf_journal.specs.Spelling.{spelling};
+ghost use Rattle.wf_model.specs.Stored.{Published};
+ghost use Rattle.wf_spelling.specs.Canon.{canon};
+
+use std::alloc::{AllocError, Global};
+use wf_ballot::Slot;
+use wf_canon::Canon;
+
+/// The version of records as they are written, and the kind of a published definition.
+const HEADER: &[u8] = &[2, 4];
+
+/// The bytes on a tape of the record that a definition is published. The only error is allocation failure.
+#[tactic(auto, unfolding(wf_journal::specs::Spelling::body, wf_journal::specs::Spelling::text_spelling, wf_ballot::specs::Frame::frame))]
+pub(crate) fn record_bytes(
+    alloc: Global,
+    slot: Slot,
+    definition: &Canon,
+) -> Result<Vec<u8>, AllocError>
+    ensures { IfOk result (λ bytes. bytes.items ≡ spelling (Published slot definition.now)) }
+{
+    let text = definition.text();
+    let length = text.len() as u32 + 2;
+    let mut bytes = Vec::new(alloc);
+    bytes.extend_from_slice(HEADER)?;
+    bytes.extend_from_slice(&length.to_be_bytes())?;
+    bytes.extend_from_slice(&slot.bytes())?;
+    bytes.extend_from_slice(text)?;
+    Ok(bytes)
+}

@@ -1,0 +1,67 @@
+//! A replica serves the public.
+
+ghost use Rattle.std.specs.Prelude.{◌≡◌, ◌↔◌, IsTrue};
+ghost use Rattle.wf_replica.specs.Follower.{IsSame, list_of};
+ghost use Rattle.wf_replica.specs.Service.{AsksToPublish, IsServed, IsUnsent};
+
+use crate::follower::Follower;
+use crate::shelf::Shelf;
+use std::alloc::Global;
+use wf_client::incoming::Incoming;
+use wf_client::outgoing::Outgoing;
+use wf_edge::notice::Notice;
+use wf_edge::outcome::Outcome;
+use wf_edge::request::Request;
+use wf_edge::resource::Asked;
+use wf_edge::route::judge;
+use wf_edge::saying::{say, say_fault};
+use wf_edge::telling::told;
+use wf_http::front::Front;
+use wf_http::refusal::Refusal;
+use wf_tape::Tape;
+
+impl<T: Tape> Follower<T> {
+    /// Serves what has come of a request. The map service is answered from the maps that are published, and GET /status with a line of
+    /// its own; POST /publish is 404, as soon as its head has come. Where the request isn't whole, nothing is written.
+    pub fn serve(&mut self, alloc: Global, incoming: &Incoming, outgoing: &mut Outgoing) -> Outcome
+        ensures served { IsServed incoming.now.bytes (list_of self.old) outgoing.old.bytes outgoing.new.bytes result }
+        ensures unsent { IsUnsent result outgoing.old outgoing.new }
+        ensures same { IsSame self.old self.new }
+    {
+        serve(alloc, &mut self.shelf, incoming, outgoing)
+    }
+}
+
+/// Serves what has come of a request.
+#[tactic(auto, using(crate::proofs::Said::said_unsent, crate::proofs::Said::ended_unsent, crate::proofs::Said::fault_unsent))]
+fn serve(alloc: Global, shelf: &mut Shelf, incoming: &Incoming, outgoing: &mut Outgoing) -> Outcome
+    ensures served { IsServed incoming.now.bytes shelf.old.definitions outgoing.old.bytes outgoing.new.bytes result }
+    ensures unsent { IsUnsent result outgoing.old outgoing.new }
+    ensures same { shelf.new ≡ shelf.old }
+{
+    if asks_to_publish(incoming) {
+        return say(outgoing, &told(Notice::Refused(Refusal::NotFound)));
+    }
+    match Request::read(alloc, &mut incoming.reader()) {
+        Ok(request) => {
+            let outcome = shelf.answer(alloc, outgoing, &request);
+            drop(request);
+            outcome
+        }
+        Err(fault) => say_fault(outgoing, fault),
+    }
+}
+
+/// Whether the head that has come asks for a publish.
+fn asks_to_publish(incoming: &Incoming) -> bool
+    ensures { IsTrue result → AsksToPublish incoming.now.bytes }
+{
+    match Front::read(&mut incoming.reader()) {
+        Ok(front) => {
+            let publishes = matches!(judge(&front), Ok(Asked::Publish(_)));
+            drop(front);
+            publishes
+        }
+        Err(_) => false,
+    }
+}

@@ -1,0 +1,12 @@
+mod Items
+mod Turns
+mod Left
+mod Moments
+mod Careers
+mod Folder
+mod Answers
+mod Leaving
+mod Twice
+mod Steps
+mod Serving
+mod Runs

@@ -1,0 +1,5 @@
+use Rattle.wf_visitors.specs.Turn.{IsGiving}
+use Rattle.wf_visitors.proofs.turn.give.Given as goal
+
+abbrev pub invariant-loop : goal.invariant-loop
+invariant-loop l = IsGiving l.fn.client l.client

@@ -1,0 +1,4 @@
+pub mod Reply
+pub mod Said
+pub mod Turn
+pub mod Visitors

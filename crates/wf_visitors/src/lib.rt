@@ -1,0 +1,36 @@
+//! Clients of a server that never blocks, with their sockets, whatever answers them.
+//!
+//! - [`Visitors`] has a listener and slots: it accepts clients, reads their requests, and writes what a [`Server`] responds. When all
+//!   slots are taken the unfinished request that has waited longest gives way (`wf_client`).
+//! - [`Log`] writes each [`Entry`] as a line on standard error; a [`Visit`] is one of a client.
+//! - [`Counts`] counts requests by path and status.
+//!
+//! **Promises.** What is written to a client is what the server responded to the bytes that had come from it ([`Visitors::always_said`],
+//! [`Visitors::serve`]).
+//!
+//! **Doesn't.** What sockets and clocks do has no model.
+#![tactic(auto)]
+
+mod clock;
+mod context;
+mod counts;
+mod event;
+mod listener;
+mod log;
+mod request_line;
+mod server;
+mod service;
+mod slots;
+mod socket;
+mod turn;
+mod visitors;
+
+pub use clock::now;
+pub use context::Context;
+pub use counts::Counts;
+pub use event::{Entry, Level, Visit};
+pub use listener::listen;
+pub use log::Log;
+pub use server::{Reply, Server};
+pub use socket::{Done, read, register, register_again, write};
+pub use visitors::Visitors;

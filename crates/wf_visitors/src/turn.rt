@@ -1,0 +1,117 @@
+//! What a client's turn reads and writes.
+ghost use Rattle.std.specs.Prelude.{◌≡◌};
+ghost use Rattle.wf_visitors.specs.Turn.{IsGiving, IsHearing};
+
+use crate::socket::{Done, read, register_again, write};
+use mio::Registry;
+use mio::net::TcpStream;
+use wf_client::client::Client;
+
+/// The most bytes of a piece.
+const PIECE_BYTES: usize = 8_192;
+
+/// The most pieces that one client's turn reads.
+const MOST_PIECES: usize = 16;
+
+/// What a turn of a client leaves.
+#[derive(Clone, Copy, PartialEq, Eq)]
+pub(crate) enum Left {
+    /// It stays.
+    Here,
+    /// It has gone.
+    Gone,
+}
+
+/// Reads what came of a request, a bounded part of it.
+#[tactic(auto, using(crate::proofs::Answered::hearing_twice))]
+pub(crate) fn hear(
+    registry: &Registry,
+    stream: &mut TcpStream,
+    client: &mut Client,
+    token: usize,
+) -> Left
+    ensures { IsHearing client.old client.new }
+{
+    for _ in 0..MOST_PIECES {
+        match hear_piece(stream, client) {
+            Moved::More => {}
+            Moved::Done(left) => return left,
+        }
+    }
+    register_again(registry, stream, token);
+    Left::Here
+}
+
+/// Whether more may be read or written.
+#[derive(Clone, Copy, PartialEq, Eq)]
+enum Moved {
+    More,
+    Done(Left),
+}
+
+/// Reads a piece of a request.
+fn hear_piece(stream: &mut TcpStream, client: &mut Client) -> Moved
+    ensures { IsHearing client.old client.new }
+{
+    let mut piece = [0u8; PIECE_BYTES];
+    match read(stream, &mut piece) {
+        Done::Bytes(count) => {
+            let count = count.min(PIECE_BYTES);
+            if client.incoming.take_in(&piece[..count]).is_err() {
+                return Moved::Done(Left::Gone);
+            }
+            Moved::More
+        }
+        Done::Blocked => Moved::Done(Left::Here),
+        Done::Closed => {
+            client.incoming.close();
+            Moved::Done(Left::Here)
+        }
+        Done::Failed => Moved::Done(Left::Gone),
+    }
+}
+
+/// Writes what a client takes of its answer.
+#[tactic(auto, using(crate::proofs::Answered::giving_twice))]
+pub(crate) fn give(stream: &mut TcpStream, client: &mut Client) -> Left
+    ensures { IsGiving client.old client.new }
+{
+    for _ in 0..u64::MAX {
+        match give_piece(stream, client) {
+            Moved::More => {}
+            Moved::Done(left) => return left,
+        }
+    }
+    Left::Here
+}
+
+/// Writes once what a client takes of its answer.
+fn give_piece(stream: &mut TcpStream, client: &mut Client) -> Moved
+    ensures { IsGiving client.old client.new }
+{
+    if client.outgoing.is_taken() {
+        return Moved::Done(Left::Here);
+    }
+    match write(stream, client.outgoing.rest()) {
+        Done::Bytes(count) => {
+            let count = count.min(client.outgoing.remaining());
+            client.outgoing.advance(count);
+            Moved::More
+        }
+        Done::Blocked => Moved::Done(Left::Here),
+        Done::Closed | Done::Failed => Moved::Done(Left::Gone),
+    }
+}
+
+/// Drops what a client still sends.
+pub(crate) fn drop_rest(stream: &mut TcpStream) -> Left {
+    let mut piece = [0u8; PIECE_BYTES];
+    for _ in 0..MOST_PIECES {
+        match read(stream, &mut piece) {
+            Done::Bytes(_) => {}
+            Done::Blocked => return Left::Here,
+            Done::Closed | Done::Failed => return Left::Gone,
+        }
+    }
+    Left::Gone
+}

@@ -1,0 +1,22 @@
+ghost use Rattle.wf_visitors.specs.Said.{AreSaid};
+
+use crate::counts::Counts;
+use http_server::Log as Past;
+use mio::net::{TcpListener, TcpStream};
+use wf_client::client::Client;
+
+/// Clients with their sockets: that of slot i at index i. A clause sees a log that only proofs read: each client that was answered, as it
+/// was then, with what had come of its request and with the whole response.
+#[derive(Drop)]
+pub struct Visitors {
+    pub(crate) listener: Option<TcpListener>,
+    pub(crate) sockets: Vec<Option<TcpStream>>,
+    pub(crate) slots: Vec<Option<Client>>,
+    // the token of slot 0
+    pub(crate) first: usize,
+    // the slot that is served first
+    pub(crate) next: usize,
+    pub(crate) counts: Counts,
+    pub(crate) said: Past<Client, usize>,
+    ghost answered: { ∥ AreSaid said.items slots.items ∥₁ },
+}

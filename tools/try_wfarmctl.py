@@ -1,0 +1,219 @@
+#!/usr/bin/env python3
+"""Tries each command of `tools/wfarmctl` over a real farm: three nodes in processes of their own, of which some are killed, stopped,
+given a disk that is full, or a tape that was changed.
+
+Usage: tools/try_wfarmctl.py [--program PROGRAM]
+A line for each thing that was seen; status 1 where one is not as it should be. About a minute.
+"""
+
+import argparse
+import pathlib
+import resource
+import signal
+import subprocess
+import sys
+import tempfile
+import time
+
+from farm import PROGRAM, nodes_in
+
+HERE = pathlib.Path(__file__).resolve().parent
+PATIENCE = 60
+MAP = 'MAP NAME "{}" EXTENT 0 0 4 4 PROJECTION "init=epsg:3857" END WEB METADATA "wms_title" "{}" END END END\n'
+
+
+class Trial:
+    """A farm, its file of nodes, and what was seen."""
+
+    def __init__(self, program, folder):
+        self.program, self.folder, self.wrong = str(program), folder, 0
+        self.nodes, self.file = self.farm("first")
+
+    def farm(self, name):
+        """A new farm that isn't started, and its file of nodes."""
+        nodes = nodes_in(self.program, self.folder / name, name)
+        file = self.folder / f"{name}.nodes"
+        file.write_text("# clients operator\n" + "".join(f"{node.clients} {node.operator}\n" for node in nodes))
+        return nodes, file
+
+    def map(self, name, title=""):
+        """A file with a small map."""
+        path = self.folder / f"{name}.map"
+        path.write_text(MAP.format(name, title or name))
+        return path
+
+    def call(self, *words, file=None, seconds=30):
+        """What `wfarmctl` does: its status, what it writes, and what it writes on standard error."""
+        options = ["--farm", str(file or self.file), "--program", self.program, "--seconds", str(seconds)]
+        ended = subprocess.run([sys.executable, str(HERE / "wfarmctl"), *options, *map(str, words)], capture_output=True, text=True)
+        return ended.returncode, ended.stdout, ended.stderr
+
+    def see(self, what, holds, told=""):
+        print(f"{'ok   ' if holds else 'WRONG'} {what}" + ("" if holds else f": {told}"), flush=True)
+        self.wrong += not holds
+
+    def wait(self, what, holds):
+        """Waits until it holds."""
+        until = time.monotonic() + PATIENCE
+        while not holds() and time.monotonic() < until:
+            time.sleep(0.1)
+        self.see(what, holds())
+
+    def all_at(self, sequence, nodes=None):
+        return all(node.published() == sequence for node in nodes or self.nodes)
+
+    def canonical(self, path):
+        return subprocess.run([self.program, "canon"], input=path.read_bytes(), capture_output=True, check=True).stdout.decode()
+
+
+def try_well(trial):
+    """All commands where all is well."""
+    for node in trial.nodes:
+        node.start()
+    trial.wait("status: a new farm is well", lambda: trial.call("status")[0] == 0)
+    code, told, _ = trial.call("status")
+    trial.see("status: a head and a line per node, each ok", len(told.splitlines()) == 4 and told.count(" ok\n") == 3, told)
+    first, second = trial.map("first"), trial.map("second", "another title")
+    code, told, error = trial.call("publish", first)
+    trial.see("publish: the sequence, and the node that took the map", (code, told) == (0, "published 1 at node 0\n"), (told, error))
+    trial.wait("all nodes have it", lambda: trial.all_at(1))
+    code, told, error = trial.call("publish", HERE.parent / "examples" / "refused-include.map")
+    trial.see("publish: a map that isn't valid", code == 1 and "400 M5 4" in error, error)
+    code, told, error = trial.call("publish", trial.folder / "nothing")
+    trial.see("publish: a file that isn't there", code == 1 and "No such file" in error, error)
+    trial.see("publish: another", trial.call("publish", second)[:2] == (0, "published 2 at node 0\n"))
+    trial.see("map: the canonical text", trial.call("map", 1)[:2] == (0, trial.canonical(first)))
+    code, told, error = trial.call("map", 3)
+    trial.see("map: a sequence that isn't published", code == 1 and "sequence 3 isn't published" in error, error)
+    code, told, error = trial.call("diff", 1, 2)
+    trial.see("diff: what was taken away, and what came", code == 0 and "\n-" in told and "\n+" in told and "another title" in told, told)
+    trial.see("diff: nothing", trial.call("diff", 1, 1)[:2] == (0, ""))
+    code, told, error = trial.call("rollback", 1)
+    trial.see("rollback: the map again, under a new sequence", code == 0 and told.startswith("published 3 ") and trial.call("map", 3)[1] == trial.canonical(first), (told, error))
+    trial.wait("all nodes have it", lambda: trial.all_at(3))
+
+
+def try_failures(trial):
+    """Nodes that are killed, and too few for a majority."""
+    first, second, third = trial.nodes
+    third.kill()
+    code, told, error = trial.call("status")
+    trial.see("status: a node that was killed", code == 1 and "unreachable" in told.splitlines()[3] and told.count(" ok\n") == 2, told)
+    code, told, error = trial.call("publish", trial.map("fourth"))
+    trial.see("publish: two of three", (code, told) == (0, "published 4 at node 0\n"), (told, error))
+    third.start()
+    trial.wait("status: well again, once the node was started", lambda: trial.call("status")[0] == 0)
+    first.kill()
+    code, told, error = trial.call("publish", trial.map("fifth"))
+    trial.see("publish: at the next node where the first one is gone", (code, told) == (0, "published 5 at node 1\n"), (told, error))
+    third.process.send_signal(signal.SIGSTOP)
+    code, told, error = trial.call("publish", trial.map("sixth"), seconds=3)
+    trial.see("publish: one of three: it isn't known what will become of it", code == 1 and "it isn't known" in error, (told, error))
+    third.process.send_signal(signal.SIGCONT)
+    trial.wait("the map is published once the majority is back", lambda: trial.all_at(6, trial.nodes[1:]))
+    first.start()
+    trial.wait("once, and everywhere", lambda: trial.all_at(6))
+    for node in trial.nodes:
+        node.kill()
+    code, told, error = trial.call("publish", trial.map("seventh"), seconds=2)
+    trial.see("publish: no node", code == 1 and "not published" in error, error)
+    for node in trial.nodes:
+        node.start()
+    trial.wait("status: well again", lambda: trial.call("status")[0] == 0)
+
+
+def try_full(trial):
+    """A node whose files can't grow for a while."""
+    node = trial.nodes[2]
+    node.kill()
+    node.start(before=("env", "--ignore-signal=XFSZ"))
+    trial.wait("a node is started again", lambda: node.published() == 6)
+    resource.prlimit(node.process.pid, resource.RLIMIT_FSIZE, (100, resource.RLIM_INFINITY))
+    code, told, error = trial.call("publish", trial.map("eighth"))
+    trial.see("publish: two of three", (code, told) == (0, "published 7 at node 0\n"), (told, error))
+    trial.wait("status: the node whose tape can't grow is halted", lambda: trial.call("status")[1].splitlines()[3].endswith(" halted"))
+    resource.prlimit(node.process.pid, resource.RLIMIT_FSIZE, (resource.RLIM_INFINITY, resource.RLIM_INFINITY))
+    trial.wait("status: with more room it is well by itself", lambda: trial.call("status")[0] == 0)
+
+
+def try_copy(trial):
+    """A farm's maps on a new farm, from a node that runs and from folders of stopped ones."""
+    source = trial.nodes[1]
+    maps = [trial.call("map", sequence)[1] for sequence in range(1, source.published() + 1)]
+    for name, start in (("second", source.operator), ("third", None)):
+        nodes, file = trial.farm(name)
+        for node in nodes:
+            node.start()
+        trial.wait(f"a new farm {name}", lambda: trial.call("status", file=file)[0] == 0)
+        if start is None:
+            for node in trial.nodes:
+                node.kill()
+        code, told, error = trial.call("copy", start or source.folder, file)
+        trial.see("copy: all maps", (code, told) == (0, f"copied {len(maps)} maps\n"), (told, error))
+        trial.see("under their sequences", [trial.call("map", at, file=file)[1] for at in range(1, len(maps) + 1)] == maps)
+        code, told, error = trial.call("copy", start or source.folder, file)
+        trial.see("copy: never onto a farm that has maps", code == 1 and "has published maps already" in error, error)
+        for node in nodes:
+            node.kill()
+
+
+def try_verify(trial):
+    """Tapes of a backup."""
+    folders = [node.folder for node in trial.nodes]
+    code, told, error = trial.call("verify", *folders)
+    trial.see("verify: whole tapes of one farm", code == 0 and told.count(": whole, published 7") == 3, (told, error))
+    code, told, error = trial.call("verify", folders[0], trial.folder / "second" / "node-1")
+    trial.see("verify: folders of two farms", code == 1 and "not folders of one farm" in error, error)
+    tape = folders[0] / "node-0.tape"
+    whole = tape.read_bytes()
+    tape.write_bytes(whole[:-3])
+    trial.see("verify: a torn record at the end is what a crash leaves", trial.call("verify", folders[0])[0] == 0)
+    tape.write_bytes(b"\x63" + whole[1:])
+    code, told, error = trial.call("verify", folders[0])
+    trial.see("verify: a bad record", code == 1 and "not every tape is whole" in error, (told, error))
+    tape.write_bytes(whole)
+    code, told, error = trial.call("verify", trial.folder)
+    trial.see("verify: not a node's folder", code == 1 and "farm" in error, error)
+
+
+def try_changed(trial):
+    """A byte that changed on a disk: of two nodes whose histories differ the one that started last ends."""
+    node = trial.nodes[2]
+    tape = node.folder / "node-2.tape"
+    tape.write_bytes(tape.read_bytes().replace(b"another title", b"Another title"))
+    for each in trial.nodes[:2]:
+        each.start()
+    trial.wait("two of three nodes", lambda: trial.all_at(7, trial.nodes[:2]))
+    node.start()
+    trial.wait("status: a history differs, and from which sequence on", lambda: "history differs from node 2 at sequence 7" in trial.call("status")[1])
+    trial.wait("and that node has ended", lambda: "unreachable" in trial.call("status")[1].splitlines()[3])
+
+
+def try_words(trial):
+    """Bad command lines, and a bad file of nodes."""
+    trial.see("a bad command line", trial.call("map", "x")[0] == trial.call("lend")[0] == trial.call()[0] == 2)
+    code, _, error = trial.call("status", file=trial.folder / "nowhere")
+    trial.see("no file of nodes", code == 1 and "No such file" in error, error)
+    (trial.folder / "short").write_text("127.0.0.1:1\n")
+    code, _, error = trial.call("status", file=trial.folder / "short")
+    trial.see("a line with one address", code == 1 and "not a line per node" in error, error)
+
+
+def main():
+    parser = argparse.ArgumentParser(description=__doc__.splitlines()[0])
+    parser.add_argument("--program", type=pathlib.Path, default=PROGRAM)
+    options = parser.parse_args()
+    with tempfile.TemporaryDirectory(prefix="wfarmctl-") as folder:
+        trial = Trial(options.program.resolve(), pathlib.Path(folder))
+        try:
+            for attempt in (try_well, try_failures, try_full, try_copy, try_verify, try_changed, try_words):
+                attempt(trial)
+        finally:
+            for node in trial.nodes:
+                node.kill()
+    print(f"{trial.wrong} wrong")
+    return int(bool(trial.wrong))
+
+
+if __name__ == "__main__":
+    sys.exit(main())
