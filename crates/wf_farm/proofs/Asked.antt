@@ -1,9 +1,9 @@
 -- Questions, and their answers to the asker alone, are events of the model that lead the nodes on.
-use Rattle.std.proofs.Common.{◌≡◌, ◌⊎◌, ◌<◌, ◌≤◌, ◌+◌, ◌||◌, ℕ, zero, suc, Bool, true, false, List, [], ◌∷◌, ◌++◌, map, length, slice_get, slice_set, Option, Some, None, refl, sym, ap, subst, ◌∙◌, inl, inr, arith, append_assoc, slice_index_or, take, drop, ◌-◌}
+use Rattle.std.proofs.Common.{◌≡◌, ◌<◌, ◌≤◌, ◌+◌, ◌||◌, ℕ, zero, suc, Bool, true, false, List, [], ◌∷◌, ◌++◌, map, length, slice_get, slice_set, Some, refl, sym, ap, subst, ◌∙◌, inl, inr, arith, append_assoc, slice_index_or, take, drop, ◌-◌}
 use Rattle.std.proofs.Math.Bool.{or_assoc}
 use Rattle.std.proofs.lemmas.Bool.{lt-ltb}
 use Rattle.std.proofs.lemmas.List.{append-nil, take_all}
-use Rattle.std.proofs.lemmas.Option.{none-some, same_Some}
+use Rattle.std.proofs.lemmas.Option.{none-some}
 use Rattle.wf_ballot.specs.Sequence.{last_sequence}
 use Rattle.wf_codec.specs.Message as message
 use Rattle.wf_codec.specs.declared.message.Message.{Message}
@@ -14,10 +14,10 @@ use Rattle.wf_model.specs.Stored.{Stored, next_sequence, published}
 use Rattle.wf_model.specs.Table as table
 use Rattle.wf_model.specs.Table.{most_told, on_ask, on_catch_up, on_message, refusal, row, says, store, told_from}
 use Rattle.wf_model.specs.World.{World, steps}
-use Rattle.wf_node.specs.Node.{Node, stored_of, working_of}
-use Rattle.wf_node.specs.Step.{IsRow, refusal_at, row_of}
+use Rattle.wf_node.specs.Node.{Node, working_of}
+use Rattle.wf_node.specs.Step.{IsRow, row_of}
 use Rattle.wf_node.specs.Storing.{bytes_of}
-use Rattle.wf_farm.specs.CatchUp.{Asks, CatchUpLeadsOn, HasHeard, HasMost, HaveAsked, HaveCaughtUp, IsAnswerTo, IsBehind, IsQuestion, IsTaken, LevelRests, OneChanges, Rests, StandLevel, rank_at}
+use Rattle.wf_farm.specs.CatchUp.{Asks, CatchUpLeadsOn, HasHeard, HaveAsked, IsQuestion, IsTaken, LevelRests, Rests, StandLevel}
 use Rattle.wf_farm.specs.Delivering.{AnyPart, IsOne, Shows, StandFor, StandInTurn, TakeOne}
 use Rattle.wf_farm.specs.DeliveringLaws.{halted_twice, keeps_turn_twice}
 use Rattle.wf_farm.specs.Exchange.{IsSturdy}
@@ -25,7 +25,7 @@ use Rattle.wf_farm.specs.Giving as giving
 use Rattle.wf_farm.specs.Giving.{Takes}
 use Rattle.wf_farm.specs.Leading.{AreLedOn, AreLedSaying, IsLedWith, LeadSaying}
 use Rattle.wf_farm.specs.PlaceLaws.{set_same, set_there}
-use Rattle.wf_farm.specs.Places.{IsMember}
+use Rattle.wf_farm.specs.Nodes.{KeepsEntry}
 use Rattle.wf_farm.specs.declared.place.Place.TheVariants.{Running}
 use Rattle.wf_farm.proofs.Deliveries.{left_before, one_delivery, stays_itself}
 use Rattle.wf_farm.proofs.Level.{count_of, not_level}
@@ -201,12 +201,11 @@ module _ {T : Type 0} (tapes : Tape T) where
       let on = heard_stays rest lost middle after heard in
       (on.0 ∙ stays.0, on.1 ∙ stays.1)
 
-  -- So it is a member of the farm still.
-  pub member_heard : (messages : List Message) (lost : Bool) (node after : Node T) (n i : ℕ) → HasHeard tapes messages lost node after → IsSturdy tapes node after →
-      IsMember tapes.honest tapes.images tapes.never_fails n i (Running node) → IsMember tapes.honest tapes.images tapes.never_fails n i (Running after)
-  member_heard messages lost node after n i heard sturdy is =
+  -- So it keeps its entry.
+  pub entry_heard : (messages : List Message) (lost : Bool) (node after : Node T) → HasHeard tapes messages lost node after → IsSturdy tapes node after → KeepsEntry tapes (Running node) (Running after)
+  entry_heard messages lost node after heard sturdy =
       let stays = heard_stays messages lost node after heard in
-      (stays.0 ∙ is.0, stays.1 ∙ is.1, λ h. sturdy (is.2 h).1 (is.2 h).0)
+      record { member = λ n i is. (stays.0 ∙ is.0, stays.1 ∙ is.1, λ h. sturdy (is.2 h).1 (is.2 h).0); kept = (after, refl) }
 
 -- ---- the first of some messages
 

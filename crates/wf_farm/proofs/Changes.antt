@@ -1,5 +1,5 @@
 -- What one question changes: its asker alone, which comes on.
-use Rattle.std.proofs.Common.{◌≡◌, ◌⊎◌, ◌<◌, ◌≤◌, ◌+◌, ◌-◌, ◌||◌, ℕ, zero, suc, Bool, true, false, List, [], ◌∷◌, map, length, slice_get, slice_set, Some, refl, sym, ap, subst, ◌∙◌, inl, inr, arith, length-set, Result, Ok, Err, IfOk}
+use Rattle.std.proofs.Common.{◌≡◌, ◌⊎◌, ◌<◌, ◌≤◌, ◌+◌, ◌||◌, ℕ, zero, suc, Bool, true, false, List, [], map, length, slice_get, slice_set, Some, refl, sym, ap, subst, ◌∙◌, inl, inr, arith, Result, Ok, Err, IfOk}
 use Rattle.std.proofs.lemmas.Bool.{cases_eq, false≢true}
 use Rattle.std.proofs.lemmas.Option.{same_Some}
 use Rattle.wf_ballot.specs.Sequence.{last_sequence}
@@ -11,11 +11,11 @@ use Rattle.wf_node.specs.Node.{Node}
 use Rattle.wf_farm.specs.declared.place.Place.{Place}
 use Rattle.wf_farm.specs.declared.place.Place.TheVariants.{Running}
 use Rattle.wf_farm.specs.CatchUp.{BringsOn, EndsUp, FirstEndUp, HasHeard, HasMost, HearsAt, IsAnswerTo, IsBehind, IsLevelAt, IsQuestion, OneChanges, lacks, lacks_by, rank, rank_at}
-use Rattle.wf_farm.specs.Nodes.{KeepPlaces, nodes_of}
-use Rattle.wf_farm.specs.NodesLaws.{keep_set, nodes_get, nodes_set}
+use Rattle.wf_farm.specs.Nodes.{nodes_of}
+use Rattle.wf_farm.specs.NodesLaws.{nodes_get, nodes_set}
 use Rattle.wf_farm.specs.PlaceLaws.{get_set_other, set_same, set_there}
 use Rattle.wf_farm.proofs.Asked.{answers_ask, asks_next, loses_ask}
-use Rattle.wf_farm.proofs.Level.{ComesOn, Outcome, count_of, heard_answer, node_ranked, rank_halted, rank_running, rank_there, runs_there}
+use Rattle.wf_farm.proofs.Level.{Outcome, count_of, heard_answer, node_ranked, rank_halted, rank_running, rank_there, runs_there}
 use Rattle.wf_tape.specs.declared.tape.Tape.{Ghosts as Tape}
 
 -- ---- one node changes
@@ -215,15 +215,6 @@ module _ {T : Type 0} (tapes : Tape T) (places : List (Place T)) (asked asker : 
         one = one_here;
         on = brings_by before is.other at is.asked_at answer lost hears.after now (ap rank one_here.asked_stays) outcome_here;
       })
-
--- ---- the entries
-
-module _ {T : Type 0} (tapes : Tape T) (i : ℕ) (messages : List Message) (lost : Bool) (places after : List (Place T)) (hears : HearsAt tapes i messages lost places after) where
-  pub hears_kept : KeepPlaces places after
-  hears_kept = subst (KeepPlaces places) (sym hears.places_are) (keep_set places i (Running hears.before) (Running hears.after) hears.at (hears.after, refl))
-
-  pub hears_size : length after ≡ length places
-  hears_size = ap (λ (ps : List (Place T)). length ps) hears.places_are ∙ length-set places i (Running hears.after)
 
 -- ---- an answer
 

@@ -29,8 +29,8 @@ use Rattle.wf_node.specs.declared.fault.NodeFault.TheVariants as fault_case
 use Rattle.wf_tape.specs.Tape.{IsExtended, IsUnchanged}
 use Rattle.wf_farm.specs.declared.progress.Progress.{Progress}
 use Rattle.wf_farm.specs.Giving as giving
-use Rattle.wf_farm.specs.Giving.{Answers, Takes, is_halt, is_memory, tells_halt}
-use Rattle.wf_farm.specs.Delivering.{AnyPart, StandFor, IsNodeBy, IsNode, AreNodes, Shows, StandAmong, StandInTurn, MayLeave, IsDelivery, AreDeliveries, IsLed, Lead, TakeOne, KeepHalted, IsOne, IsEnd, IsHanded, First, Next, AreHandedOut, HaveCome, IsDelivered}
+use Rattle.wf_farm.specs.Giving.{Answers, MayBeLost, Takes, is_halt, is_memory, tells_halt}
+use Rattle.wf_farm.specs.Delivering.{AnyPart, StandFor, IsNodeBy, IsNode, AreNodes, Shows, StandAmong, StandInTurn, MayLeave, IsDelivery, AreDeliveries, IsLed, Lead, TakeOne, KeepHalted, IsOne, IsEnd, IsGiven, IsHanded, First, Next, AreHandedOut, HaveCome, IsDelivered}
 use Rattle.wf_farm.specs.Progress.{AreCounted, counted, next}
 use Rattle.wf_farm.specs.Turn.{node_after, messages_of, node_torn}
 use Rattle.wf_farm.specs.DeliveringLaws.{halted_itself, halted_twice, keeps_turn, keeps_turn_itself, keeps_turn_twice}
@@ -400,15 +400,12 @@ module _ {T : Type 0} (tapes : Tape T) (nodes : List (Node T)) (sent : List Mess
     turn = keeps_turn nodes i node after at (stays_itself tapes node after heard said lost takes);
   }
 
--- No delivery at all.
-pub no_delivery : {T : Type 0} (tapes : Tape T) (nodes : List (Node T)) (sent : List Message) → IsOne tapes nodes sent nodes sent
-unfolding TakeOne
-no_delivery tapes nodes sent = record {
-  any = λ w shows. inl shows;
-  on_tape = λ h left may w shows. inl shows;
-  halted = halted_itself nodes;
-  turn = keeps_turn_itself nodes;
-}
+  -- So it is handed over.
+  pub given_to : (lost : Bool) → Takes tapes lost heard node after said → (lost ≡ true → MayBeLost m node) → IsGiven tapes i k lost nodes sent (slice_set nodes i after) (sent ++ said)
+  given_to lost takes cause = (
+    one_delivery lost takes,
+    record { node = node; after = after; handed = m; said = said; at = at; there = there; takes = takes; cause = cause; nodes_are = refl; sent_are = refl },
+  )
 
 -- ---- many deliveries
 
@@ -461,6 +458,15 @@ module _ {T : Type 0} (tapes : Tape T) (nodes : List (Node T)) (messages : List 
     halted = halted_itself nodes;
     turn = keeps_turn_itself nodes;
     order = First;
+  }
+
+  pub none_delivered : IsDelivered tapes nodes messages 0 nodes
+  none_delivered = record {
+    any = record { sent = messages; lead = come_start.any };
+    on_tape = λ h left may. record { sent = messages; lead = come_start.on_tape h left may };
+    halted = come_start.halted;
+    turn = come_start.turn;
+    most = omega arith;
   }
 
   module _ (p : Progress) (lost : ℕ) (loses : Bool) (middle after : List (Node T)) (said more : List Message) where

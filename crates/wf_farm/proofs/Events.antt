@@ -241,21 +241,6 @@ pub sent_message : (sent : List Message) (k : ℕ) (m : Message) → slice_get s
 unfolding input_of delivered
 sent_message sent k m e = ap delivered (slice_get-map message.view sent k ∙ ap (λ x. option_map message.view x) e)
 
-pub unsent_message : (sent : List Message) (k : ℕ) → slice_get sent k ≡ None → input_of (map message.view sent) (table.Deliver k) ≡ None
-unfolding input_of delivered
-unsent_message sent k e = ap delivered (slice_get-map message.view sent k ∙ ap (λ x. option_map message.view x) e)
-
--- ---- steps and crashes within a step are events
-
-module _ (i : ℕ) (rejection : Option Rejection) (places after : List MemoryPlace) (sent more : List Message) where
-  pub acts : (action : Action Definition ℕ) → IsActed i action rejection places sent after more → Happens (world.Act i action) rejection places sent after more
-  unfolding happens refused
-  acts action acted = record { leads = acted.leads; why = acted.why }
-
-  pub is_torn : (action : Action Definition ℕ) (kept : world.Kept) → IsTorn i action kept rejection places sent after more → Happens (world.Torn i action kept) rejection places sent after more
-  unfolding happens refused
-  is_torn action kept torn = record { leads = torn.leads; why = torn.why }
-
 pub ok_map : {A E : Type 0} (P Q : A → Type 0) (result : Result A E) → ((x : A) → P x → Q x) → IfOk result P → IfOk result Q
 ok_map P Q (Ok x) f p = f x p
 ok_map P Q (Err e) f p = tt

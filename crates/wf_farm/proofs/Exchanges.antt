@@ -1,27 +1,23 @@
--- Deliveries to the entries of a farm are deliveries to its nodes; and what a client does to one of them is done to the nodes.
-use Rattle.std.proofs.Common.{◌≡◌, ℕ, zero, suc, ◌∷◌, slice_index_or, ◌≤◌, Bool, false, List, [], ◌++◌, length, slice_get, slice_set, Some, refl, sym, ap, subst, ◌∙◌, arith, Vec}
+-- A farm's entry whose node takes an input; and what a client does to a farm's node is done to the nodes.
+use Rattle.std.proofs.Common.{◌≡◌, ℕ, zero, suc, ◌∷◌, slice_index_or, ◌≤◌, Bool, false, List, [], ◌++◌, length, length-set, slice_get, slice_set, Some, refl, sym, ap, subst, ◌∙◌, arith, Vec}
 use Rattle.std.specs.declared.alloc.Global.{Global}
 use Rattle.std.proofs.lemmas.Option.{none-some, same_Some}
-use Rattle.wf_codec.specs.Message as message
 use Rattle.wf_codec.specs.declared.message.Message.{Message}
 use Rattle.wf_def.specs.Definition.{Definition}
 use Rattle.wf_journal.specs.Records.{AreReadOneWay}
-use Rattle.wf_model.specs.Table as table
 use Rattle.wf_model.specs.Table.{Input}
-use Rattle.wf_model.specs.World.{after}
 use Rattle.wf_node.specs.Node.{Node}
 use Rattle.wf_farm.specs.declared.place.Place.{Place}
 use Rattle.wf_farm.specs.declared.place.Place.TheVariants.{Running, Stopped}
-use Rattle.wf_farm.specs.Delivering.{IsOne, StandAmong}
-use Rattle.wf_farm.specs.Exchange.{IsAsked, IsGivenTo, IsReadyFor, IsSturdy, LeadsOn}
+use Rattle.wf_farm.specs.Delivering.{StandAmong, StandInTurn}
+use Rattle.wf_farm.specs.Exchange.{IsAsked, IsReadyFor, IsSturdy, LeadsOn}
 use Rattle.wf_farm.specs.Farm.{IsFarm}
-use Rattle.wf_farm.specs.Giving as giving
 use Rattle.wf_farm.specs.Giving.{Takes}
 use Rattle.wf_farm.specs.Leading.{AreLedOn, AreLedSaying}
-use Rattle.wf_farm.specs.Nodes.{KeepPlaces, KeepsPlace, node_in, nodes_of}
+use Rattle.wf_farm.specs.Nodes.{KeepEntries, KeepsEntry, nodes_of}
 use Rattle.wf_farm.specs.PlaceLaws.{set_there}
-use Rattle.wf_farm.specs.Places.{IsMember, AreMembers}
-use Rattle.wf_farm.proofs.Deliveries.{one_delivery, stays_itself}
+use Rattle.wf_farm.specs.Places.{AreMembers}
+use Rattle.wf_farm.proofs.Deliveries.{stays_itself}
 use Rattle.wf_farm.specs.NodesLaws.{keep_set, length-nodes, nodes_get, nodes_set}
 use Rattle.wf_farm.proofs.Nodes.{in_turn_of, member_of, reached_led, running_stopped, set_members}
 use Rattle.wf_tape.specs.declared.tape.Tape.{Ghosts as Tape}
@@ -29,37 +25,11 @@ use Rattle.wf_tape.specs.declared.tape.Tape.{Ghosts as Tape}
 -- ---- one delivery
 
 module _ {T : Type 0} (tapes : Tape T) where
-  -- A stopped node takes nothing, as one that is halted.
-  pub stopped_takes : (n i : ℕ) (tape : T) (input : Input Definition) (said : List Message) (lost : Bool) → said ≡ [] → lost ≡ false → Takes tapes lost input (node_in n i (Stopped tape)) (node_in n i (Stopped tape)) said
-  stopped_takes n i tape input said lost none kept =
-      subst (λ b. Takes tapes b input (node_in n i (Stopped tape)) (node_in n i (Stopped tape)) said) (sym kept) (giving.Halts refl refl none)
-
-  -- A node that takes an input is still a member.
-  pub member_taken : (n i : ℕ) (node after : Node T) (input : Input Definition) (said : List Message) (lost : Bool) → Takes tapes lost input node after said → IsSturdy tapes node after →
-      IsMember tapes.honest tapes.images tapes.never_fails n i (Running node) → IsMember tapes.honest tapes.images tapes.never_fails n i (Running after)
-  member_taken n i node after input said lost takes sturdy is =
+  -- The entry of a node that takes an input.
+  pub entry_taken : (node after : Node T) (input : Input Definition) (said : List Message) (lost : Bool) → Takes tapes lost input node after said → IsSturdy tapes node after → KeepsEntry tapes (Running node) (Running after)
+  entry_taken node after input said lost takes sturdy =
       let stays = stays_itself tapes node after input said lost takes in
-      (stays.0 ∙ is.0, stays.1 ∙ is.1, λ h. sturdy (is.2 h).1 (is.2 h).0)
-
-module _ {T : Type 0} (tapes : Tape T) (places : List (Place T)) (sent : List Message) (i k : ℕ) (place next : Place T) (m : Message) (said : List Message)
-    (at : slice_get places i ≡ Some place) (there : slice_get sent k ≡ Some m) (members : AreMembers tapes.honest tapes.images tapes.never_fails places) where
-  abbrev heard : Input Definition
-  heard = table.Deliver (message.view m)
-
-  -- A delivery to an entry.
-  pub given_to : (lost : Bool) → Takes tapes lost heard (node_in (length places) i place) (node_in (length places) i next) said → KeepsPlace place next →
-      IsGivenTo tapes i k lost places sent (slice_set places i next) (sent ++ said)
-  given_to lost takes keeps =
-      let node = node_in (length places) i place in
-      let after = node_in (length places) i next in
-      let here = nodes_get places i place at in
-      let turns = in_turn_of tapes.honest tapes.images tapes.never_fails places members in (
-        (
-          subst (λ ns. IsOne tapes (nodes_of places) sent ns (sent ++ said)) (sym (nodes_set places i next)) (one_delivery tapes (nodes_of places) sent i k node after m said here there turns lost takes),
-          record { node = node; after = after; handed = m; said = said; at = here; there = there; takes = takes; nodes_are = nodes_set places i next; sent_are = refl },
-        ),
-        keep_set places i place next at keeps,
-      )
+      record { member = λ n i is. (stays.0 ∙ is.0, stays.1 ∙ is.1, λ h. sturdy (is.2 h).1 (is.2 h).0); kept = (after, refl) }
 
 -- ---- a node that is asked
 
@@ -91,9 +61,6 @@ asked_as tapes asks places i client next before after said at is = record {
   asked = is;
 }
 
-pub asked_kept : {T : Type 0} (places : List (Place T)) (i : ℕ) (before after : Node T) → slice_get places i ≡ Some (Running before) → KeepPlaces places (slice_set places i (Running after))
-asked_kept places i before after at = keep_set places i (Running before) (Running after) at (after, refl)
-
 module _ {T : Type 0} (tapes : Tape T) (places : List (Place T)) (i : ℕ) (before after : Node T) (said : List Message) (at : slice_get places i ≡ Some (Running before))
     (members : AreMembers tapes.honest tapes.images tapes.never_fails places) (leads : LeadsOn tapes before said after) where
   -- The nodes are led on, and these messages were sent.
@@ -103,36 +70,38 @@ module _ {T : Type 0} (tapes : Tape T) (places : List (Place T)) (i : ℕ) (befo
       (leads (nodes_of places) i (nodes_get places i (Running before) at) (in_turn_of tapes.honest tapes.images tapes.never_fails places members))
 
   -- The entries are members still.
-  pub asked_members : IsSturdy tapes before after → AreMembers tapes.honest tapes.images tapes.never_fails (slice_set places i (Running after))
+  pub asked_entries : IsSturdy tapes before after → KeepEntries tapes places (slice_set places i (Running after))
   unfolding StandAmong
-  asked_members sturdy =
+  asked_entries sturdy =
       let turn = asked_leads.turn in
       let now : slice_get (nodes_of (slice_set places i (Running after))) i ≡ Some after =
       subst (λ ns. slice_get ns i ≡ Some after) (sym (nodes_set places i (Running after))) (set_there (nodes_of places) i after before (nodes_get places i (Running before) at)) in
       let stands = turn.in_turn (in_turn_of tapes.honest tapes.images tapes.never_fails places members) i after now in
       let was = member_of tapes.honest tapes.images tapes.never_fails places i (Running before) at members in
-      set_members tapes.honest tapes.images tapes.never_fails places i (Running before) (Running after) at
-      (stands.0, stands.1 ∙ turn.as_many ∙ length-nodes places, λ h. sturdy (was.2 h).1 (was.2 h).0) members
+      record {
+        as_many = length-set places i (Running after);
+        members = λ are.
+            set_members tapes.honest tapes.images tapes.never_fails places i (Running before) (Running after) at
+            (stands.0, stands.1 ∙ turn.as_many ∙ length-nodes places, λ h. sturdy (was.2 h).1 (was.2 h).0) are;
+        kept = keep_set places i (Running before) (Running after) at (after, refl);
+      }
 
 -- ---- the farm
-
--- as many nodes as before
-pub led_long : {T : Type 0} (tapes : Tape T) (places next : List (Place T)) → AreLedOn tapes (nodes_of places) (nodes_of next) → length next ≡ length places
-led_long tapes places next led = sym (length-nodes next) ∙ led.turn.as_many ∙ length-nodes places
 
 module _ {T : Type 0} (tapes : Tape T) where
   abbrev IsFarmOf : List (Place T) → List Message → ℕ → Bool → Type 0
   IsFarmOf places sent pumped complete = IsFarm tapes.honest tapes.images tapes.never_fails places sent pumped complete
 
   -- A farm whose nodes were led on is one, with no message left.
-  pub farm_led : AreReadOneWay → (places next : List (Place T)) (sent : List Message) (pumped : ℕ) (complete : Bool) → IsFarmOf places sent pumped complete → AreMembers tapes.honest tapes.images tapes.never_fails next →
-      KeepPlaces places next → AreLedOn tapes (nodes_of places) (nodes_of next) → IsFarmOf next [] 0 false
-  farm_led one places next sent pumped complete farm members keep led =
-      let long = led_long tapes places next led in
+  pub farm_led : AreReadOneWay → (places next : List (Place T)) (sent : List Message) (pumped : ℕ) (complete : Bool) → IsFarmOf places sent pumped complete → KeepEntries tapes places next →
+      AreLedOn tapes (nodes_of places) (nodes_of next) → IsFarmOf next [] 0 false
+  farm_led one places next sent pumped complete farm keep led =
+      let long = keep.as_many in
+      let members = keep.members farm.members in
       record {
         some = subst (λ k. 1 ≤ k) (sym long) farm.some;
         most = subst (λ k. k ≤ 64) (sym long) farm.most;
         members = members;
         pumped_within = omega arith;
-        reached = λ h. reached_led tapes h places next keep long farm.members members one sent complete led (farm.reached h);
+        reached = λ h. reached_led tapes h places next keep.kept long farm.members members one sent complete led (farm.reached h);
       }

@@ -37,7 +37,7 @@ use Rattle.wf_farm.proofs.Allocating.{next_may}
 use Rattle.wf_farm.proofs.Carried.{stays_moves}
 use Rattle.wf_farm.proofs.Counting.{begun_most}
 use Rattle.wf_farm.proofs.Rounds.{no_deliveries, one_more, whole_round}
-use Rattle.wf_farm.proofs.Runs.{last_more, stays_run, take_all, take_more}
+use Rattle.wf_farm.proofs.Runs.{last_more, stays_run, take_more}
 use Rattle.wf_farm.proofs.TriedEvents.{absent_armed, moves_then}
 use Rattle.wf_farm.proofs.Worlds.{grown, sturdy_on}
 
@@ -247,10 +247,6 @@ module _ (watched : Option ℕ) (events : List declared.Event) (done more_done :
 pub none_run : (watched : Option ℕ) (events : List (Event Definition)) (places : List MemoryPlace) (sent : List Message) → HaveRun watched (take 0 events) None None places sent places sent
 unfolding last_refused
 none_run watched events places sent = record { fared = none_fared watched places sent; why = λ w shows. refl }
-
-pub all_run : (watched : Option ℕ) (events : List declared.Event) (done : ℕ) (torn : Option (ℕ × Kept)) (why : Option Rejection) (places after : List MemoryPlace) (sent more : List Message) → done ≡ length events →
-    HaveRun watched (take done (map view events)) torn why places sent after more → HaveRun watched (map view events) torn why places sent after more
-all_run watched events done torn why places after sent more all ran = subst (λ es. HaveRun watched es torn why places sent after more) (ap (λ k. take k (map view events)) all ∙ take_all events) ran
 
 -- What was done before an event that wasn't applied, where no tape fails.
 module _ (watched : Option ℕ) (none : watched ≡ None) (events : List declared.Event) (done : ℕ) (torn : Option (ℕ × Kept)) (why : Option Rejection) (places middle after : List MemoryPlace) (sent said more : List Message)

@@ -1,27 +1,25 @@
 -- How far nodes have come, and how far an answer brings one.
-use Rattle.std.proofs.Common.{◌≡◌, ◌⊎◌, ◌<◌, ◌≤◌, ◌+◌, ◌||◌, ℕ, zero, suc, Bool, true, false, List, [], ◌∷◌, ◌++◌, map, length, slice_get, slice_set, Option, Some, None, refl, sym, ap, subst, ◌∙◌, inl, inr, arith, eq-eqb, length-append}
+use Rattle.std.proofs.Common.{◌≡◌, ◌⊎◌, ◌<◌, ◌≤◌, ◌+◌, ℕ, zero, suc, Bool, true, false, List, [], ◌∷◌, ◌++◌, map, length, slice_get, Option, Some, None, refl, sym, ap, subst, ◌∙◌, inl, inr, arith, eq-eqb, length-append}
 use Rattle.std.proofs.lemmas.Bool.{both_ways, cases_lt, false≢true}
-use Rattle.std.proofs.lemmas.Option.{none-some, same_Some, slice_get_within, slice_get_past, slice_get_cases}
+use Rattle.std.proofs.lemmas.Option.{none-some, slice_get_within, slice_get_past, slice_get_cases}
 use Rattle.wf_codec.specs.Message as message
 use Rattle.wf_codec.specs.declared.message.Message.{Message}
 use Rattle.wf_def.specs.Definition.{Definition}
 use Rattle.wf_def.specs.Equality.{definition_eq}
 use Rattle.wf_model.specs.Message as model
-use Rattle.wf_model.specs.Stored as part
 use Rattle.wf_model.specs.Stored.{Stored, definition_at, next_sequence, published, with_record}
 use Rattle.wf_model.specs.Table as table
 use Rattle.wf_model.specs.Table.{on_chosen, on_message, refusal, row, store, told, told_from, told_of}
 use Rattle.wf_model.specs.Working.{Working}
 use Rattle.wf_node.specs.Node.{Node, stored_of, working_of}
-use Rattle.wf_node.specs.Step.{IsRow, IsSameNode, row_of}
+use Rattle.wf_node.specs.Step.{IsRow, row_of}
 use Rattle.wf_farm.specs.declared.place.Place.{Place}
 use Rattle.wf_farm.specs.declared.place.Place.TheVariants.{Running, Stopped}
 use Rattle.wf_farm.specs.CatchUp.{HasHeard, HasMost, IsBehind, IsLevelAt, IsTaken, StandLevel, rank, rank_at, rank_by}
 use Rattle.wf_farm.specs.Giving as giving
 use Rattle.wf_farm.specs.Giving.{Takes}
 use Rattle.wf_farm.specs.Nodes.{node_in, nodes_of}
-use Rattle.wf_farm.specs.NodesLaws.{length-nodes, nodes_back, nodes_get}
-use Rattle.wf_farm.specs.PlaceLaws.{get_set_other, set_there}
+use Rattle.wf_farm.specs.NodesLaws.{nodes_back, nodes_get}
 use Rattle.wf_farm.proofs.Deliveries.{stays_halted}
 use Rattle.wf_tape.specs.declared.tape.Tape.{Ghosts as Tape}
 

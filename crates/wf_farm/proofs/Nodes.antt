@@ -19,8 +19,8 @@ use Rattle.wf_farm.specs.Delivering as delivering
 use Rattle.wf_farm.specs.Delivering.{AnyPart, StandAmong, StandFor, StandInTurn, MayLeave, IsNodeBy}
 use Rattle.wf_farm.specs.Farm.{IsReached}
 use Rattle.wf_farm.specs.Leading.{AreLedOn, AreReached, LeadTo}
-use Rattle.wf_farm.specs.Nodes.{KeepPlaces, KeepsPlace, node_in, nodes_of}
-use Rattle.wf_farm.specs.NodesLaws.{length-nodes, nodes_back, nodes_get}
+use Rattle.wf_farm.specs.Nodes.{AreChanged, Changed, KeepEntries, KeepPlaces, KeepsEntry, KeepsPlace, Unchanged, node_in, nodes_of}
+use Rattle.wf_farm.specs.NodesLaws.{keep_set, keep_themselves, keep_twice, keeps_itself, length-nodes, nodes_back, nodes_get}
 use Rattle.wf_farm.specs.PlaceLaws.{get_set_same, get_set_other}
 use Rattle.wf_farm.specs.Places.{IsNode, AreNodes, IsMember, AreMembers}
 use Rattle.wf_farm.proofs.Entries.{all_nodes, as_many, node_at}
@@ -67,6 +67,41 @@ module _ {T : Type 0} (honest : Type 0) (images : T → List ℕ → Type 0) (ne
   pub member_of : (places : List (Place T)) (i : ℕ) (place : Place T) → slice_get places i ≡ Some place → AreMembers honest images never_fails places → IsMember honest images never_fails (length places) i place
   unfolding AreMembers
   member_of places i place at are = are i place at
+
+-- ---- entries that may have changed
+
+module _ {T : Type 0} (tapes : Tape T) where
+  pub entry_itself : (place : Place T) → KeepsEntry tapes place place
+  entry_itself place = record { member = λ n i is. is; kept = keeps_itself place }
+
+  pub entries_themselves : (places : List (Place T)) → KeepEntries tapes places places
+  entries_themselves places = record { as_many = refl; members = λ are. are; kept = keep_themselves places }
+
+  pub entries_twice : (places middle after : List (Place T)) → KeepEntries tapes places middle → KeepEntries tapes middle after → KeepEntries tapes places after
+  entries_twice places middle after first second = record {
+    as_many = second.as_many ∙ first.as_many;
+    members = λ are. second.members (first.members are);
+    kept = keep_twice places middle after first.kept second.kept;
+  }
+
+  pub entry_set : (places : List (Place T)) (i : ℕ) (place next : Place T) → slice_get places i ≡ Some place → KeepsEntry tapes place next → KeepEntries tapes places (slice_set places i next)
+  entry_set places i place next at keeps = record {
+    as_many = length-set places i next;
+    members = λ are.
+        set_members tapes.honest tapes.images tapes.never_fails places i place next at
+        (keeps.member (length places) i (member_of tapes.honest tapes.images tapes.never_fails places i place at are)) are;
+    kept = keep_set places i place next at keeps.kept;
+  }
+
+  -- entries that were changed one after the other
+  pub changed_entries : (places after : List (Place T)) → AreChanged (KeepsEntry tapes) places after → KeepEntries tapes places after
+  changed_entries places after Unchanged = entries_themselves places
+  changed_entries places after (Changed middle i place next changed at keeps) =
+      entries_twice places middle (slice_set middle i next) (changed_entries places middle changed) (entry_set middle i place next at keeps)
+
+pub changed_twice : {E : Type 0} (keeps : E → E → Type 0) (before middle after : List E) → AreChanged keeps before middle → AreChanged keeps middle after → AreChanged keeps before after
+changed_twice keeps before middle after first Unchanged = first
+changed_twice keeps before middle after first (Changed others i entry next second at kept) = Changed others i entry next (changed_twice keeps before middle others first second) at kept
 
 -- ---- a stopped node's tape
 

@@ -1,5 +1,5 @@
 -- A run, event by event.
-use Rattle.std.proofs.Common.{◌≡◌, ℕ, zero, suc, List, [], ◌∷◌, ◌++◌, map, length, take, slice_get, Some, refl, ap}
+use Rattle.std.proofs.Common.{◌≡◌, ℕ, zero, suc, List, [], ◌∷◌, ◌++◌, map, take, slice_get, Some, refl, ap}
 use Rattle.std.proofs.lemmas.Option.{none-some, same_Some}
 use Rattle.wf_codec.specs.declared.message.Message.{Message}
 use Rattle.wf_def.specs.Definition.{Definition}
@@ -23,15 +23,11 @@ last_more w [] event = refl
 last_more w (first ∷ []) event = refl
 last_more w (first ∷ next ∷ events) event = last_more (happens definition_eq w first) (next ∷ events) event
 
--- the events up to the next one, and all of them
+-- the events up to the next one
 pub take_more : (events : List declared.Event) (done : ℕ) (event : declared.Event) → slice_get events done ≡ Some event → take (suc done) (map view events) ≡ take done (map view events) ++ view event ∷ []
 take_more [] done event at = absurd (none-some event at)
 take_more (x ∷ events) zero event at = ap (λ e. view e ∷ []) (same_Some x event at)
 take_more (x ∷ events) (suc done) event at = ap (λ es. view x ∷ es) (take_more events done event at)
-
-pub take_all : (events : List declared.Event) → take (length events) (map view events) ≡ map view events
-take_all [] = refl
-take_all (x ∷ events) = ap (λ es. view x ∷ es) (take_all events)
 
 -- What changes nothing leaves the run where it was.
 pub stays_run : (events : List (Event Definition)) (places middle after : List MemoryPlace) (sent said more : List Message) → Moves events places sent middle said → StayShown middle said after more →

@@ -8,7 +8,7 @@ use Rattle.wf_node.specs.Node.{Node}
 use Rattle.wf_farm.specs.declared.place.Place.{Place}
 use Rattle.wf_farm.specs.declared.place.Place.TheVariants.{Running}
 use Rattle.wf_farm.specs.Delivering.{StandInTurn}
-use Rattle.wf_farm.specs.Giving.{Takes}
+use Rattle.wf_farm.specs.Giving.{MayBeLost, Takes}
 use Rattle.wf_farm.specs.Leading.{AreLedOn}
 use Rattle.wf_tape.specs.declared.tape.Tape.{Ghosts as Tape}
 
@@ -46,6 +46,7 @@ module _ {T : Type 0} (tapes : Tape T) where
   pub record IsTaken (loses : Bool) (m : Message) (before after : Node T) : Type 0 where
     pub said : List Message
     pub takes : Takes tapes loses (table.Deliver (message.view m)) before after said
+    pub cause : loses ≡ true → MayBeLost m before
 
   -- The messages were delivered to a node, one after the other, until one was lost or none was left.
   unfoldable pub HasHeard : List Message → Bool → Node T → Node T → Type 0

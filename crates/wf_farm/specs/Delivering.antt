@@ -15,7 +15,7 @@ use Rattle.wf_node.specs.Growth.{IsGrown}
 use Rattle.wf_node.specs.Images.{StandsFor}
 use Rattle.wf_node.specs.Node.{Node, stored_of, working_of}
 use Rattle.wf_farm.specs.declared.progress.Progress.{Progress}
-use Rattle.wf_farm.specs.Giving.{Takes}
+use Rattle.wf_farm.specs.Giving.{MayBeLost, Takes}
 use Rattle.wf_farm.specs.Progress.{counted, next}
 use Rattle.wf_farm.specs.Pump.{most_deliveries}
 use Rattle.wf_tape.specs.declared.tape.Tape.{Ghosts as Tape}
@@ -113,6 +113,7 @@ module _ {T : Type 0} (tapes : Tape T) where
     pub at : slice_get nodes i ≡ Some node
     pub there : slice_get sent k ≡ Some handed
     pub takes : Takes tapes lost (table.Deliver (message.view handed)) node after said
+    pub cause : lost ≡ true → MayBeLost handed node
     pub nodes_are : nodes_after ≡ slice_set nodes i after
     pub sent_are : sent_after ≡ sent ++ said
 

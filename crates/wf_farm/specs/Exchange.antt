@@ -1,14 +1,13 @@
 -- An exchange: a node of a farm is asked to do something, and its messages are delivered, and those sent in reply.
-use Rattle.std.specs.Prelude.{◌≡◌, ℕ, Bool, false, List, slice_get, slice_set, Some, Vec}
+use Rattle.std.specs.Prelude.{◌≡◌, ℕ, false, List, slice_get, slice_set, Some, Vec}
 use Rattle.std.specs.declared.alloc.Global.{Global}
 use Rattle.wf_codec.specs.declared.message.Message.{Message}
 use Rattle.wf_node.specs.Node.{Node}
 use Rattle.wf_farm.specs.declared.delivering.Pumped.{Pumped}
 use Rattle.wf_farm.specs.declared.place.Place.{Place}
 use Rattle.wf_farm.specs.declared.place.Place.TheVariants.{Running}
-use Rattle.wf_farm.specs.Delivering.{AreHandedOut, IsDelivered, IsGiven, StandInTurn}
+use Rattle.wf_farm.specs.Delivering.{AreHandedOut, IsDelivered, StandInTurn}
 use Rattle.wf_farm.specs.Leading.{AreLedSaying}
-use Rattle.wf_farm.specs.Nodes.{KeepPlaces, nodes_of}
 use Rattle.wf_tape.specs.declared.tape.Tape.{Ghosts as Tape}
 
 -- The client may ask node `number`, if it runs.
@@ -42,9 +41,3 @@ module _ {T : Type 0} (tapes : Tape T) where
     pub asked : IsAsked asks number client nodes said client_after middle
     pub delivered : IsDelivered tapes middle said.items pumped.deliveries nodes_after
     pub handed : AreHandedOut tapes middle said.items pumped.deliveries pumped.lost pumped.stopped nodes_after
-
-  -- ---- for the crate's own contracts
-
-  -- one delivery to an entry, as the world and its node see it
-  abbrev pub IsGivenTo : ℕ → ℕ → Bool → List (Place T) → List Message → List (Place T) → List Message → Type 0
-  IsGivenTo i k lost places sent places_after sent_after = IsGiven tapes i k lost (nodes_of places) sent (nodes_of places_after) sent_after × KeepPlaces places places_after

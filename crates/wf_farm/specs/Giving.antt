@@ -1,11 +1,14 @@
 -- What a node does with an input that a caller gives it, over any kind of tape.
-use Rattle.std.specs.Prelude.{◌≡◌, ◌++◌, Bool, true, false, List, [], Option, Some, None}
+use Rattle.std.specs.Prelude.{◌≡◌, ◌⊎◌, ◌++◌, Bool, true, false, List, [], Option, Some, None}
+use Rattle.wf_codec.specs.Message as message
+use Rattle.wf_codec.specs.Message.{HasDefinition}
 use Rattle.wf_codec.specs.declared.message.Message.{Message}
 use Rattle.wf_def.specs.Definition.{Definition}
+use Rattle.wf_model.specs.Table as table
 use Rattle.wf_model.specs.Table.{Input, Refusal, store}
 use Rattle.wf_node.specs.Images.{EachStandsFor}
 use Rattle.wf_node.specs.Node.{Node, stored_of}
-use Rattle.wf_node.specs.Step.{row_of, refusal_at, IsRow, IsSameNode}
+use Rattle.wf_node.specs.Step.{row_of, refusal_at, IsRow, IsSameNode, TakesMemory}
 use Rattle.wf_node.specs.Storing.{bytes_of}
 use Rattle.wf_tape.specs.Tape.{IsExtended}
 use Rattle.wf_node.specs.declared.fault.NodeFault.{NodeFault}
@@ -34,6 +37,10 @@ is_halt fault.Nothing = false
 abbrev pub tells_halt : Option NodeFault → Bool
 tells_halt None = false
 tells_halt (Some f) = is_halt f
+
+-- why the delivery of a message to a node may be lost: the message has a definition, or the step stores or sends something
+abbrev pub MayBeLost : {T : Type 0} → Message → Node T → Type 0
+MayBeLost m node = HasDefinition (message.view m) ⊎ TakesMemory node (table.Deliver (message.view m))
 
 module _ {T : Type 0} (tapes : Tape T) where
   -- An allocation failed before the node had done anything, so the input is lost: the node, which isn't halted, is unchanged but

@@ -1,5 +1,5 @@
 -- The entries of a farm as a list of nodes: what is defined of nodes that a caller holds is so of the nodes of a farm.
-use Rattle.std.specs.Prelude.{◌≡◌, ℕ, suc, true, List, [], ◌∷◌, length, slice_get, Some, None}
+use Rattle.std.specs.Prelude.{◌≡◌, ℕ, suc, true, List, [], ◌∷◌, length, slice_get, slice_set, Some, None}
 use Rattle.std.specs.FinMap as map
 use Rattle.wf_node.specs.Node.{Node}
 use Rattle.wf_node.specs.Parts.{Parts}
@@ -7,6 +7,8 @@ use Rattle.wf_node.specs.Working.{Working, Idle}
 use Rattle.wf_farm.specs.declared.place.Place.{Place}
 use Rattle.wf_farm.specs.declared.place.Place.TheVariants.{Running, Stopped}
 use Rattle.wf_farm.specs.Farm.{Farm}
+use Rattle.wf_farm.specs.Places.{AreMembers, IsMember}
+use Rattle.wf_tape.specs.declared.tape.Tape.{Ghosts as Tape}
 
 -- what a stopped node shows: nothing stored, and no proposal or leadership
 abbrev pub no_parts : Parts
@@ -47,3 +49,22 @@ RunsAt {T} places i = (node : Node T) × (slice_get places i ≡ Some (Running n
 -- every node runs
 unfoldable pub AllRun : {T : Type 0} → List (Place T) → Type 0
 AllRun {T} places = (i : ℕ) (place : Place T) → slice_get places i ≡ Some place → (node : Node T) × (place ≡ Running node)
+
+-- ---- for the crate's own contracts: entries over any kind of tape
+
+module _ {T : Type 0} (tapes : Tape T) where
+  -- An entry that may have changed has the node that it had, and runs if it did.
+  pub record KeepsEntry (place next : Place T) : Type 0 where
+    pub member : (n i : ℕ) → IsMember tapes.honest tapes.images tapes.never_fails n i place → IsMember tapes.honest tapes.images tapes.never_fails n i next
+    pub kept : KeepsPlace place next
+
+  -- So have as many entries as before.
+  pub record KeepEntries (before after : List (Place T)) : Type 0 where
+    pub as_many : length after ≡ length before
+    pub members : AreMembers tapes.honest tapes.images tapes.never_fails before → AreMembers tapes.honest tapes.images tapes.never_fails after
+    pub kept : KeepPlaces before after
+
+-- Entries of which some were changed, one after the other, each as `keeps` says.
+pub data AreChanged {E : Type 0} (keeps : E → E → Type 0) (before : List E) : List E → Type 0 where
+  Unchanged : AreChanged keeps before before
+  Changed : (middle : List E) (i : ℕ) (entry next : E) → AreChanged keeps before middle → slice_get middle i ≡ Some entry → keeps entry next → AreChanged keeps before (slice_set middle i next)

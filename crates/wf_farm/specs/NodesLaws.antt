@@ -63,7 +63,7 @@ module _ {T : Type 0} (places : List (Place T)) where
 
 -- ---- what stays
 
-keeps_itself : {T : Type 0} (place : Place T) → KeepsPlace place place
+pub keeps_itself : {T : Type 0} (place : Place T) → KeepsPlace place place
 keeps_itself (Running node) = (node, refl)
 keeps_itself (Stopped tape) = refl
 

@@ -7,7 +7,7 @@ ghost use Rattle.wf_model.specs.Table.{most_told, told_from};
 ghost use Rattle.wf_farm.specs.CatchUp.{BringsOn, CatchUpLeadsOn, EndsUp, FirstEndUp, HasHeard, HasMost, HaveAsked, HaveCaughtUp, HearsAt, IsAnswerTo, IsBehind, IsQuestion, IsTaken, LevelRests, OneChanges, StandLevel, rank, rank_at};
 ghost use Rattle.wf_farm.specs.Exchange.{IsSturdy};
 ghost use Rattle.wf_farm.specs.Leading.{AreLedOn};
-ghost use Rattle.wf_farm.specs.Nodes.{KeepPlaces, RunsAt, node_in, nodes_in, nodes_of};
+ghost use Rattle.wf_farm.specs.Nodes.{KeepEntries, KeepPlaces, RunsAt, node_in, nodes_in, nodes_of};
 ghost use Rattle.wf_farm.specs.Places.{AreMembers};
 
 use crate::delivering::{Said, hand, is_halted};
@@ -73,8 +73,7 @@ fn catch_up_in<T: Tape>(alloc: Global, places: &mut [Place<T>]) -> bool
     ensures level { result ≡ false → StandLevel (nodes_of places.new) }
     ensures behind { result ≡ true → StandLevel (nodes_of places.new) → ⊥ }
     ensures led { AreLedOn T.Tape (nodes_of places.old) (nodes_of places.new) }
-    ensures members { AreMembers T.honest T.images T.never_fails places.new }
-    ensures kept { KeepPlaces places.old places.new }
+    ensures entries { KeepEntries T.Tape places.old places.new }
 {
     let asked = furthest(places);
     ask_each(alloc, places, asked)
@@ -110,14 +109,11 @@ fn further<T: Tape>(places: &[Place<T>], first: usize, second: usize) -> usize
 
 /// Lets each node ask the one at an index, as long as it is behind that one; returns whether a delivery was lost.
 fn ask_each<T: Tape>(alloc: Global, places: &mut [Place<T>], asked: usize) -> bool
-    requires members { AreMembers T.honest T.images T.never_fails places.old }
     requires most { HasMost (nodes_of places.old) asked }
     ensures have_asked { HaveAsked T.Tape asked (nodes_of places.old) result
         (nodes_of places.new) }
     ensures ends { FirstEndUp asked (length places.old) result (nodes_of places.new) }
-    ensures members { AreMembers T.honest T.images T.never_fails places.new }
-    ensures kept { KeepPlaces places.old places.new }
-    ensures size { length places.new ≡ length places.old }
+    ensures entries { KeepEntries T.Tape places.old places.new }
 {
     let mut lost = false;
     for asker in 0..places.len() {
@@ -141,15 +137,12 @@ fn ask_while_behind<T: Tape>(
     asked: usize,
     asker: usize,
 ) -> bool
-    requires members { AreMembers T.honest T.images T.never_fails places.old }
     requires within { rank_at (nodes_of places.old) asker ≤ rank_at (nodes_of places.old) asked }
     ensures have_asked { HaveAsked T.Tape asked (nodes_of places.old) result
         (nodes_of places.new) }
     ensures one { OneChanges asked asker (nodes_of places.old) (nodes_of places.new) }
     ensures ends { EndsUp asked asker result (nodes_of places.new) }
-    ensures members { AreMembers T.honest T.images T.never_fails places.new }
-    ensures kept { KeepPlaces places.old places.new }
-    ensures size { length places.new ≡ length places.old }
+    ensures entries { KeepEntries T.Tape places.old places.new }
 {
     while is_behind(places, asked, asker) {
         if ask(alloc, places, asked, asker) {
@@ -203,15 +196,12 @@ fn rank_of<T: Tape>(node: &Node<T>) -> usize
 
 /// Lets a node that is behind ask another, and delivers the answer to it; returns whether a delivery was lost.
 fn ask<T: Tape>(alloc: Global, places: &mut [Place<T>], asked: usize, asker: usize) -> bool
-    requires members { AreMembers T.honest T.images T.never_fails places.old }
     requires behind { IsBehind (nodes_of places.old) asked asker }
     ensures question { IsQuestion T.Tape asked asker (nodes_of places.old) result
         (nodes_of places.new) }
     ensures one { OneChanges asked asker (nodes_of places.old) (nodes_of places.new) }
     ensures on { BringsOn asked asker (nodes_of places.old) result (nodes_of places.new) }
-    ensures members { AreMembers T.honest T.images T.never_fails places.new }
-    ensures kept { KeepPlaces places.old places.new }
-    ensures size { length places.new ≡ length places.old }
+    ensures entries { KeepEntries T.Tape places.old places.new }
 {
     match answer_at(alloc, places, asked, asker) {
         Ok(answer) => {
@@ -273,9 +263,8 @@ fn hear_at<T: Tape>(
 ) -> bool
     requires within { number < length places.old }
     requires runs { RunsAt places.old number }
-    requires members { AreMembers T.honest T.images T.never_fails places.old }
     ensures hears { HearsAt T.Tape number messages.now result places.old places.new }
-    ensures members { AreMembers T.honest T.images T.never_fails places.new }
+    ensures entries { KeepEntries T.Tape places.old places.new }
 {
     match &mut places[number] {
         Place::Running(node) => hear(alloc, node, messages),

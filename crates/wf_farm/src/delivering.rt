@@ -1,15 +1,18 @@
-//! Delivery of messages to nodes that a caller holds, over any kind of tape.
+//! Delivery of messages to nodes, over any kind of tape.
 
-ghost use Rattle.std.specs.Prelude.{◌≡◌, ◌<◌, ◌≤◌, ℕ, false, List, [], length, IfOk, IfErr, OnErr};
+ghost use Rattle.std.specs.Prelude.{◌≡◌, ◌<◌, ◌≤◌, ℕ, false, true, List, [], length, IfOk, IfErr, OnErr};
 ghost use Rattle.wf_codec.specs.Message.{view as view_message};
 ghost use Rattle.wf_model.specs.Table.{most_told, Deliver};
 ghost use Rattle.wf_node.specs.Input.{view};
-ghost use Rattle.wf_farm.specs.Delivering.{AnyPart, AreDelivered, AreHandedOut, EachGrows, HaveCome, IsDelivered, IsHanded, IsOne, KeepHalted, MayLeave, StandFor, StandInTurn};
-ghost use Rattle.wf_farm.specs.Progress.{AreCounted};
+ghost use Rattle.wf_node.specs.Step.{TakesMemory};
+ghost use Rattle.wf_farm.specs.Delivering.{AnyPart, AreDelivered, AreHandedOut, EachGrows, HaveCome, IsDelivered, IsGiven, KeepHalted, MayLeave, StandFor, StandInTurn};
 ghost use Rattle.wf_farm.specs.Exchange.{IsSturdy};
-ghost use Rattle.wf_farm.specs.Giving.{Answers, Takes, is_halt, is_memory, tells_halt};
+ghost use Rattle.wf_farm.specs.Giving.{Answers, MayBeLost, Takes, is_halt, is_memory, tells_halt};
+ghost use Rattle.wf_farm.specs.Nodes.{AreChanged};
+ghost use Rattle.wf_farm.specs.Progress.{AreCounted};
 ghost use Rattle.wf_farm.specs.Pump.{most_deliveries};
 
+use crate::entry::Entry;
 use crate::happening::{MOST_SAID, send};
 use crate::progress::{Delivered, MOST_DELIVERIES, Progress, count_lost};
 use std::alloc::{AllocError, Global};
@@ -32,8 +35,8 @@ pub struct Pumped {
 
 /// Delivers each message once to each node, ascending, and likewise each message that a node sends meanwhile, until none is left.
 /// Stops early after 100,000 deliveries, or if growing its own list of messages fails. A delivery for which an allocation fails
-/// within the node, or before it, is lost, as on a network, and counted; the deliveries go on. A node whose tape fails is halted and
-/// accepts no further delivery.
+/// within the node, or before it, is lost, as on a network, and counted; the deliveries go on. Only a message that has a definition is
+/// lost, or one on which the node stores or sends something. A node whose tape fails is halted and accepts no further delivery.
 ///
 /// Node i of the slice must be node i of n, where n is its length; it may be empty. Whatever world of the model the nodes and the
 /// messages were, at most `deliveries` deliveries lead to the world that they are afterwards; a delivery at which a tape failed
@@ -65,16 +68,23 @@ pub fn deliver_all<T: Tape>(alloc: Global, nodes: &mut [Node<T>], messages: Vec<
     deliver_each(alloc, nodes, messages)
 }
 
-/// The same for at least one node.
-fn deliver_each<T: Tape>(alloc: Global, nodes: &mut [Node<T>], messages: Vec<Message>) -> Pumped
-    requires some { 0 < length nodes.old }
-    requires in_turn { StandInTurn nodes.old }
-    ensures delivered { IsDelivered T.Tape nodes.old messages.items result.deliveries nodes.new }
-    ensures handed { AreHandedOut T.Tape nodes.old messages.items result.deliveries result.lost
-        result.stopped nodes.new }
+/// Delivers each message once to each entry, of which there is at least one, ascending, and likewise each message that a node sends
+/// meanwhile, until none is left or the deliveries stop early.
+pub(crate) fn deliver_each<E: Entry<T>, T: Tape>(
+    alloc: Global,
+    entries: &mut [E],
+    messages: Vec<Message>,
+) -> Pumped
+    requires some { 0 < length entries.old }
+    requires in_turn { StandInTurn (E.nodes entries.old) }
+    ensures delivered { IsDelivered T.Tape (E.nodes entries.old) messages.items result.deliveries
+        (E.nodes entries.new) }
+    ensures handed { AreHandedOut T.Tape (E.nodes entries.old) messages.items result.deliveries
+        result.lost result.stopped (E.nodes entries.new) }
+    ensures changed { AreChanged E.keeps entries.old entries.new }
 {
     let mut sent = messages;
-    let Delivered { progress, lost } = deliver_rounds(alloc, nodes, &mut sent);
+    let Delivered { progress, lost } = deliver_rounds(alloc, entries, &mut sent);
     let stopped = progress.whole < sent.len();
     drop(sent);
     Pumped {
@@ -86,19 +96,20 @@ fn deliver_each<T: Tape>(alloc: Global, nodes: &mut [Node<T>], messages: Vec<Mes
 
 /// Delivers the messages, and those sent meanwhile, to each node in turn, until none is left, the limit of deliveries is reached, or there
 /// is no room for the messages of the next one.
-fn deliver_rounds<T: Tape>(
+fn deliver_rounds<E: Entry<T>, T: Tape>(
     alloc: Global,
-    nodes: &mut [Node<T>],
+    entries: &mut [E],
     sent: &mut Vec<Message>,
 ) -> Delivered
-    requires some { 0 < length nodes.old }
-    requires in_turn { StandInTurn nodes.old }
-    ensures come { HaveCome T.Tape nodes.old sent.old.items result.progress result.lost
-        nodes.new sent.new.items }
-    ensures counts { AreCounted (length nodes.old) 0 result.progress result.lost
+    requires some { 0 < length entries.old }
+    requires in_turn { StandInTurn (E.nodes entries.old) }
+    ensures come { HaveCome T.Tape (E.nodes entries.old) sent.old.items result.progress result.lost
+        (E.nodes entries.new) sent.new.items }
+    ensures counts { AreCounted (length entries.old) 0 result.progress result.lost
         (length sent.new.items) }
+    ensures changed { AreChanged E.keeps entries.old entries.new }
 {
-    let round = nodes.len();
+    let round = entries.len();
     let mut progress = Progress::start();
     let mut lost = 0;
     while progress.done < MOST_DELIVERIES {
@@ -106,7 +117,7 @@ fn deliver_rounds<T: Tape>(
         if number >= sent.len() {
             return Delivered { progress, lost };
         }
-        match deliver_one(alloc, nodes, sent, progress.some, number) {
+        match deliver_one(alloc, entries, sent, progress.some, number) {
             Ok(loses) => {
                 lost = count_lost(lost, loses);
                 progress = progress.next(round);
@@ -119,27 +130,27 @@ fn deliver_rounds<T: Tape>(
 
 /// Delivers a message to a node, and appends the messages that the node sends; returns whether the delivery was lost. Room is
 /// reserved first, since a node can't undo a step; if that fails, nothing is delivered.
-fn deliver_one<T: Tape>(
+fn deliver_one<E: Entry<T>, T: Tape>(
     alloc: Global,
-    nodes: &mut [Node<T>],
+    entries: &mut [E],
     sent: &mut Vec<Message>,
-    node: usize,
+    index: usize,
     number: usize,
 ) -> Result<bool, AllocError>
-    requires node { node < length nodes.old }
+    requires index { index < length entries.old }
     requires number { number < length sent.old.items }
-    requires in_turn { StandInTurn nodes.old }
-    ensures one { IsOne T.Tape nodes.old sent.old.items nodes.new sent.new.items }
-    ensures handed { IfOk result (λ lost.
-        IsHanded T.Tape node number lost nodes.old sent.old.items nodes.new sent.new.items) }
-    ensures none { OnErr result (nodes.new ≡ nodes.old) }
+    requires in_turn { StandInTurn (E.nodes entries.old) }
+    ensures given { IfOk result (λ lost. IsGiven T.Tape index number lost (E.nodes entries.old)
+        sent.old.items (E.nodes entries.new) sent.new.items) }
+    ensures none { OnErr result (entries.new ≡ entries.old) }
     ensures same { OnErr result (sent.new.items ≡ sent.old.items) }
+    ensures changed { AreChanged E.keeps entries.old entries.new }
     ensures grows { length sent.old.items ≤ length sent.new.items }
 {
     if sent.reserve(MOST_SAID).is_err() {
         return Err(AllocError);
     }
-    let Said { messages, lost } = hand(alloc, &mut nodes[node], &sent[number]);
+    let Said { messages, lost } = entries[index].receive(alloc, &sent[number]);
     send(sent, messages);
     Ok(lost)
 }
@@ -156,6 +167,7 @@ pub(crate) struct Said {
 pub(crate) fn hand<T: Tape>(alloc: Global, node: &mut Node<T>, message: &Message) -> Said
     ensures takes { Takes T.Tape result.lost (Deliver (view_message message.now)) node.old node.new
         result.messages.items }
+    ensures cause { result.lost ≡ true → MayBeLost message.now node.old }
     ensures few { length result.messages.items ≤ most_told }
     ensures sturdy { IsSturdy T.Tape node.old node.new }
 {
@@ -171,6 +183,7 @@ pub(crate) fn hand<T: Tape>(alloc: Global, node: &mut Node<T>, message: &Message
 /// Returns the messages that a node sends on an input: none if it rejects, or if an allocation fails and the input is lost.
 fn hear<T: Tape>(alloc: Global, node: &mut Node<T>, input: Input) -> Said
     ensures takes { Takes T.Tape result.lost (view input) node.old node.new result.messages.items }
+    ensures cause { result.lost ≡ true → TakesMemory node.old (view input) }
     ensures few { length result.messages.items ≤ most_told }
     ensures sturdy { IsSturdy T.Tape node.old node.new }
 {
@@ -247,6 +260,8 @@ fn step<T: Tape>(alloc: Global, node: &mut Node<T>, input: Input) -> Result<Vec<
         Answers T.Tape (view input) node.old node.new said.items) }
     ensures takes { IfErr result (λ fault.
         Takes T.Tape (is_memory fault) (view input) node.old node.new []) }
+    ensures cause { IfErr result (λ fault.
+        is_memory fault ≡ true → TakesMemory node.old (view input)) }
     ensures few { IfOk result (λ said. length said.items ≤ most_told) }
     ensures sturdy { IsSturdy T.Tape node.old node.new }
 {

@@ -34,10 +34,11 @@
 //! - [`Farm::nodes_agree`]: over honest tapes some events led to the farm from the start, so no two of its nodes publish different
 //!   definitions under one sequence; over others, if some events did.
 //!
-//! Nodes that a caller holds, over any kind of tape, receive one another's messages by [`deliver_all`]: each message is delivered
-//! to each node in turn, until none is left or it reports that it stopped early, and it reports how many deliveries an allocation
-//! failure lost. Whatever world of the model the nodes and their messages were, at most the reported number of deliveries leads to
-//! the world that they are afterwards (`specs/Delivering.antt`, `specs/Giving.antt`).
+//! Nodes that a caller holds, over any kind of tape, receive one another's messages by [`deliver_all`], the deliveries of an exchange:
+//! each message is delivered to each node in turn, until none is left or it reports that it stopped early, and it reports how many
+//! deliveries an allocation failure lost. Only a message that has a definition is lost, or one on which the node stores or sends
+//! something. Whatever world of the model the nodes and their messages were, at most the reported number of deliveries leads to the
+//! world that they are afterwards (`specs/Delivering.antt`, `specs/Giving.antt`).
 //!
 //! Successive calls on such nodes are one run of the model, by theorems: a step of a node, and the deliveries of the messages
 //! that it sent, lead on from whatever world the nodes were, however many messages were sent before ([`a_step_leads_on`],
@@ -61,6 +62,7 @@ mod carrier;
 mod catch_up;
 mod cluster;
 mod delivering;
+mod entry;
 mod event;
 mod exchange;
 mod farm;

@@ -1,5 +1,5 @@
 -- The first message is lost, or the others are heard after it.
-use Rattle.std.proofs.Common.{arith, subst, sym}
+use Rattle.std.proofs.Common.{arith, subst}
 use Rattle.wf_farm.specs.CatchUp.{HasHeard}
 use Rattle.wf_farm.proofs.Asked.{heard_lost, heard_more, heard_none, range_rest}
 use Rattle.wf_farm.proofs.catch_up.+hear.Goals as goal

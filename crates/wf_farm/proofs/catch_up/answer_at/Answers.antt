@@ -1,5 +1,5 @@
 -- Both nodes run, and the one that is asked has published more.
-use Rattle.std.proofs.Common.{◌≡◌, ◌<◌, ◌+◌, ◌∙◌, map, length, slice_get, Some, sym, arith, Vec}
+use Rattle.std.proofs.Common.{◌≡◌, ◌+◌, ◌∙◌, map, length, sym, arith, Vec}
 use Rattle.std.specs.declared.alloc.Global.{Global}
 use Rattle.std.proofs.lemmas.Option.{slice_get_within}
 use Rattle.wf_codec.specs.Message.{view}
@@ -11,7 +11,6 @@ use Rattle.wf_farm.specs.Nodes.{nodes_of}
 use Rattle.wf_farm.proofs.Changes.{answer_to, fewer_published, if_ok, other_rank}
 use Rattle.wf_farm.proofs.Exchanges.{index_running, not_stopped}
 use Rattle.wf_farm.proofs.Level.{running_there}
-use Rattle.wf_farm.proofs.catch_up.answer_at.Given as given
 use Rattle.wf_farm.proofs.catch_up.answer_at.Goals as goal
 
 pub offset_bounds-places-asker : goal.offset_bounds-places-asker

@@ -1,11 +1,11 @@
 -- The answer is lost, or the asker hears it.
-use Rattle.std.proofs.Common.{◌≡◌, refl, subst}
+use Rattle.std.proofs.Common.{subst}
 use Rattle.std.proofs.lemmas.Option.{slice_get_within}
 use Rattle.wf_farm.specs.declared.place.Place.TheVariants.{Running}
 use Rattle.wf_farm.specs.CatchUp.{HearsAt}
-use Rattle.wf_farm.specs.NodesLaws.{keep_themselves}
-use Rattle.wf_farm.proofs.Changes.{IsAsked, asked_answered, asked_unanswered, hears_kept, hears_size}
+use Rattle.wf_farm.proofs.Changes.{IsAsked, asked_answered, asked_unanswered}
 use Rattle.wf_farm.proofs.Level.{running_there}
+use Rattle.wf_farm.proofs.Nodes.{entries_themselves}
 use Rattle.wf_farm.specs.Nodes.{nodes_of}
 use Rattle.wf_farm.proofs.catch_up.ask.Given as given
 use Rattle.wf_farm.proofs.catch_up.ask.Goals as goal
@@ -35,17 +35,11 @@ returns-in-Ok-clause-one g c = (answered g c).one
 pub returns-in-Ok-clause-on : goal.returns-in-Ok-clause-on
 returns-in-Ok-clause-on g c = (answered g c).on
 
-pub returns-in-Ok-clause-kept : goal.returns-in-Ok-clause-kept
-returns-in-Ok-clause-kept g c = hears_kept g.T.Tape c.args.asker c.in-Ok.answer.items c.hear_at-lost.result c.args.places.now c.hear_at-lost.new.places (hears g c)
-
-pub returns-in-Ok-clause-size : goal.returns-in-Ok-clause-size
-returns-in-Ok-clause-size g c = hears_size g.T.Tape c.args.asker c.in-Ok.answer.items c.hear_at-lost.result c.args.places.now c.hear_at-lost.new.places (hears g c)
-
 pub returns-in-Err-clause-question : goal.returns-in-Err-clause-question
 returns-in-Err-clause-question g c = (asked_unanswered g.T.Tape c.args.places.now c.args.asked c.args.asker c.requires.behind c.answer_at.ensures.most).question
 
 pub returns-in-Err-clause-one : goal.returns-in-Err-clause-one
 returns-in-Err-clause-one g c = (asked_unanswered g.T.Tape c.args.places.now c.args.asked c.args.asker c.requires.behind c.answer_at.ensures.most).one
 
-pub returns-in-Err-clause-kept : goal.returns-in-Err-clause-kept
-returns-in-Err-clause-kept g c = keep_themselves c.args.places.now
+pub returns-in-Err-clause-entries : goal.returns-in-Err-clause-entries
+returns-in-Err-clause-entries g c = entries_themselves g.T.Tape c.args.places.now

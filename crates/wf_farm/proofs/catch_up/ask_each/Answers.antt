@@ -1,10 +1,10 @@
 -- One node after the other asks.
-use Rattle.std.proofs.Common.{◌≡◌, ◌+◌, ◌∙◌, false, length, refl, subst, sym, arith}
-use Rattle.wf_farm.specs.CatchUp.{FirstEndUp, HasMost, HaveAsked, Rests}
+use Rattle.std.proofs.Common.{◌+◌, refl, subst, sym, arith}
+use Rattle.wf_farm.specs.CatchUp.{FirstEndUp, HaveAsked, Rests}
 use Rattle.wf_farm.specs.Nodes.{nodes_of}
-use Rattle.wf_farm.specs.NodesLaws.{keep_themselves, keep_twice}
 use Rattle.wf_farm.proofs.Asked.{asked_twice}
 use Rattle.wf_farm.proofs.Changes.{first_end, has_most_at, most_on}
+use Rattle.wf_farm.proofs.Nodes.{entries_themselves, entries_twice}
 use Rattle.wf_farm.proofs.catch_up.ask_each.Goals as goal
 
 pub loop-asker-init : goal.loop-asker-init
@@ -12,13 +12,11 @@ loop-asker-init g c = record {
   asked = Rests;
   most = c.requires.most;
   ends = λ k less. absurd (omega (arith, less));
-  members = c.requires.members;
-  kept = keep_themselves c.args.places.now;
-  size = refl;
+  entries = entries_themselves g.T.Tape c.args.places.now;
 }
 
-pub ask_while_behind-requires-clause-within : goal.ask_while_behind-requires-clause-within
-ask_while_behind-requires-clause-within g c = has_most_at (nodes_of c.loop-asker.places) c.args.asked c.loop-asker.invariant.most c.loop-asker.asker
+pub ask_while_behind-requires : goal.ask_while_behind-requires
+ask_while_behind-requires g c = record { within = has_most_at (nodes_of c.loop-asker.places) c.args.asked c.loop-asker.invariant.most c.loop-asker.asker }
 
 pub loop-asker-preserved : goal.loop-asker-preserved
 loop-asker-preserved g c =
@@ -32,9 +30,7 @@ loop-asker-preserved g c =
       most = most_on c.args.asked c.loop-asker.asker nodes after one.ensures.one so_far.most;
       ends = subst (λ b. FirstEndUp c.args.asked (c.loop-asker.asker + 1) b after) (sym c.either-lost.ensures)
           (first_end c.args.asked c.loop-asker.asker nodes after one.ensures.one c.loop-asker.lost one.result (c.loop-asker.asker + 1) refl so_far.ends one.ensures.ends);
-      members = one.ensures.members;
-      kept = keep_twice c.args.places.now c.loop-asker.places one.new.places so_far.kept one.ensures.kept;
-      size = one.ensures.size ∙ so_far.size;
+      entries = entries_twice g.T.Tape c.args.places.now c.loop-asker.places one.new.places so_far.entries one.ensures.entries;
     }
 
 pub returns-clause-ends : goal.returns-clause-ends

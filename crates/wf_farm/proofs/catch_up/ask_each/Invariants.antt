@@ -1,8 +1,6 @@
 -- The first nodes, this many, have caught up with the one that is asked, or a delivery was lost.
-use Rattle.std.proofs.Common.{◌≡◌, length}
 use Rattle.wf_farm.specs.CatchUp.{FirstEndUp, HasMost, HaveAsked}
-use Rattle.wf_farm.specs.Nodes.{KeepPlaces, nodes_of}
-use Rattle.wf_farm.specs.Places.{AreMembers}
+use Rattle.wf_farm.specs.Nodes.{KeepEntries, nodes_of}
 use Rattle.wf_farm.proofs.catch_up.ask_each.Given as goal
 
 abbrev pub invariant-loop-asker : goal.invariant-loop-asker
@@ -10,7 +8,5 @@ invariant-loop-asker g l = record {
   asked : HaveAsked g.T.Tape l.fn.asked (nodes_of l.initial.places) l.lost (nodes_of l.places);
   most : HasMost (nodes_of l.places) l.fn.asked;
   ends : FirstEndUp l.fn.asked l.asker l.lost (nodes_of l.places);
-  members : AreMembers g.T.Tape.honest g.T.Tape.images g.T.Tape.never_fails l.places;
-  kept : KeepPlaces l.initial.places l.places;
-  size : length l.places ≡ length l.initial.places;
+  entries : KeepEntries g.T.Tape l.initial.places l.places;
 }

@@ -1,19 +1,16 @@
 -- One more question; in the end the node is level, or a delivery was lost.
-use Rattle.std.proofs.Common.{◌≡◌, false, true, refl, subst, ◌∙◌}
-use Rattle.wf_farm.specs.CatchUp.{Asks, BringsOn, EndsUp, HaveAsked, Rests}
+use Rattle.std.proofs.Common.{false, subst}
+use Rattle.wf_farm.specs.CatchUp.{Asks, BringsOn, HaveAsked, Rests}
 use Rattle.wf_farm.specs.Nodes.{nodes_of}
-use Rattle.wf_farm.specs.NodesLaws.{keep_themselves, keep_twice}
 use Rattle.wf_farm.proofs.Changes.{changes_twice, ends_level, lacks_fewer, no_change}
-use Rattle.wf_farm.proofs.catch_up.ask_while_behind.Given as given
+use Rattle.wf_farm.proofs.Nodes.{entries_themselves, entries_twice}
 use Rattle.wf_farm.proofs.catch_up.ask_while_behind.Goals as goal
 
 pub loop-alloc-init : goal.loop-alloc-init
 loop-alloc-init g c = record {
   asked = Rests;
   one = no_change c.args.asked c.args.asker (nodes_of c.args.places.now) c.requires.within;
-  members = c.requires.members;
-  kept = keep_themselves c.args.places.now;
-  size = refl;
+  entries = entries_themselves g.T.Tape c.args.places.now;
 }
 
 pub loop-alloc-preserved : goal.loop-alloc-preserved
@@ -25,9 +22,7 @@ loop-alloc-preserved g c =
     record {
       asked = subst (λ b. HaveAsked g.T.Tape c.args.asked before b after) c.if-ask.false (Asks c.args.asker false c.ask.result nodes after so_far.asked c.ask.ensures.question);
       one = changes_twice c.args.asked c.args.asker before nodes after so_far.one c.ask.ensures.one;
-      members = c.ask.ensures.members;
-      kept = keep_twice c.args.places.now c.loop-alloc.places c.ask.new.places so_far.kept c.ask.ensures.kept;
-      size = c.ask.ensures.size ∙ so_far.size;
+      entries = entries_twice g.T.Tape c.args.places.now c.loop-alloc.places c.ask.new.places so_far.entries c.ask.ensures.entries;
     }
 
 pub loop-alloc-smaller : goal.loop-alloc-smaller
@@ -48,11 +43,8 @@ returns-then-ask-clause-one g c = changes_twice c.args.asked c.args.asker (nodes
 pub returns-then-ask-clause-ends : goal.returns-then-ask-clause-ends
 returns-then-ask-clause-ends g c = subst (λ b. BringsOn c.args.asked c.args.asker (nodes_of c.loop-alloc.places) b (nodes_of c.ask.new.places)) c.if-ask.true c.ask.ensures.on
 
-pub returns-then-ask-clause-kept : goal.returns-then-ask-clause-kept
-returns-then-ask-clause-kept g c = keep_twice c.args.places.now c.loop-alloc.places c.ask.new.places c.loop-alloc.invariant.kept c.ask.ensures.kept
-
-pub returns-then-ask-clause-size : goal.returns-then-ask-clause-size
-returns-then-ask-clause-size g c = c.ask.ensures.size ∙ c.loop-alloc.invariant.size
+pub returns-then-ask-clause-entries : goal.returns-then-ask-clause-entries
+returns-then-ask-clause-entries g c = entries_twice g.T.Tape c.args.places.now c.loop-alloc.places c.ask.new.places c.loop-alloc.invariant.entries c.ask.ensures.entries
 
 pub returns-clause-ends : goal.returns-clause-ends
 returns-clause-ends g c =

@@ -1,18 +1,14 @@
 -- The node has asked so far, and no delivery was lost. Each question brings it on, or it is halted.
 use Rattle.std.proofs.Common.{false}
 use Rattle.wf_farm.specs.CatchUp.{HaveAsked, OneChanges, lacks}
-use Rattle.wf_farm.specs.Nodes.{KeepPlaces, nodes_of}
-use Rattle.wf_farm.specs.Places.{AreMembers}
-use Rattle.std.proofs.Common.{◌≡◌, length}
+use Rattle.wf_farm.specs.Nodes.{KeepEntries, nodes_of}
 use Rattle.wf_farm.proofs.catch_up.ask_while_behind.Given as goal
 
 abbrev pub invariant-loop-alloc : goal.invariant-loop-alloc
 invariant-loop-alloc g l = record {
   asked : HaveAsked g.T.Tape l.fn.asked (nodes_of l.initial.places) false (nodes_of l.places);
   one : OneChanges l.fn.asked l.fn.asker (nodes_of l.initial.places) (nodes_of l.places);
-  members : AreMembers g.T.Tape.honest g.T.Tape.images g.T.Tape.never_fails l.places;
-  kept : KeepPlaces l.initial.places l.places;
-  size : length l.places ≡ length l.initial.places;
+  entries : KeepEntries g.T.Tape l.initial.places l.places;
 }
 
 abbrev pub decreases-loop-alloc : goal.decreases-loop-alloc

@@ -1,5 +1,5 @@
 -- Each node asks the one that has come furthest.
-use Rattle.std.proofs.Common.{◌≡◌, ◌<◌, ℕ, length, subst, arith}
+use Rattle.std.proofs.Common.{length, subst, arith}
 use Rattle.wf_farm.specs.CatchUp.{FirstEndUp}
 use Rattle.wf_farm.specs.Nodes.{nodes_of}
 use Rattle.wf_farm.specs.NodesLaws.{length-nodes}
@@ -15,7 +15,7 @@ pub returns-clause-level : goal.returns-clause-level
 returns-clause-level g c = λ none.
     let after = c.ask_each.new.places in
     let ends = subst (λ b. FirstEndUp c.furthest-asked.result (length c.args.places.now) b (nodes_of after)) none c.ask_each.ensures.ends in
-    stand_level (nodes_of after) c.furthest-asked.result (λ k less. ends k (omega (arith, less, length-nodes after, c.ask_each.ensures.size)))
+    stand_level (nodes_of after) c.furthest-asked.result (λ k less. ends k (omega (arith, less, length-nodes after, c.ask_each.ensures.entries.as_many)))
 
 pub returns-clause-behind : goal.returns-clause-behind
 returns-clause-behind g c = λ lost.

@@ -1,5 +1,5 @@
 -- The node that has come furthest of those so far.
-use Rattle.std.proofs.Common.{◌≡◌, ◌<◌, ◌≤◌, ◌+◌, ℕ, length, arith, ap, inl, inr}
+use Rattle.std.proofs.Common.{◌≡◌, arith, ap, inl, inr}
 use Rattle.std.proofs.lemmas.Bool.{cases_lt}
 use Rattle.wf_farm.specs.CatchUp.{rank_at}
 use Rattle.wf_farm.specs.Nodes.{nodes_of}

@@ -1,9 +1,9 @@
 -- The node in the entry hears the messages.
 use Rattle.std.proofs.Common.{◌≡◌, slice_get, Some, refl}
 use Rattle.wf_farm.specs.declared.place.Place.TheVariants.{Running}
-use Rattle.wf_farm.proofs.Asked.{member_heard}
+use Rattle.wf_farm.proofs.Asked.{entry_heard}
 use Rattle.wf_farm.proofs.Exchanges.{index_running, not_stopped}
-use Rattle.wf_farm.proofs.Nodes.{member_of, set_members}
+use Rattle.wf_farm.proofs.Nodes.{entry_set}
 use Rattle.wf_farm.proofs.catch_up.hear_at.Given as given
 use Rattle.wf_farm.proofs.catch_up.hear_at.Goals as goal
 
@@ -16,8 +16,7 @@ unreachable-requires g c = not_stopped c.args.places.now c.args.number c.index-p
 pub returns-clause-hears : goal.returns-clause-hears
 returns-clause-hears g c = record { before = c.in-Running.node; after = c.hear.new.node; at = here g c; heard = c.hear.ensures.hears; places_are = refl }
 
-pub returns-clause-members : goal.returns-clause-members
-returns-clause-members g c =
-    let was = member_of g.T.Tape.honest g.T.Tape.images g.T.Tape.never_fails c.args.places.now c.args.number (Running c.in-Running.node) (here g c) c.requires.members in
-    set_members g.T.Tape.honest g.T.Tape.images g.T.Tape.never_fails c.args.places.now c.args.number (Running c.in-Running.node) (Running c.hear.new.node) (here g c)
-    (member_heard g.T.Tape c.args.messages.now c.hear.result c.in-Running.node c.hear.new.node _ _ c.hear.ensures.hears c.hear.ensures.sturdy was) c.requires.members
+pub returns-clause-entries : goal.returns-clause-entries
+returns-clause-entries g c =
+    entry_set g.T.Tape c.args.places.now c.args.number (Running c.in-Running.node) (Running c.hear.new.node) (here g c)
+    (entry_heard g.T.Tape c.args.messages.now c.hear.result c.in-Running.node c.hear.new.node c.hear.ensures.hears c.hear.ensures.sturdy)

@@ -1,6 +1,6 @@
 -- A halted node has come nowhere.
-use Rattle.std.proofs.Common.{◌∙◌, ap, sym, ◌+◌}
-use Rattle.wf_farm.proofs.Level.{rank_halted, rank_running}
+use Rattle.std.proofs.Common.{◌∙◌, sym}
+use Rattle.wf_farm.proofs.Level.{rank_halted}
 use Rattle.wf_farm.proofs.catch_up.rank_of.Goals as goal
 
 pub returns-then-is_halted : goal.returns-then-is_halted

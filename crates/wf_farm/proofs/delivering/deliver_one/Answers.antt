@@ -1,39 +1,44 @@
--- The message is delivered to the node at its index; without room nothing is.
-use Rattle.std.proofs.Common.{◌≡◌, ◌++◌, length, slice_get, slice_set, Some, refl, sym, ap, subst, ◌∙◌}
+-- The message is delivered to the node of its entry; without room nothing is.
+use Rattle.std.proofs.Common.{◌≡◌, ◌++◌, ◌∙◌, length, true, slice_get, slice_set, Some, refl, sym, ap, subst}
 use Rattle.std.proofs.lemmas.Option.{slice_get_read}
 use Rattle.wf_codec.specs.Message.{view}
 use Rattle.wf_model.specs.Table as table
-use Rattle.wf_farm.specs.Delivering.{IsOne}
-use Rattle.wf_farm.specs.Giving.{Takes}
-use Rattle.wf_farm.proofs.Deliveries.{no_delivery, one_delivery}
+use Rattle.wf_farm.specs.Delivering.{IsGiven}
+use Rattle.wf_farm.specs.Giving.{MayBeLost, Takes}
+use Rattle.wf_farm.specs.Nodes.{Changed, Unchanged}
+use Rattle.wf_farm.proofs.Deliveries.{given_to}
+use Rattle.wf_farm.proofs.delivering.deliver_one.Given as given
 use Rattle.wf_farm.proofs.delivering.deliver_one.Goals as goal
 
-pub returns-then-is_err-clause-one : goal.returns-then-is_err-clause-one
-returns-then-is_err-clause-one g c =
-    subst (λ ms. IsOne g.T.Tape c.args.nodes.now c.args.sent.now.items c.args.nodes.now ms) (sym c.reserve.ensures.items)
-    (no_delivery g.T.Tape c.args.nodes.now c.args.sent.now.items)
+here : (g : given.Over) (c : goal.After-send g) → slice_get c.args.entries.now c.args.index ≡ Some c.index-entries-index.result
+here g c = slice_get_read c.args.entries.now (length c.args.entries.now) c.args.index c.index-entries-index.result refl c.requires.index c.index-entries-index.is
 
-pub returns-clause-one : goal.returns-clause-one
-returns-clause-one g c =
-    let node_at = slice_get_read c.args.nodes.now (length c.args.nodes.now) c.args.node c.index-nodes-node.result refl c.requires.node c.index-nodes-node.is in
-    let message_there = slice_get_read c.reserve.new.self.items (length c.args.sent.now.items) c.args.number c.index.result.now (sym (ap length c.reserve.ensures.items)) c.requires.number c.index.ensures in
-    let message_at = subst (λ ms. slice_get ms c.args.number ≡ Some c.index.result.now) c.reserve.ensures.items message_there in
-    let takes = subst (λ n. Takes g.T.Tape c.hand-messages.result.lost (table.Deliver (view c.index.result.now)) n c.hand-messages.new.node c.hand-messages.result.messages.items) (sym c.index-nodes-node.is) c.hand-messages.ensures.takes in
-    subst (λ ms. IsOne g.T.Tape c.args.nodes.now c.args.sent.now.items (slice_set c.args.nodes.now c.args.node c.hand-messages.new.node) ms) (sym (c.send.ensures ∙ ap (λ ms. ms ++ c.hand-messages.result.messages.items) c.reserve.ensures.items))
-    (one_delivery g.T.Tape c.args.nodes.now c.args.sent.now.items c.args.node c.args.number c.index-nodes-node.result c.hand-messages.new.node c.index.result.now c.hand-messages.result.messages.items
-    node_at message_at c.requires.in_turn c.hand-messages.result.lost takes)
+pub returns-then-is_err-clause-changed : goal.returns-then-is_err-clause-changed
+returns-then-is_err-clause-changed g c = Unchanged
 
-pub returns-clause-handed : goal.returns-clause-handed
-returns-clause-handed g c =
-    let message_there = slice_get_read c.reserve.new.self.items (length c.args.sent.now.items) c.args.number c.index.result.now (sym (ap length c.reserve.ensures.items)) c.requires.number c.index.ensures in
-    record {
-      node = c.index-nodes-node.result;
-      after = c.hand-messages.new.node;
-      handed = c.index.result.now;
-      said = c.hand-messages.result.messages.items;
-      at = slice_get_read c.args.nodes.now (length c.args.nodes.now) c.args.node c.index-nodes-node.result refl c.requires.node c.index-nodes-node.is;
-      there = subst (λ ms. slice_get ms c.args.number ≡ Some c.index.result.now) c.reserve.ensures.items message_there;
-      takes = subst (λ n. Takes g.T.Tape c.hand-messages.result.lost (table.Deliver (view c.index.result.now)) n c.hand-messages.new.node c.hand-messages.result.messages.items) (sym c.index-nodes-node.is) c.hand-messages.ensures.takes;
-      nodes_are = refl;
-      sent_are = c.send.ensures ∙ ap (λ ms. ms ++ c.hand-messages.result.messages.items) c.reserve.ensures.items;
-    }
+pub returns-clause-given : goal.returns-clause-given
+returns-clause-given g c =
+    let r = c.receive-messages in
+    let entry = c.index-entries-index.result in
+    let next = r.new.self in
+    let m = c.index.result.now in
+    let said = r.result.messages.items in
+    let lost = r.result.lost in
+    let nodes = g.E.Entry.nodes in
+    let node = g.E.Entry.node in
+    let was = c.args.entries.now in
+    let n = length was in
+    let i = c.args.index in
+    let message_there = slice_get_read c.reserve.new.self.items (length c.args.sent.now.items) c.args.number m (sym (ap length c.reserve.ensures.items)) c.requires.number c.index.ensures in
+    let message_at = subst (λ ms. slice_get ms c.args.number ≡ Some m) c.reserve.ensures.items message_there in
+    let takes = subst (λ e. Takes g.T.Tape lost (table.Deliver (view m)) (node n i e) (node n i next) said) (sym c.index-entries-index.is) (r.ensures.takes n i) in
+    let cause = subst (λ e. lost ≡ true → MayBeLost m (node n i e)) (sym c.index-entries-index.is) (r.ensures.cause n i) in
+    subst (λ ms. IsGiven g.T.Tape i c.args.number lost (nodes was) c.args.sent.now.items (nodes (slice_set was i next)) ms) (sym (c.send.ensures ∙ ap (λ ms. ms ++ said) c.reserve.ensures.items))
+    (subst (λ ns. IsGiven g.T.Tape i c.args.number lost (nodes was) c.args.sent.now.items ns (c.args.sent.now.items ++ said)) (sym (g.met.E.Entry.set was i next))
+    (given_to g.T.Tape (nodes was) c.args.sent.now.items i c.args.number (node n i entry) (node n i next) m said (g.met.E.Entry.get was i entry (here g c)) message_at c.requires.in_turn lost takes cause))
+
+pub returns-clause-changed : goal.returns-clause-changed
+returns-clause-changed g c =
+    let r = c.receive-messages in
+    Changed c.args.entries.now c.args.index c.index-entries-index.result r.new.self Unchanged (here g c)
+    (subst (λ e. g.E.Entry.keeps e r.new.self) (sym c.index-entries-index.is) r.ensures.keeps)

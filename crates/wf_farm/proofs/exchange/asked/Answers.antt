@@ -1,7 +1,7 @@
 -- The client asks the node at the index, which runs.
-use Rattle.std.proofs.Common.{◌≡◌, slice_get, Some, length-set}
+use Rattle.std.proofs.Common.{◌≡◌, slice_get, Some}
 use Rattle.wf_farm.specs.declared.place.Place.TheVariants.{Running}
-use Rattle.wf_farm.proofs.Exchanges.{asked_as, asked_kept, asked_leads, asked_members, index_running, not_stopped, ready_there}
+use Rattle.wf_farm.proofs.Exchanges.{asked_as, asked_entries, asked_leads, index_running, not_stopped, ready_there}
 use Rattle.wf_farm.proofs.exchange.asked.Given as given
 use Rattle.wf_farm.proofs.exchange.asked.Goals as goal
 
@@ -24,12 +24,6 @@ pub returns-clause-says : goal.returns-clause-says
 returns-clause-says g c =
     asked_leads g.T.Tape c.args.places.now c.args.number c.in-Running.node c.ask.new.node c.ask.result.items (here g c) c.requires.members c.ask.ensures.leads
 
-pub returns-clause-members : goal.returns-clause-members
-returns-clause-members g c =
-    asked_members g.T.Tape c.args.places.now c.args.number c.in-Running.node c.ask.new.node c.ask.result.items (here g c) c.requires.members c.ask.ensures.leads c.ask.ensures.sturdy
-
-pub returns-clause-kept : goal.returns-clause-kept
-returns-clause-kept g c = asked_kept c.args.places.now c.args.number c.in-Running.node c.ask.new.node (here g c)
-
-pub returns-clause-size : goal.returns-clause-size
-returns-clause-size g c = length-set c.args.places.now c.args.number (Running c.ask.new.node)
+pub returns-clause-entries : goal.returns-clause-entries
+returns-clause-entries g c =
+    asked_entries g.T.Tape c.args.places.now c.args.number c.in-Running.node c.ask.new.node c.ask.result.items (here g c) c.requires.members c.ask.ensures.leads c.ask.ensures.sturdy

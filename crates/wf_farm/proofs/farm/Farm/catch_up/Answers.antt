@@ -1,10 +1,10 @@
 -- The nodes were led on, and so the farm is reached from the start if it was.
-use Rattle.std.proofs.Common.{◌≡◌, ◌++◌, ◌∙◌, Bool, true, false, Result, Ok, Err, OnErr, OnOk, is_err, length, take, drop, refl, sym, ap, subst, arith}
+use Rattle.std.proofs.Common.{◌≡◌, ◌++◌, ◌∙◌, Bool, true, false, Result, Ok, Err, OnErr, OnOk, is_err, length, take, drop, sym, ap, subst, arith}
 use Rattle.wf_farm.specs.CatchUp.{HaveCaughtUp, StandLevel}
 use Rattle.wf_farm.specs.Farm.{IsFarm}
 use Rattle.wf_farm.specs.Leading.{AreLedOn}
-use Rattle.wf_farm.specs.Nodes.{KeepPlaces, nodes_in, nodes_of}
-use Rattle.wf_farm.proofs.Exchanges.{farm_led, led_long}
+use Rattle.wf_farm.specs.Nodes.{KeepEntries, KeepPlaces, nodes_in, nodes_of}
+use Rattle.wf_farm.proofs.Exchanges.{farm_led}
 use Rattle.wf_farm.proofs.Rounds.{lent_back}
 use Rattle.wf_farm.proofs.farm.Farm.catch_up.Given as given
 use Rattle.wf_farm.proofs.farm.Farm.catch_up.Goals as goal
@@ -17,11 +17,14 @@ on_err : {A E : Type 0} (result : Result A E) (lost : Bool) (P : Type 0) → is_
 on_err (Ok x) lost P is holds = tt
 on_err (Err e) lost P is holds = holds (sym is)
 
+entries : (g : given.Over) (c : goal.After-outcome g) → KeepEntries g.T.Tape c.self.inside.cluster.places.items c.catch_up_in-lost.new.places
+entries g c = subst (λ ps. KeepEntries g.T.Tape ps c.catch_up_in-lost.new.places) c.deref_mut.ensures.value c.catch_up_in-lost.ensures.entries
+
 -- the entries are as many as the list that lent them
 returned : (g : given.Over) (c : goal.After-outcome g) → take c.self.inside.cluster.places.len (c.catch_up_in-lost.new.places ++ drop (length c.catch_up_in-lost.new.places) c.self.inside.cluster.places.items) ≡ c.catch_up_in-lost.new.places
 returned g c =
     lent_back c.self.inside.cluster.places.items c.catch_up_in-lost.new.places c.self.inside.cluster.places.len (omega (arith, c.deref_mut.ensures.len, ap length c.deref_mut.ensures.value))
-    (led_long g.T.Tape c.deref_mut.result.now c.catch_up_in-lost.new.places c.catch_up_in-lost.ensures.led ∙ ap length c.deref_mut.ensures.value)
+    (c.catch_up_in-lost.ensures.entries.as_many ∙ ap length c.deref_mut.ensures.value)
 
 pub catch_up_in-lost-requires-clause-some : goal.catch_up_in-lost-requires-clause-some
 catch_up_in-lost-requires-clause-some g c = omega (arith, c.self.invariant.some, ap length c.deref_mut.ensures.value)
@@ -31,7 +34,7 @@ invariant_of-self g c =
     subst (λ ps. IsFarm g.T.Tape.honest g.T.Tape.images g.T.Tape.never_fails ps c.replace.new.dest.items 0 false) (sym (returned g c))
     (subst (λ ms. IsFarm g.T.Tape.honest g.T.Tape.images g.T.Tape.never_fails c.catch_up_in-lost.new.places ms 0 false) (sym (ap (λ v. v.items) c.replace.ensures.after ∙ c.new.ensures.items))
     (farm_led g.T.Tape c.records_are_read_one_way.ensures.one c.self.inside.cluster.places.items c.catch_up_in-lost.new.places c.self.inside.cluster.sent.items c.self.inside.pumped c.self.inside.complete c.self.invariant
-    c.catch_up_in-lost.ensures.members (subst (λ ps. KeepPlaces ps c.catch_up_in-lost.new.places) c.deref_mut.ensures.value c.catch_up_in-lost.ensures.kept)
+    (entries g c)
     (subst (λ ps. AreLedOn g.T.Tape (nodes_of ps) (nodes_of c.catch_up_in-lost.new.places)) c.deref_mut.ensures.value c.catch_up_in-lost.ensures.led)))
 
 pub returns-clause-caught : goal.returns-clause-caught
@@ -58,5 +61,4 @@ returns-clause-led g c =
 pub returns-clause-kept : goal.returns-clause-kept
 returns-clause-kept g c =
     subst (λ ps. KeepPlaces c.args.self.now.places ps) (sym (returned g c))
-    (subst (λ farm. KeepPlaces farm.places c.catch_up_in-lost.new.places) c.self.view_is
-    (subst (λ ps. KeepPlaces ps c.catch_up_in-lost.new.places) c.deref_mut.ensures.value c.catch_up_in-lost.ensures.kept))
+    (subst (λ farm. KeepPlaces farm.places c.catch_up_in-lost.new.places) c.self.view_is (entries g c).kept)

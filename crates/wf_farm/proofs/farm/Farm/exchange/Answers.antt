@@ -5,17 +5,20 @@ use Rattle.wf_farm.specs.declared.place.Place.TheVariants.{Running}
 use Rattle.wf_farm.specs.Exchange.{IsExchange}
 use Rattle.wf_farm.specs.Farm.{IsFarm}
 use Rattle.wf_farm.specs.Leading.{AreLedOn}
-use Rattle.wf_farm.specs.Nodes.{KeepPlaces, RunsAt, nodes_in, nodes_of}
-use Rattle.wf_farm.proofs.Exchanges.{farm_led, led_long}
+use Rattle.wf_farm.specs.Nodes.{KeepEntries, KeepPlaces, RunsAt, nodes_in, nodes_of}
+use Rattle.wf_farm.proofs.Exchanges.{farm_led}
 use Rattle.wf_farm.proofs.Rounds.{lent_back}
 use Rattle.wf_farm.proofs.farm.Farm.exchange.Given as given
 use Rattle.wf_farm.proofs.farm.Farm.exchange.Goals as goal
+
+entries : (g : given.Over) (c : goal.After-self-3-1 g) → KeepEntries g.T.Tape c.self.inside.cluster.places.items c.exchange_in-pumped.new.places
+entries g c = subst (λ ps. KeepEntries g.T.Tape ps c.exchange_in-pumped.new.places) c.deref_mut.ensures.value c.exchange_in-pumped.ensures.entries
 
 -- the entries are as many as the list that lent them
 returned : (g : given.Over) (c : goal.After-self-3-1 g) → take c.self.inside.cluster.places.len (c.exchange_in-pumped.new.places ++ drop (length c.exchange_in-pumped.new.places) c.self.inside.cluster.places.items) ≡ c.exchange_in-pumped.new.places
 returned g c =
     lent_back c.self.inside.cluster.places.items c.exchange_in-pumped.new.places c.self.inside.cluster.places.len (omega (arith, c.deref_mut.ensures.len, ap length c.deref_mut.ensures.value))
-    (led_long g.T.Tape c.deref_mut.result.now c.exchange_in-pumped.new.places c.exchange_in-pumped.ensures.led ∙ ap length c.deref_mut.ensures.value)
+    (c.exchange_in-pumped.ensures.entries.as_many ∙ ap length c.deref_mut.ensures.value)
 
 pub exchange_in-pumped-requires-clause-within : goal.exchange_in-pumped-requires-clause-within
 exchange_in-pumped-requires-clause-within g c =
@@ -31,7 +34,7 @@ invariant_of-self g c =
     subst (λ ps. IsFarm g.T.Tape.honest g.T.Tape.images g.T.Tape.never_fails ps c.replace.new.dest.items 0 false) (sym (returned g c))
     (subst (λ ms. IsFarm g.T.Tape.honest g.T.Tape.images g.T.Tape.never_fails c.exchange_in-pumped.new.places ms 0 false) (sym (ap (λ v. v.items) c.replace.ensures.after ∙ c.new.ensures.items))
     (farm_led g.T.Tape c.records_are_read_one_way.ensures.one c.self.inside.cluster.places.items c.exchange_in-pumped.new.places c.self.inside.cluster.sent.items c.self.inside.pumped c.self.inside.complete c.self.invariant
-    c.exchange_in-pumped.ensures.members (subst (λ ps. KeepPlaces ps c.exchange_in-pumped.new.places) c.deref_mut.ensures.value c.exchange_in-pumped.ensures.kept)
+    (entries g c)
     (subst (λ ps. AreLedOn g.T.Tape (nodes_of ps) (nodes_of c.exchange_in-pumped.new.places)) c.deref_mut.ensures.value c.exchange_in-pumped.ensures.led)))
 
 pub returns-clause-exchange : goal.returns-clause-exchange
@@ -50,5 +53,4 @@ returns-clause-led g c =
 pub returns-clause-kept : goal.returns-clause-kept
 returns-clause-kept g c =
     subst (λ ps. KeepPlaces c.args.self.now.places ps) (sym (returned g c))
-    (subst (λ farm. KeepPlaces farm.places c.exchange_in-pumped.new.places) c.self.view_is
-    (subst (λ ps. KeepPlaces ps c.exchange_in-pumped.new.places) c.deref_mut.ensures.value c.exchange_in-pumped.ensures.kept))
+    (subst (λ farm. KeepPlaces farm.places c.exchange_in-pumped.new.places) c.self.view_is (entries g c).kept)
