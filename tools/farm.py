@@ -1,6 +1,7 @@
 """A farm of the built program on free ports of this machine: `wfarm serve`, or nodes in processes of their own (`wfarm node`)."""
 
 import pathlib
+import random
 import re
 import socket
 import subprocess
@@ -104,54 +105,89 @@ class Farm:
 
 
 def free_ports(count):
-    """Ports that nothing listens at now."""
-    held = [socket.create_server(("127.0.0.1", 0)) for _ in range(count)]
-    ports = [each.getsockname()[1] for each in held]
-    for each in held:
-        each.close()
-    return ports
+    """Ports that nothing listens at now, below those that the system gives to connections."""
+    ports = set()
+    while len(ports) < count:
+        port = random.randrange(10_000, 32_000)
+        try:
+            socket.create_server(("127.0.0.1", port)).close()
+        except OSError:
+            continue
+        ports.add(port)
+    return list(ports)
 
 
-class Node:
-    """A node in a process of its own, on a folder of its own. `before` are words before the program's."""
+class Process:
+    """A node or a replica in a process of its own, on a folder of its own, with its clients' and its operator's port."""
 
-    def __init__(self, program, number, folder, peers, clients, operator):
-        self.program, self.number, self.folder, self.peers = str(program), number, pathlib.Path(folder), peers
+    def __init__(self, program, folder, clients, operator, words):
+        self.program, self.folder, self.words = str(program), pathlib.Path(folder), words
         self.clients, self.operator = f"127.0.0.1:{clients}", f"127.0.0.1:{operator}"
         self.process = None
 
-    def init(self, farm, nodes):
-        self.folder.mkdir(parents=True)
-        words = ["init", "--state", str(self.folder), "--farm", farm, "--id", str(self.number), "--nodes", str(nodes)]
-        subprocess.run([self.program, *words], check=True, capture_output=True)
+    @property
+    def log(self):
+        """The file of its standard error."""
+        return self.folder.parent / f"log-{self.folder.name}"
 
     def start(self, before=(), **settings):
-        words = ["node", "--state", str(self.folder), "--peers", self.peers, "--http", self.clients, "--admin", self.operator, "--log"]
-        with (self.folder.parent / f"log-{self.number}").open("ab") as log:
-            self.process = subprocess.Popen([*before, self.program, *words], stdin=subprocess.DEVNULL, stdout=log, stderr=log, **settings)
+        """Starts it. `before` are words before the program's, and `settings` those of `subprocess.Popen`."""
+        words = [*self.words, "--state", str(self.folder), "--http", self.clients, "--admin", self.operator, "--log"]
+        with self.log.open("ab") as log:
+            places = {"stdin": subprocess.DEVNULL, "stdout": log, "stderr": log, **settings}
+            self.process = subprocess.Popen([*before, self.program, *words], **places)
 
     def kill(self):
-        """Ends the node by SIGKILL, wherever it is."""
+        """Ends it by SIGKILL, wherever it is."""
         if self.process is not None:
             self.process.kill()
             self.process.wait()
             self.process = None
 
     def published(self):
-        """The last sequence that the node has published; None where it doesn't answer."""
+        """The last sequence that it has published; None where it doesn't answer."""
         try:
             with urllib.request.urlopen(f"http://{self.clients}/status", timeout=20) as answer:
-                return int(re.match(rb"node \d+ published (\d+) ", answer.read())[1])
+                return int(re.match(rb"(?:node \d+|replica) published (\d+)\b", answer.read())[1])
         except (OSError, TypeError):
             return None
 
+    def processor_seconds(self):
+        """The processor time of it and its threads, from the scheduler, which counts nanoseconds."""
+        tasks = pathlib.Path(f"/proc/{self.process.pid}/task").iterdir()
+        return sum(int((task / "schedstat").read_text().split()[0]) for task in tasks) / 1e9
 
-def nodes_in(program, folder, farm, count=3):
-    """New nodes of a farm, not started yet."""
+
+class Node(Process):
+    """A node with a vote."""
+
+    def __init__(self, program, number, folder, peers, clients, operator, readers=None):
+        more = [] if readers is None else ["--readers", f"127.0.0.1:{readers}"]
+        super().__init__(program, folder, clients, operator, ["node", "--peers", peers, *more])
+        self.number = number
+
+    def init(self, farm, nodes, *more):
+        self.folder.mkdir(parents=True)
+        words = ["init", "--state", str(self.folder), "--farm", farm, "--id", str(self.number), "--nodes", str(nodes), *more]
+        subprocess.run([self.program, *words], check=True, capture_output=True)
+
+
+class Replica(Process):
+    """A renderer without a vote. `readers` are the addresses that it asks, with commas between them; others may ask it at its own."""
+
+    def __init__(self, program, folder, farm, readers):
+        clients, operator, own = free_ports(3)
+        self.readers = f"127.0.0.1:{own}"
+        super().__init__(program, folder, clients, operator, ["replica", "--farm", farm, "--peers", readers, "--readers", self.readers])
+        self.folder.mkdir(parents=True)
+
+
+def nodes_in(program, folder, farm, count=3, readers=None, tape=None):
+    """New nodes of a farm, not started yet: with these ports for readers, and beginning with this tape, where they are given."""
     ports = free_ports(3 * count)
     peers = ",".join(f"127.0.0.1:{port}" for port in ports[:count])
-    nodes = [Node(program, number, pathlib.Path(folder) / f"node-{number}", peers, ports[count + number], ports[2 * count + number])
-             for number in range(count)]
+    nodes = [Node(program, number, pathlib.Path(folder) / f"node-{number}", peers, ports[count + number], ports[2 * count + number],
+                  readers and readers[number]) for number in range(count)]
     for node in nodes:
-        node.init(farm, count)
+        node.init(farm, count, *(["--from", str(tape)] if tape else []))
     return nodes

@@ -94,7 +94,7 @@ def fill(root, program, version):
     shutil.copytree(TOP / "examples", share / "examples", ignore=shutil.ignore_patterns("viewer", "scripts"))
     documents = root / "usr/share/doc/wfarm"
     documents.mkdir(parents=True)
-    for name in ("README.md", "CHANGELOG.md", "docs/OPERATING.md", "docs/MAPFILES.md", "docs/FAULTS.md", "docs/LIMITS.md"):
+    for name in ("README.md", "CHANGELOG.md", "docs/OPERATING.md", "docs/MACHINES.md", "docs/MAPFILES.md", "docs/FAULTS.md", "docs/LIMITS.md"):
         shutil.copy(TOP / name, documents)
     for path in (share, documents):
         for each in path.rglob("*"):

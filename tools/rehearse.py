@@ -2,8 +2,8 @@
 """Rehearses the operation of a farm on several hosts, with faults drawn from a seed, and compares every answer.
 
 Hosts are network namespaces on a bridge (`tools/hosts.py`): three voters, each with a disk of its own, an ext4 on a device whose power
-can be cut (`tools/device.py`), and a relay between it and its peers that knows where a message ends (`tools/relay.py`); and replicas,
-two where the program has them. All the while clients publish at every voter and ask every process for its status, capabilities, and
+can be cut (`tools/device.py`), and a relay between it and its peers that knows where a message ends (`tools/relay.py`); and two
+replicas. All the while clients publish at every voter and ask every process for its status, capabilities, and
 pictures with and without MAPSEQ. Faults:
 
     kill        SIGKILL, and a start some time later
@@ -524,11 +524,6 @@ class Rehearsal:
               f"{len(self.ledger.violations)} violations")
 
 
-def has_replicas(program):
-    """Whether the program has the command `replica`."""
-    return subprocess.run([program, "help", "replica"], capture_output=True).returncode == 0
-
-
 def main():
     parser = argparse.ArgumentParser(description=__doc__.splitlines()[0])
     parser.add_argument("--program", default=str(PROGRAM))
@@ -536,7 +531,7 @@ def main():
     parser.add_argument("--seed", type=int, default=1)
     parser.add_argument("--seconds", type=float, default=1_800, help="how long the faults may take")
     parser.add_argument("--settled", type=float, default=5, help="seconds after the last fault until all stand at one sequence")
-    parser.add_argument("--replicas", type=int, help="how many; 2 where the program has them")
+    parser.add_argument("--replicas", type=int, default=2, help="how many")
     parser.add_argument("--plant", choices=["init", "replica"])
     parser.add_argument("--greeting", type=int, default=123, help="the length of a greeting in bytes")
     parser.add_argument("--network", type=int, default=0, help="the number of the network, 0 to 255")
@@ -548,8 +543,6 @@ def main():
         return 2
     # (the threads of the disks have to come in between those of the clients)
     sys.setswitchinterval(0.0002)
-    if options.replicas is None:
-        options.replicas = 2 if has_replicas(options.program) else 0
     signal.signal(signal.SIGTERM, signal.default_int_handler)
     above, begun = tempfile.mkdtemp(prefix="rehearsal-"), time.monotonic()
     rehearsal = Rehearsal(options, above)

@@ -6,7 +6,7 @@
     python3 tools/try_edits.py --changed origin/main        every mutant of each crate whose code or specs differ from a commit
     python3 tools/try_edits.py --applies                    only whether each mutant of every crate still applies
 
-CI tries a mutant in `must-fail/NAME.edit`; those of the table `must-fail/by-hand.edits` are tried only here. Each is
+CI tries a mutant in `must-fail/NAME.edit`; those of the table `must-fail/by-hand.edits.md` are tried only here. Each is
 applied to a copy of the crate, and the prover has to reject the copy: the test is CI's own. In the table a mutant is a
 line `mutant: NAME` and then the lines of an edit, and an empty line comes before the next. A crate that was checked before
 (`rt check`) lends its kept work, so a mutant costs what it changes. Run it over a crate whenever a clause or a definition
@@ -46,7 +46,7 @@ class Mutant:
 def mutants_of(folder, only_by_hand=False):
     """The mutants of a crate: CI's first, then those of its table."""
     by_ci = [] if only_by_hand else sorted((folder / "must-fail").glob("*.edit"))
-    table = folder / "must-fail" / "by-hand.edits"
+    table = folder / "must-fail" / "by-hand.edits.md"
     blocks = table.read_text().strip().split("\n\n") if table.exists() else []
     rest = [block.removeprefix("mutant: ").partition("\n") for block in blocks]
     return [*(Mutant(it.stem, it.read_text()) for it in by_ci), *(Mutant(name, text + "\n") for name, _, text in rest)]

@@ -1,13 +1,31 @@
 #!/usr/bin/env python3
 """Tries nodes in processes of their own, `wfarm node`, on loopback addresses of this machine.
 
-    python3 tools/try_nodes.py [PROGRAM] [CASE ..]
+    python3 tools/try_nodes.py [--program PROGRAM] [--stopped SECONDS] [--missed MAPS] [CASE ..]
 
-Each case starts three nodes on new folders, does something to them, and compares what they published: all must stand at one
-sequence, with equal histories, at its end. Cases: publish, kill, stop, clients, strangers, forgot, missed, refused, full. A line says
-what each saw; the status is 0 where all went as they should. A run takes two minutes.
+Each case starts three nodes on new folders and does something to them, while each node is asked again and again for its capabilities
+and for a picture with MAPSEQ: no two answers may differ for one sequence, whenever and from whichever node they come, and no node goes
+back. At its end all must stand at one sequence, with equal histories. Cases:
+
+    publish     at one node, at each in turn, at all at once
+    pieces      a publish whose body comes in pieces, the last one short: the answer comes at once
+    kill        SIGKILL of each node in turn, while the others publish
+    stop        SIGSTOP of a node, 12 seconds or as --stopped says
+    clients     200 idle clients, and 20 that trickle
+    strangers   at the peers' port garbage, half a greeting, another version, another farm, another address
+    forged      at the peers' port a peer's own greeting, and behind it half a message, or ballots and votes of other nodes
+    forgot      a new folder, an old copy, and a clone of a node
+    missed      a node that was away gets 1,000 maps, or as --missed says
+    refused     bad command lines
+    full        a start on files that can't grow
+    disk        a disk that is full while its node runs; wants root
+
+A line says what each saw; the status is 0 where all went as they should. A run takes four minutes.
 """
 
+import argparse
+import collections
+import hashlib
 import os
 import pathlib
 import re
@@ -23,9 +41,13 @@ import time
 import urllib.error
 import urllib.request
 
+from farm import CAPABILITIES, PROGRAM, free_ports
+
 TOP = pathlib.Path(__file__).resolve().parent.parent
-PROGRAM = TOP / "crates" / "wfarm" / "out" / "wfarm"
-MAP = (TOP / "examples" / "a.map").read_text()
+MAP = """MAP NAME "{name}" EXTENT 0 0 4 4 PROJECTION "init=epsg:3857" END
+WEB METADATA "wms_title" "{words}" END END
+LAYER NAME it TYPE POLYGON CLASS STYLE COLOR {color} END END FEATURE POINTS -9 -9 9 -9 9 9 -9 9 END END END END
+"""
 NODES = 3
 PATIENCE = 30
 
@@ -39,20 +61,14 @@ def want(what, is_so):
         raise Wrong(what)
 
 
-def free_ports(count):
-    """Ports that nobody listens on now."""
-    sockets = [socket.create_server(("127.0.0.1", 0)) for _ in range(count)]
-    ports = [s.getsockname()[1] for s in sockets]
-    for s in sockets:
-        s.close()
-    return ports
+PICTURE = ("/wms?VERSION=1.3.0&REQUEST=GetMap&LAYERS=it&STYLES=&CRS=EPSG:3857&BBOX=0,0,4,4&WIDTH=8&HEIGHT=8"
+           "&FORMAT=image/x-portable-pixmap&MAPSEQ=%d")
 
 
-def a_map(name, words=""):
-    """A mapfile with this name."""
-    text = re.sub(r'NAME *"[^"]*"', f'NAME "{name}"', MAP, count=1)
-    title = f'WEB METADATA "wms_title" "{words}" END END EXTENT'
-    return (re.sub("EXTENT", title, text, count=1) if words else text).encode()
+def a_map(name, words="", more=0):
+    """A mapfile with this name, and a colour of its own; with so many comments of 1,000 bytes behind it."""
+    color = " ".join(map(str, hashlib.sha256(name.encode()).digest()[:3]))
+    return (MAP.format(name=name, words=words, color=color) + ("#" + "x" * 998 + "\n") * more).encode()
 
 
 def until(is_so, seconds=PATIENCE):
@@ -73,6 +89,7 @@ class Nodes:
         ports = free_ports(3 * NODES)
         self.peer, self.http, self.admin = ports[:NODES], ports[NODES:2 * NODES], ports[2 * NODES:]
         self.processes = [None] * NODES
+        self.folders = [0] * NODES
 
     def place(self, i):
         return self.folder / str(i)
@@ -143,6 +160,11 @@ class Nodes:
         status, line = self.get(i, "/status")
         return int(line.split()[3]) if status == 200 else -1
 
+    def digest(self):
+        """The digest of the history of node 0."""
+        line = self.get(0, f"/history?from={self.published(0)}", self.admin[0])[1]
+        return bytes.fromhex(line.split()[1].decode()) if line else bytes(32)
+
     def level(self):
         """The seconds until all nodes stand at one sequence; their histories are compared."""
         seconds = until(lambda: len({self.published(i) for i in range(NODES)}) == 1)
@@ -152,14 +174,61 @@ class Nodes:
             want("histories differ", len(told) == 1)
         return seconds
 
+    def put(self, i, folder=None):
+        """Puts a copy of a folder in a node's place, or nothing: from now on it may tell less than before."""
+        shutil.rmtree(self.place(i), ignore_errors=True)
+        if folder:
+            shutil.copytree(folder, self.place(i))
+        self.folders[i] += 1
+
     def end(self):
         for process in self.processes:
             if process and process.poll() is None:
                 process.send_signal(signal.SIGCONT)
                 process.kill()
+                process.wait()
 
 
-def publish(nodes):
+class Watch:
+    """Asks each node again and again, and compares all answers by sequence."""
+
+    def __init__(self, nodes):
+        self.nodes, self.over, self.lock = nodes, threading.Event(), threading.Lock()
+        self.answers, self.told, self.wrong, self.count = {}, collections.Counter(), [], 0
+        self.threads = [threading.Thread(target=self.ask, args=(i,)) for i in range(NODES)]
+        for thread in self.threads:
+            thread.start()
+
+    def ask(self, i):
+        while not self.over.wait(0.02):
+            life = (i, self.nodes.folders[i])
+            status, body = self.nodes.get(i, CAPABILITIES)
+            if status != 200:
+                continue
+            sequence = int(body.partition(b'updateSequence="')[2].partition(b'"')[0])
+            self.take(life, sequence, "capabilities", body, life == (i, self.nodes.folders[i]))
+            status, body = self.nodes.get(i, PICTURE % sequence) if sequence else (0, b"")
+            if status == 200:
+                self.take(life, sequence, "picture", body, False)
+
+    def take(self, life, sequence, kind, body, is_latest):
+        """Compares an answer with what was told before."""
+        with self.lock:
+            self.count += 1
+            if self.answers.setdefault((sequence, kind), body) != body:
+                self.wrong.append(f"node {life[0]}: other {kind} at sequence {sequence}")
+            if is_latest and sequence < self.told[life]:
+                self.wrong.append(f"node {life[0]} went back from {self.told[life]} to {sequence}")
+            self.told[life] = max(self.told[life], sequence)
+
+    def end(self):
+        self.over.set()
+        for thread in self.threads:
+            thread.join()
+        want("; ".join(self.wrong[:5]), not self.wrong)
+
+
+def publish(nodes, _):
     """Publishes at one node, at each in turn, and at all at once."""
     for k in range(9):
         nodes.publish_whole(k % NODES, a_map(f"turn{k}"))
@@ -177,7 +246,37 @@ def publish(nodes):
     return f"level after {nodes.level()} s at {nodes.published(0)}"
 
 
-def kill(nodes):
+def in_pieces(nodes, body, pieces):
+    """Publishes by a connection on which the request comes in these pieces, 0.2 seconds apart: the status of the answer, and the
+    seconds from the last piece on."""
+    head = f"POST /publish HTTP/1.1\r\nHost: 127.0.0.1\r\nContent-Length: {len(body)}\r\n\r\n".encode()
+    with socket.create_connection(("127.0.0.1", nodes.http[0]), timeout=PATIENCE) as client:
+        client.setsockopt(socket.IPPROTO_TCP, socket.TCP_NODELAY, 1)
+        sent = 0
+        for piece in pieces:
+            time.sleep(0.2 if sent else 0)
+            client.sendall((head + body)[sent:sent + piece])
+            sent += piece
+        begun = time.time()
+        client.sendall((head + body)[sent:])
+        answer = client.recv(12)
+        return int(answer.split()[-1]), time.time() - begun
+
+
+def pieces(nodes, _):
+    """A publish that comes in pieces is answered as soon as its last byte is there."""
+    slowest = 0
+    for k, (more, cuts) in enumerate([(12, [-100]), (100, [-100]), (12, [-1]), (100, [8192]), (100, [60_000, 8_192]), (120, [])]):
+        body = a_map(f"pieces{k}", more=more)
+        cuts = [cut if cut > 0 else len(body) + cut for cut in cuts]
+        status, seconds = in_pieces(nodes, body, cuts)
+        want(f"{len(body)} bytes, first {cuts}: {status} after {seconds:.2f} s", status == 202 and seconds < 1)
+        slowest = max(slowest, seconds)
+        until(lambda: nodes.published(0) == k + 1)
+    return f"{k + 1} publishes, the slowest answered {1000 * slowest:.0f} ms after its last byte"
+
+
+def kill(nodes, _):
     """Kills each node in turn: the others go on, and it catches up."""
     said = []
     for i in range(NODES):
@@ -190,11 +289,11 @@ def kill(nodes):
     return f"level again after {said} s"
 
 
-def stop(nodes):
+def stop(nodes, options):
     """Stops a node for a while without ending it."""
     nodes.processes[1].send_signal(signal.SIGSTOP)
     start = time.time()
-    while time.time() < start + 12:
+    while time.time() < start + options.stopped:
         nodes.publish(0, a_map(f"stopped{int(time.time())}"))
         time.sleep(0.5)
     nodes.processes[1].send_signal(signal.SIGCONT)
@@ -211,7 +310,7 @@ def median(nodes, count=40):
     return round(sorted(times)[count // 2], 1)
 
 
-def clients(nodes):
+def clients(nodes, _):
     """Two hundred idle clients and twenty that trickle hold up nobody; each gets its answer or is closed in time."""
     alone = median(nodes)
     idle = [socket.create_connection(("127.0.0.1", nodes.http[0])) for _ in range(200)]
@@ -243,21 +342,90 @@ def clients(nodes):
     return f"median {alone} ms alone, {beside_idle} with 200 idle, {beside_trickling} with 20 trickling, 400 after {seconds:.1f} s"
 
 
-def strangers(nodes):
+def greeting(these, i, /, **changes):
+    """The bytes by which a node greets node 0, by the file in its folder and what node 0 has heard of it, or with other fields."""
+    lines = dict(line.split(" ", 1) for line in (these.place(i) / "farm").read_text().splitlines())
+    heard = (these.place(0) / "heard").read_text().splitlines()[1 + i]
+    numbers = {word: int(number, 16) for word, number in re.findall(r"(tried|promised|of) ([0-9a-f]{8})", heard)}
+    told = {"magic": b"wf-node\n", "version": 1, "farm": lines["farm"], "nodes": int(lines["nodes"], 16), "node": i,
+            "starts": int(lines["starts"], 16) + 1, **changes}
+    return (told["magic"] + told["version"].to_bytes(2, "big") + told["farm"].encode().ljust(32, b"\0") + bytes([told["nodes"], told["node"]])
+            + bytes.fromhex(lines["mark"]) + told["starts"].to_bytes(4, "big") + b"forger of a life" + numbers["tried"].to_bytes(4, "big")
+            + numbers.get("promised", 0).to_bytes(4, "big") + bytes([numbers.get("of", 0)])
+            + these.published(0).to_bytes(2, "big") + these.digest())
+
+
+def frame(kind, body):
+    """The bytes of a message."""
+    return bytes([2, kind]) + len(body).to_bytes(4, "big") + body
+
+
+def told_to(nodes, i, sent, source="127.0.0.1"):
+    """What the peers' port of a node answers to these bytes, until it closes; and the seconds until then."""
+    begun, came = time.time(), b""
+    with socket.create_connection(("127.0.0.1", nodes.peer[i]), timeout=10, source_address=(source, 0)) as stranger:
+        try:
+            stranger.sendall(sent)
+            while piece := stranger.recv(200):
+                came += piece
+        except ConnectionError:
+            pass
+    return came, round(time.time() - begun, 1)
+
+
+def strangers(nodes, _):
     """What isn't a peer is closed, and the nodes go on."""
-    for garbage in (b"GET / HTTP/1.1\r\n\r\n", bytes(200), os.urandom(4096), b"wf"):
-        with socket.create_connection(("127.0.0.1", nodes.peer[0])) as stranger:
-            stranger.settimeout(10)
-            stranger.sendall(garbage)
-            try:
-                want("something was sent to a stranger", stranger.recv(200) == b"")
-            except ConnectionError:
-                pass
+    sent = {"a request": b"GET / HTTP/1.1\r\n\r\n", "zeros": bytes(200), "random bytes": os.urandom(4096), "two bytes": b"wf",
+            "half a greeting": greeting(nodes, 1)[:60]}
+    waited = {}
+    for name, garbage in sent.items():
+        came, waited[name] = told_to(nodes, 0, garbage)
+        want(f"{name}: {came!r}", came == b"")
+    rejected = {"another version": (5, {"version": 2}), "another farm": (1, {"farm": "other"}), "another number of nodes": (2, {"nodes": 5})}
+    for name, (cause, changes) in rejected.items():
+        came, _ = told_to(nodes, 0, greeting(nodes, 1, **changes))
+        is_told = came[:8] == b"wf-nope\n" and (name == "another version" or came[-1] == cause)
+        want(f"{name}: {came!r}", came == b"" or is_told)
+    came, waited["another address"] = told_to(nodes, 0, greeting(nodes, 1), "127.0.0.9")
+    want(f"another address: {came!r}", came == b"" and waited["another address"] < 1)
     nodes.publish_whole(1, a_map("after"))
-    return f"level after {nodes.level()} s"
+    return f"{len(sent) + len(rejected) + 1} kinds closed, the last after {max(waited.values())} s; level after {nodes.level()} s"
 
 
-def forgot(nodes):
+def forged(nodes, _):
+    """Whoever greets as a peer and then sends what that peer may not is closed, and no vote counts."""
+    nodes.publish_whole(0, a_map("before"))
+    nodes.level()
+    nodes.kill(2)
+    time.sleep(2)
+    sequence, ballot = (2).to_bytes(2, "big"), [(9).to_bytes(4, "big") + bytes([node]) for node in range(NODES)]
+    text = subprocess.run([str(nodes.program), "canon"], input=a_map("forged"), capture_output=True, check=True).stdout
+    cases = {"half a message": (frame(1, sequence + ballot[2])[:5], "silent"),
+             "a ballot of another node": (frame(1, sequence + ballot[0]), "wrong-sender"),
+             "an acceptance by another node's ballot": (frame(3, sequence + ballot[1] + text), "wrong-sender"),
+             "a promise of another node": (frame(2, bytes([0]) + sequence + ballot[2] + bytes(4)), "wrong-sender"),
+             "a vote of another node": (frame(4, bytes([1]) + sequence + ballot[2]), "wrong-sender"),
+             "a rejection of another node": (frame(5, bytes([1]) + sequence + ballot[2] + ballot[1]), "wrong-sender"),
+             "no message": (frame(99, b"nothing"), "bad-message")}
+    for starts, (name, (message, why)) in enumerate(cases.items(), 10):
+        came, seconds = told_to(nodes, 0, greeting(nodes, 2, starts=starts) + message)
+        want(f"{name}: the greeting was answered by {came[:12]!r}", len(came) == 123 and came[:8] == b"wf-node\n")
+        want(f"{name}: closed after {seconds} s", seconds < (7 if why == "silent" else 2))
+        dropped = [line for line in nodes.log(0).read_text().splitlines() if " dropped peer=2 " in line]
+        want(f"{name}: {dropped[-1]}", dropped[-1].endswith("why=" + why))
+    nodes.publish_whole(0, a_map("after"))
+    # what was told in its place counts, until it starts as often
+    nodes.start(2)
+    ended = nodes.ended(2)
+    want(f"the node in whose place others told more: {ended}", ended[0] == 1)
+    path = nodes.place(2) / "farm"
+    path.write_text(re.sub("starts .*", f"starts {starts:08x}", path.read_text()))
+    nodes.start(2)
+    until(lambda: nodes.published(2) >= 0)
+    return f"{len(cases)} kinds closed; level after {nodes.level()} s"
+
+
+def forgot(nodes, _):
     """A node that forgot ends: an old copy, a new folder; of a clone beside the original, the older start."""
     for k in range(4):
         nodes.publish_whole(0, a_map(f"first{k}"))
@@ -270,16 +438,15 @@ def forgot(nodes):
         nodes.publish_whole(2, a_map(f"second{k}"))
     nodes.level()
     nodes.kill(2)
-    nodes.place(2).rename(nodes.folder / "sound")
-    shutil.copytree(nodes.folder / "old", nodes.place(2))
+    shutil.copytree(nodes.place(2), nodes.folder / "sound")
+    nodes.put(2, nodes.folder / "old")
     nodes.start(2)
     old = nodes.ended(2)
-    shutil.rmtree(nodes.place(2))
+    nodes.put(2)
     want("init", nodes.init(2).returncode == 0)
     nodes.start(2)
     new = nodes.ended(2)
-    shutil.rmtree(nodes.place(2))
-    (nodes.folder / "sound").rename(nodes.place(2))
+    nodes.put(2, nodes.folder / "sound")
     nodes.start(2)
     until(lambda: nodes.published(2) >= 0)
     nodes.level()
@@ -297,10 +464,10 @@ def forgot(nodes):
     return "; ".join(line for _, line in (old, new, original))
 
 
-def missed(nodes):
+def missed(nodes, options):
     """A node catches up with what it missed."""
     nodes.kill(2)
-    for k in range(60):
+    for k in range(options.missed):
         nodes.publish_whole(0, a_map(f"missed{k}", "x" * 900))
     nodes.start(2)
     start = time.time()
@@ -308,7 +475,7 @@ def missed(nodes):
     return f"{nodes.published(0)} maps in {time.time() - start:.2f} s; level after {nodes.level()} s"
 
 
-def refused(nodes):
+def refused(nodes, _):
     """Bad command lines, folders and addresses: the status, and the one line."""
     empty, damaged = nodes.folder / "empty", nodes.folder / "damaged"
     empty.mkdir()
@@ -351,7 +518,7 @@ def refused(nodes):
     return f"{len(cases)} command lines"
 
 
-def full(nodes):
+def full(nodes, _):
     """A node whose files can't grow doesn't begin, and says why; it begins once they can."""
     for k in range(3):
         nodes.publish_whole(0, a_map(f"full{k}", "x" * 900))
@@ -370,30 +537,82 @@ def full(nodes):
     return f"{ran.stderr.strip()}; level after {nodes.level()} s"
 
 
-CASES = [publish, kill, stop, clients, strangers, forgot, missed, refused, full]
+def disk(nodes, _):
+    """A node whose disk is full goes on with what it had, and with the others once there is room."""
+    if os.geteuid() != 0:
+        return "left out: wants root"
+    nodes.kill(2)
+    shutil.copytree(nodes.place(2), nodes.folder / "sound")
+    subprocess.run(["mount", "-t", "tmpfs", "-o", "size=1m", "tmpfs", str(nodes.place(2))], check=True)
+    try:
+        shutil.copytree(nodes.folder / "sound", nodes.place(2), dirs_exist_ok=True)
+        nodes.start(2)
+        until(lambda: nodes.published(2) >= 0)
+        filling = nodes.place(2) / "filling"
+        with filling.open("wb", buffering=0) as file:
+            try:
+                while True:
+                    file.write(bytes(4096))
+            except OSError:
+                pass
+        for k in range(3):
+            nodes.publish_whole(0, a_map(f"disk{k}", "x" * 900))
+        halted = until(lambda: nodes.get(2, "/healthz", nodes.admin[2])[0] == 503)
+        cause = nodes.get(2, "/healthz", nodes.admin[2])[1].decode().strip()
+        want("a halted node took a publish", nodes.publish(2, a_map("refused")) == 503)
+        want("a halted node doesn't answer", nodes.get(2, CAPABILITIES)[0] == 200)
+        filling.unlink()
+        again = until(lambda: nodes.get(2, "/healthz", nodes.admin[2])[0] == 200, 90)
+        return f"503 ({cause}) after {halted} s, 200 again {again} s after there was room; level after {nodes.level()} s"
+    finally:
+        nodes.end()
+        subprocess.run(["umount", "-l", str(nodes.place(2))], check=True)
 
 
-def main(words):
-    program = pathlib.Path(words.pop(0)) if words and pathlib.Path(words[0]).exists() else PROGRAM
-    chosen = [case for case in CASES if not words or case.__name__ in words]
+CASES = [publish, pieces, kill, stop, clients, strangers, forged, forgot, missed, refused, full, disk]
+
+
+def attempt(case, options):
+    """What a case saw; raises what was wrong."""
+    with tempfile.TemporaryDirectory() as folder:
+        nodes = Nodes(options.program, folder)
+        watch = None
+        try:
+            nodes.start_all()
+            watch = Watch(nodes)
+            said = case(nodes, options)
+            if case not in (forgot, disk):
+                nodes.level()
+            watch.end()
+            return f"{said}; {watch.count} answers compared"
+        finally:
+            if watch:
+                watch.over.set()
+            nodes.end()
+
+
+def words():
+    parser = argparse.ArgumentParser(description=__doc__, formatter_class=argparse.RawDescriptionHelpFormatter)
+    parser.add_argument("--program", type=pathlib.Path, default=PROGRAM)
+    parser.add_argument("--stopped", type=float, default=12, metavar="SECONDS")
+    parser.add_argument("--missed", type=int, default=1000, metavar="MAPS")
+    parser.add_argument("cases", nargs="*", metavar="CASE", choices=[[], *(case.__name__ for case in CASES)])
+    return parser.parse_args()
+
+
+def main():
+    options = words()
+    chosen = [case for case in CASES if not options.cases or case.__name__ in options.cases]
     failed = 0
     for case in chosen:
-        with tempfile.TemporaryDirectory() as folder:
-            nodes = Nodes(program, folder)
-            try:
-                nodes.start_all()
-                said = case(nodes)
-                if case is not forgot:
-                    nodes.level()
-                print(f"{case.__name__}: {said}", flush=True)
-            except Wrong as wrong:
-                failed += 1
-                print(f"{case.__name__}: FAILED: {wrong}", flush=True)
-            finally:
-                nodes.end()
+        try:
+            print(f"{case.__name__}: {attempt(case, options)}", flush=True)
+        except Wrong as wrong:
+            failed += 1
+            print(f"{case.__name__}: FAILED: {wrong}", flush=True)
     print(f"{len(chosen) - failed} of {len(chosen)} cases went as they should")
     return 1 if failed else 0
 
 
 if __name__ == "__main__":
-    sys.exit(main(sys.argv[1:]))
+    sys.exit(main())

@@ -15,7 +15,7 @@ import sys
 import tempfile
 import time
 
-from farm import PROGRAM, nodes_in
+from farm import PROGRAM, Replica, free_ports, nodes_in
 
 HERE = pathlib.Path(__file__).resolve().parent
 PATIENCE = 60
@@ -31,7 +31,8 @@ class Trial:
 
     def farm(self, name):
         """A new farm that isn't started, and its file of nodes."""
-        nodes = nodes_in(self.program, self.folder / name, name)
+        self.readers = free_ports(3)
+        nodes = nodes_in(self.program, self.folder / name, name, readers=self.readers)
         file = self.folder / f"{name}.nodes"
         file.write_text("# clients operator\n" + "".join(f"{node.clients} {node.operator}\n" for node in nodes))
         return nodes, file
@@ -91,6 +92,23 @@ def try_well(trial):
     code, told, error = trial.call("rollback", 1)
     trial.see("rollback: the map again, under a new sequence", code == 0 and told.startswith("published 3 ") and trial.call("map", 3)[1] == trial.canonical(first), (told, error))
     trial.wait("all nodes have it", lambda: trial.all_at(3))
+
+
+def try_replica(trial):
+    """A replica in the file of nodes."""
+    readers = ",".join(f"127.0.0.1:{port}" for port in trial.readers)
+    replica = Replica(trial.program, trial.folder / "first" / "replica", "first", readers)
+    file = trial.folder / "replica.nodes"
+    file.write_text(trial.file.read_text() + f"replica {replica.clients} {replica.operator}\n")
+    replica.start()
+    trial.wait("status: a replica is well once it has all maps", lambda: trial.call("status", file=file)[0] == 0)
+    line = trial.call("status", file=file)[1].splitlines()[-1]
+    trial.see("status: its line", line.startswith("replica ") and line.split()[2:] == ["3", "1", "ok"], line)
+    code, told, error = trial.call("map", 3, file=file)
+    trial.see("map: of the same farm", code == 0 and told == trial.call("map", 3)[1], error)
+    replica.kill()
+    code, told, error = trial.call("status", file=file)
+    trial.see("status: a replica that was killed", code == 1 and "unreachable" in told.splitlines()[-1], told)
 
 
 def try_failures(trial):
@@ -206,7 +224,7 @@ def main():
     with tempfile.TemporaryDirectory(prefix="wfarmctl-") as folder:
         trial = Trial(options.program.resolve(), pathlib.Path(folder))
         try:
-            for attempt in (try_well, try_failures, try_full, try_copy, try_verify, try_changed, try_words):
+            for attempt in (try_well, try_replica, try_failures, try_full, try_copy, try_verify, try_changed, try_words):
                 attempt(trial)
         finally:
             for node in trial.nodes:

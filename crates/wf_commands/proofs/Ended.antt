@@ -18,7 +18,7 @@ use Rattle.wf_tape.specs.declared.tape.Tape.{Ghosts as Tape}
 use Rattle.wf_commands.specs.Counting.{CountsReads, CountsWrites}
 use Rattle.wf_commands.specs.Ending.{left_to_report, rejection_status, reported, run_status, unreadable_status}
 use Rattle.wf_commands.specs.Folder.{Contents, HasFolderListing, IsTapeDone}
-use Rattle.wf_commands.specs.Program.{IsNodeProcess, IsProcess, IsDone, IsRun, IsRunOf, Serves}
+use Rattle.wf_commands.specs.Program.{IsFarmProcess, IsProcess, IsDone, IsRun, IsRunOf, Serves}
 use Rattle.wf_commands.specs.Run.{HasListing, HasMap, IsTapeWriting, IsWhyUnlisted, IsWhyUnwritten, most_read}
 use Rattle.wf_commands.specs.Serving.{IsMachineServing, run_outcome}
 use Rattle.wf_commands.specs.declared.ending.Ending.{Ending}
@@ -28,10 +28,14 @@ use Rattle.wf_line.specs.CommandLine.{IsRejection}
 use Rattle.wf_line.specs.declared.line.Line.{Line}
 use Rattle.wf_line.specs.declared.line.Line.TheVariants as lines
 use Rattle.clap.specs.Simple.{subcommand_of}
-use Rattle.wf_line.specs.NodeCommandLine.{AsksNode, IsNodeRejection, names_node_command, node_program}
+use Rattle.wf_line.specs.ProcessCommandLine.{AsksProcess, IsProcessRejection, names_process_command, process_program}
 use Rattle.wf_line.specs.declared.node_line.NodeCommand.{NodeCommand}
+use Rattle.wf_line.specs.declared.process_line.ProcessCommand.TheVariants as processes
+use Rattle.wf_line.specs.declared.replica_line.ReplicaLine.{ReplicaLine}
 use Rattle.wf_node_command.specs.Done as nodes
 use Rattle.wf_node_command.specs.declared.fault.CommandFault.{CommandFault}
+use Rattle.wf_replica_command.specs.Done as replicas
+use Rattle.wf_replica_command.specs.declared.fault.ReplicaFault.{ReplicaFault}
 
 -- a reader that isn't called has given nothing
 pub nothing_read : (input : Option (List ℕ)) → TakesUpTo 0 input input
@@ -109,17 +113,21 @@ machine_serves inside outside service old new result told served = record { told
 -- ---- the process
 
 module _ {T : Type 0} (tapes : Tape T) (status : ℕ) where
-  pub node_run : (words : List Text) → names_node_command words ≡ true → (command : NodeCommand) → AsksNode (subcommand_of node_program words) command →
-      (result : Result (Unit {0}) CommandFault) → nodes.IsDone tapes command result → status ≡ nodes.command_status result → IsNodeProcess tapes status
+  pub node_run : (words : List Text) → names_process_command words ≡ true → (command : NodeCommand) → AsksProcess (subcommand_of process_program words) (processes.Node command) →
+      (result : Result (Unit {0}) CommandFault) → nodes.IsDone tapes command result → status ≡ nodes.command_status result → IsFarmProcess tapes status
   node_run words own command asked result done is = inl (record { words = words; own = own; command = command; asked = asked; result = result; done = done; is = is })
 
-  pub node_rejected : (words : List Text) → names_node_command words ≡ true → (kind : ErrorKind) → IsNodeRejection words kind → (printed : Bool) × (status ≡ rejection_status kind printed) →
-      IsNodeProcess tapes status
-  node_rejected words own kind why is = inr (record { words = words; own = own; kind = kind; why = why; printed = is.0; is = is.1 })
+  pub replica_run : (words : List Text) → names_process_command words ≡ true → (line : ReplicaLine) → AsksProcess (subcommand_of process_program words) (processes.Replica line) →
+      (result : Result (Unit {0}) ReplicaFault) → replicas.IsDone tapes line result → status ≡ replicas.replica_status result → IsFarmProcess tapes status
+  replica_run words own line asked result done is = inr (inl (record { words = words; own = own; line = line; asked = asked; result = result; done = done; is = is }))
+
+  pub farm_rejected : (words : List Text) → names_process_command words ≡ true → (kind : ErrorKind) → IsProcessRejection words kind → (printed : Bool) × (status ≡ rejection_status kind printed) →
+      IsFarmProcess tapes status
+  farm_rejected words own kind why is = inr (inr (record { words = words; own = own; kind = kind; why = why; printed = is.0; is = is.1 }))
 
 module _ {T : Type 0} (serves : Serves) (contents : Contents) (tapes : Tape T) (status : ℕ) where
   pub process_run : (words : List Text) (input left old new : Option (List ℕ)) (reads reads_after writes writes_after : ℕ) (ending : Ending) →
-      IsRun serves contents words input left old new reads reads_after writes writes_after ending → names_node_command words ≡ false → status ≡ ending.status →
+      IsRun serves contents words input left old new reads reads_after writes writes_after ending → names_process_command words ≡ false → status ≡ ending.status →
       IsProcess serves contents tapes status
   process_run words input left old new reads reads_after writes writes_after ending run other is = inl (record {
     words = words;
@@ -143,5 +151,5 @@ module _ {T : Type 0} (serves : Serves) (contents : Contents) (tapes : Tape T) (
   pub process_unreadable : (kind : IoErrorKind) → status ≡ unreadable_status kind → IsProcess serves contents tapes status
   process_unreadable kind is = inr (inr (inl (record { kind = kind; is = is })))
 
-  pub process_of_node : IsNodeProcess tapes status → IsProcess serves contents tapes status
-  process_of_node is = inr (inr (inr is))
+  pub process_of_farm : IsFarmProcess tapes status → IsProcess serves contents tapes status
+  process_of_farm is = inr (inr (inr is))

@@ -18,10 +18,14 @@ use Rattle.wf_commands.specs.declared.ending.Ending.{Ending}
 use Rattle.wf_commands.specs.declared.fault.RunFault.{RunFault}
 use Rattle.wf_line.specs.declared.line.Line.{Line}
 use Rattle.wf_line.specs.declared.line.Line.TheVariants as lines
-use Rattle.wf_line.specs.NodeCommandLine.{AsksNode, IsNodeRejection, names_node_command, node_program}
+use Rattle.wf_line.specs.ProcessCommandLine.{AsksProcess, IsProcessRejection, names_process_command, process_program}
 use Rattle.wf_line.specs.declared.node_line.NodeCommand.{NodeCommand}
+use Rattle.wf_line.specs.declared.process_line.ProcessCommand.TheVariants as processes
+use Rattle.wf_line.specs.declared.replica_line.ReplicaLine.{ReplicaLine}
 use Rattle.wf_node_command.specs.Done as nodes
 use Rattle.wf_node_command.specs.declared.fault.CommandFault.{CommandFault}
+use Rattle.wf_replica_command.specs.Done as replicas
+use Rattle.wf_replica_command.specs.declared.fault.ReplicaFault.{ReplicaFault}
 use Rattle.wf_tape.specs.declared.tape.Tape.{Ghosts as Tape}
 
 -- What serving means: of a service, the bytes written before and after, and the server's result.
@@ -63,7 +67,7 @@ IsRun serves contents words input left old new reads reads_after writes writes_a
 -- It ran the line that its words ask for, and ended with the run's status.
 pub record HasRun (serves : Serves) (contents : Contents) (status : ℕ) : Type 0 where
   pub words : List Text
-  pub other : names_node_command words ≡ false
+  pub other : names_process_command words ≡ false
   -- the input before and after, the output before and after, if known, and the counts of failed reads and writes
   pub input : Option (List ℕ)
   pub left : Option (List ℕ)
@@ -90,30 +94,40 @@ pub record WasUnreadable (status : ℕ) : Type 0 where
   pub kind : IoErrorKind
   pub is : status ≡ unreadable_status kind
 
--- ---- the process of a node
+-- ---- a process of a farm
 
 -- It ran the command about a node that its words ask for, and ended with its status.
 pub record HasRunNode {T : Type 0} (tapes : Tape T) (status : ℕ) : Type 0 where
   pub words : List Text
-  pub own : names_node_command words ≡ true
+  pub own : names_process_command words ≡ true
   pub command : NodeCommand
-  pub asked : AsksNode (subcommand_of node_program words) command
+  pub asked : AsksProcess (subcommand_of process_program words) (processes.Node command)
   pub result : Result (Unit {0}) CommandFault
   pub done : nodes.IsDone tapes command result
   pub is : status ≡ nodes.command_status result
 
--- Its words are rejected, and it ended with the status of that, by whether their text was printed.
-pub record WasNodeRejected (status : ℕ) : Type 0 where
+-- It served the replica that its words ask for, and ended with its status.
+pub record HasRunReplica {T : Type 0} (tapes : Tape T) (status : ℕ) : Type 0 where
   pub words : List Text
-  pub own : names_node_command words ≡ true
+  pub own : names_process_command words ≡ true
+  pub line : ReplicaLine
+  pub asked : AsksProcess (subcommand_of process_program words) (processes.Replica line)
+  pub result : Result (Unit {0}) ReplicaFault
+  pub done : replicas.IsDone tapes line result
+  pub is : status ≡ replicas.replica_status result
+
+-- Its words are rejected, and it ended with the status of that, by whether their text was printed.
+pub record WasFarmRejected (status : ℕ) : Type 0 where
+  pub words : List Text
+  pub own : names_process_command words ≡ true
   pub kind : ErrorKind
-  pub why : IsNodeRejection words kind
+  pub why : IsProcessRejection words kind
   pub printed : Bool
   pub is : status ≡ rejection_status kind printed
 
-abbrev pub IsNodeProcess : {T : Type 0} → Tape T → ℕ → Type 0
-IsNodeProcess tapes status = HasRunNode tapes status ⊎ WasNodeRejected status
+abbrev pub IsFarmProcess : {T : Type 0} → Tape T → ℕ → Type 0
+IsFarmProcess tapes status = HasRunNode tapes status ⊎ (HasRunReplica tapes status ⊎ WasFarmRejected status)
 
 -- what the process did, by its exit status
 abbrev pub IsProcess : {T : Type 0} → Serves → Contents → Tape T → ℕ → Type 0
-IsProcess serves contents tapes status = HasRun serves contents status ⊎ (WasRejected status ⊎ (WasUnreadable status ⊎ IsNodeProcess tapes status))
+IsProcess serves contents tapes status = HasRun serves contents status ⊎ (WasRejected status ⊎ (WasUnreadable status ⊎ IsFarmProcess tapes status))

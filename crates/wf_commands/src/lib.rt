@@ -1,6 +1,6 @@
 //! The commands of the program `wfarm`. They answer a Web Map Service request about a mapfile, write its canonical text, check it, play a
 //! script of a farm of servers, also with its messages crossing a connection, list what a node's tape holds, and serve a farm's
-//! nodes over HTTP.
+//! nodes over HTTP; and they run the processes of a farm, nodes and replicas.
 //!
 //! The crate is thin. [`wf_line::arguments::line`] parses the command line's arguments to a [`wf_line::line::Line`]; [`run::run_line`] runs the
 //! commands about standard input, over any reader and writer; [`tapes::run_tape`] lists the tape in a file or the tapes in a folder, which a [`tapes::Tapes`] reads, or writes a map on a tape;
@@ -43,7 +43,8 @@
 //! run is the one to be printed, unless a write failed, and the exit status is 0 without an error and 1 with one. What serving
 //! means is the server's; of [`server::Host`] it is `wf_serve`'s contract: if the nodes were served, there were as many as the line asks
 //! for, new ones if it names no folder, each with a cache for its number of pictures; they served its number of connections, and what
-//! the headline says holds of them. [`program::program`] promises that of the process.
+//! the headline says holds of them. [`program::program`] promises that of the process, and of a command about a process of a farm, which
+//! [`wf_line::process_arguments::process_command`] parses, the contract of [`wf_node_command::run`] or [`wf_replica_command::run`].
 //!
 //! No contract says what standard input holds, what happens to the bytes after standard output, what text an error prints, or that
 //! the process hands its own words, input and output on; the stored run of `wfarm` shows these.

@@ -6,9 +6,10 @@ ghost use Rattle.std.specs.Process.{exit_status};
 ghost use Rattle.wf_line.specs.CommandLine.{IsRejection, IsWhyRejected};
 ghost use Rattle.wf_commands.specs.Counting.{FailsLast};
 ghost use Rattle.wf_commands.specs.Ending.{is_found, is_written, left_to_report, run_status, reported, rejection_status, unreadable_status};
-ghost use Rattle.wf_commands.specs.Program.{IsNodeProcess, IsProcess, IsRun};
-ghost use Rattle.wf_line.specs.NodeCommandLine.{names_node_command};
+ghost use Rattle.wf_commands.specs.Program.{IsFarmProcess, IsProcess, IsRun};
+ghost use Rattle.wf_line.specs.ProcessCommandLine.{names_process_command};
 ghost use Rattle.wf_node_command.specs.Done.{command_status};
+ghost use Rattle.wf_replica_command.specs.Done.{replica_status};
 ghost use Rattle.wf_commands.specs.Serving.{IsMachineServing, run_outcome};
 
 use crate::ending::Ending;
@@ -29,10 +30,12 @@ use std::{env, io};
 use wf_farm::Carrier;
 use wf_line::arguments::line;
 use wf_line::line::Line;
-use wf_line::node_arguments::{names_node_command, node_command};
+use wf_line::process_arguments::{names_process_command, process_command};
+use wf_line::process_line::ProcessCommand;
 use wf_link::Connection;
 use wf_mapfile::fault::MapFault;
 use wf_node_command::CommandFault;
+use wf_replica_command::ReplicaFault;
 use wf_stream::{Sink, Source, Stream};
 use wf_tape::{FileTape, MemoryTape, Tape};
 
@@ -231,18 +234,37 @@ fn report_node<R: Eprint>(rt: &R, outcome: Result<(), CommandFault>) -> ExitCode
     }
 }
 
-// Runs a command line about a node in a process of its own, which is served as long as the process lives.
-#[tactic(auto, using(crate::proofs::Ended::node_run, crate::proofs::Ended::node_rejected))]
-fn run_node<'a, S: AsStr, R: Files<File = File> + Clock + Print + Eprint + Net + AllocGlobal>(
+// Prints the line of an error of a replica, if there is one, and returns the exit status.
+fn report_replica<R: Eprint>(rt: &R, outcome: Result<(), ReplicaFault>) -> ExitCode
+    ensures status { exit_status result ≡ replica_status outcome }
+    ensures low { exit_status result ≤ 2 }
+{
+    match outcome {
+        Ok(()) => ExitCode::from(0),
+        Err(why) => {
+            let _ = eprintln!(rt; "{why}");
+            ExitCode::from(why.status())
+        }
+    }
+}
+
+// Runs a command line about a process of a farm, which serves as long as the process lives.
+#[tactic(auto, using(crate::proofs::Ended::node_run, crate::proofs::Ended::replica_run, crate::proofs::Ended::farm_rejected))]
+fn run_farm<'a, S: AsStr, R: Files<File = File> + Clock + Print + Eprint + Net + AllocGlobal>(
     rt: &'a R,
     words: &[S],
 ) -> ExitCode
-    requires { names_node_command (map S.text words.now) ≡ true }
+    requires { names_process_command (map S.text words.now) ≡ true }
     ensures low { exit_status result ≤ 2 }
-    ensures ended { IsNodeProcess ⟦<FileTape<&'a R> as Tape>⟧ (exit_status result) }
+    ensures ended { IsFarmProcess ⟦<FileTape<&'a R> as Tape>⟧ (exit_status result) }
 {
-    match node_command(rt.alloc(), words) {
-        Ok(command) => report_node(rt, wf_node_command::run(rt, &command, u64::MAX)),
+    match process_command(rt.alloc(), words) {
+        Ok(ProcessCommand::Node(command)) => {
+            report_node(rt, wf_node_command::run(rt, &command, u64::MAX))
+        }
+        Ok(ProcessCommand::Replica(line)) => {
+            report_replica(rt, wf_replica_command::run(rt, &line, u64::MAX))
+        }
         Err(error) => {
             let code = rejection(rt, &error);
             drop(error);
@@ -252,10 +274,10 @@ fn run_node<'a, S: AsStr, R: Files<File = File> + Clock + Print + Eprint + Net +
 }
 
 /// Runs the command line, as by [`run_words`] with the words of the process, its standard input and output, the machine as server,
-/// and a connection of the machine to itself as carrier; or a command about a node in a process of its own, as by
-/// [`wf_node_command::run`] with as many turns as there can be. Returns the exit status: 0 for success; 1 for an error, with one line on
+/// and a connection of the machine to itself as carrier; or a command about a process of a farm, as by [`wf_node_command::run`] or
+/// [`wf_replica_command::run`] with as many turns as there can be. Returns the exit status: 0 for success; 1 for an error, with one line on
 /// standard error, except for a failed write; 2 for a bad command line, with a line or the parser's text there.
-#[tactic(auto, using(crate::proofs::Ended::process_run, crate::proofs::Ended::process_rejected, crate::proofs::Ended::process_unreadable, crate::proofs::Ended::process_of_node))]
+#[tactic(auto, using(crate::proofs::Ended::process_run, crate::proofs::Ended::process_rejected, crate::proofs::Ended::process_unreadable, crate::proofs::Ended::process_of_farm))]
 pub fn program<
     'a,
     R: Env
@@ -268,7 +290,8 @@ pub fn program<
         + AllocGlobal,
 >(rt: &'a R) -> ExitCode
     ensures low { exit_status result ≤ 2 }
-    // What the process did: of `serve` what was served, by nodes on tapes in memory or in files; of `node` how its node lived.
+    // What the process did: of `serve` what was served, by nodes on tapes in memory or in files; of `node` how its node lived; of `replica`
+    // what it heard, and whom it answered what.
     ensures ended { IsProcess (λ service old new outcome. IsMachineServing ⟦<MemoryTape as Tape>⟧
         ⟦<FileTape<&'a R> as Tape>⟧ service old new outcome) (λ _. None)
         ⟦<FileTape<&'a R> as Tape>⟧ (exit_status result) }
@@ -281,8 +304,8 @@ pub fn program<
             return code;
         }
     };
-    if names_node_command(&words) {
-        let code = run_node(rt, &words);
+    if names_process_command(&words) {
+        let code = run_farm(rt, &words);
         drop(words);
         return code;
     }

@@ -1,3 +1,3 @@
 mod Named
-mod NodeNamed
 mod PlainWords
+mod ProcessNamed

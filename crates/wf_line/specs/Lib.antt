@@ -2,3 +2,6 @@ pub mod CommandLine
 pub mod Line
 pub mod NodeCommandLine
 pub mod NodeLine
+pub mod ProcessCommandLine
+pub mod ProcessLine
+pub mod ReplicaCommandLine

@@ -90,10 +90,11 @@ const MOST_CACHE: i64 = 64;
 /// The number of pictures that each node keeps by default.
 const DEFAULT_CACHE: u32 = 16;
 
-const NODES_HELP: &str = "Nodes in processes of their own:
-  init   Makes the folder of a node
-  node   Serves one node of a farm, whose other nodes are other processes
-wfarm help init and wfarm help node tell of these";
+const PROCESSES_HELP: &str = "A farm of processes:
+  init      Makes the folder of a node
+  node      Serves one node of a farm, whose other nodes are other processes
+  replica   Serves what a farm publishes, without a vote
+wfarm help init, wfarm help node and wfarm help replica tell of these";
 
 const SERVE_HELP: &str =
     "GET /wms?QUERY answers a WMS request, POST /publish proposes the mapfile in its body, GET /status reports a node.
@@ -271,7 +272,9 @@ pub(crate) fn cache_argument<'a>(alloc: Global) -> Arg<'a>
         .long("cache")
         .value_name("C")
         .value_parser(clap::value_parser!(u8).range(1..=MOST_CACHE))
-        .help("The number of pictures that each node keeps, 1 to 64; 16 where it is absent")
+        .help(
+            "The number of pictures that each node or replica keeps, 1 to 64; 16 where it is absent",
+        )
 }
 
 // `--state DIR`.
@@ -326,7 +329,7 @@ fn first_command<'a>(alloc: Global) -> Result<Command<'a>, AllocError>
     Command::new(alloc, "wfarm")
         .version(VERSION)
         .about("Runs a farm of Web Map Service servers that publish one history of maps")
-        .after_help(NODES_HELP)
+        .after_help(PROCESSES_HELP)
         .no_binary_name(true)
         .subcommand_required(true)
         .subcommand(caps)

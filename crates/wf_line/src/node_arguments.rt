@@ -1,24 +1,18 @@
-//! Parses the command lines of nodes in processes of their own.
-ghost use Rattle.std.specs.Prelude.{◌≡◌, ℕ, IfErr, IfNone, IfOk, IfSome, false, map, option_map};
-ghost use Rattle.clap.specs.Simple.{app_of, subcommand_of, subcommand_rows_of};
-ghost use Rattle.clap.specs.Values.{kind_of};
-ghost use Rattle.clap.specs.Walk.{first_of, rule_of};
-ghost use Rattle.wf_line.specs.CommandLine.{IsOfShape, log_rule, rows_in, cache_rule};
-ghost use Rattle.wf_line.specs.NodeCommandLine.{AsksNode, IsInitOf, IsInitLineOf, IsNodeLineOf, IsNodeOf, IsNodeRejection, IsNumberOr, IsWhyNodeRejected, begins_with_node_command, clients_rule, id_rule, init_shape, init_shape_start, is_node_command, names_node_command, node_program, node_shape, nodes_rule, node_shape_addresses, node_shape_start, text_rule};
-ghost use Rattle.wf_line.specs.NodeLine.{IsNodeCommandInRange};
+//! The arguments of the commands `init` and `node`.
+ghost use Rattle.std.specs.Prelude.{◌≡◌, ℕ, IfNone, IfOk, IfSome, codes, false};
+ghost use Rattle.clap.specs.Walk.{rule_of};
+ghost use Rattle.wf_line.specs.CommandLine.{IsOfShape, rows_in};
+ghost use Rattle.wf_line.specs.NodeCommandLine.{IsInitLineOf, IsNodeLineOf, IsNumberOr, clients_rule, id_rule, init_shape, init_shape_start, node_shape, nodes_rule, node_shape_addresses, node_shape_start, text_rule};
 ghost use Rattle.wf_line.specs.declared.node_line.InitLine.{InitLine};
-ghost use Rattle.wf_line.specs.declared.node_line.NodeCommand.{NodeCommand};
 ghost use Rattle.wf_line.specs.declared.node_line.NodeLine.{NodeLine};
 
 use crate::arguments::{cache_argument, is_set, log_argument, number, number_of};
-use crate::node_line::{InitLine, NodeCommand, NodeLine};
-use clap::error::ErrorKind;
-use clap::{Arg, ArgMatches, Command, Error};
+use crate::node_line::{InitLine, NodeLine};
+use clap::{Arg, ArgMatches, Command};
 use std::alloc::{AllocError, Global};
-use std::convert::AsStr;
 
-/// The number of pictures that a node keeps by default.
-const DEFAULT_CACHE: u32 = 16;
+/// The number of pictures that a process keeps by default.
+pub(crate) const DEFAULT_CACHE: u32 = 16;
 
 /// The number of clients at once by default.
 const DEFAULT_CLIENTS: u32 = 128;
@@ -38,10 +32,8 @@ A kept picture takes 3 MB. With --log a line on standard error tells each event:
 
 Errors: status 2 for a bad command line, else 1, with a line that names the cause";
 
-static NO_WORDS: [&str; 0] = [];
-
 // `--NAME VALUE`.
-fn option<'a>(
+pub(crate) fn option<'a>(
     alloc: Global,
     name: &'a str,
     value: &'a str,
@@ -96,6 +88,20 @@ fn clients_argument<'a>(alloc: Global) -> Arg<'a>
         .help("The number of clients at once, 1 to 1024; 128 where it is absent")
 }
 
+// `--readers ADDR:PORT`.
+pub(crate) fn readers_argument<'a>(alloc: Global) -> Arg<'a>
+    ensures rule { rule_of result ≡ text_rule (codes "readers") false }
+    ensures local { result.global ≡ false }
+{
+    option(
+        alloc,
+        "readers",
+        "ADDR:PORT",
+        false,
+        "Where replicas come to read what is published",
+    )
+}
+
 // `init`, with its first three arguments.
 fn init_start<'a>(alloc: Global) -> Result<Command<'a>, AllocError>
     ensures { IfOk result (IsOfShape init_shape_start) }
@@ -109,7 +115,7 @@ fn init_start<'a>(alloc: Global) -> Result<Command<'a>, AllocError>
 }
 
 // `init`.
-fn init_command<'a>(alloc: Global) -> Result<Command<'a>, AllocError>
+pub(crate) fn init_command<'a>(alloc: Global) -> Result<Command<'a>, AllocError>
     ensures { IfOk result (IsOfShape init_shape) }
 {
     init_start(alloc)?.arg(nodes_argument(alloc))?.arg(option(
@@ -163,11 +169,12 @@ fn node_addresses<'a>(alloc: Global) -> Result<Command<'a>, AllocError>
             "ADDR:PORT",
             false,
             "Where the operator comes",
-        ))
+        ))?
+        .arg(readers_argument(alloc))
 }
 
 // `node`.
-fn node_arguments<'a>(alloc: Global) -> Result<Command<'a>, AllocError>
+pub(crate) fn node_arguments<'a>(alloc: Global) -> Result<Command<'a>, AllocError>
     ensures { IfOk result (IsOfShape node_shape) }
 {
     node_addresses(alloc)?
@@ -176,37 +183,9 @@ fn node_arguments<'a>(alloc: Global) -> Result<Command<'a>, AllocError>
         .arg(log_argument(alloc))
 }
 
-// The program with these commands.
-fn program<'a>(alloc: Global) -> Result<Command<'a>, AllocError>
-    ensures { IfOk result (λ command. app_of command ≡ node_program) }
-{
-    let init = init_command(alloc)?;
-    let node = node_arguments(alloc)?;
-    Command::new(alloc, "wfarm")
-        .no_binary_name(true)
-        .subcommand_required(true)
-        .subcommand(init)?
-        .subcommand(node)?
-        .bin_name("wfarm")
-}
-
-// The error for a missing command or a value out of range, with the usage.
-fn rejection(alloc: Global) -> Result<Error, AllocError>
-    ensures { IfOk result (λ error. kind_of error ≡ ErrorKind.ValueValidation) }
-{
-    let mut command = program(alloc)?;
-    let rejection = command.error(
-        ErrorKind::ValueValidation,
-        "a command is missing, or a value is out of range",
-    );
-    // Parsing no arguments drops the command. A drop here would need a proof for all of its parts again.
-    let _ = command.try_get_matches_from(NO_WORDS.as_slice());
-    rejection
-}
-
 // The number parsed for an option, or the one where it is absent.
 #[tactic(auto, using(crate::proofs::Named::word_in_row))]
-fn number_or<'a>(found: &ArgMatches<'a>, id: &str, most: u32, absent: u32) -> Option<u32>
+pub(crate) fn number_or<'a>(found: &ArgMatches<'a>, id: &str, most: u32, absent: u32) -> Option<u32>
     ensures some { IfSome result (IsNumberOr (rows_in found.now) id.now most absent) }
     ensures none { IfNone result
         ((number : ℕ) → ¬ (IsNumberOr (rows_in found.now) id.now most absent number)) }
@@ -219,7 +198,7 @@ fn number_or<'a>(found: &ArgMatches<'a>, id: &str, most: u32, absent: u32) -> Op
 
 // The arguments parsed for `init`.
 #[tactic(auto, using(crate::proofs::Named::word_in_row))]
-fn init_line<'a>(found: &ArgMatches<'a>) -> Option<InitLine<'a>>
+pub(crate) fn init_line<'a>(found: &ArgMatches<'a>) -> Option<InitLine<'a>>
     ensures some { IfSome result (IsInitLineOf (rows_in found.now)) }
     ensures none { IfNone result ((line : InitLine) → ¬ (IsInitLineOf (rows_in found.now) line)) }
 {
@@ -238,7 +217,7 @@ fn init_line<'a>(found: &ArgMatches<'a>) -> Option<InitLine<'a>>
 
 // The arguments parsed for `node`.
 #[tactic(auto, using(crate::proofs::Named::word_in_row))]
-fn node_line<'a>(found: &ArgMatches<'a>) -> Option<NodeLine<'a>>
+pub(crate) fn node_line<'a>(found: &ArgMatches<'a>) -> Option<NodeLine<'a>>
     ensures some { IfSome result (IsNodeLineOf (rows_in found.now)) }
     ensures none { IfNone result ((line : NodeLine) → ¬ (IsNodeLineOf (rows_in found.now) line)) }
 {
@@ -253,98 +232,9 @@ fn node_line<'a>(found: &ArgMatches<'a>) -> Option<NodeLine<'a>>
         http,
         listen: found.get_str("listen"),
         admin: found.get_str("admin"),
+        readers: found.get_str("readers"),
         cache: cache as u8,
         clients: clients as u16,
         log: is_set(found, "log"),
     })
-}
-
-// The `init` command of the parsed arguments.
-fn init<'a>(found: &ArgMatches<'a>) -> Option<NodeCommand<'a>>
-    ensures some { IfSome result (IsInitOf (rows_in found.now)) }
-    ensures none { IfNone result
-        ((command : NodeCommand) → ¬ (IsInitOf (rows_in found.now) command)) }
-{
-    let line = init_line(found)?;
-    Some(NodeCommand::Init(line))
-}
-
-// The `node` command of the parsed arguments.
-fn node<'a>(found: &ArgMatches<'a>) -> Option<NodeCommand<'a>>
-    ensures some { IfSome result (IsNodeOf (rows_in found.now)) }
-    ensures none { IfNone result
-        ((command : NodeCommand) → ¬ (IsNodeOf (rows_in found.now) command)) }
-{
-    let line = node_line(found)?;
-    Some(NodeCommand::Node(line))
-}
-
-// The command that the parsed arguments ask for.
-fn asked<'a>(matches: &ArgMatches<'a>) -> Option<NodeCommand<'a>>
-    ensures some { IfSome result (AsksNode (subcommand_rows_of matches.now)) }
-    ensures none { IfNone result
-        ((command : NodeCommand) → ¬ (AsksNode (subcommand_rows_of matches.now) command)) }
-{
-    match matches.subcommand() {
-        Some(("init", found)) => init(found),
-        Some(("node", found)) => node(found),
-        _ => None,
-    }
-}
-
-/// Whether these are arguments, without the program's name, of `init` or `node`, or ask for the help of one: then
-/// [`node_command`] parses them, else [`crate::arguments::line`].
-pub fn names_node_command<S: AsStr>(words: &[S]) -> bool
-    ensures { result ≡ names_node_command (map S.text words.now) }
-{
-    match words {
-        [first, rest @ ..] => {
-            if first.as_str() == "help" {
-                begins_with_node_command(rest)
-            } else {
-                is_node_command(first.as_str())
-            }
-        }
-        [] => false,
-    }
-}
-
-// Whether the first of the words names one of these commands.
-fn begins_with_node_command<S: AsStr>(words: &[S]) -> bool
-    ensures { result ≡ begins_with_node_command (map S.text words.now) }
-{
-    match words {
-        [first, ..] => is_node_command(first.as_str()),
-        [] => false,
-    }
-}
-
-// Whether the word names one of these commands.
-fn is_node_command(word: &str) -> bool
-    ensures { result ≡ is_node_command word.now }
-{
-    if word == "init" { true } else { word == "node" }
-}
-
-/// Parses the arguments of `init` or `node`, without the program's name. An error's text is for the user.
-#[tactic(auto, using(crate::proofs::NodeNamed::command_in_range))]
-pub fn node_command<'a, S: AsStr>(alloc: Global, words: &'a [S]) -> Result<NodeCommand<'a>, Error>
-    ensures range { IfOk result IsNodeCommandInRange }
-    ensures asked { IfOk result
-        (AsksNode (subcommand_of node_program (map S.text words.entry.now))) }
-    // Arguments that ask for a command are rejected only if an allocation fails.
-    ensures rejected { IfErr result
-        (λ error. IsWhyNodeRejected (map S.text words.entry.now) (kind_of error)) }
-    // The error's kind is the parser's.
-    ensures kind { IfErr result
-        (λ error. IsNodeRejection (map S.text words.entry.now) (kind_of error)) }
-{
-    let matches = program(alloc)?.try_get_matches_from(words)?;
-    let asked = asked(&matches);
-    drop(matches);
-    // The parser has checked that there is a command, but clap's contract doesn't cover a subcommand's values.
-    match asked {
-        Some(command) => Ok(command),
-        None => Err(rejection(alloc)?),
-    }
 }

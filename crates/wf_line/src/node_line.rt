@@ -28,6 +28,8 @@ pub struct NodeLine<'a> {
     pub listen: Option<&'a str>,
     /// Where the operator comes, if anywhere.
     pub admin: Option<&'a str>,
+    /// Where replicas come to read what is published, if anywhere.
+    pub readers: Option<&'a str>,
     /// The number of pictures that the node keeps, 1 to 64.
     pub cache: u8,
     /// The number of clients at once, 1 to 1,024.

@@ -1,18 +1,33 @@
--- The process of a hub, and its life.
-use Rattle.wf_actor.specs.Life.{logged, IsLife}
-use Rattle.wf_actor.specs.Process.{waiting_in}
-use Rattle.wf_actor.specs.Sent.{AreGivenCome, AreSent}
+-- The process of a hub, and the clients that it answered.
+use Rattle.std.specs.Prelude.{◌≡◌, ◌≤◌, ℕ, true, Option, Some, None}
+use Rattle.std.specs.declared.net.socket_addr.SocketAddr.{SocketAddr}
 use Rattle.wf_actor.specs.declared.process.Process.{Process}
+use Rattle.wf_loop.specs.Answer.{AreAnswered}
 use Rattle.wf_loop.specs.declared.hub.Hub.{Hub}
 use Rattle.wf_tape.specs.declared.tape.Tape.{Ghosts as Tape}
+use Rattle.wf_timing.specs.declared.alarm.Alarm.{Alarm}
+use Rattle.wf_visitors.specs.Visitors.{said_of}
 
 -- the process
 abbrev pub process_of : {T : Type 0} {tapes : Tape T} → Hub T tapes → Process T tapes
-process_of hub = hub.process
+process_of hub = hub.voter.process
 
--- The node has lived by the acts of some run; what was put into any outbox it returned in that run, and what was given to it from a peer
--- a receiver of that peer returned.
-pub record HasLived {T : Type 0} (tapes : Tape T) (process : Process T tapes) : Type 0 where
-  pub life : ∥ IsLife tapes process.actor.read_from.items process.actor.began.items process.actor.given.items (logged process.actor.told.items) process.actor.node ∥₁
-  pub sent : ∥ AreSent (waiting_in process) process.links.items (logged process.actor.told.items) ∥₁
-  pub heard : ∥ AreGivenCome process.came.items process.actor.given.items ∥₁
+-- where clients come, and the time of the last turn
+abbrev pub address_of : {T : Type 0} {tapes : Tape T} → Hub T tapes → Option SocketAddr
+address_of hub = hub.http
+
+abbrev pub time_of : {T : Type 0} {tapes : Tape T} → Hub T tapes → ℕ
+time_of hub = hub.time
+
+-- Each client that was answered was sent the response of a process that had lived, as it was just before, to what had come of the request.
+abbrev pub HasAnswered : {T : Type 0} (tapes : Tape T) → Hub T tapes → Type 0
+HasAnswered tapes hub = ∥ AreAnswered tapes hub.clients.before.items (said_of hub.clients.visitors) hub.clients.after.items ∥₁
+
+-- an alarm was set, and is due
+abbrev pub IsDue : Option Alarm → ℕ → Type 0
+IsDue None time = ⊥
+IsDue (Some alarm) time = alarm.due ≤ time
+
+-- the node is halted, and it is time to open its tape anew
+abbrev pub IsReopeningDue : {T : Type 0} {tapes : Tape T} → Hub T tapes → Type 0
+IsReopeningDue hub = (hub.voter.process.actor.node.halted ≡ true) × IsDue hub.pace.reopening hub.time

@@ -1,1 +1,5 @@
+pub mod Answer
+pub mod Going
 pub mod Hub
+pub mod Lived
+pub mod Starting

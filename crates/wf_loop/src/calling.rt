@@ -1,6 +1,7 @@
 //! The connections of a node to its peers: they are opened, written on, and tried again.
+ghost use Rattle.wf_loop.specs.Going.{GoesOn};
 
-use crate::context::Context;
+use crate::acts::close_outbox;
 use crate::dial::Turned;
 use crate::event::{Event, Why};
 use crate::mesh::{Mesh, id_of};
@@ -11,18 +12,22 @@ use wf_actor::Process;
 use wf_ballot::NodeId;
 use wf_peer::{Rejection, Reply, encode};
 use wf_tape::Tape;
+use wf_visitors::Context;
 
 /// The most nodes of a farm.
 const MOST_NODES: usize = 64;
 
 impl Mesh {
     /// Lets the connection to a peer go on.
+    #[tactic(auto, using(crate::proofs::Going::still, crate::proofs::Going::twice))]
     pub(crate) fn turn<R: Clock + Eprint + AllocGlobal, T: Tape + Drop>(
         &mut self,
         context: &Context<'_, '_, R>,
         process: &mut Process<T>,
         index: usize,
-    ) {
+    )
+        ensures { GoesOn T.Tape process.old process.new }
+    {
         let Some(peer) = id_of(index) else {
             return;
         };
@@ -37,6 +42,7 @@ impl Mesh {
     }
 
     /// Opens the connection to a peer, whose reply has come.
+    #[tactic(auto, using(crate::proofs::Going::relinked))]
     fn open<R: Clock + Eprint + AllocGlobal, T: Tape + Drop>(
         &mut self,
         context: &Context<'_, '_, R>,
@@ -44,7 +50,9 @@ impl Mesh {
         index: usize,
         peer: NodeId,
         reply: Reply,
-    ) {
+    )
+        ensures { GoesOn T.Tape process.old process.new }
+    {
         let published = process.node().published().number();
         if let Some(why) = self.why_not(peer, reply, published) {
             self.end(context, process, index, peer, why);
@@ -82,6 +90,7 @@ impl Mesh {
     }
 
     /// Ends the connection to a peer.
+    #[tactic(auto, using(crate::proofs::Going::still))]
     fn end<R: Clock + Eprint, T: Tape + Drop>(
         &mut self,
         context: &Context<'_, '_, R>,
@@ -89,24 +98,29 @@ impl Mesh {
         index: usize,
         peer: NodeId,
         why: Why,
-    ) {
+    )
+        ensures { GoesOn T.Tape process.old process.new }
+    {
         let Some(dial) = self.dials.get_mut(index) else {
             return;
         };
         let was_open = dial.is_open();
         dial.end(context.time);
-        process.close_outbox(peer);
+        close_outbox(process, peer);
         if was_open || !matches!(why, Why::Closed | Why::Failed) {
             context.log.write(&Event::Lost { peer: index, why });
         }
     }
 
     /// Connects to the peers to which there is no connection, and ends attempts that take too long.
+    #[tactic(auto, using(crate::proofs::Going::still, crate::proofs::Going::twice))]
     pub(crate) fn connect<R: Net + Clock + Eprint + AllocGlobal, T: Tape + Drop>(
         &mut self,
         context: &Context<'_, '_, R>,
         process: &mut Process<T>,
-    ) {
+    )
+        ensures { GoesOn T.Tape process.old process.new }
+    {
         let Some(greeting) = self.greeting(process) else {
             return;
         };
@@ -115,23 +129,27 @@ impl Mesh {
             return;
         }
         for index in 0..self.dials.len() {
-            if index != self.plan.own.node.number() as usize {
-                self.connect_to(context, process, index, bytes.as_slice());
-            }
+            self.connect_to(context, process, index, bytes.as_slice());
         }
     }
 
-    /// Connects to a peer, if there is no connection and it is time to, and ends an attempt that takes too long.
+    /// Connects to a node, if it is a peer, there is no connection and it is time to; ends an attempt that takes too long.
+    #[tactic(auto, using(crate::proofs::Going::still))]
     fn connect_to<R: Net + Clock + Eprint + AllocGlobal, T: Tape + Drop>(
         &mut self,
         context: &Context<'_, '_, R>,
         process: &mut Process<T>,
         index: usize,
         greeting: &[u8],
-    ) {
+    )
+        ensures { GoesOn T.Tape process.old process.new }
+    {
         let Some(peer) = id_of(index) else {
             return;
         };
+        if peer == self.plan.own.node {
+            return;
+        }
         if self.is_late(index, context.time) {
             self.end(context, process, index, peer, Why::Silent);
         }
@@ -157,12 +175,10 @@ impl Mesh {
     }
 
     /// Asks a peer for the definitions that the node lacks, if it is time to.
-    pub(crate) fn ask_next<T: Tape + Drop>(
-        &mut self,
-        alloc: Global,
-        process: &mut Process<T>,
-        time: u64,
-    ) {
+    #[tactic(auto, using(crate::proofs::Going::still))]
+    fn ask_next<T: Tape + Drop>(&mut self, alloc: Global, process: &mut Process<T>, time: u64)
+        ensures { GoesOn T.Tape process.old process.new }
+    {
         let mut connected = [false; MOST_NODES];
         for (flag, dial) in connected.iter_mut().zip(self.dials.iter()) {
             *flag = dial.is_open();
@@ -174,7 +190,10 @@ impl Mesh {
     }
 
     /// Asks each peer for the next definition: peers hear by this that the node is there.
-    pub(crate) fn ask_all<T: Tape + Drop>(&mut self, alloc: Global, process: &mut Process<T>) {
+    #[tactic(auto, using(crate::proofs::Going::still, crate::proofs::Going::twice))]
+    pub(crate) fn ask_all<T: Tape + Drop>(&mut self, alloc: Global, process: &mut Process<T>)
+        ensures { GoesOn T.Tape process.old process.new }
+    {
         for index in 0..self.dials.len() {
             if self.is_open(index) {
                 ask(alloc, process, index);
@@ -182,12 +201,32 @@ impl Mesh {
         }
     }
 
-    /// Writes what waits for the peers.
-    pub(crate) fn send<R: Clock + Eprint + AllocGlobal, T: Tape + Drop>(
+    /// Asks for what the node lacks, writes what waits for the peers, and notes what is known.
+    #[tactic(auto, using(crate::proofs::Going::still, crate::proofs::Going::twice))]
+    pub(crate) fn go_on<R: Clock + Eprint + AllocGlobal, T: Tape + Drop>(
         &mut self,
         context: &Context<'_, '_, R>,
         process: &mut Process<T>,
-    ) {
+    )
+        ensures { GoesOn T.Tape process.old process.new }
+    {
+        if !process.is_halted() {
+            self.ask_next(context.alloc(), process, context.time);
+            self.send(context, process);
+        }
+        self.notes.extend(process.node().history());
+        self.note_states(process);
+    }
+
+    /// Writes what waits for the peers.
+    #[tactic(auto, using(crate::proofs::Going::still, crate::proofs::Going::twice))]
+    fn send<R: Clock + Eprint + AllocGlobal, T: Tape + Drop>(
+        &mut self,
+        context: &Context<'_, '_, R>,
+        process: &mut Process<T>,
+    )
+        ensures { GoesOn T.Tape process.old process.new }
+    {
         for index in 0..self.dials.len() {
             if waits(process, index) {
                 self.turn(context, process, index);
@@ -197,7 +236,9 @@ impl Mesh {
 }
 
 /// Asks a peer for the next definition.
-fn ask<T: Tape + Drop>(alloc: Global, process: &mut Process<T>, peer: usize) {
+fn ask<T: Tape + Drop>(alloc: Global, process: &mut Process<T>, peer: usize)
+    ensures { GoesOn T.Tape process.old process.new }
+{
     if let Some(peer) = id_of(peer) {
         let _ = process.catch_up(alloc, peer);
     }

@@ -1,8 +1,8 @@
 //! The connection to a peer, on which this node sends.
+ghost use Rattle.wf_loop.specs.Going.{GoesOn};
 
-use crate::context::Context;
+use crate::acts::write as write_to;
 use crate::event::Why;
-use crate::socket::{Done, read, register, write};
 use crate::token::Socket;
 use mio::net::TcpStream;
 use std::alloc::Global;
@@ -15,6 +15,7 @@ use wf_peer::{GREETING_BYTES, GreetingFault, Reply, decode_reply};
 use wf_stream::{Sink, Stream};
 use wf_tape::Tape;
 use wf_timing::{Alarm, Backoff};
+use wf_visitors::{Context, Done, read, register, write};
 
 /// The most reads of one turn.
 const MOST_READS: u32 = 8;
@@ -40,6 +41,8 @@ pub(crate) struct Dial {
     reply: Vec<u8>,
     is_open: bool,
     since: u64,
+    // how many bytes of messages were written to the peer
+    written: u64,
     due: Alarm,
     backoff: Backoff,
 }
@@ -65,6 +68,7 @@ impl Dial {
             reply: Vec::new(alloc),
             is_open: false,
             since: 0,
+            written: 0,
             due: Alarm { due: 0 },
             backoff: Backoff::new(LEAST_WAIT, MOST_WAIT),
         }
@@ -78,6 +82,11 @@ impl Dial {
     /// Whether messages can be sent on it.
     pub(crate) fn is_open(&self) -> bool {
         self.is_open
+    }
+
+    /// How many bytes of messages were written to the peer, on all its connections.
+    pub(crate) fn written(&self) -> u64 {
+        self.written
     }
 
     /// It is open from now on.
@@ -124,11 +133,10 @@ impl Dial {
     }
 
     /// Writes what waits, and reads what came.
-    pub(crate) fn turn<T: Tape + Drop>(
-        &mut self,
-        process: &mut Process<T>,
-        peer: NodeId,
-    ) -> Turned {
+    #[tactic(auto, using(crate::proofs::Going::still))]
+    pub(crate) fn turn<T: Tape + Drop>(&mut self, process: &mut Process<T>, peer: NodeId) -> Turned
+        ensures { GoesOn T.Tape process.old process.new }
+    {
         let Some(mut stream) = self.stream.take() else {
             return Turned::Same;
         };
@@ -138,12 +146,15 @@ impl Dial {
     }
 
     /// Writes what waits to its stream, and reads what came.
+    #[tactic(auto, using(crate::proofs::Going::still))]
     fn turn_at<T: Tape + Drop>(
         &mut self,
         process: &mut Process<T>,
         peer: NodeId,
         stream: &mut TcpStream,
-    ) -> Turned {
+    ) -> Turned
+        ensures { GoesOn T.Tape process.old process.new }
+    {
         if let Some(why) = self.greet(stream) {
             return Turned::Ended(why);
         }
@@ -151,7 +162,7 @@ impl Dial {
         if turned != Turned::Same || !self.is_open {
             return turned;
         }
-        send(process, peer, stream)
+        send(process, peer, stream, &mut self.written)
     }
 
     /// Writes the rest of the greeting.
@@ -218,19 +229,27 @@ fn connected<R: Net>(
 ) -> Option<TcpStream> {
     let mut stream = TcpStream::connect(context.rt, address).ok()?;
     let _ = stream.set_nodelay(true);
-    match register(context.registry, &mut stream, Socket::Dial(index)) {
+    match register(context.registry, &mut stream, Socket::Dial(index).token()) {
         Ok(()) => Some(stream),
         Err(_) => None,
     }
 }
 
-/// Writes what waits for a peer.
-fn send<T: Tape + Drop>(process: &mut Process<T>, peer: NodeId, stream: &TcpStream) -> Turned {
+/// Writes what waits for a peer, and counts the bytes.
+#[tactic(auto, using(crate::proofs::Going::still, crate::proofs::Going::twice))]
+fn send<T: Tape + Drop>(
+    process: &mut Process<T>,
+    peer: NodeId,
+    stream: &TcpStream,
+    written: &mut u64,
+) -> Turned
+    ensures { GoesOn T.Tape process.old process.new }
+{
     let mut sink = Stream::new(stream);
     for _ in 0..MOST_WRITES {
-        match process.write_to(peer, &mut sink) {
+        match write_to(process, peer, &mut sink) {
             Ok(0) => return Turned::Same,
-            Ok(_) => {}
+            Ok(count) => *written = written.saturating_add(count as u64),
             Err(error) if error.kind() == ErrorKind::WouldBlock => return Turned::Same,
             Err(_) => return Turned::Ended(Why::Failed),
         }

@@ -2,28 +2,9 @@
 
 use std::fmt;
 use std::net::SocketAddr;
+use wf_journal::OpenFault;
 use wf_peer::{GreetingFault, Rejection};
-
-/// How much an event matters.
-#[derive(Clone, Copy, PartialEq, Eq)]
-pub enum Level {
-    /// Nothing to do.
-    Info,
-    /// A peer was lost or refused, or a request wasn't fulfilled.
-    Warn,
-    /// The node has stopped voting.
-    Error,
-}
-
-impl fmt::Display for Level {
-    fn fmt<W: fmt::Write>(&self, f: &mut fmt::Formatter<W>) -> fmt::Result {
-        f.write_str(match self {
-            Level::Info => "info",
-            Level::Warn => "warn",
-            Level::Error => "error",
-        })
-    }
-}
+use wf_visitors::{Entry, Level};
 
 /// Why a connection of a peer ended.
 #[derive(Clone, Copy, PartialEq, Eq)]
@@ -78,7 +59,7 @@ impl fmt::Display for Why {
 
 /// An event. Nodes are named by their numbers.
 #[derive(Clone, Copy)]
-pub enum Event<'a> {
+pub enum Event {
     /// Addresses are bound.
     Listening {
         http: SocketAddr,
@@ -108,17 +89,6 @@ pub enum Event<'a> {
         peer: Option<usize>,
         why: Why,
     },
-    /// A request was answered.
-    Request {
-        line: &'a str,
-        status: u16,
-        bytes: u64,
-        millis: u64,
-    },
-    /// A client was closed without an answer.
-    Unanswered {
-        millis: u64,
-    },
     /// The node's map is published.
     Published {
         sequence: u16,
@@ -129,33 +99,28 @@ pub enum Event<'a> {
     },
     /// The node's tape has failed, and the node is halted.
     Halted,
-    /// The node's tape was opened anew, or not.
-    Reopened {
-        is_open: bool,
-    },
+    /// The node's tape was opened anew.
+    Reopened,
+    /// The node's tape couldn't be opened anew.
+    NotReopened(OpenFault),
 }
 
-impl Event<'_> {
-    /// How much the event matters.
-    pub fn level(&self) -> Level {
+impl Entry for Event {
+    fn level(&self) -> Level {
         match self {
-            Event::Halted => Level::Error,
-            Event::Lost { .. }
-            | Event::Dropped { .. }
-            | Event::Unanswered { .. }
-            | Event::Overtaken { .. } => Level::Warn,
+            Event::Halted | Event::NotReopened(_) => Level::Error,
+            Event::Lost { .. } | Event::Dropped { .. } | Event::Overtaken { .. } => Level::Warn,
             Event::Listening { .. }
             | Event::Opened { .. }
             | Event::Connected { .. }
             | Event::Accepted { .. }
-            | Event::Request { .. }
             | Event::Published { .. }
-            | Event::Reopened { .. } => Level::Info,
+            | Event::Reopened => Level::Info,
         }
     }
 }
 
-impl fmt::Display for Event<'_> {
+impl fmt::Display for Event {
     fn fmt<W: fmt::Write>(&self, f: &mut fmt::Formatter<W>) -> fmt::Result {
         match self {
             Event::Listening { http, listen } => write!(f, "listening http={http} peers={listen}"),
@@ -171,20 +136,11 @@ impl fmt::Display for Event<'_> {
                 Some(peer) => write!(f, "dropped peer={peer} why={why}"),
                 None => write!(f, "dropped peer=unknown why={why}"),
             },
-            Event::Request {
-                line,
-                status,
-                bytes,
-                millis,
-            } => write!(
-                f,
-                "request line={line:?} status={status} bytes={bytes} millis={millis}"
-            ),
-            Event::Unanswered { millis } => write!(f, "unanswered millis={millis}"),
             Event::Published { sequence } => write!(f, "published sequence={sequence}"),
             Event::Overtaken { sequence } => write!(f, "overtaken sequence={sequence}"),
             Event::Halted => f.write_str("tape-failed"),
-            Event::Reopened { is_open } => write!(f, "reopened open={is_open}"),
+            Event::Reopened => f.write_str("tape-reopened"),
+            Event::NotReopened(why) => write!(f, "tape-not-reopened why=\"{why}\""),
         }
     }
 }

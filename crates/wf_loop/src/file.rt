@@ -1,4 +1,5 @@
 //! The files of a node's folder that are replaced whole.
+ghost use Rattle.std.specs.Prelude.{◌≡◌, ◌++◌, IfOk, codes, string_bytes};
 
 use std::alloc::{AllocError, Global};
 use std::fs::{OpenFile, OpenOptions};
@@ -23,6 +24,11 @@ pub fn replace<R: Files>(rt: &R, path: &str, second: &str, bytes: &[u8]) -> io::
 }
 
 /// The path of a file in a folder.
-pub fn path_in(alloc: Global, folder: &str, name: &str) -> Result<String, AllocError> {
-    format!(in alloc; "{folder}/{name}")
+pub fn path_in(alloc: Global, folder: &str, name: &str) -> Result<String, AllocError>
+    ensures { IfOk result (λ path. string_bytes path ≡ folder.now ++ codes "/" ++ name.now) }
+{
+    match format!(in alloc; "{folder}/{name}") {
+        Ok(path) => Ok(path),
+        Err(error) => Err(error),
+    }
 }

@@ -1,7 +1,6 @@
 //! A connection from a peer, on which this node hears.
 
 use crate::event::Why;
-use crate::socket::{Done, read, write};
 use mio::net::TcpStream;
 use std::alloc::Global;
 use wf_ballot::NodeId;
@@ -11,6 +10,7 @@ use wf_peer::{
 };
 use wf_stream::Sink;
 use wf_timing::is_silent;
+use wf_visitors::{Done, read, write};
 
 /// The most bytes of a piece.
 pub(crate) const PIECE_BYTES: usize = 4_096;

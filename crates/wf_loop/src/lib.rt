@@ -1,35 +1,44 @@
 //! A node in a process of its own: one thread that waits for its sockets and serves them, and never blocks on one.
 //!
-//! - [`hub::Hub`] has the node, the connections to and from its peers, and its clients; [`hub::Hub::go_on`] is one turn: it waits
-//!   until a socket is ready or a tick is over, and does what there is to do, a bounded part of it.
-//! - [`plan::Plan`] says which node it is, and where the others are.
-//! - [`log::Log`] writes each [`event::Event`] as a line on standard error.
+//! - [`Hub`] has the node, the connections to and from its peers, its clients, and its readers and operators, who only read.
+//!   [`Hub::go_on`] is one turn: it waits until a socket is ready or a tick is over, and does what there is to do, a bounded part of it.
+//! - [`Plan`] says which node it is, and where the others are.
+//! - [`Log`] writes each [`Event`] as a line on standard error.
+//!
+//! **Promises.** After each turn the node has lived by its acts (`specs/Lived.antt`), and the process has gone on in its run
+//! (`specs/Going.antt`). Each response that a client was sent is the one of `wf_edge` to exactly the bytes that had come from it, by a process
+//! that had lived (`specs/Answer.antt`). Readers and operators get the node to be read only.
 //!
 //! **Doesn't.** What sockets, clocks and reconnection do has no model: it is tested with the built program.
 #![tactic(auto)]
 
-mod admin;
+mod acts;
+mod answering;
 mod calling;
-mod clock;
-mod context;
-mod counts;
+mod clients;
 mod desk;
 mod dial;
 mod event;
+mod facts;
 mod file;
 mod heard;
 mod hub;
-mod log;
 mod mesh;
 mod notes;
+mod pace;
+mod parts;
+mod peer_state;
 mod plan;
-mod socket;
+mod service;
+mod tally;
 mod token;
-mod visitors;
+mod turn;
+mod voter;
 
-pub use event::{Event, Level, Why};
+pub use event::{Event, Why};
 pub use file::{path_in, replace, write_file};
-pub use hub::{Begun, Hub};
-pub use log::Log;
+pub use hub::Hub;
 pub use plan::{LoopFault, Plan};
+pub use service::Begun;
 pub use wf_actor::Process;
+pub use wf_visitors::{Level, Log};

@@ -1,13 +1,13 @@
 //! The connections to and from the peers of a node.
+ghost use Rattle.wf_loop.specs.Going.{GoesOn};
 
-use crate::admin::PeerState;
-use crate::context::Context;
+use crate::acts::{hear, open_receiver, receive};
 use crate::dial::Dial;
 use crate::event::{Event, Why};
 use crate::heard::{Came, Heard, PIECE_BYTES};
 use crate::notes::Notes;
+use crate::peer_state::PeerState;
 use crate::plan::Plan;
-use crate::socket::{register, register_again};
 use crate::token::Socket;
 use mio::net::{TcpListener, TcpStream};
 use std::alloc::{AllocError, Global};
@@ -19,6 +19,7 @@ use wf_ballot::{NodeId, SEQUENCES};
 use wf_peer::{Greeting, Heard as HeardOf, Progress, Rejection};
 use wf_tape::Tape;
 use wf_timing::CatchUp;
+use wf_visitors::{Context, register, register_again};
 
 /// The most pieces that a turn reads of a peer.
 const MOST_PIECES: u32 = 64;
@@ -130,11 +131,14 @@ impl Mesh {
     }
 
     /// Accepts connections from peers.
+    #[tactic(auto, using(crate::proofs::Going::still, crate::proofs::Going::twice))]
     pub(crate) fn accept<R: Clock + Eprint + AllocGlobal, T: Tape + Drop>(
         &mut self,
         context: &Context<'_, '_, R>,
         process: &mut Process<T>,
-    ) {
+    )
+        ensures { GoesOn T.Tape process.old process.new }
+    {
         for _ in 0..HEARD_SLOTS {
             let Ok((stream, address)) = self.listener.accept() else {
                 return;
@@ -144,13 +148,16 @@ impl Mesh {
     }
 
     /// Puts a connection from a peer's address into a free slot.
+    #[tactic(auto, using(crate::proofs::Going::still))]
     fn admit<R: Clock + Eprint + AllocGlobal, T: Tape + Drop>(
         &mut self,
         context: &Context<'_, '_, R>,
         process: &mut Process<T>,
         mut stream: TcpStream,
         address: SocketAddr,
-    ) {
+    )
+        ensures { GoesOn T.Tape process.old process.new }
+    {
         if !is_known(self.plan.peers.as_slice(), address) {
             context.log.write(&Event::Dropped {
                 peer: None,
@@ -166,19 +173,22 @@ impl Mesh {
             return;
         };
         let _ = stream.set_nodelay(true);
-        if register(context.registry, &mut stream, Socket::Heard(index)).is_ok() {
+        if register(context.registry, &mut stream, Socket::Heard(index).token()).is_ok() {
             let heard = Heard::new(context.alloc(), stream, context.time);
             self.hear_out(context, process, index, heard);
         }
     }
 
     /// Reads what came from a peer, a bounded part of it, and delivers it.
+    #[tactic(auto, using(crate::proofs::Going::still))]
     pub(crate) fn hear<R: Clock + Eprint + AllocGlobal, T: Tape + Drop>(
         &mut self,
         context: &Context<'_, '_, R>,
         process: &mut Process<T>,
         index: usize,
-    ) {
+    )
+        ensures { GoesOn T.Tape process.old process.new }
+    {
         let Some(slot) = self.heards.get_mut(index) else {
             return;
         };
@@ -195,11 +205,17 @@ impl Mesh {
         process: &mut Process<T>,
         index: usize,
         mut heard: Heard,
-    ) {
+    )
+        ensures { GoesOn T.Tape process.old process.new }
+    {
         match self.read(context, process, &mut heard) {
             None => {
                 if self.is_busy {
-                    register_again(context.registry, heard.stream(), Socket::Heard(index));
+                    register_again(
+                        context.registry,
+                        heard.stream(),
+                        Socket::Heard(index).token(),
+                    );
                 }
                 if let Some(slot) = self.heards.get_mut(index) {
                     *slot = Some(heard);
@@ -214,43 +230,70 @@ impl Mesh {
     }
 
     /// Reads what came on a connection, a bounded part of it. Some: it has ended.
+    #[tactic(auto, using(crate::proofs::Going::still, crate::proofs::Going::twice))]
     fn read<R: Clock + Eprint + AllocGlobal, T: Tape + Drop>(
         &mut self,
         context: &Context<'_, '_, R>,
         process: &mut Process<T>,
         heard: &mut Heard,
-    ) -> Option<Why> {
+    ) -> Option<Why>
+        ensures { GoesOn T.Tape process.old process.new }
+    {
         let mut piece = [0u8; PIECE_BYTES];
         for _ in 0..MOST_PIECES {
-            match heard.hear(&mut piece, context.time) {
-                Came::Nothing => return heard.send(),
-                Came::Part => {}
-                Came::Greeting(greeting) => {
-                    if let Some(why) = self.let_in(context, process, heard, &greeting) {
-                        return Some(why);
-                    }
-                }
-                Came::Bytes(from, count) => {
-                    let piece = piece.split_at(count.min(PIECE_BYTES)).0;
-                    if let Some(why) = self.deliver(context, process, from, piece) {
-                        return Some(why);
-                    }
-                }
-                Came::Ended(why) => return Some(why),
+            let came = heard.hear(&mut piece, context.time);
+            match self.heed(context, process, heard, came, &piece) {
+                Ok(()) => {}
+                Err(ended) => return ended,
             }
         }
         self.is_busy = true;
         None
     }
 
+    /// Takes in what came in one piece. Err: nothing more is to be read now, and why the connection has ended if it has.
+    #[tactic(auto, using(crate::proofs::Going::still))]
+    fn heed<R: Clock + Eprint + AllocGlobal, T: Tape + Drop>(
+        &mut self,
+        context: &Context<'_, '_, R>,
+        process: &mut Process<T>,
+        heard: &mut Heard,
+        came: Came,
+        piece: &[u8],
+    ) -> Result<(), Option<Why>>
+        ensures { GoesOn T.Tape process.old process.new }
+    {
+        match came {
+            Came::Nothing => Err(heard.send()),
+            Came::Part => Ok(()),
+            Came::Greeting(greeting) => {
+                match self.let_in(context, process, heard, &greeting) {
+                    Some(why) => Err(Some(why)),
+                    None => Ok(()),
+                }
+            }
+            Came::Bytes(from, count) => {
+                let piece = piece.split_at(count.min(piece.len())).0;
+                match self.deliver(context, process, from, piece) {
+                    Some(why) => Err(Some(why)),
+                    None => Ok(()),
+                }
+            }
+            Came::Ended(why) => Err(Some(why)),
+        }
+    }
+
     /// Lets a peer in that has greeted, in the place of an older connection from it. Some: it isn't let in.
+    #[tactic(auto, using(crate::proofs::Going::still))]
     fn let_in<R: Clock + Eprint + AllocGlobal, T: Tape + Drop>(
         &mut self,
         context: &Context<'_, '_, R>,
         process: &mut Process<T>,
         heard: &mut Heard,
         greeting: &Greeting,
-    ) -> Option<Why> {
+    ) -> Option<Why>
+        ensures { GoesOn T.Tape process.old process.new }
+    {
         if let Err(why) = self.admit_peer(None, greeting) {
             heard.reject(context.alloc(), why);
             return Some(Why::Rejected(why));
@@ -260,7 +303,7 @@ impl Mesh {
         let Some(own) = self.greeting(process) else {
             return Some(Why::Memory);
         };
-        process.open_receiver(context.alloc(), peer);
+        open_receiver(context.alloc(), process, peer);
         // its answers can come from now on
         let number = peer.number() as usize;
         self.catch_up.connect(number, context.time);
@@ -313,14 +356,17 @@ impl Mesh {
     }
 
     /// Judges what came from a peer, and delivers it. Some: the connection has ended.
+    #[tactic(auto, using(crate::proofs::Going::still, crate::proofs::Going::twice))]
     fn deliver<R: AllocGlobal, T: Tape + Drop>(
         &mut self,
         context: &Context<'_, '_, R>,
         process: &mut Process<T>,
         peer: NodeId,
         piece: &[u8],
-    ) -> Option<Why> {
-        let Ok(count) = process.receive(peer, piece) else {
+    ) -> Option<Why>
+        ensures { GoesOn T.Tape process.old process.new }
+    {
+        let Some(count) = receive(process, peer, piece) else {
             return Some(Why::BadMessage);
         };
         if let Some(state) = self.states.get_mut(peer.number() as usize) {
@@ -328,10 +374,10 @@ impl Mesh {
         }
         for _ in 0..count {
             if !self.notes.admits(process, peer) {
-                process.open_receiver(context.alloc(), peer);
+                open_receiver(context.alloc(), process, peer);
                 return Some(Why::WrongSender);
             }
-            let _ = process.hear(context.alloc(), peer);
+            hear(context.alloc(), process, peer);
         }
         None
     }
@@ -368,13 +414,13 @@ impl Mesh {
         }
     }
 
-    /// Notes which peers are connected, and how many messages to them were dropped.
+    /// Notes which peers are connected, how many messages to them were dropped, and how many bytes were written.
     pub(crate) fn note_states<T: Tape + Drop>(&mut self, process: &Process<T>) {
         for (index, state) in self.states.iter_mut().enumerate() {
-            state.is_connected = match self.dials.get(index) {
-                Some(dial) => dial.is_open(),
-                None => false,
-            };
+            if let Some(dial) = self.dials.get(index) {
+                state.is_connected = dial.is_open();
+                state.written = dial.written();
+            }
             if let Some(peer) = id_of(index) {
                 state.lost = process.dropped(peer);
             }

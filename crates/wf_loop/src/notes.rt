@@ -58,6 +58,11 @@ impl Notes {
         let _ = self.digests.extend(history);
     }
 
+    /// The digests of the history, up to where they were extended.
+    pub(crate) fn digests(&self) -> &Digests {
+        &self.digests
+    }
+
     /// The digest of the history up to a sequence.
     pub(crate) fn digest_at(&self, number: u16) -> Option<[u8; 32]> {
         let seq = wf_ballot::Seq::new(number)?;

@@ -14,6 +14,8 @@ pub struct Plan {
     pub start: Progress,
     /// The node's folder.
     pub folder: String,
+    /// The path of the node's tape, whose length is told.
+    pub tape: String,
     /// The addresses of all nodes, that of node i at index i: as many as the farm has nodes.
     pub peers: Vec<SocketAddr>,
     /// Where clients come.
@@ -22,6 +24,8 @@ pub struct Plan {
     pub listen: SocketAddr,
     /// Where the operator comes, if anywhere.
     pub admin: Option<SocketAddr>,
+    /// Where readers come, if anywhere.
+    pub readers: Option<SocketAddr>,
     /// The number of clients at once.
     pub clients: usize,
 }
@@ -41,12 +45,20 @@ pub enum LoopFault {
     /// The operator's address is taken, or not permitted.
     #[error("the address of --admin is taken or not permitted")]
     Admin,
+    /// The readers' address is taken, or not permitted.
+    #[error("the address of --readers is taken or not permitted")]
+    Readers,
     /// An allocation failed.
     #[error("out of memory")]
     Memory,
 }
 
 impl From<AllocError> for LoopFault {
+    ghost use Rattle.std.specs.Prelude.{◌≡◌};
+    ghost use Rattle.wf_loop.specs.declared.plan.LoopFault.TheVariants.{Memory};
+
+    ghost from_gives = { λ _ fault. fault ≡ Memory };
+
     fn from(_: AllocError) -> Self {
         LoopFault::Memory
     }

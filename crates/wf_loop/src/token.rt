@@ -7,10 +7,13 @@ const DIAL: usize = 64;
 const HEARD: usize = 128;
 
 /// The first token of the operator's connections.
-const ASKER: usize = 512;
+pub(crate) const ASKER: usize = 512;
+
+/// The first token of readers.
+pub(crate) const READER: usize = 768;
 
 /// The first token of clients.
-const CLIENT: usize = 1_024;
+pub(crate) const CLIENT: usize = 1_024;
 
 /// A socket.
 #[derive(Clone, Copy, Debug, PartialEq, Eq)]
@@ -21,12 +24,16 @@ pub(crate) enum Socket {
     Listen,
     /// The listener for the operator.
     Admin,
+    /// The listener for readers.
+    Readers,
     /// The connection to the node of this number.
     Dial(usize),
     /// The connection in this slot, from a peer.
     Heard(usize),
     /// The operator's connection in this slot.
     Asker(usize),
+    /// The reader in this slot.
+    Reader(usize),
     /// The client in this slot.
     Client(usize),
 }
@@ -38,9 +45,11 @@ impl Socket {
             Socket::Http => 0,
             Socket::Listen => 1,
             Socket::Admin => 2,
+            Socket::Readers => 3,
             Socket::Dial(index) => DIAL.saturating_add(index),
             Socket::Heard(index) => HEARD.saturating_add(index),
             Socket::Asker(index) => ASKER.saturating_add(index),
+            Socket::Reader(index) => READER.saturating_add(index),
             Socket::Client(index) => CLIENT.saturating_add(index),
         }
     }
@@ -51,6 +60,7 @@ impl Socket {
             0 => Socket::Http,
             1 => Socket::Listen,
             2 => Socket::Admin,
+            3 => Socket::Readers,
             _ => Socket::of_connection(token),
         }
     }
@@ -61,8 +71,10 @@ impl Socket {
             Socket::Dial(token.saturating_sub(DIAL))
         } else if token < ASKER {
             Socket::Heard(token - HEARD)
-        } else if token < CLIENT {
+        } else if token < READER {
             Socket::Asker(token - ASKER)
+        } else if token < CLIENT {
+            Socket::Reader(token - READER)
         } else {
             Socket::Client(token - CLIENT)
         }

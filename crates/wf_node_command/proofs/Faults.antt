@@ -175,3 +175,6 @@ bad_listen line is = record { word = is.0; is = is.1; bad = is.2 }
 
 pub bad_admin : (line : NodeLine) → (word : List ℕ) × (option_map (λ w. w.now) line.admin ≡ Some word) × IsNoAddress word → IsNodeFault line (faults.BadAddress options.Admin)
 bad_admin line is = record { word = is.0; is = is.1; bad = is.2 }
+
+pub bad_readers : (line : NodeLine) → (word : List ℕ) × (option_map (λ w. w.now) line.readers ≡ Some word) × IsNoAddress word → IsNodeFault line (faults.BadAddress options.Readers)
+bad_readers line is = record { word = is.0; is = is.1; bad = is.2 }

@@ -1,5 +1,5 @@
 -- From a start that was admitted to a node that was served.
-use Rattle.std.proofs.Common.{◌≡◌, ◌∙◌, ◌≤◌, ◌<◌, ℕ, arith, sym, subst}
+use Rattle.std.proofs.Common.{◌≡◌, ◌∙◌, ◌≤◌, ◌<◌, ℕ, [], append-nil, arith, inl, refl, sym, subst}
 use Rattle.std.specs.Prelude.{Result, Ok, Err, length}
 use Rattle.wf_actor.specs.declared.process.Process.{Process}
 use Rattle.wf_folder.specs.NodeAdmission.{IsNodeRejection, IsNodeStart, IsSoundFind}
@@ -10,7 +10,10 @@ use Rattle.wf_folder.specs.declared.node_admission.NodeRejection.{NodeRejection}
 use Rattle.wf_folder.specs.declared.node_file.NodeFile.{NodeFile}
 use Rattle.wf_folder.specs.declared.presence.Presence.{Presence}
 use Rattle.wf_line.specs.declared.node_line.NodeLine.{NodeLine}
-use Rattle.wf_loop.specs.Hub.{HasLived}
+use Rattle.wf_loop.specs.Going.{IsEarlier, KeepsEarlier}
+use Rattle.wf_loop.specs.Hub.{HasAnswered, process_of}
+use Rattle.wf_loop.specs.Lived.{HasLived}
+use Rattle.wf_loop.specs.declared.hub.Hub.{Hub}
 use Rattle.wf_tape.specs.declared.tape.Tape.{Ghosts as Tape}
 use Rattle.wf_node_command.specs.Address.{words_of}
 use Rattle.wf_node_command.specs.Done.{HasGoneOn, IsAdmitted, IsEnd, IsNodeDone, IsRejected, IsStarted}
@@ -48,8 +51,20 @@ module _ (line : NodeLine) (nodes : ℕ) (found : NodeFound) (tape : Presence) w
       record { found = found; tape = tape; sound = sound; rejection = subst (λ (n : ℕ). IsNodeRejection n found tape why) count rejection }
 
 module _ {T : Type 0} (tapes : Tape T) where
-  pub gone_on : (file : NodeFile) (process after : Process T tapes) → IsStarted tapes file process → HasLived tapes after → HasGoneOn tapes file
-  gone_on file process after started lived = record { started = process; is_started = started; process = after; lived = lived }
+  pub kept_still : (process : Process T tapes) → KeepsEarlier tapes process process
+  kept_still process = λ past earlier. earlier
+
+  pub kept_same : (before after : Process T tapes) → after ≡ before → KeepsEarlier tapes before after
+  kept_same before after same = λ past earlier. subst (λ (p : Process T tapes). IsEarlier tapes past p) (sym same) earlier
+
+  its_own : (process : Process T tapes) → IsEarlier tapes process process
+  its_own process = inl (record { number = refl; read_from = refl; began = refl; given = ([], append-nil _); told = ([], append-nil _) })
+
+  pub gone_on : (file : NodeFile) (process : Process T tapes) (begun hub : Hub T tapes) → IsStarted tapes file process → process_of begun ≡ process
+      → HasLived tapes (process_of hub) → HasAnswered tapes hub → KeepsEarlier tapes (process_of begun) (process_of hub) → HasGoneOn tapes file
+  gone_on file process begun hub started same lived answered keeps =
+      let earlier = subst (λ (p : Process T tapes). IsEarlier tapes process p) (sym same) (its_own process) in
+      record { started = process; is_started = started; hub = hub; earlier = keeps process earlier; lived = lived; answered = answered }
 
   pub served_by : (line : NodeLine) (file : NodeFile) (result : Result (Unit {0}) CommandFault) → IsAdmitted line file → IsEnd tapes file result → IsNodeDone tapes line result
   served_by line file (Ok done) admitted end = record { file = file; admitted = admitted; served = end }

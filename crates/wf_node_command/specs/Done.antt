@@ -14,7 +14,10 @@ use Rattle.wf_line.specs.declared.node_line.InitLine.{InitLine}
 use Rattle.wf_line.specs.declared.node_line.NodeCommand.{NodeCommand}
 use Rattle.wf_line.specs.declared.node_line.NodeCommand.TheVariants as commands
 use Rattle.wf_line.specs.declared.node_line.NodeLine.{NodeLine}
-use Rattle.wf_loop.specs.Hub.{HasLived}
+use Rattle.wf_loop.specs.Going.{IsEarlier}
+use Rattle.wf_loop.specs.Hub.{HasAnswered, process_of}
+use Rattle.wf_loop.specs.Lived.{HasLived}
+use Rattle.wf_loop.specs.declared.hub.Hub.{Hub}
 use Rattle.wf_def.specs.Definition.{Definition}
 use Rattle.wf_model.specs.Stored.{Stored}
 use Rattle.wf_node.specs.Opening.{IsFoldOf}
@@ -47,6 +50,7 @@ abbrev pub value_of : NodeLine → AddressOption → Option (List ℕ)
 value_of line options.Http = Some line.http.now
 value_of line options.Listen = option_map (λ word. word.now) line.listen
 value_of line options.Admin = option_map (λ word. word.now) line.admin
+value_of line options.Readers = option_map (λ word. word.now) line.readers
 
 -- it is given, and no address
 pub record IsBadOption (line : NodeLine) (option : AddressOption) : Type 0 where
@@ -70,12 +74,15 @@ module _ {T : Type 0} (tapes : Tape T) where
     pub begun : IsBegun process
     pub among : process.n ≡ file.nodes
 
-  -- a process that was started so has lived, up to this one
+  -- A process that was started so has gone on in a hub, whose process it is at an earlier moment, and which has lived; and each client was
+  -- sent the response to exactly what had come of its request, by a process that had lived so.
   pub record HasGoneOn (file : NodeFile) : Type 0 where
     pub started : Process T tapes
     pub is_started : IsStarted file started
-    pub process : Process T tapes
-    pub lived : HasLived tapes process
+    pub hub : Hub T tapes
+    pub lived : HasLived tapes (process_of hub)
+    pub answered : HasAnswered tapes hub
+    pub earlier : IsEarlier tapes started (process_of hub)
 
   -- how the turns of a started node ended
   abbrev pub IsEnd : NodeFile → Result (Unit {0}) CommandFault → Type 0
@@ -83,7 +90,7 @@ module _ {T : Type 0} (tapes : Tape T) where
   IsEnd file (Err (faults.Ended why)) = HasGoneOn file
   IsEnd file (Err fault) = IsFromSystem fault
 
-  -- The node was served: its folder admitted the start, and its process has lived.
+  -- The node was served: its folder admitted the start, and its process has gone on.
   pub record HasServed (line : NodeLine) : Type 0 where
     pub file : NodeFile
     pub admitted : IsAdmitted line file

@@ -17,6 +17,8 @@ pub enum AddressOption {
     Listen,
     /// `--admin`
     Admin,
+    /// `--readers`
+    Readers,
 }
 
 impl fmt::Display for AddressOption {
@@ -25,6 +27,7 @@ impl fmt::Display for AddressOption {
             AddressOption::Http => "--http",
             AddressOption::Listen => "--listen",
             AddressOption::Admin => "--admin",
+            AddressOption::Readers => "--readers",
         })
     }
 }

@@ -6,7 +6,8 @@
 //! **Promises** (`specs/Done.antt`).
 //! - `node` begins only on a folder whose file `farm` was found, is a node's, of a farm of as many nodes as addresses are listed, and whose
 //!   tape is there: never on an empty or an unknown folder. Its node was opened on a tape as that node of that farm.
-//! - However many turns it was to take, and however it ended after it had begun, its process has lived as `HasLived` of `wf_loop` says.
+//! - However many turns it was to take, and however it ended after it had begun, its process has lived as `HasLived` of `wf_loop` says,
+//!   from that node on, and each client was sent the response to exactly what had come of its request (`HasAnswered`).
 //! - `init` leaves the file of a node of that number, farm and name that never started, and a tape that is empty, or one on which that
 //!   node opens.
 //! - Each error has its cause, and its status: 2 where the command line is bad, else 1.

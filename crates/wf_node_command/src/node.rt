@@ -2,7 +2,9 @@
 ghost use Rattle.std.specs.Prelude.{◌≡◌, ◌≤◌, IfErr, IfNone, IfOk, List, Some, length, option_map, ℕ};
 ghost use Rattle.wf_folder.specs.NodeFile.{IsNodeFile};
 ghost use Rattle.wf_line.specs.NodeLine.{IsNodeInRange};
-ghost use Rattle.wf_loop.specs.Hub.{HasLived, process_of};
+ghost use Rattle.wf_loop.specs.Hub.{HasAnswered, process_of};
+ghost use Rattle.wf_loop.specs.Lived.{HasLived};
+ghost use Rattle.wf_loop.specs.Going.{KeepsEarlier};
 ghost use Rattle.wf_node_command.specs.Address.{IsNoAddress, words_of};
 ghost use Rattle.wf_node_command.specs.Done.{IsAdmitted, IsEnd, IsNodeDone, IsNodeFault, IsStarted};
 ghost use Rattle.wf_node_command.specs.Fault.{IsFromSystem};
@@ -22,20 +24,15 @@ use wf_line::node_line::NodeLine;
 use wf_loop::{Begun, Event, Hub, Log, Plan, Process};
 use wf_peer::{Heard, Own, Progress, Rejection};
 use wf_tape::{FileTape, Tape};
-use wf_timing::{Alarm, Backoff};
 
-/// The least and the greatest time between two attempts to open a tape that has failed, in milliseconds.
-const LEAST_REOPEN: u64 = 500;
-
-const MOST_REOPEN: u64 = 30_000;
-
-/// Where clients, peers and the operator come, and where all nodes' peers do.
+/// Where clients, peers, the operator and readers come, and where all nodes' peers do.
 #[derive(Drop)]
 struct Places {
     peers: Vec<SocketAddr>,
     http: SocketAddr,
     listen: Option<SocketAddr>,
     admin: Option<SocketAddr>,
+    readers: Option<SocketAddr>,
 }
 
 /// Serves a node for this many turns, or until a peer tells it that it has to end.
@@ -66,7 +63,7 @@ pub(crate) fn node<'a, R: Files<File = File> + Clock + Eprint + Net + AllocGloba
 }
 
 /// The addresses of a command line.
-#[tactic(auto, using(crate::proofs::Faults::list_fault, crate::proofs::Faults::bad_http, crate::proofs::Faults::bad_listen, crate::proofs::Faults::bad_admin, crate::proofs::Listing::as_many))]
+#[tactic(auto, using(crate::proofs::Faults::list_fault, crate::proofs::Faults::bad_http, crate::proofs::Faults::bad_listen, crate::proofs::Faults::bad_admin, crate::proofs::Faults::bad_readers, crate::proofs::Listing::as_many))]
 fn places_of(alloc: Global, line: &NodeLine<'_>) -> Result<Places, CommandFault>
     ensures peers { IfOk result (λ places.
         length places.peers.items ≡ length (words_of line.now.peers.now)) }
@@ -85,12 +82,17 @@ fn places_of(alloc: Global, line: &NodeLine<'_>) -> Result<Places, CommandFault>
         Some(admin) => admin,
         None => return Err(CommandFault::BadAddress(AddressOption::Admin)),
     };
+    let readers = match address_if_any(line.readers) {
+        Some(readers) => readers,
+        None => return Err(CommandFault::BadAddress(AddressOption::Readers)),
+    };
     match addresses(alloc, line.peers) {
         Ok(peers) => Ok(Places {
             peers,
             http,
             listen,
             admin,
+            readers,
         }),
         Err(fault) => Err(fault),
     }
@@ -213,7 +215,7 @@ fn serve_at<'a, R: Files<File = File> + Clock + Eprint + Net + AllocGlobal>(
     ensures { IsEnd ⟦<FileTape<&'a R> as Tape>⟧ file.now result }
 {
     match opened(rt, line, file, path) {
-        Ok((progress, process)) => match plan_of(rt.alloc(), line, places, file, progress) {
+        Ok((progress, process)) => match plan_of(rt.alloc(), line, places, file, progress, path) {
             Ok(plan) => begin(rt, line, file, plan, process, path, turns),
             Err(fault) => {
                 drop(process);
@@ -256,6 +258,7 @@ fn plan_of(
     places: Places,
     file: &NodeFile,
     start: Progress,
+    path: &str,
 ) -> Result<Plan, CommandFault>
     requires file { IsNodeFile file.now }
     requires nodes { file.now.nodes ≡ length places.peers.items }
@@ -266,9 +269,15 @@ fn plan_of(
         http,
         listen,
         admin,
+        readers,
     } = places;
     let Ok(folder) = String::from_str(alloc, line.state) else {
         drop(peers);
+        return Err(CommandFault::Memory);
+    };
+    let Ok(tape) = String::from_str(alloc, path) else {
+        drop(peers);
+        drop(folder);
         return Err(CommandFault::Memory);
     };
     let own = peers[file.node as usize];
@@ -280,10 +289,12 @@ fn plan_of(
         },
         start,
         folder,
+        tape,
         peers,
         http,
         listen: listen.unwrap_or(own),
         admin,
+        readers,
         clients: line.clients as usize,
     })
 }
@@ -342,7 +353,6 @@ fn counted<R: Files + AllocGlobal>(
 }
 
 /// Serves the node.
-#[tactic(auto, using(crate::proofs::Started::gone_on))]
 fn serve<R: Files<File = File> + Clock + Eprint + Net + AllocGlobal, T: Tape + Drop, O: Opener<T>>(
     rt: &R,
     line: &NodeLine<'_>,
@@ -378,6 +388,7 @@ fn serve<R: Files<File = File> + Clock + Eprint + Net + AllocGlobal, T: Tape + D
 }
 
 /// Takes that many turns, or fewer if a peer tells the node that it has to end; where the tape has failed, it is opened anew.
+#[tactic(auto, using(crate::proofs::Started::kept_still))]
 fn go_on<R: Files<File = File> + Clock + Eprint + Net + AllocGlobal, T: Tape + Drop, O: Opener<T>>(
     rt: &R,
     log: &Log<'_, R>,
@@ -388,39 +399,39 @@ fn go_on<R: Files<File = File> + Clock + Eprint + Net + AllocGlobal, T: Tape + D
     // Whatever came in however many turns, the node has lived by its acts, was given only what receivers returned, and sent only what it
     // returned.
     ensures lived { HasLived T.Tape (process_of hub.new) }
+    // Each client was sent the response to exactly what had come of its request, by a process that had lived so.
+    ensures answered { HasAnswered T.Tape hub.new }
+    // It goes on in its run, or its run has ended and others began.
+    ensures earlier { KeepsEarlier T.Tape (process_of hub.old) (process_of hub.new) }
 {
-    let mut backoff = Backoff::new(LEAST_REOPEN, MOST_REOPEN);
-    let mut due = Alarm { due: 0 };
     for _ in 0..turns {
         if let Begun::Ended(why) = hub.go_on(rt, log) {
             return Err(why);
         }
-        if hub.process().is_halted() && due.is_due(hub.time()) {
-            due = Alarm::after(hub.time(), backoff.wait());
-            if reopen(rt, log, hub, opener) {
-                backoff.reset();
-            }
-        }
+        reopen_if_due(rt, log, hub, opener);
     }
     hub.always_lived();
     Ok(())
 }
 
-/// Opens the tape of a halted node anew. Returns whether it is open.
-fn reopen<R: Clock + Eprint + AllocGlobal, T: Tape + Drop, O: Opener<T>>(
+/// Opens the tape of a halted node anew, if it is time to; where that fails it is tried again later.
+#[tactic(auto, using(crate::proofs::Started::kept_still, crate::proofs::Started::kept_same))]
+fn reopen_if_due<R: Clock + Eprint + AllocGlobal, T: Tape + Drop, O: Opener<T>>(
     rt: &R,
     log: &Log<'_, R>,
     hub: &mut Hub<T>,
     opener: &O,
-) -> bool {
+)
+    ensures { KeepsEarlier T.Tape (process_of hub.old) (process_of hub.new) }
+{
+    if !hub.is_reopening_due() {
+        return;
+    }
     match opener.open() {
         Some(tape) => match hub.reopen(rt, log, tape) {
-            Ok(()) => true,
-            Err(tape) => {
-                drop(tape);
-                false
-            }
+            Ok(()) => {}
+            Err(tape) => drop(tape),
         },
-        None => false,
+        None => hub.postpone_reopening(),
     }
 }

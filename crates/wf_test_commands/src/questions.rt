@@ -1,5 +1,5 @@
 //! The questions by their names.
-use crate::{broken, commands, folders, fused, lines, node_lines, played, process};
+use crate::{broken, commands, folders, fused, lines, played, process, process_lines};
 use std::fs::File;
 use std::net::{Net, TcpListener, TcpStream};
 use std::rt::Files;
@@ -24,7 +24,7 @@ impl<'r, R: Files<File = File> + Net<Listener = TcpListener, Stream = TcpStream>
             "farm_file" => folders::farm_file(asked, answer),
             "fused" => fused::fused(asked, answer),
             "line" => lines::line_of(asked, answer),
-            "node_line" => node_lines::node_line(asked, answer),
+            "process_line" => process_lines::process_line(asked, answer),
             "program" => process::program_of(self.0, asked, answer),
             "run" => lines::run(asked, &mut Connection::new(self.0), answer),
             "script" => played::script(asked, &mut Copies, answer),

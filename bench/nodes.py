@@ -1,0 +1,332 @@
+#!/usr/bin/env python3
+"""Measures nodes in processes of their own, `wfarm node` with folders on a disk, beside etcd and nginx: all in one run, on loopback.
+
+    bench/nodes.py [--program PROGRAM] [--folder FOLDER] [--count N] [--seconds S] [PART ..]
+
+Parts, all of them where none is named; about two minutes:
+  publish  a map of 32 KB to the node that leads, until each of three nodes tells it as published; in turn with a put of as many bytes
+           into three members of etcd in the same folder, at their leader, through its HTTP/JSON gateway on a kept connection. A get that
+           needs no agreement shows what the gateway takes of it
+  syncs    the syncs of such a publish at each node, counted by strace
+  tiles    one kept tile of 256 by 256 for 32 clients of wrk, a connection per request, beside nginx (one worker, the same bytes as a
+           file, no connection kept), in turns; and the processor time per 1,000 tiles of four nodes in four processes, with eight
+           clients each, beside one's
+  idle     the median of an answer with 200 connections open that send nothing, beside none; in turns
+  rest     the processor time of each of three nodes that nobody asks
+  missed   1,000 maps of 2 KB that a node gets from the others, from its start
+
+Each number stands beside what is wanted of it, and what it missed is said; status 1 where one missed. Other programs on the machine
+change what is measured: its load is printed, and what is compared was measured in turns. etcd, nginx, wrk and strace are Debian's
+packages etcd-server, nginx-light, wrk and strace; a part whose program isn't there is left out.
+"""
+
+import argparse
+import concurrent.futures
+import contextlib
+import json
+import os
+import pathlib
+import re
+import shutil
+import signal
+import socket
+import statistics
+import subprocess
+import sys
+import tempfile
+import time
+
+HERE = pathlib.Path(__file__).resolve().parent
+sys.path.insert(0, str(HERE.parent / "tools"))
+from farm import PROGRAM, nodes_in  # noqa: E402
+from publish import Etcd, call, disk_of, in_base64, texts_of  # noqa: E402
+from tiles import Map, nginx  # noqa: E402
+
+LARGE = HERE / "maps" / "large-3857.map"
+NAP = 0.0002
+PATIENCE = 60
+
+
+def percentile(times, part):
+    return sorted(times)[min(len(times) - 1, int(part * len(times)))]
+
+
+class Table:
+    """What was measured, line by line, and whether all was as wanted."""
+
+    def __init__(self):
+        self.missed = []
+
+    def note(self, what, value):
+        print(f"  {what:<58} {value}", flush=True)
+
+    def judge(self, what, value, most, unit=""):
+        """A number that should be at most so high."""
+        self.conclude(what, f"{value:.2f}{unit}", value <= most, f"at most {most:g}{unit}")
+
+    def conclude(self, what, value, is_met, wanted):
+        print(f"  {what:<58} {value:<10} {'met' if is_met else 'MISSED'} (wanted: {wanted})", flush=True)
+        if not is_met:
+            self.missed.append(what)
+
+
+# ---- nodes
+
+def ask(address, path, body=None):
+    """The status and the body of an answer, over a connection of its own."""
+    host, port = address.split(":")
+    head = f"{'GET' if body is None else 'POST'} {path} HTTP/1.1\r\nHost: {host}\r\n"
+    if body is not None:
+        head += f"Content-Length: {len(body)}\r\n"
+    with socket.create_connection((host, int(port)), timeout=PATIENCE) as client:
+        client.sendall(head.encode() + b"\r\n" + (body or b""))
+        pieces = []
+        while piece := client.recv(1 << 18):
+            pieces.append(piece)
+    head, _, body = b"".join(pieces).partition(b"\r\n\r\n")
+    return int(head.split(b" ", 2)[1]) if b" " in head else 0, body
+
+
+def published(node):
+    """The last sequence that a node tells as published."""
+    return int(ask(node.clients, "/status")[1].split()[3])
+
+
+@contextlib.contextmanager
+def farm(options, name, count=3):
+    """Nodes that run, in a folder of their own, each of which has peers."""
+    folder = pathlib.Path(options.room) / name
+    nodes = nodes_in(options.program, folder, name, count)
+    try:
+        for node in nodes:
+            node.start()
+        for node in nodes:
+            wait_for(lambda: node.published() is not None)
+        if count > 1:
+            wait_for(lambda: all(peers_of(node) == count - 1 for node in nodes))
+        yield nodes
+    finally:
+        for node in nodes:
+            node.kill()
+
+
+def peers_of(node):
+    """How many peers a node has connections to."""
+    found = re.search(rb"^wfarm_peers_connected (\d+)$", ask(node.operator, "/metrics")[1], re.M)
+    return int(found[1]) if found else 0
+
+
+def wait_for(is_so):
+    until = time.monotonic() + PATIENCE
+    while not is_so():
+        if time.monotonic() > until:
+            sys.exit("a node did not start")
+        time.sleep(0.02)
+
+
+def publish_at(node, text):
+    status, body = ask(node.clients, "/publish", text)
+    if status != 202:
+        sys.exit(f"publish: {status} {body!r}")
+
+
+def publish(nodes, text, sequence):
+    """Publishes a map at the first node, and waits until each node tells it."""
+    publish_at(nodes[0], text)
+    for node in nodes:
+        while published(node) < sequence:
+            time.sleep(NAP)
+
+
+# ---- parts
+
+def timed(call_it, *words):
+    begun = time.perf_counter()
+    call_it(*words)
+    return 1000 * (time.perf_counter() - begun)
+
+
+def tell(times):
+    return f"median {statistics.median(times):.2f} ms, p99 {percentile(times, 0.99):.2f} ms"
+
+
+def measure_publish(options, table):
+    texts = texts_of(options.program, LARGE, options.count)
+    if not shutil.which("etcd"):
+        return table.note("publish", "left out: no etcd")
+    key, whole, alone, put, got = in_base64(b"map"), [], [], [], []
+    local = json.dumps({"key": key, "serializable": True})
+    with farm(options, "publish") as nodes, Etcd(pathlib.Path(options.room)) as etcd, contextlib.closing(etcd.connect()) as leader:
+        for sequence, text in enumerate(texts, 1):
+            body = json.dumps({"key": key, "value": in_base64(text)})
+            whole.append(timed(publish, nodes, text, sequence))
+            put.append(timed(call, leader, "/v3/kv/put", body))
+            alone.append(sum(timed(published, node) for node in nodes))
+            got.append(timed(call, leader, "/v3/kv/range", local))
+    # (the first makes a leader)
+    table.note("publish of 32 KB until three nodes tell it", tell(whole[1:]))
+    table.note("  of it, three requests for /status", tell(alone[1:]))
+    table.note("put of 32 KB into three members of etcd", tell(put[1:]))
+    table.note("  a get that needs no agreement", tell(got[1:]))
+    table.judge("publish / put, medians", statistics.median(whole[1:]) / statistics.median(put[1:]), 0.6)
+    table.judge("publish / put, p99", percentile(whole[1:], 0.99) / percentile(put[1:], 0.99), 0.6)
+
+
+def measure_syncs(options, table):
+    if not shutil.which("strace"):
+        return table.note("syncs", "left out: no strace")
+    count = 20
+    texts = texts_of(options.program, LARGE, count + 1)
+    with farm(options, "syncs") as nodes:
+        publish(nodes, texts[0], 1)
+        time.sleep(2.5)
+        room = pathlib.Path(options.room)
+        tracing = ["strace", "-f", "-e", "trace=fsync,fdatasync,sync_file_range,syncfs"]
+        traces = [subprocess.Popen([*tracing, "-o", str(room / f"syncs-{node.number}"), "-p", str(node.process.pid)], stderr=subprocess.DEVNULL)
+                  for node in nodes]
+        time.sleep(1)
+        for sequence, text in enumerate(texts[1:], 2):
+            publish(nodes, text, sequence)
+        # (what is heard of peers is written a second later, out of the way of any message)
+        for trace in traces:
+            trace.send_signal(signal.SIGINT)
+            trace.wait()
+        counted = [len(re.findall(r"sync\w*\(", (room / f"syncs-{node.number}").read_text())) / count for node in nodes]
+    for node, syncs in zip(nodes, counted):
+        table.judge(f"syncs of a publish at node {node.number}" + (", which leads" if node.number == 0 else ""), syncs, 2.0)
+
+
+def rate(address, path, seconds, clients):
+    """The requests a second by wrk, and what it says of errors."""
+    words = ["wrk", "-t2", f"-c{clients}", f"-d{seconds}s", "-H", "Connection: close", f"http://{address}{path}"]
+    said = subprocess.run(words, capture_output=True, text=True).stdout
+    errors = re.search(r"Socket errors: (.*)|Non-2xx.*: (.*)", said)
+    return float(re.search(r"Requests/sec:\s+([\d.]+)", said)[1]), int(re.search(r"(\d+) requests in", said)[1]), errors and errors[0]
+
+
+def measure_tiles(options, table):
+    if not shutil.which("wrk"):
+        return table.note("tiles", "left out: no wrk")
+    it = Map(LARGE)
+    target = "/wms?" + it.tile(2, 1, 1)
+    with farm(options, "one", 1) as (one,), farm(options, "four", 4) as four, contextlib.ExitStack() as stack:
+        publish([one], it.text, 1)
+        publish(four, it.text, 1)
+        body = ask(one.clients, target)[1]
+        if any(ask(node.clients, target)[1] != body for node in four):
+            sys.exit("tiles differ")
+        room = pathlib.Path(options.room) / "nginx"
+        room.mkdir()
+        port, path = stack.enter_context(nginx(body, room))
+        measure_rates(options, table, one, target, f"127.0.0.1:{port}", path)
+        measure_processors(options, table, one, four, target)
+
+
+def measure_rates(options, table, one, target, other, path):
+    """Requests a second of the node and of nginx, in turns."""
+    ours, theirs, errors = [], [], set()
+    for _ in range(options.rounds):
+        for rates, address, asked in ((ours, one.clients, target), (theirs, other, path)):
+            got, _, wrong = rate(address, asked, options.seconds, 32)
+            rates.append(got)
+            errors.add(wrong)
+    table.note("kept tiles a second, 32 clients", f"{statistics.median(ours):,.0f} ({', '.join(f'{it:,.0f}' for it in ours)})")
+    table.note("nginx, the same bytes as a file", f"{statistics.median(theirs):,.0f} ({', '.join(f'{it:,.0f}' for it in theirs)})")
+    if errors - {None}:
+        table.note("wrk tells", "; ".join(sorted(errors - {None})))
+    ratio = statistics.median(ours) / statistics.median(theirs)
+    table.conclude("kept tiles / nginx", f"{ratio:.2f}", ratio >= 1, "at least 1")
+
+
+def measure_processors(options, table, one, four, target):
+    """Processor time per 1,000 tiles for 32 clients, of one process and of four at once, in turns."""
+    spent = {"one": [], "four": []}
+    for _ in range(options.rounds):
+        for name, nodes in (("one", [one]), ("four", four)):
+            before = sum(node.processor_seconds() for node in nodes)
+            with concurrent.futures.ThreadPoolExecutor(len(nodes)) as asking:
+                counts = asking.map(lambda node: rate(node.clients, target, options.seconds, 32 // len(nodes))[1], nodes)
+                count = sum(counts)
+            spent[name].append(1000 * (sum(node.processor_seconds() for node in nodes) - before) / count)
+    ours, theirs = (statistics.median(spent[name]) for name in ("four", "one"))
+    table.note("processor seconds per 1,000 tiles, one process", f"{theirs:.3f}")
+    table.note("four processes, all together", f"{ours:.3f}")
+    table.judge("four processes / one", ours / theirs, 1.1)
+
+
+def measure_idle(options, table):
+    with farm(options, "idle", 3) as nodes:
+        alone, beside = [], []
+        for _ in range(2 * options.rounds):
+            alone += [timed(ask, nodes[0].clients, "/status") for _ in range(200)]
+            idle = [socket.create_connection(tuple(nodes[0].clients.split(":"))) for _ in range(200)]
+            time.sleep(0.2)
+            beside += [timed(ask, nodes[0].clients, "/status") for _ in range(200)]
+            for client in idle:
+                client.close()
+            time.sleep(0.2)
+    table.note("an answer of /status, alone", tell(alone))
+    table.note("with 200 connections that send nothing", tell(beside))
+    table.judge("with 200 idle / alone, medians", statistics.median(beside) / statistics.median(alone), 1.2)
+
+
+def measure_rest(options, table):
+    with farm(options, "rest") as nodes:
+        publish(nodes, texts_of(options.program, LARGE, 1)[0], 1)
+        time.sleep(2)
+        before = [node.processor_seconds() for node in nodes]
+        time.sleep(20)
+        spent = [(node.processor_seconds() - begun) / 0.2 for node, begun in zip(nodes, before)]
+    table.judge("a node at rest, percent of a core, the highest of three", max(spent), 1, " %")
+
+
+def measure_missed(options, table):
+    more = "".join(f"FEATURE POINTS {10 + it % 80} {10 + it % 70} END END\n" for it in range(65))
+    form = ('MAP NAME "missed {:04}" EXTENT 0 0 100 100 PROJECTION "init=epsg:4326" END\nLAYER NAME "points" TYPE POINT\n'
+            "CLASS STYLE COLOR 200 30 30 SIZE 5 END END\n" + more + "END END\n")
+    size = len(subprocess.run([options.program, "canon"], input=form.format(1).encode(), capture_output=True, check=True).stdout)
+    with farm(options, "missed") as nodes:
+        nodes[2].kill()
+        for sequence in range(1, 1001):
+            publish(nodes[:2], form.format(sequence).encode(), sequence)
+        begun = time.monotonic()
+        nodes[2].start()
+        while (nodes[2].published() or 0) < 1000 and time.monotonic() < begun + PATIENCE:
+            time.sleep(0.01)
+        took = time.monotonic() - begun
+    table.judge(f"1,000 missed maps of {size:,} bytes, from the node's start", took, 3, " s")
+
+
+PARTS = {"publish": measure_publish, "syncs": measure_syncs, "tiles": measure_tiles, "idle": measure_idle, "rest": measure_rest,
+         "missed": measure_missed}
+
+
+def words():
+    asked = argparse.ArgumentParser(description=__doc__, formatter_class=argparse.RawDescriptionHelpFormatter)
+    asked.add_argument("--program", default=str(PROGRAM))
+    asked.add_argument("--folder", help="where the nodes' folders are made; it has to be on a disk")
+    asked.add_argument("--count", type=int, default=200, help="publishes")
+    asked.add_argument("--seconds", type=int, default=4, help="of each run of wrk")
+    asked.add_argument("--rounds", type=int, default=3, help="turns of what is compared")
+    asked.add_argument("parts", nargs="*", metavar="PART", help=", ".join(PARTS))
+    return asked.parse_args()
+
+
+def load():
+    return ", ".join(pathlib.Path("/proc/loadavg").read_text().split()[:2])
+
+
+def main():
+    options, table = words(), Table()
+    options.program = os.path.abspath(options.program)
+    with tempfile.TemporaryDirectory(prefix="nodes-", dir=options.folder) as options.room:
+        os.chmod(options.room, 0o755)
+        print(f"{os.cpu_count()} processors, load {load()}; {disk_of(options.room)}")
+        for name in options.parts or PARTS:
+            PARTS[name](options, table)
+        print(f"load {load()}; {len(table.missed)} missed" + "".join(f"\n  {what}" for what in table.missed))
+    return int(bool(table.missed))
+
+
+if __name__ == "__main__":
+    sys.exit(main())

@@ -1,0 +1,123 @@
+-- From the parsed arguments to the command about a process that they ask for.
+use Rattle.std.proofs.Common.{◌≡◌, ◌∙◌, ◌≤◌, ℕ, List, [], true, inl, inr, sym, ap, subst, refl, codes, arith}
+use Rattle.std.specs.Prelude.{Option, Some, None, option_map, IfNone}
+use Rattle.std.specs.Str.{bytes_eq}
+use Rattle.std.proofs.lemmas.Bool.{false≢true}
+use Rattle.clap.proofs.OnLiterals.{clap_on_literals}
+use Rattle.clap.specs.Faults.{fault_of, is_simple_and_free}
+use Rattle.clap.specs.Kinds.{HasKind}
+use Rattle.clap.specs.Simple.{App, HasMatchesOf, is_simple, subcommand_of, subcommand_rows_of}
+use Rattle.clap.specs.Takes.{takes}
+use Rattle.clap.specs.Values.{kind_of}
+use Rattle.clap.specs.Walk.{Row, Text, first_of}
+use Rattle.clap.specs.declared.error.Error.{Error}
+use Rattle.clap.specs.declared.error.kind.ErrorKind.TheVariants.{OutOfMemory}
+use Rattle.clap.specs.declared.parser.matches.ArgMatches.{ArgMatches}
+use Rattle.wf_line.specs.NodeCommandLine.{IsNodeLineOf, IsNumberBy}
+use Rattle.wf_line.specs.NodeLine.{IsNodeInRange, most_clients}
+use Rattle.wf_line.specs.ProcessCommandLine.{AsksProcess, IsInitOf, IsNodeOf, IsProcessRejection, IsReplicaOf, process_program, process_rejections}
+use Rattle.wf_line.specs.ProcessLine.{IsProcessInRange, IsReplicaInRange}
+use Rattle.wf_line.specs.ReplicaCommandLine.{IsReplicaLineOf}
+use Rattle.wf_line.specs.declared.node_line.NodeCommand.TheVariants as commands
+use Rattle.wf_line.specs.declared.node_line.NodeLine.{NodeLine}
+use Rattle.wf_line.specs.declared.process_line.ProcessCommand.{ProcessCommand}
+use Rattle.wf_line.specs.declared.process_line.ProcessCommand.TheVariants as processes
+use Rattle.wf_line.specs.declared.replica_line.ReplicaLine.{ReplicaLine}
+use Rattle.wf_service.specs.Service.{most_kept}
+
+-- if a command was named and nothing of it has its arguments, they ask for nothing
+init_asks_of : (p : Text × List Row) (rows : List Row) → p.1 ≡ rows → p.0 ≡ codes "init" → ((c : ProcessCommand) → ¬ (IsInitOf rows c)) → (c : ProcessCommand) → ¬ (AsksProcess (Some p) c)
+init_asks_of p rows has named none (processes.Node (commands.Init line)) asks = none (processes.Node (commands.Init line)) (rw has at asks.1)
+init_asks_of p rows has named none (processes.Node (commands.Node line)) asks = false≢true (sym (ap (bytes_eq (codes "init")) (sym named ∙ asks.0)))
+init_asks_of p rows has named none (processes.Replica line) asks = false≢true (sym (ap (bytes_eq (codes "init")) (sym named ∙ asks.0)))
+
+node_asks_of : (p : Text × List Row) (rows : List Row) → p.1 ≡ rows → p.0 ≡ codes "node" → ((c : ProcessCommand) → ¬ (IsNodeOf rows c)) → (c : ProcessCommand) → ¬ (AsksProcess (Some p) c)
+node_asks_of p rows has named none (processes.Node (commands.Init line)) asks = false≢true (sym (ap (bytes_eq (codes "node")) (sym named ∙ asks.0)))
+node_asks_of p rows has named none (processes.Node (commands.Node line)) asks = none (processes.Node (commands.Node line)) (rw has at asks.1)
+node_asks_of p rows has named none (processes.Replica line) asks = false≢true (sym (ap (bytes_eq (codes "node")) (sym named ∙ asks.0)))
+
+replica_asks_of : (p : Text × List Row) (rows : List Row) → p.1 ≡ rows → p.0 ≡ codes "replica" → ((c : ProcessCommand) → ¬ (IsReplicaOf rows c)) → (c : ProcessCommand) → ¬ (AsksProcess (Some p) c)
+replica_asks_of p rows has named none (processes.Node (commands.Init line)) asks = false≢true (sym (ap (bytes_eq (codes "replica")) (sym named ∙ asks.0)))
+replica_asks_of p rows has named none (processes.Node (commands.Node line)) asks = false≢true (sym (ap (bytes_eq (codes "replica")) (sym named ∙ asks.0)))
+replica_asks_of p rows has named none (processes.Replica line) asks = none (processes.Replica line) (rw has at asks.1)
+
+pub none_made : (command : Option ProcessCommand) (met : Option (Text × List Row)) (rows : List Row) → option_map (λ p. p.1) met ≡ Some rows
+    → option_map (λ p. p.0) met ≡ Some (codes "init") → IfNone command ((c : ProcessCommand) → ¬ (IsInitOf rows c)) → IfNone command ((c : ProcessCommand) → ¬ (AsksProcess met c))
+none_made (Some command) met rows has named none = tt
+none_made None None rows has named none = λ c asks. asks
+none_made None (Some p) rows has named none = init_asks_of p rows (let is : p.1 ≡ rows = cc in is) (let is : p.0 ≡ codes "init" = cc in is) none
+
+pub none_served : (command : Option ProcessCommand) (met : Option (Text × List Row)) (rows : List Row) → option_map (λ p. p.1) met ≡ Some rows
+    → option_map (λ p. p.0) met ≡ Some (codes "node") → IfNone command ((c : ProcessCommand) → ¬ (IsNodeOf rows c)) → IfNone command ((c : ProcessCommand) → ¬ (AsksProcess met c))
+none_served (Some command) met rows has named none = tt
+none_served None None rows has named none = λ c asks. asks
+none_served None (Some p) rows has named none = node_asks_of p rows (let is : p.1 ≡ rows = cc in is) (let is : p.0 ≡ codes "node" = cc in is) none
+
+pub none_replicated : (command : Option ProcessCommand) (met : Option (Text × List Row)) (rows : List Row) → option_map (λ p. p.1) met ≡ Some rows
+    → option_map (λ p. p.0) met ≡ Some (codes "replica") → IfNone command ((c : ProcessCommand) → ¬ (IsReplicaOf rows c)) → IfNone command ((c : ProcessCommand) → ¬ (AsksProcess met c))
+none_replicated (Some command) met rows has named none = tt
+none_replicated None None rows has named none = λ c asks. asks
+none_replicated None (Some p) rows has named none = replica_asks_of p rows (let is : p.1 ≡ rows = cc in is) (let is : p.0 ≡ codes "replica" = cc in is) none
+
+-- the numbers of the command that is asked for are in range
+number_in_range : (word : Option Text) (most absent number : ℕ) → 1 ≤ absent → absent ≤ most → IsNumberBy word most absent number → (1 ≤ number) × (number ≤ most)
+number_in_range None most absent number least high is = (omega (arith, is, least), omega (arith, is, high))
+number_in_range (Some word) most absent number least high is = (is.low, is.high)
+
+node_in_range : (rows : List Row) (line : NodeLine) → IsNodeLineOf rows line → IsNodeInRange line
+node_in_range rows line is =
+    let cache = number_in_range (first_of (codes "cache") rows) most_kept 16 line.cache (omega arith) (omega arith) is.cache in
+    let clients = number_in_range (first_of (codes "clients") rows) most_clients 128 line.clients (omega arith) (omega arith) is.clients in
+    record { cache = cache.0; cache_most = cache.1; clients = clients.0; clients_most = clients.1 }
+
+replica_in_range : (rows : List Row) (line : ReplicaLine) → IsReplicaLineOf rows line → IsReplicaInRange line
+replica_in_range rows line is =
+    let cache = number_in_range (first_of (codes "cache") rows) most_kept 16 line.cache (omega arith) (omega arith) is.cache in
+    record { cache = cache.0; cache_most = cache.1 }
+
+pub command_in_range : (met : Option (Text × List Row)) (command : ProcessCommand) → AsksProcess met command → IsProcessInRange command
+command_in_range None command asks = absurd asks
+command_in_range (Some named) (processes.Node (commands.Init line)) asks = record { id = asks.1.id.2.high; some = asks.1.nodes.2.low; most = asks.1.nodes.2.high }
+command_in_range (Some named) (processes.Node (commands.Node line)) asks = node_in_range named.1 line asks.1
+command_in_range (Some named) (processes.Replica line) asks = replica_in_range named.1 line asks.1
+
+-- arguments that the parser accepts are rejected only if an allocation fails
+pub passes_on : (app : App) (words : List Text) (error : Error) → app ≡ process_program → (takes app words ≡ true → kind_of error ≡ OutOfMemory)
+    → takes process_program words ≡ true → kind_of error ≡ OutOfMemory
+passes_on app words error is passes taken = passes (ap (λ a. takes a words) is ∙ taken)
+
+-- ---- the parsed command is that of the program's rules
+
+simple_program : is_simple process_program ≡ true
+unfolding clap_on_literals
+simple_program = refl
+
+met_is : (app : App) (words : List Text) (m : ArgMatches) → app ≡ process_program → HasMatchesOf app words m → subcommand_rows_of m ≡ subcommand_of process_program words
+met_is app words m is has = (has (ap is_simple is ∙ simple_program)).1 ∙ ap (λ (a : App). subcommand_of a words) is
+
+pub asked_of_program : (app : App) (words : List Text) (m : ArgMatches) (command : ProcessCommand) → app ≡ process_program → HasMatchesOf app words m → AsksProcess (subcommand_rows_of m) command →
+    AsksProcess (subcommand_of process_program words) command
+asked_of_program app words m command is has asks = subst (λ (rows : Option (Text × List Row)). AsksProcess rows command) (met_is app words m is has) asks
+
+pub none_of_program : (app : App) (words : List Text) (m : ArgMatches) → app ≡ process_program → HasMatchesOf app words m → ((command : ProcessCommand) → ¬ (AsksProcess (subcommand_rows_of m) command)) →
+    (command : ProcessCommand) → ¬ (AsksProcess (subcommand_of process_program words) command)
+none_of_program app words m is has none command asks = none command (subst (λ (rows : Option (Text × List Row)). AsksProcess rows command) (sym (met_is app words m is has)) asks)
+
+-- ---- the kinds of rejection are the parser's for the program's rules
+
+free_program : is_simple_and_free process_program ≡ true
+unfolding clap_on_literals
+free_program = refl
+
+pub kind_on : (app : App) (words : List Text) (error : Error) → app ≡ process_program → (is_simple_and_free app ≡ true → HasKind (fault_of app words) error)
+    → IsProcessRejection words (kind_of error)
+unfolding process_rejections
+kind_on app words error is kinds =
+    elim (subst (λ (a : App). HasKind (fault_of a words) error) is (kinds (ap is_simple_and_free is ∙ free_program))) [
+      | inl memory ↦ inl memory
+      | inr among ↦ inr (inl among)
+    ]
+
+pub none_on : (app : App) (words : List Text) → app ≡ process_program → (is_simple_and_free app ≡ true → fault_of app words ≡ []) → process_rejections words ≡ []
+unfolding process_rejections
+none_on app words is kinds = subst (λ (a : App). fault_of a words ≡ []) is (kinds (ap is_simple_and_free is ∙ free_program))

@@ -1,0 +1,165 @@
+//! Parses the command lines about processes of a farm.
+ghost use Rattle.std.specs.Prelude.{◌≡◌, ◌∷◌, [], IfErr, IfNone, IfOk, IfSome, map};
+ghost use Rattle.clap.specs.Simple.{app_of, subcommand_of, subcommand_rows_of};
+ghost use Rattle.clap.specs.Values.{kind_of};
+ghost use Rattle.wf_line.specs.CommandLine.{rows_in};
+ghost use Rattle.wf_line.specs.NodeCommandLine.{init_shape, node_shape};
+ghost use Rattle.wf_line.specs.ProcessCommandLine.{AsksProcess, IsInitOf, IsNodeOf, IsProcessRejection, IsReplicaOf, IsWhyProcessRejected, begins_with_process_command, is_process_command, names_process_command, process_program, program_of};
+ghost use Rattle.wf_line.specs.ProcessLine.{IsProcessInRange};
+ghost use Rattle.wf_line.specs.declared.process_line.ProcessCommand.{ProcessCommand};
+
+use crate::node_arguments::{init_command, init_line, node_arguments, node_line};
+use crate::node_line::NodeCommand;
+use crate::process_line::ProcessCommand;
+use crate::replica_arguments::{replica_arguments, replica_line};
+use clap::error::ErrorKind;
+use clap::{ArgMatches, Command, Error};
+use std::alloc::{AllocError, Global};
+use std::convert::AsStr;
+
+static NO_WORDS: [&str; 0] = [];
+
+// The program with the commands about nodes.
+fn node_program<'a>(alloc: Global) -> Result<Command<'a>, AllocError>
+    ensures { IfOk result (λ command. app_of command ≡ program_of (init_shape ∷ node_shape ∷ [])) }
+{
+    let init = init_command(alloc)?;
+    let node = node_arguments(alloc)?;
+    Command::new(alloc, "wfarm")
+        .no_binary_name(true)
+        .subcommand_required(true)
+        .subcommand(init)?
+        .subcommand(node)
+}
+
+// The program with all commands about processes.
+fn program<'a>(alloc: Global) -> Result<Command<'a>, AllocError>
+    ensures { IfOk result (λ command. app_of command ≡ process_program) }
+{
+    let replica = replica_arguments(alloc)?;
+    node_program(alloc)?.subcommand(replica)?.bin_name("wfarm")
+}
+
+// The error for a missing command or a value out of range, with the usage.
+fn rejection(alloc: Global) -> Result<Error, AllocError>
+    ensures { IfOk result (λ error. kind_of error ≡ ErrorKind.ValueValidation) }
+{
+    let mut command = program(alloc)?;
+    let rejection = command.error(
+        ErrorKind::ValueValidation,
+        "a command is missing, or a value is out of range",
+    );
+    // Parsing no arguments drops the command. A drop here would need a proof for all of its parts again.
+    let _ = command.try_get_matches_from(NO_WORDS.as_slice());
+    rejection
+}
+
+// The `init` command of the parsed arguments.
+fn init<'a>(found: &ArgMatches<'a>) -> Option<ProcessCommand<'a>>
+    ensures some { IfSome result (IsInitOf (rows_in found.now)) }
+    ensures none { IfNone result
+        ((command : ProcessCommand) → ¬ (IsInitOf (rows_in found.now) command)) }
+{
+    let line = init_line(found)?;
+    Some(ProcessCommand::Node(NodeCommand::Init(line)))
+}
+
+// The `node` command of the parsed arguments.
+fn node<'a>(found: &ArgMatches<'a>) -> Option<ProcessCommand<'a>>
+    ensures some { IfSome result (IsNodeOf (rows_in found.now)) }
+    ensures none { IfNone result
+        ((command : ProcessCommand) → ¬ (IsNodeOf (rows_in found.now) command)) }
+{
+    let line = node_line(found)?;
+    Some(ProcessCommand::Node(NodeCommand::Node(line)))
+}
+
+// The `replica` command of the parsed arguments.
+fn replica<'a>(found: &ArgMatches<'a>) -> Option<ProcessCommand<'a>>
+    ensures some { IfSome result (IsReplicaOf (rows_in found.now)) }
+    ensures none { IfNone result
+        ((command : ProcessCommand) → ¬ (IsReplicaOf (rows_in found.now) command)) }
+{
+    let line = replica_line(found)?;
+    Some(ProcessCommand::Replica(line))
+}
+
+// The command that the parsed arguments ask for.
+fn asked<'a>(matches: &ArgMatches<'a>) -> Option<ProcessCommand<'a>>
+    ensures some { IfSome result (AsksProcess (subcommand_rows_of matches.now)) }
+    ensures none { IfNone result
+        ((command : ProcessCommand) → ¬ (AsksProcess (subcommand_rows_of matches.now) command)) }
+{
+    match matches.subcommand() {
+        Some(("init", found)) => init(found),
+        Some(("node", found)) => node(found),
+        Some(("replica", found)) => replica(found),
+        _ => None,
+    }
+}
+
+/// Whether these are arguments, without the program's name, of `init`, `node` or `replica`, or ask for the help of one: then
+/// [`process_command`] parses them, else [`crate::arguments::line`].
+pub fn names_process_command<S: AsStr>(words: &[S]) -> bool
+    ensures { result ≡ names_process_command (map S.text words.now) }
+{
+    match words {
+        [first, rest @ ..] => {
+            if first.as_str() == "help" {
+                begins_with_process_command(rest)
+            } else {
+                is_process_command(first.as_str())
+            }
+        }
+        [] => false,
+    }
+}
+
+// Whether the first of the words names one of these commands.
+fn begins_with_process_command<S: AsStr>(words: &[S]) -> bool
+    ensures { result ≡ begins_with_process_command (map S.text words.now) }
+{
+    match words {
+        [first, ..] => is_process_command(first.as_str()),
+        [] => false,
+    }
+}
+
+// Whether the word names one of these commands.
+fn is_process_command(word: &str) -> bool
+    ensures { result ≡ is_process_command word.now }
+{
+    if word == "init" {
+        true
+    } else if word == "node" {
+        true
+    } else {
+        word == "replica"
+    }
+}
+
+/// Parses the arguments of `init`, `node` or `replica`, without the program's name. An error's text is for the user.
+#[tactic(auto, using(crate::proofs::ProcessNamed::command_in_range))]
+pub fn process_command<'a, S: AsStr>(
+    alloc: Global,
+    words: &'a [S],
+) -> Result<ProcessCommand<'a>, Error>
+    ensures range { IfOk result IsProcessInRange }
+    ensures asked { IfOk result
+        (AsksProcess (subcommand_of process_program (map S.text words.entry.now))) }
+    // Arguments that ask for a command are rejected only if an allocation fails.
+    ensures rejected { IfErr result
+        (λ error. IsWhyProcessRejected (map S.text words.entry.now) (kind_of error)) }
+    // The error's kind is the parser's.
+    ensures kind { IfErr result
+        (λ error. IsProcessRejection (map S.text words.entry.now) (kind_of error)) }
+{
+    let matches = program(alloc)?.try_get_matches_from(words)?;
+    let asked = asked(&matches);
+    drop(matches);
+    // The parser has checked that there is a command, but clap's contract doesn't cover a subcommand's values.
+    match asked {
+        Some(command) => Ok(command),
+        None => Err(rejection(alloc)?),
+    }
+}

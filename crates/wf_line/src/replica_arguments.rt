@@ -1,0 +1,86 @@
+//! The arguments of the command `replica`.
+ghost use Rattle.std.specs.Prelude.{◌≡◌, ℕ, IfNone, IfOk, IfSome};
+ghost use Rattle.wf_line.specs.CommandLine.{IsOfShape, rows_in};
+ghost use Rattle.wf_line.specs.ReplicaCommandLine.{IsReplicaLineOf, replica_shape, replica_shape_addresses, replica_shape_start};
+ghost use Rattle.wf_line.specs.declared.replica_line.ReplicaLine.{ReplicaLine};
+
+use crate::arguments::{cache_argument, is_set, log_argument};
+use crate::node_arguments::{DEFAULT_CACHE, number_or, option, readers_argument};
+use crate::replica_line::ReplicaLine;
+use clap::{ArgMatches, Command};
+use std::alloc::{AllocError, Global};
+
+const REPLICA_HELP: &str =
+    "A replica asks the nodes at the addresses of --peers, one at a time, for what the farm publishes, keeps it on a tape of its
+own in DIR, and answers GET /wms?QUERY as a node does. It has no vote: POST /publish is 404. GET /status reports its last sequence.
+DIR must exist, and is empty at first. Other replicas may ask this one: it is at most four replicas away from a node.
+A kept picture takes 3 MB. With --log a line on standard error tells each event: TIME LEVEL EVENT KEY=VALUE ..
+
+Errors: status 2 for a bad command line, else 1, with a line that names the cause";
+
+// `replica`, with its first three arguments.
+fn replica_start<'a>(alloc: Global) -> Result<Command<'a>, AllocError>
+    ensures { IfOk result (IsOfShape replica_shape_start) }
+{
+    Command::new(alloc, "replica")
+        .about("Serves what a farm publishes, without a vote")
+        .after_help(REPLICA_HELP)
+        .arg(option(alloc, "state", "DIR", true, "The replica's folder"))?
+        .arg(option(alloc, "farm", "NAME", true, "The farm's name"))?
+        .arg(option(
+            alloc,
+            "peers",
+            "R0:P,R1:P,..",
+            true,
+            "The addresses of the readers' ports to ask",
+        ))
+}
+
+// `replica`, with all its addresses.
+fn replica_addresses<'a>(alloc: Global) -> Result<Command<'a>, AllocError>
+    ensures { IfOk result (IsOfShape replica_shape_addresses) }
+{
+    replica_start(alloc)?
+        .arg(option(alloc, "http", "ADDR:PORT", true, "Where clients come"))?
+        .arg(readers_argument(alloc))?
+        .arg(option(
+            alloc,
+            "admin",
+            "ADDR:PORT",
+            false,
+            "Where the operator comes",
+        ))
+}
+
+// `replica`.
+pub(crate) fn replica_arguments<'a>(alloc: Global) -> Result<Command<'a>, AllocError>
+    ensures { IfOk result (IsOfShape replica_shape) }
+{
+    replica_addresses(alloc)?
+        .arg(cache_argument(alloc))?
+        .arg(log_argument(alloc))
+}
+
+// The arguments parsed for `replica`.
+#[tactic(auto, using(crate::proofs::Named::word_in_row))]
+pub(crate) fn replica_line<'a>(found: &ArgMatches<'a>) -> Option<ReplicaLine<'a>>
+    ensures some { IfSome result (IsReplicaLineOf (rows_in found.now)) }
+    ensures none { IfNone result
+        ((line : ReplicaLine) → ¬ (IsReplicaLineOf (rows_in found.now) line)) }
+{
+    let state = found.get_str("state")?;
+    let farm = found.get_str("farm")?;
+    let peers = found.get_str("peers")?;
+    let http = found.get_str("http")?;
+    let cache = number_or(found, "cache", 64, DEFAULT_CACHE)?;
+    Some(ReplicaLine {
+        state,
+        farm,
+        peers,
+        http,
+        readers: found.get_str("readers"),
+        admin: found.get_str("admin"),
+        cache: cache as u8,
+        log: is_set(found, "log"),
+    })
+}

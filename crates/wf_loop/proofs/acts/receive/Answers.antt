@@ -1,0 +1,5 @@
+use Rattle.wf_loop.proofs.Going.{received}
+use Rattle.wf_loop.proofs.acts.receive.Goals as goal
+
+pub returns : goal.returns
+returns g c = received g.T.Tape _ _ _ _ _ c.receive.ensures.peer c.receive.ensures.other

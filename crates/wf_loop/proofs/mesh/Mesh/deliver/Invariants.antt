@@ -1,0 +1,5 @@
+use Rattle.wf_loop.specs.Going.{GoesOn}
+use Rattle.wf_loop.proofs.mesh.Mesh.deliver.Given as goal
+
+abbrev pub invariant-loop : goal.invariant-loop
+invariant-loop g l = GoesOn g.T.Tape l.fn.process l.process

@@ -1,0 +1,83 @@
+//! What is done to a process: by each of these its run goes on.
+ghost use Rattle.std.specs.Prelude.{◌≡◌, OnErr, OnOk};
+ghost use Rattle.wf_actor.specs.Process.{IsBegun};
+ghost use Rattle.wf_loop.specs.Going.{GoesOn, KeepsEarlier};
+
+use std::alloc::Global;
+use std::io;
+use wf_actor::Process;
+use wf_ballot::NodeId;
+use wf_journal::OpenFault;
+use wf_stream::Sink;
+use wf_tape::Tape;
+
+/// Begins the running proposal again.
+pub(crate) fn retry<T: Tape>(alloc: Global, process: &mut Process<T>)
+    ensures { GoesOn T.Tape process.old process.new }
+{
+    let _ = process.retry(alloc);
+}
+
+/// Delivers the first of its own messages that wait. Returns whether one waited.
+pub(crate) fn hear_own<T: Tape>(alloc: Global, process: &mut Process<T>) -> bool
+    ensures { GoesOn T.Tape process.old process.new }
+{
+    process.hear_own(alloc).is_some()
+}
+
+/// Delivers the first message that has arrived from a peer.
+pub(crate) fn hear<T: Tape>(alloc: Global, process: &mut Process<T>, peer: NodeId)
+    ensures { GoesOn T.Tape process.old process.new }
+{
+    let _ = process.hear(alloc, peer);
+}
+
+/// Takes bytes that came from a peer. Returns how many messages they complete; None if they aren't messages.
+pub(crate) fn receive<T: Tape>(
+    process: &mut Process<T>,
+    peer: NodeId,
+    piece: &[u8],
+) -> Option<usize>
+    ensures { GoesOn T.Tape process.old process.new }
+{
+    process.receive(peer, piece).ok()
+}
+
+/// Begins to hear a peer anew: of what came before nothing is left.
+pub(crate) fn open_receiver<T: Tape>(alloc: Global, process: &mut Process<T>, peer: NodeId)
+    ensures { GoesOn T.Tape process.old process.new }
+{
+    process.open_receiver(alloc, peer);
+}
+
+/// Drops what waits for a peer, and what is for it from now on.
+pub(crate) fn close_outbox<T: Tape>(process: &mut Process<T>, peer: NodeId)
+    ensures { GoesOn T.Tape process.old process.new }
+{
+    process.close_outbox(peer);
+}
+
+/// Writes what waits for a peer once. Returns how many bytes were written.
+pub(crate) fn write<T: Tape, S: Sink>(
+    process: &mut Process<T>,
+    peer: NodeId,
+    sink: &mut S,
+) -> io::Result<usize>
+    ensures { GoesOn T.Tape process.old process.new }
+{
+    process.write_to(peer, sink)
+}
+
+/// Begins another run on a tape. Err: the tape, and why its node doesn't open; nothing has changed.
+pub(crate) fn reopen<T: Tape + Drop>(
+    alloc: Global,
+    process: &mut Process<T>,
+    tape: T,
+) -> Result<(), (T, OpenFault)>
+    ensures begun { OnOk result (IsBegun process.new) }
+    ensures same { OnErr result (process.new ≡ process.old) }
+    ensures among { process.new.n ≡ process.old.n }
+    ensures earlier { KeepsEarlier T.Tape process.old process.new }
+{
+    process.reopen(alloc, tape)
+}

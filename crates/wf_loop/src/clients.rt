@@ -1,0 +1,105 @@
+//! The clients of a node.
+
+ghost use Rattle.std.specs.Prelude.{◌≡◌};
+ghost use Rattle.wf_loop.specs.Answer.{AreAnswered};
+ghost use Rattle.wf_loop.specs.Going.{GoesOn};
+ghost use Rattle.wf_visitors.specs.Visitors.{said_of};
+
+use crate::voter::Voter;
+use http_server::Log as Past;
+use std::time::Clock;
+use wf_tape::Tape;
+use wf_visitors::{Context, Visitors};
+
+/// The most requests of clients that a turn answers.
+const MOST_SERVED: usize = 8;
+
+/// The clients of a node. A clause sees logs that only proofs read: for each client that was answered, in order, the process before and
+/// after it.
+#[derive(Drop)]
+pub struct Clients<T: Tape> {
+    pub(crate) visitors: Visitors,
+    pub(crate) before: Past<Voter<T>, usize>,
+    pub(crate) after: Past<Voter<T>, usize>,
+    ghost answered: { ∥ AreAnswered T.Tape before.items (said_of visitors) after.items ∥₁ },
+}
+
+impl<T: Tape + Drop> Clients<T> {
+    ghost use Rattle.std.specs.Prelude.{[]};
+
+    /// Nobody was answered yet.
+    #[tactic(auto, using(crate::proofs::Answers::none_answered))]
+    pub(crate) fn new(visitors: Visitors) -> Self
+        requires { said_of visitors ≡ [] }
+        ensures { result.before.items ≡ [] }
+    {
+        Clients {
+            visitors,
+            before: Past::new(),
+            after: Past::new(),
+        }
+    }
+
+    /// Each client that was answered, always. The call does nothing.
+    pub(crate) fn always_answered(&self)
+        ensures { ∥ AreAnswered T.Tape self.now.before.items (said_of self.now.visitors) self.now.after.items ∥₁ }
+    {
+        let _ = &self.before;
+    }
+
+    /// Accepts clients.
+    pub(crate) fn accept<R: Clock + Eprint + AllocGlobal>(&mut self, context: &Context<'_, '_, R>)
+        ensures { self.new.before.items ≡ self.old.before.items }
+    {
+        self.visitors.accept(context);
+    }
+
+    /// What came for the client in a slot, or was taken by it.
+    pub(crate) fn turn<R: AllocGlobal>(&mut self, context: &Context<'_, '_, R>, index: usize)
+        ensures { self.new.before.items ≡ self.old.before.items }
+    {
+        self.visitors.turn(context, index);
+    }
+
+    /// Ends the phases whose time is over.
+    pub(crate) fn tick(&mut self, time: u64)
+        ensures { self.new.before.items ≡ self.old.before.items }
+    {
+        self.visitors.tick(time);
+    }
+
+    /// Answers requests that are whole, a bounded number of them. Returns whether there are more.
+    #[tactic(auto, using(crate::proofs::Going::still, crate::proofs::Going::twice))]
+    pub(crate) fn serve<R: Clock + Eprint + AllocGlobal>(
+        &mut self,
+        context: &Context<'_, '_, R>,
+        voter: &mut Voter<T>,
+    ) -> bool
+        ensures { GoesOn T.Tape voter.old.process voter.new.process }
+    {
+        for _ in 0..MOST_SERVED {
+            let Some(index) = self.visitors.next() else {
+                return false;
+            };
+            self.serve_one(context, voter, index);
+        }
+        self.visitors.waits()
+    }
+
+    /// Answers the request in a slot, if it is whole.
+    #[tactic(auto, using(crate::proofs::Going::responded, crate::proofs::Going::stayed))]
+    fn serve_one<R: Clock + Eprint + AllocGlobal>(
+        &mut self,
+        context: &Context<'_, '_, R>,
+        voter: &mut Voter<T>,
+        index: usize,
+    )
+        ensures { GoesOn T.Tape voter.old.process voter.new.process }
+    {
+        let before = self.before.and(&*voter, &0);
+        if self.visitors.serve(context, voter, index) {
+            self.before = before;
+            self.after = self.after.and(&*voter, &0);
+        }
+    }
+}

@@ -1,0 +1,151 @@
+//! What a node tells its operator.
+
+use crate::mesh::Differing;
+use crate::notes::Notes;
+use crate::peer_state::PeerState;
+use crate::tally::Tally;
+use std::alloc::AllocError;
+use std::fmt::Write;
+use std::fs;
+use std::rt::Files;
+use wf_learner::History;
+use wf_operator::metrics::{counter, gauge, seconds};
+use wf_operator::{Health, Operated};
+use wf_proposer::Standing;
+use wf_visitors::Counts;
+
+/// What a node tells its operator.
+#[derive(Drop)]
+pub(crate) struct Facts<'a, R> {
+    pub(crate) rt: &'a R,
+    pub(crate) history: &'a History,
+    pub(crate) notes: &'a Notes,
+    pub(crate) peers: &'a [PeerState],
+    pub(crate) requests: &'a Counts,
+    pub(crate) rejected: &'a Tally,
+    pub(crate) pictures: u64,
+    pub(crate) tape: &'a str,
+    pub(crate) is_halted: bool,
+    pub(crate) proposal: Standing,
+    pub(crate) differs: Option<Differing>,
+    pub(crate) reader_differs: Option<u16>,
+    pub(crate) heard: u16,
+    pub(crate) is_behind: bool,
+    pub(crate) clients: usize,
+    pub(crate) readers: usize,
+}
+
+impl<'a, R: Files> Operated for Facts<'a, R> {
+    fn history(&self) -> &History {
+        self.history
+    }
+
+    fn digest_at(&self, number: u16) -> Option<[u8; 32]> {
+        self.notes.digest_at(number)
+    }
+
+    fn health(&self) -> Health {
+        if self.is_halted {
+            return Health::Halted;
+        }
+        match (self.differs, self.reader_differs) {
+            (Some(Differing { peer, sequence }), _) => Health::Differs { peer, sequence },
+            (None, Some(sequence)) => Health::ReaderDiffers { sequence },
+            (None, None) => Health::Fine,
+        }
+    }
+
+    fn later(&self) -> Option<u16> {
+        if self.is_behind {
+            Some(self.heard)
+        } else {
+            None
+        }
+    }
+
+    fn push_metrics(&self, text: &mut String) -> Result<(), AllocError> {
+        push_farm(text, self)?;
+        push_proposal(text, self.proposal)?;
+        push_peers(text, self.peers)?;
+        self.requests.push_to(text)?;
+        counter(text, "wfarm_pictures_total", self.pictures)?;
+        seconds(
+            text,
+            "wfarm_drawing_seconds_total",
+            self.requests.spent("/wms", 200),
+        )?;
+        self.rejected.push_to(text)?;
+        match tape_bytes(self.rt, self.tape) {
+            Some(bytes) => gauge(text, "wfarm_tape_bytes", bytes),
+            None => Ok(()),
+        }
+    }
+}
+
+/// Appends what is known of the node and its farm.
+fn push_farm<R>(text: &mut String, facts: &Facts<'_, R>) -> Result<(), AllocError> {
+    let connected = facts.peers.iter().filter(|peer| peer.is_connected).count();
+    let nodes = facts.peers.len();
+    let is_majority = nodes < connected.saturating_add(1).saturating_mul(2);
+    let published = facts.history.published().number();
+    let differs = facts.differs.is_some() || facts.reader_differs.is_some();
+    gauge(text, "wfarm_published_sequence", published as u64)?;
+    gauge(text, "wfarm_heard_sequence", facts.heard as u64)?;
+    gauge(text, "wfarm_nodes", nodes as u64)?;
+    gauge(text, "wfarm_peers_connected", connected as u64)?;
+    gauge(text, "wfarm_majority_connected", is_majority as u64)?;
+    gauge(text, "wfarm_halted", facts.is_halted as u64)?;
+    gauge(text, "wfarm_history_differs", differs as u64)?;
+    gauge(text, "wfarm_open_clients", facts.clients as u64)?;
+    gauge(text, "wfarm_open_readers", facts.readers as u64)
+}
+
+/// The length of a tape, in bytes. None if it can't be had.
+fn tape_bytes<R: Files>(rt: &R, path: &str) -> Option<u64> {
+    match fs::metadata(rt, path) {
+        Ok(metadata) => Some(metadata.len()),
+        Err(_) => None,
+    }
+}
+
+/// Appends the state of the node's proposal.
+fn push_proposal(text: &mut String, proposal: Standing) -> Result<(), AllocError> {
+    text.push_str("# TYPE wfarm_proposal gauge\n")?;
+    let none = matches!(proposal, Standing::None) as u8;
+    let running = matches!(proposal, Standing::Running) as u8;
+    let published = matches!(proposal, Standing::Published(_)) as u8;
+    let overtaken = matches!(proposal, Standing::Overtaken(_)) as u8;
+    write!(text, "wfarm_proposal{{state=\"none\"}} {none}\n")?;
+    write!(text, "wfarm_proposal{{state=\"running\"}} {running}\n")?;
+    write!(text, "wfarm_proposal{{state=\"published\"}} {published}\n")?;
+    write!(text, "wfarm_proposal{{state=\"overtaken\"}} {overtaken}\n")
+}
+
+/// Appends what is known of the peers.
+fn push_peers(text: &mut String, peers: &[PeerState]) -> Result<(), AllocError> {
+    text.push_str("# TYPE wfarm_messages_in_total counter\n")?;
+    for (number, peer) in peers.iter().enumerate() {
+        let heard = peer.heard;
+        write!(
+            text,
+            "wfarm_messages_in_total{{peer=\"{number}\"}} {heard}\n"
+        )?;
+    }
+    text.push_str("# TYPE wfarm_messages_dropped_total counter\n")?;
+    for (number, peer) in peers.iter().enumerate() {
+        let lost = peer.lost;
+        write!(
+            text,
+            "wfarm_messages_dropped_total{{peer=\"{number}\"}} {lost}\n"
+        )?;
+    }
+    text.push_str("# TYPE wfarm_bytes_out_total counter\n")?;
+    for (number, peer) in peers.iter().enumerate() {
+        let written = peer.written;
+        write!(
+            text,
+            "wfarm_bytes_out_total{{peer=\"{number}\"}} {written}\n"
+        )?;
+    }
+    Ok(())
+}

@@ -1,0 +1,185 @@
+//! All of a hub but its node: sockets, peers, and who only reads.
+ghost use Rattle.std.specs.Prelude.{◌≡◌, [], None, IfErr, IfOk, IsOk};
+ghost use Rattle.wf_loop.specs.Starting.{IsCause};
+ghost use Rattle.wf_visitors.specs.Visitors.{said_of};
+
+use crate::desk::Desk;
+use crate::mesh::Mesh;
+use crate::pace::Pace;
+use crate::plan::{LoopFault, Plan};
+use crate::token::{CLIENT, Socket};
+use mio::net::TcpListener;
+use mio::{Events, Poll, Registry};
+use std::alloc::Global;
+use std::net::{Net, SocketAddr};
+use wf_peer::Heard;
+use wf_reader::Answerer;
+use wf_visitors::{Visitors, listen};
+
+/// The most events of a turn.
+pub(crate) const MOST_EVENTS: usize = 256;
+
+/// The poll, and the listeners that are registered at it.
+#[derive(Drop)]
+struct Doors {
+    poll: Poll,
+    http: TcpListener,
+    listener: TcpListener,
+    admin: Option<TcpListener>,
+    readers: Option<TcpListener>,
+}
+
+/// All of a hub but its node and its clients.
+#[derive(Drop)]
+pub(crate) struct Parts {
+    pub(crate) poll: Poll,
+    pub(crate) events: Events,
+    pub(crate) mesh: Mesh,
+    pub(crate) desk: Desk,
+}
+
+impl Parts {
+    /// What the node does by the clock, from now on.
+    pub(crate) fn pace(&self, time: u64) -> Pace {
+        Pace::new(self.mesh.plan.own.node, time)
+    }
+}
+
+/// All of a hub but its node.
+#[derive(Drop)]
+pub(crate) struct Begin {
+    pub(crate) parts: Parts,
+    pub(crate) visitors: Visitors,
+}
+
+/// A listener at an address, registered. Err: this fault.
+fn listen_at<R: Net>(
+    rt: &R,
+    registry: &Registry,
+    address: SocketAddr,
+    socket: Socket,
+    fault: LoopFault,
+) -> Result<TcpListener, LoopFault>
+    ensures { IfErr result (λ why. why ≡ fault) }
+{
+    match listen(rt, registry, address, socket.token()) {
+        Ok(listener) => Ok(listener),
+        Err(_) => Err(fault),
+    }
+}
+
+/// A listener at an address, registered, if there is an address. Err: this fault.
+fn listen_if<R: Net>(
+    rt: &R,
+    registry: &Registry,
+    address: Option<SocketAddr>,
+    socket: Socket,
+    fault: LoopFault,
+) -> Result<Option<TcpListener>, LoopFault>
+    ensures cause { IfErr result (λ why. why ≡ fault) }
+    ensures none { address ≡ None → IsOk result }
+{
+    match address {
+        Some(address) => match listen_at(rt, registry, address, socket, fault) {
+            Ok(listener) => Ok(Some(listener)),
+            Err(fault) => Err(fault),
+        },
+        None => Ok(None),
+    }
+}
+
+/// Binds the addresses of a node.
+fn doors_of<R: Net>(rt: &R, plan: &Plan) -> Result<Doors, LoopFault>
+    ensures { IfErr result (IsCause plan.now) }
+{
+    match Poll::new(rt) {
+        Ok(poll) => doors_at(rt, plan, poll),
+        Err(_) => Err(LoopFault::Poll),
+    }
+}
+
+/// Binds the addresses of a node, registered at a poll.
+fn doors_at<R: Net>(rt: &R, plan: &Plan, poll: Poll) -> Result<Doors, LoopFault>
+    ensures { IfErr result (IsCause plan.now) }
+{
+    let registry = poll.registry();
+    let http = listen_at(rt, registry, plan.http, Socket::Http, LoopFault::Http)?;
+    let listener = listen_at(rt, registry, plan.listen, Socket::Listen, LoopFault::Listen)?;
+    let admin = listen_if(rt, registry, plan.admin, Socket::Admin, LoopFault::Admin)?;
+    let readers = listen_if(
+        rt,
+        registry,
+        plan.readers,
+        Socket::Readers,
+        LoopFault::Readers,
+    )?;
+    Ok(Doors {
+        poll,
+        http,
+        listener,
+        admin,
+        readers,
+    })
+}
+
+/// Who answers readers: a voter of the farm.
+fn answerer_of(plan: &Plan) -> Answerer {
+    Answerer {
+        farm: plan.own.farm,
+        distance: 0,
+    }
+}
+
+/// All of a hub but its node, with these listeners. The only error is allocation failure.
+fn begin_at(
+    alloc: Global,
+    plan: Plan,
+    doors: Doors,
+    heard: Heard,
+    time: u64,
+) -> Result<Begin, LoopFault>
+    ensures begun { IfOk result (λ begun. said_of begun.visitors ≡ []) }
+    ensures memory { IfErr result (λ why. why ≡ LoopFault.Memory) }
+{
+    let Doors {
+        poll,
+        http,
+        listener,
+        admin,
+        readers,
+    } = doors;
+    let events = Events::with_capacity(alloc, MOST_EVENTS)?;
+    let answerer = answerer_of(&plan);
+    let visitors = Visitors::new(alloc, plan.clients, Some(http), CLIENT)?;
+    let desk = Desk::new(alloc, answerer, admin, readers)?;
+    let mesh = Mesh::new(alloc, plan, listener, heard, time)?;
+    Ok(Begin {
+        parts: Parts {
+            poll,
+            events,
+            mesh,
+            desk,
+        },
+        visitors,
+    })
+}
+
+/// Binds the addresses of a node, and makes all of its hub but the node.
+pub(crate) fn bind<R: Net + AllocGlobal>(
+    rt: &R,
+    plan: Plan,
+    heard: Heard,
+    time: u64,
+) -> Result<Begin, LoopFault>
+    ensures begun { IfOk result (λ begun. said_of begun.visitors ≡ []) }
+    ensures cause { IfErr result (IsCause plan) }
+{
+    match doors_of(rt, &plan) {
+        Ok(doors) => begin_at(rt.alloc(), plan, doors, heard, time),
+        Err(fault) => {
+            drop(plan);
+            drop(heard);
+            Err(fault)
+        }
+    }
+}

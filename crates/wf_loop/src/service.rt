@@ -1,0 +1,293 @@
+//! How a hub begins, waits for its sockets and goes on, turn after turn.
+ghost use Rattle.std.specs.Prelude.{◌≡◌, ◌≤◌, ◌↔◌, [], Err, IfErr, IfOk, IsTrue, OnErr, OnOk};
+ghost use Rattle.wf_actor.specs.Process.{IsBegun};
+ghost use Rattle.wf_loop.specs.Hub.{HasAnswered, IsReopeningDue, address_of, process_of, time_of};
+ghost use Rattle.wf_loop.specs.Lived.{HasLived};
+ghost use Rattle.wf_loop.specs.Going.{GoesOn, KeepsEarlier};
+ghost use Rattle.wf_loop.specs.Starting.{IsCause};
+ghost use Rattle.wf_visitors.specs.Visitors.{said_of};
+
+use crate::acts::reopen;
+use crate::clients::Clients;
+use crate::event::Event;
+use crate::hub::Hub;
+use crate::pace::{Pace, TICK_MILLIS};
+use crate::parts::{Begin, MOST_EVENTS, Parts, bind};
+use crate::plan::{LoopFault, Plan};
+use crate::tally::Tally;
+use crate::turn::{answer_operators, serve_all};
+use crate::voter::Voter;
+use std::alloc::Global;
+use std::net::{Net, SocketAddr};
+use std::rt::Files;
+use std::time::{Clock, Duration};
+use wf_actor::Process;
+use wf_operator::Behind;
+use wf_peer::{Heard, Rejection};
+use wf_tape::Tape;
+use wf_visitors::{Context, Log, Visitors, now};
+
+/// How a turn ended.
+#[derive(Clone, Copy, PartialEq, Eq)]
+pub enum Begun {
+    /// The node goes on.
+    On,
+    /// A peer told it that it has to end.
+    Ended(Rejection),
+}
+
+/// A hub of these parts. Err: that of the parts; the process is dropped.
+fn hub_of<T: Tape + Drop>(
+    alloc: Global,
+    begun: Result<Begin, LoopFault>,
+    process: Process<T>,
+    time: u64,
+) -> Result<Hub<T>, LoopFault>
+    requires { IfOk begun (λ begun. said_of begun.visitors ≡ []) }
+    ensures hub { IfOk result (λ hub. process_of hub ≡ process) }
+    ensures time { IfOk result (λ hub. time_of hub ≡ time) }
+    ensures fault { IfErr result (λ fault. begun ≡ Err fault) }
+{
+    match begun {
+        Ok(Begin { parts, visitors }) => Ok(assemble(alloc, parts, visitors, process, time)),
+        Err(fault) => {
+            drop(process);
+            Err(fault)
+        }
+    }
+}
+
+/// A process that has answered nobody yet.
+fn voter_of<T: Tape>(alloc: Global, process: Process<T>) -> Voter<T>
+    ensures { result.process ≡ process }
+{
+    Voter {
+        process,
+        rejected: Tally::new(alloc),
+        pictures: 0,
+    }
+}
+
+/// A hub of these parts.
+fn assemble<T: Tape + Drop>(
+    alloc: Global,
+    parts: Parts,
+    visitors: Visitors,
+    process: Process<T>,
+    time: u64,
+) -> Hub<T>
+    requires { said_of visitors ≡ [] }
+    ensures hub { process_of result ≡ process }
+    ensures time { time_of result ≡ time }
+{
+    let pace = parts.pace(time);
+    let http = visitors.address();
+    let clients = Clients::new(visitors);
+    let voter = voter_of(alloc, process);
+    hub_with(parts, clients, voter, pace, http, time)
+}
+
+/// A hub with these clients, of whom nobody was answered yet.
+fn hub_with<T: Tape>(
+    parts: Parts,
+    clients: Clients<T>,
+    voter: Voter<T>,
+    pace: Pace,
+    http: Option<SocketAddr>,
+    time: u64,
+) -> Hub<T>
+    ensures voter { process_of result ≡ voter.process }
+    ensures time { time_of result ≡ time }
+{
+    Hub {
+        parts,
+        clients,
+        voter,
+        pace,
+        behind: Behind::default(),
+        http,
+        time,
+        is_busy: false,
+    }
+}
+
+impl<T: Tape + Drop> Hub<T> {
+    /// Binds the addresses of a node. Err: `Poll` if the system gives no poll; `Http`, `Listen`, `Admin` or `Readers` if that address is
+    /// taken or not permitted, the first one in this order; `Memory` if an allocation fails. The process is dropped then.
+    pub fn new<R: Net + Clock + AllocGlobal>(
+        rt: &R,
+        plan: Plan,
+        process: Process<T>,
+        heard: Heard,
+    ) -> Result<Self, LoopFault>
+        ensures process { IfOk result (λ hub. process_of hub ≡ process) }
+        ensures cause { IfErr result (IsCause plan) }
+    {
+        let time = now(rt);
+        hub_of(rt.alloc(), bind(rt, plan, heard, time), process, time)
+    }
+
+    /// Where clients come, as the system told it when the address was bound.
+    pub fn http(&self) -> Option<SocketAddr>
+        ensures { result ≡ address_of self.now }
+    {
+        self.http
+    }
+
+    /// The time of the last turn, in milliseconds.
+    pub fn time(&self) -> u64
+        ensures { result ≡ time_of self.now }
+    {
+        self.time
+    }
+
+    /// The node's process.
+    pub fn process(&self) -> &Process<T>
+        ensures { result.now ≡ process_of self.now }
+    {
+        &self.voter.process
+    }
+
+    /// The life of the node and what clients were answered, always. The call does nothing.
+    pub fn always_lived(&self)
+        ensures lived { HasLived T.Tape (process_of self.now) }
+        ensures answered { HasAnswered T.Tape self.now }
+    {
+        self.voter.process.always_lived();
+        self.voter.process.always_heard();
+        self.clients.always_answered();
+    }
+
+    /// Whether the tape has failed and it is time to open it anew: after a second, and then after waits that
+    /// double, up to a minute, until it has stood for a minute.
+    pub fn is_reopening_due(&self) -> bool
+        ensures { IsTrue result ↔ IsReopeningDue self.now }
+    {
+        self.voter.process.is_halted() && self.pace.is_reopening_due(self.time)
+    }
+
+    /// The tape's file couldn't be opened anew, and that is tried again later.
+    pub fn postpone_reopening(&mut self)
+        ensures { process_of self.new ≡ process_of self.old }
+    {
+        self.pace.postpone_reopening(self.time);
+    }
+
+    /// Opens the node anew on a tape, once its own has failed: the node that it was, of as many. Its run ends, and another begins. Err: the
+    /// tape; nothing has changed but that it is tried again later.
+    pub fn reopen<R: Clock + Eprint + AllocGlobal>(
+        &mut self,
+        rt: &R,
+        log: &Log<'_, R>,
+        tape: T,
+    ) -> Result<(), T>
+        ensures begun { OnOk result (IsBegun (process_of self.new)) }
+        ensures same { OnErr result (process_of self.new ≡ process_of self.old) }
+        ensures earlier { KeepsEarlier T.Tape (process_of self.old) (process_of self.new) }
+    {
+        match reopen(rt.alloc(), &mut self.voter.process, tape) {
+            Ok(()) => {
+                self.parts.mesh.close_all(self.time);
+                self.pace.reopened(self.time);
+                log.write(&Event::Reopened);
+                Ok(())
+            }
+            Err((tape, why)) => {
+                self.pace.postpone_reopening(self.time);
+                log.write(&Event::NotReopened(why));
+                Err(tape)
+            }
+        }
+    }
+
+    /// One turn: waits until a socket is ready or a tick is over, and does a bounded part of what there is to do.
+    pub fn go_on<R: Net + Files + Clock + Eprint + AllocGlobal>(
+        &mut self,
+        rt: &R,
+        log: &Log<'_, R>,
+    ) -> Begun
+        // Whatever came, the node has lived by its acts, was given only what receivers returned, and sent only what it returned.
+        ensures lived { HasLived T.Tape (process_of self.new) }
+        // Each response that any client was sent is the one to exactly what had come of its request, by a process that had lived.
+        ensures answered { HasAnswered T.Tape self.new }
+        // It goes on in the run that it was in, as the node that it was.
+        ensures on { GoesOn T.Tape (process_of self.old) (process_of self.new) }
+        ensures earlier { KeepsEarlier T.Tape (process_of self.old) (process_of self.new) }
+        ensures time { time_of self.old ≤ time_of self.new }
+    {
+        self.wait(rt);
+        let mut ready = [0usize; MOST_EVENTS];
+        let count = self.ready(&mut ready);
+        self.time = now(rt).max(self.time);
+        self.is_busy = self.act(rt, log, ready.split_at(count.min(MOST_EVENTS)).0);
+        self.always_lived();
+        match self.parts.mesh.end {
+            Some(rejection) => Begun::Ended(rejection),
+            None => Begun::On,
+        }
+    }
+
+    /// Waits until a socket is ready or a tick is over; not at all if there is more to do.
+    fn wait<R: Clock>(&mut self, rt: &R)
+        ensures process { process_of self.new ≡ process_of self.old }
+        ensures time { time_of self.new ≡ time_of self.old }
+    {
+        let millis = if self.is_busy || self.voter.process.waiting() != 0 {
+            0
+        } else {
+            self.pace.rest(now(rt)).min(TICK_MILLIS)
+        };
+        let Parts { poll, events, .. } = &mut self.parts;
+        let _ = poll.poll(events, Some(Duration::from_millis(millis)));
+    }
+
+    /// The tokens of the sockets that are ready, and their number.
+    fn ready(&self, tokens: &mut [usize; MOST_EVENTS]) -> usize {
+        let mut count = 0;
+        for event in self.parts.events.iter() {
+            if count < MOST_EVENTS {
+                tokens[count] = event.token().0;
+                count += 1;
+            }
+        }
+        count
+    }
+
+    /// Does what the sockets that are ready ask for, and what the clock does. Returns whether there is more to do.
+    fn act<R: Net + Files + Clock + Eprint + AllocGlobal>(
+        &mut self,
+        rt: &R,
+        log: &Log<'_, R>,
+        ready: &[usize],
+    ) -> bool
+        ensures on { GoesOn T.Tape (process_of self.old) (process_of self.new) }
+        ensures time { time_of self.new ≡ time_of self.old }
+    {
+        let Hub {
+            parts,
+            clients,
+            voter,
+            pace,
+            behind,
+            time,
+            ..
+        } = self;
+        let Parts {
+            poll,
+            mesh,
+            desk,
+            ..
+        } = parts;
+        let context = Context {
+            rt,
+            log,
+            registry: poll.registry(),
+            time: *time,
+        };
+        mesh.is_busy = false;
+        let is_busy = serve_all(&context, voter, mesh, desk, clients, ready);
+        pace.turn(&context, &mut voter.process, mesh, desk, clients);
+        answer_operators(&context, voter, mesh, desk, clients, behind);
+        is_busy || mesh.is_busy
+    }
+}

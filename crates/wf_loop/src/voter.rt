@@ -1,0 +1,11 @@
+use crate::tally::Tally;
+use wf_actor::Process;
+use wf_tape::Tape;
+
+/// A process that answers clients, how many maps it rejected, and how many pictures it answered with.
+#[derive(Drop)]
+pub struct Voter<T: Tape> {
+    pub(crate) process: Process<T>,
+    pub(crate) rejected: Tally,
+    pub(crate) pictures: u64,
+}

@@ -1,0 +1,4 @@
+mod Answers
+mod Faults
+mod Going
+mod Order

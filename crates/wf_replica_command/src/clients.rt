@@ -1,0 +1,126 @@
+//! A replica and its clients.
+
+ghost use Rattle.std.specs.Prelude.{◌≡◌};
+ghost use Rattle.wf_replica.specs.Follower.{heard_by, list_of};
+ghost use Rattle.wf_replica.specs.Learning.{learned};
+ghost use Rattle.wf_replica_command.specs.Answer.{AreAnswered, AreInOrder};
+ghost use Rattle.wf_replica_command.specs.Going.{GoesOn};
+ghost use Rattle.wf_visitors.specs.Visitors.{said_of};
+
+use crate::asker::Asker;
+use crate::renderer::Renderer;
+use http_server::Log as Past;
+use std::net::Net;
+use std::time::Clock;
+use wf_replica::Follower;
+use wf_tape::Tape;
+use wf_visitors::{Context, Visitors};
+
+/// The most requests of clients that a turn answers.
+const MOST_SERVED: usize = 8;
+
+/// A replica and its clients. A clause sees a log that only proofs read: for each client that was answered, in order, the replica as it then
+/// was.
+#[derive(Drop)]
+pub struct Clients<T: Tape> {
+    pub(crate) visitors: Visitors,
+    pub(crate) renderer: Renderer<T>,
+    pub(crate) asked: Past<Renderer<T>, usize>,
+    ghost answered: { ∥ AreAnswered T.Tape asked.items (said_of visitors) ∥₁ },
+    ghost in_order: { ∥ AreInOrder T.Tape asked.items renderer.follower ∥₁ },
+}
+
+impl<T: Tape + Drop> Clients<T> {
+    ghost use Rattle.std.specs.Prelude.{[]};
+
+    /// Nobody was answered yet.
+    #[tactic(auto, using(crate::proofs::Answers::none_answered, crate::proofs::Order::none_in_order))]
+    pub(crate) fn new(visitors: Visitors, follower: Follower<T>) -> Self
+        requires { said_of visitors ≡ [] }
+        ensures { result.renderer.follower ≡ follower }
+    {
+        Clients {
+            visitors,
+            renderer: Renderer {
+                follower,
+                pictures: 0,
+            },
+            asked: Past::new(),
+        }
+    }
+
+    /// The replica's list is what it has heard, each client that was answered was answered from it, and it never went back, always. The call
+    /// does nothing.
+    pub(crate) fn always_served(&self)
+        ensures lived { learned [] (heard_by self.now.renderer.follower) ≡ list_of self.now.renderer.follower }
+        ensures answered { ∥ AreAnswered T.Tape self.now.asked.items (said_of self.now.visitors) ∥₁ }
+        ensures in_order { ∥ AreInOrder T.Tape self.now.asked.items self.now.renderer.follower ∥₁ }
+    {
+        self.renderer.follower.always_learned();
+    }
+
+    /// Takes in what came from the source that is asked, and asks what is due.
+    #[tactic(auto, using(crate::proofs::Order::still_in_order))]
+    pub(crate) fn ask<R: Net + Clock + Eprint + AllocGlobal>(
+        &mut self,
+        context: &Context<'_, '_, R>,
+        asker: &mut Asker,
+    )
+        ensures { GoesOn self.old.renderer.follower self.new.renderer.follower }
+    {
+        asker.go_on(context, &mut self.renderer.follower);
+    }
+
+    /// Accepts clients.
+    pub(crate) fn accept<R: Clock + Eprint + AllocGlobal>(&mut self, context: &Context<'_, '_, R>)
+        ensures { self.new.renderer ≡ self.old.renderer }
+    {
+        self.visitors.accept(context);
+    }
+
+    /// What came for the client in a slot, or was taken by it.
+    pub(crate) fn turn<R: AllocGlobal>(&mut self, context: &Context<'_, '_, R>, index: usize)
+        ensures { self.new.renderer ≡ self.old.renderer }
+    {
+        self.visitors.turn(context, index);
+    }
+
+    /// Ends the phases whose time is over.
+    pub(crate) fn tick(&mut self, time: u64)
+        ensures { self.new.renderer ≡ self.old.renderer }
+    {
+        self.visitors.tick(time);
+    }
+
+    /// Answers requests that are whole, a bounded number of them. Returns whether there are more.
+    #[tactic(auto, using(crate::proofs::Going::stays, crate::proofs::Going::goes_on_twice))]
+    pub(crate) fn serve<R: Clock + Eprint + AllocGlobal>(
+        &mut self,
+        context: &Context<'_, '_, R>,
+    ) -> bool
+        ensures { GoesOn self.old.renderer.follower self.new.renderer.follower }
+    {
+        for _ in 0..MOST_SERVED {
+            let Some(index) = self.visitors.next() else {
+                return false;
+            };
+            self.serve_one(context, index);
+        }
+        self.visitors.waits()
+    }
+
+    /// Answers the request in a slot, if it is whole.
+    #[tactic(auto, using(crate::proofs::Answers::one_more_answered, crate::proofs::Order::next_in_order, crate::proofs::Order::stays_in_order, crate::proofs::Order::kept, crate::proofs::Going::stays_same, crate::proofs::Going::stays))]
+    fn serve_one<R: Clock + Eprint + AllocGlobal>(
+        &mut self,
+        context: &Context<'_, '_, R>,
+        index: usize,
+    )
+        ensures { GoesOn self.old.renderer.follower self.new.renderer.follower }
+    {
+        let asked = self.asked.and(&self.renderer, &0);
+        if self.visitors.serve(context, &mut self.renderer, index) {
+            self.asked = asked;
+        }
+    }
+}

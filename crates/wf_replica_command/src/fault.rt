@@ -1,0 +1,120 @@
+//! Why the command ends with an error.
+ghost use Rattle.std.specs.Prelude.{◌≡◌, ◌≤◌};
+ghost use Rattle.wf_replica_command.specs.Fault.{fault_status};
+
+use std::alloc::AllocError;
+use std::{fmt, io};
+use thiserror::Error;
+use wf_reader::Rejection;
+
+/// An option whose value is an address.
+#[derive(Clone, Copy, Debug)]
+pub enum AddressOption {
+    /// `--http`
+    Http,
+    /// `--readers`
+    Readers,
+    /// `--admin`
+    Admin,
+}
+
+impl fmt::Display for AddressOption {
+    fn fmt<W: fmt::Write>(&self, f: &mut fmt::Formatter<W>) -> fmt::Result {
+        f.write_str(match self {
+            AddressOption::Http => "--http",
+            AddressOption::Readers => "--readers",
+            AddressOption::Admin => "--admin",
+        })
+    }
+}
+
+/// Why the command ends with an error. Its text is the line on standard error.
+#[derive(Clone, Copy, Debug, Error)]
+pub enum ReplicaFault {
+    /// The word at this index of the list of peers isn't an address with a port.
+    #[error("bad address in --peers: that at {0}")]
+    BadPeer(usize),
+    /// The list of peers has too many words.
+    #[error("--peers has {0} addresses, at most 64 are allowed")]
+    PeerCount(usize),
+    /// The value of this option isn't an address with a port.
+    #[error("bad address: {0}")]
+    BadAddress(AddressOption),
+    /// No farm can have this name.
+    #[error("bad farm name: 1 to 32 letters, digits, -, . and _ are wanted")]
+    Name,
+    /// The folder isn't there, or can't be opened.
+    #[error("folder missing")]
+    NoFolder,
+    /// Another program has the folder.
+    #[error("folder held by another program")]
+    Held,
+    /// The folder has no file `farm`, and isn't empty.
+    #[error("bad folder: not a replica's, and not empty")]
+    NotEmpty,
+    /// The file `farm` is none, or of another version.
+    #[error("bad folder: not a farm file of version 1")]
+    Version,
+    /// The file `farm` is that of another kind of folder.
+    #[error("bad folder: not a folder of wfarm replica")]
+    Kind,
+    /// The file `farm` is that of a replica of another farm.
+    #[error("bad folder: a replica of another farm")]
+    OtherFarm,
+    /// A file of the folder can't be read.
+    #[error("the folder can't be read: {0}")]
+    Unread(io::ErrorKind),
+    /// A file of the folder can't be written.
+    #[error("the folder can't be written: {0}")]
+    Unwritten(io::ErrorKind),
+    /// The system gives no poll.
+    #[error("no poll")]
+    Poll,
+    /// An address is taken, or not permitted.
+    #[error("the address of {0} is taken or not permitted")]
+    Taken(AddressOption),
+    /// An allocation failed.
+    #[error("out of memory")]
+    Memory,
+    /// A source doesn't answer this replica, which has to end.
+    #[error("{0}")]
+    Ended(Rejection),
+}
+
+impl ReplicaFault {
+    /// The exit status: 2 for a bad command line, 1 for any other error.
+    pub fn status(self) -> u8
+        ensures value { result ≡ fault_status self }
+        ensures most { result ≤ 2 }
+    {
+        match self {
+            ReplicaFault::BadPeer(_)
+            | ReplicaFault::PeerCount(_)
+            | ReplicaFault::BadAddress(_)
+            | ReplicaFault::Name => 2,
+            ReplicaFault::NoFolder
+            | ReplicaFault::Held
+            | ReplicaFault::NotEmpty
+            | ReplicaFault::Version
+            | ReplicaFault::Kind
+            | ReplicaFault::OtherFarm
+            | ReplicaFault::Unread(_)
+            | ReplicaFault::Unwritten(_)
+            | ReplicaFault::Poll
+            | ReplicaFault::Taken(_)
+            | ReplicaFault::Memory
+            | ReplicaFault::Ended(_) => 1,
+        }
+    }
+}
+
+impl From<AllocError> for ReplicaFault {
+    ghost use Rattle.std.specs.Prelude.{◌≡◌};
+    ghost use Rattle.wf_replica_command.specs.declared.fault.ReplicaFault.TheVariants.{Memory};
+
+    ghost from_gives = { λ _ fault. fault ≡ Memory };
+
+    fn from(_: AllocError) -> Self {
+        ReplicaFault::Memory
+    }
+}

@@ -1,0 +1,343 @@
+//! One thread that waits for its sockets, turn after turn.
+ghost use Rattle.std.specs.Prelude.{◌≡◌, [], IfErr};
+ghost use Rattle.wf_replica_command.specs.Fault.{IsFromSystem};
+ghost use Rattle.wf_replica_command.specs.Going.{GoesOn};
+ghost use Rattle.wf_replica_command.specs.Hub.{HasAnswered, HasLived, HasStayed, IsOfFarm, follower_of};
+ghost use Rattle.wf_visitors.specs.Visitors.{said_of};
+
+use crate::asker::Asker;
+use crate::clients::Clients;
+use crate::facts::Facts;
+use crate::fault::ReplicaFault;
+use crate::parts::{Begin, MOST_EVENTS, OPERATORS, bind};
+use crate::plan::Plan;
+use crate::token::Socket;
+use mio::{Events, Poll};
+use std::net::{Net, SocketAddr};
+use std::rt::Files;
+use std::time::{Clock, Duration};
+use wf_operator::{Behind, Operator};
+use wf_reader::Rejection;
+use wf_readers_port::{Published, ReadersPort};
+use wf_replica::{Follower, what_is_learned_is_served};
+use wf_tape::Tape;
+use wf_timing::Ticker;
+use wf_visitors::{Context, Log, Visitors, now};
+
+/// The time between two ticks, in milliseconds.
+const TICK_MILLIS: u64 = 100;
+
+/// A replica with its clients, the source that it asks, and who only reads.
+#[derive(Drop)]
+pub struct Hub<T: Tape> {
+    poll: Poll,
+    events: Events,
+    operators: Visitors,
+    readers: ReadersPort,
+    asker: Asker,
+    clients: Clients<T>,
+    // the path of its tape
+    tape: String,
+    ticks: Ticker,
+    behind: Behind,
+    time: u64,
+    is_busy: bool,
+}
+
+/// How a turn ended.
+#[derive(Clone, Copy, PartialEq, Eq)]
+pub(crate) enum Turn {
+    /// The replica goes on.
+    On,
+    /// It has to end: a source of another farm, or one whose history differs.
+    Ended(Rejection),
+}
+
+impl<T: Tape + Drop> Hub<T> {
+    /// Binds the addresses of a replica, which asks the source of this number first, counted round. Err: why it doesn't begin; the replica is
+    /// dropped.
+    pub(crate) fn new<R: Net + Clock + AllocGlobal>(
+        rt: &R,
+        plan: Plan,
+        tape: String,
+        first: usize,
+        follower: Follower<T>,
+    ) -> Result<Self, ReplicaFault>
+        ensures { IfErr result IsFromSystem }
+    {
+        let time = now(rt);
+        match bind(rt, &plan) {
+            Ok(begun) => {
+                let Plan { farm, sources, .. } = plan;
+                let is_new = follower.history().published().number() == 0;
+                let asker = Asker::new(sources, farm, first, is_new, time);
+                Ok(assemble(begun, asker, follower, tape, time))
+            }
+            Err(fault) => {
+                drop(plan);
+                drop(tape);
+                drop(follower);
+                Err(fault)
+            }
+        }
+    }
+
+    /// Where clients come.
+    pub(crate) fn http(&self) -> Option<SocketAddr> {
+        self.clients.visitors.address()
+    }
+
+    /// The replica's list is what it has heard, each client that was answered was answered from it as it then was, and it never went back,
+    /// always. The call does nothing.
+    #[tactic(auto, using(crate::proofs::Faults::of_farm))]
+    pub(crate) fn always_lived(&self)
+        ensures lived { HasLived T.Tape self.now }
+        ensures of_farm { IsOfFarm T.Tape self.now }
+        ensures answered { HasAnswered T.Tape self.now }
+        ensures stayed { HasStayed T.Tape self.now }
+    {
+        what_is_learned_is_served::<T>();
+        self.clients.always_served();
+    }
+
+    /// One turn: waits until a socket is ready or something is due, and does a bounded part of what there is to do.
+    pub(crate) fn go_on<R: Net + Files + Clock + Eprint + AllocGlobal>(
+        &mut self,
+        rt: &R,
+        log: &Log<'_, R>,
+    ) -> Turn
+        // Whatever came, the list is what was heard, message after message.
+        ensures lived { HasLived T.Tape self.new }
+        ensures of_farm { IsOfFarm T.Tape self.new }
+        // Each response that any client was sent is the one to exactly what had come of its request, over the list as it then was.
+        ensures answered { HasAnswered T.Tape self.new }
+        // It never goes back.
+        ensures stayed { HasStayed T.Tape self.new }
+        ensures goes_on { GoesOn (follower_of self.old) (follower_of self.new) }
+    {
+        self.wait(rt);
+        let mut ready = [0usize; MOST_EVENTS];
+        let count = self.ready(&mut ready);
+        self.time = now(rt).max(self.time);
+        self.is_busy = self.act(rt, log, ready.split_at(count.min(MOST_EVENTS)).0);
+        self.always_lived();
+        match self.asker.end {
+            Some(why) => Turn::Ended(why),
+            None => Turn::On,
+        }
+    }
+
+    /// Waits until a socket is ready or something is due; not at all if there is more to do.
+    fn wait<R: Clock>(&mut self, rt: &R)
+        ensures { self.new.clients ≡ self.old.clients }
+    {
+        let millis = if self.is_busy {
+            0
+        } else {
+            let time = now(rt);
+            let tick = self.ticks.due.saturating_sub(time).min(TICK_MILLIS);
+            tick.min(self.asker.left(time))
+        };
+        let Hub { poll, events, .. } = self;
+        let _ = poll.poll(events, Some(Duration::from_millis(millis)));
+    }
+
+    /// The tokens of the sockets that are ready, and their number.
+    fn ready(&self, tokens: &mut [usize; MOST_EVENTS]) -> usize {
+        let mut count = 0;
+        for event in self.events.iter() {
+            if count < MOST_EVENTS {
+                tokens[count] = event.token().0;
+                count += 1;
+            }
+        }
+        count
+    }
+
+    /// Does what the sockets that are ready ask for, and what the clock does. Returns whether there is more to do.
+    #[tactic(auto, using(crate::proofs::Going::goes_on_twice))]
+    fn act<'x, R: Net + Files + Clock + Eprint + AllocGlobal>(
+        &mut self,
+        rt: &'x R,
+        log: &'x Log<'x, R>,
+        ready: &[usize],
+    ) -> bool
+        ensures { GoesOn (follower_of self.old) (follower_of self.new) }
+    {
+        let Hub {
+            poll,
+            operators,
+            readers,
+            asker,
+            clients,
+            tape,
+            ticks,
+            behind,
+            time,
+            ..
+        } = self;
+        let context = Context {
+            rt,
+            log,
+            registry: poll.registry(),
+            time: *time,
+        };
+        clients.ask(&context, asker);
+        act_on_each(&context, asker, clients, operators, readers, ready);
+        let is_busy = clients.serve(&context);
+        if ticks.tick(context.time) {
+            tick(&context, clients, operators, readers);
+        }
+        answer_operators(
+            &context,
+            operators,
+            readers,
+            asker,
+            clients,
+            tape.as_str(),
+            behind,
+        );
+        is_busy
+    }
+}
+
+/// A hub of these parts.
+fn assemble<T: Tape + Drop>(
+    begun: Begin,
+    asker: Asker,
+    follower: Follower<T>,
+    tape: String,
+    time: u64,
+) -> Hub<T>
+    requires { said_of begun.visitors ≡ [] }
+    ensures { follower_of result ≡ follower }
+{
+    let Begin {
+        poll,
+        events,
+        visitors,
+        operators,
+        readers,
+    } = begun;
+    let clients = Clients::new(visitors, follower);
+    Hub {
+        poll,
+        events,
+        operators,
+        readers,
+        asker,
+        clients,
+        tape,
+        ticks: Ticker::new(time, TICK_MILLIS),
+        behind: Behind::default(),
+        time,
+        is_busy: false,
+    }
+}
+
+/// Does what the sockets that are ready ask for.
+fn act_on_each<R: Net + Clock + Eprint + AllocGlobal, T: Tape + Drop>(
+    context: &Context<'_, '_, R>,
+    asker: &Asker,
+    clients: &mut Clients<T>,
+    operators: &mut Visitors,
+    readers: &mut ReadersPort,
+    ready: &[usize],
+)
+    ensures { clients.new.renderer ≡ clients.old.renderer }
+{
+    for token in ready {
+        act_on(context, asker, clients, operators, readers, *token);
+    }
+}
+
+/// Does what a ready socket asks for. What came from the source was taken before.
+fn act_on<R: Net + Clock + Eprint + AllocGlobal, T: Tape + Drop>(
+    context: &Context<'_, '_, R>,
+    asker: &Asker,
+    clients: &mut Clients<T>,
+    operators: &mut Visitors,
+    readers: &mut ReadersPort,
+    token: usize,
+)
+    ensures { clients.new.renderer ≡ clients.old.renderer }
+{
+    match Socket::of(token) {
+        Socket::Http => clients.accept(context),
+        Socket::Client(index) => clients.turn(context, index),
+        Socket::Admin => operators.accept(context),
+        Socket::Asker(index) => operators.turn(context, index),
+        Socket::Readers => readers.accept(context),
+        Socket::Reader(index) => {
+            answer_reader(context, asker, &clients.renderer.follower, readers, index);
+        }
+        Socket::Source => {}
+    }
+}
+
+/// Answers a reader, from what the replica has published.
+fn answer_reader<R: Net + Clock + Eprint + AllocGlobal, T: Tape + Drop>(
+    context: &Context<'_, '_, R>,
+    asker: &Asker,
+    follower: &Follower<T>,
+    readers: &mut ReadersPort,
+    index: usize,
+) {
+    let published = Published {
+        own: &asker.answerer,
+        history: follower.history(),
+        digests: follower.digests(),
+    };
+    readers.turn(context, &published, index);
+}
+
+/// Accepts whoever comes, and ends the phases whose time is over.
+fn tick<R: Net + Clock + Eprint + AllocGlobal, T: Tape + Drop>(
+    context: &Context<'_, '_, R>,
+    clients: &mut Clients<T>,
+    operators: &mut Visitors,
+    readers: &mut ReadersPort,
+)
+    ensures { clients.new.renderer ≡ clients.old.renderer }
+{
+    clients.accept(context);
+    clients.tick(context.time);
+    operators.accept(context);
+    operators.tick(context.time);
+    readers.accept(context);
+    readers.tick(context.time);
+}
+
+/// Answers requests of operators that are whole, a bounded number of them.
+fn answer_operators<R: Files + Clock + Eprint + AllocGlobal, T: Tape + Drop>(
+    context: &Context<'_, '_, R>,
+    operators: &mut Visitors,
+    readers: &ReadersPort,
+    asker: &Asker,
+    clients: &Clients<T>,
+    tape: &str,
+    behind: &mut Behind,
+) {
+    let follower = &clients.renderer.follower;
+    let published = follower.history().published().number();
+    let mut operator = Operator::new(Facts {
+        rt: context.rt,
+        history: follower.history(),
+        digests: follower.digests(),
+        asker,
+        requests: clients.visitors.counts(),
+        pictures: clients.renderer.pictures,
+        tape,
+        has_tape: follower.has_tape(),
+        reader_differs: readers.differs(context.time),
+        is_behind: behind.judge(published < asker.heard, context.time),
+        clients: clients.visitors.taken(),
+        readers: readers.taken(),
+    });
+    for _ in 0..OPERATORS {
+        let Some(index) = operators.next() else {
+            break;
+        };
+        let _ = operators.serve(context, &mut operator, index);
+    }
+}

@@ -1,0 +1,67 @@
+//! The tokens of sockets: which socket an event is about.
+
+/// The first token of the operator's connections.
+pub(crate) const ASKER: usize = 512;
+
+/// The first token of readers.
+pub(crate) const READER: usize = 768;
+
+/// The first token of clients.
+pub(crate) const CLIENT: usize = 1_024;
+
+/// A socket.
+#[derive(Clone, Copy, Debug, PartialEq, Eq)]
+pub(crate) enum Socket {
+    /// The listener for clients.
+    Http,
+    /// The listener for the operator.
+    Admin,
+    /// The listener for readers.
+    Readers,
+    /// The connection to the source that is asked.
+    Source,
+    /// The operator's connection in this slot.
+    Asker(usize),
+    /// The reader in this slot.
+    Reader(usize),
+    /// The client in this slot.
+    Client(usize),
+}
+
+impl Socket {
+    /// Its token.
+    pub(crate) fn token(self) -> usize {
+        match self {
+            Socket::Http => 0,
+            Socket::Admin => 1,
+            Socket::Readers => 2,
+            Socket::Source => 3,
+            Socket::Asker(index) => ASKER.saturating_add(index),
+            Socket::Reader(index) => READER.saturating_add(index),
+            Socket::Client(index) => CLIENT.saturating_add(index),
+        }
+    }
+
+    /// The socket of a token.
+    pub(crate) fn of(token: usize) -> Socket {
+        match token {
+            0 => Socket::Http,
+            1 => Socket::Admin,
+            2 => Socket::Readers,
+            _ => Socket::of_connection(token),
+        }
+    }
+
+    /// The connection of a token.
+    fn of_connection(token: usize) -> Socket {
+        if token < ASKER {
+            Socket::Source
+        } else if token < READER {
+            Socket::Asker(token - ASKER)
+        } else if token < CLIENT {
+            Socket::Reader(token - READER)
+        } else {
+            Socket::Client(token - CLIENT)
+        }
+    }
+}

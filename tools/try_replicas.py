@@ -1,0 +1,483 @@
+#!/usr/bin/env python3
+"""Tries replicas of a farm of three voters, over the built program.
+
+    python3 tools/try_replicas.py [--program PROGRAM] [--publishes N] [--replicas N] [--seconds S] [--seed S] [CASE ..]
+
+Cases, all of them where none is named:
+    kills   publishes at the voters (1,000; in 300 seconds at most, or as --seconds says) while replicas (10) and voters are killed at
+            random, folders of replicas removed, and one replica pointed at another farm of the same name: no two answers of any processes
+            differ for one sequence, none goes back but a replica whose folder was removed, the misled one ends, the others are level
+            within ten seconds after the last publish
+    lag     from a voter's publication until each replica has learned it, by their logs, in a quiet farm: p99 below 100 ms
+    fill    a replica learns 4,096 maps of 2 KB from nothing, within ten seconds
+    rest    what replicas at rest cost a voter: below two percent of a core
+    tape    a replica begins with what its tape has, also with a torn, missing or damaged one, and goes on where it can't be written
+    chain   replicas that ask one another: one that is four away from a voter is asked, one that is five isn't
+    misled  a replica that is pointed at another farm of the same name ends with status 1 and one line, whichever has published more
+
+A line says what each saw; the status is 0 where all went as they should. A run takes four minutes.
+"""
+
+import argparse
+import collections
+import os
+import pathlib
+import random
+import re
+import resource
+import selectors
+import shutil
+import signal
+import subprocess
+import sys
+import tempfile
+import threading
+import time
+import urllib.error
+import urllib.request
+
+from farm import CAPABILITIES, PROGRAM, Replica, free_ports, nodes_in
+from kill_nodes import PIXEL, map_of, picture_of
+
+VOTERS = 3
+MOST_MAPS = 4_096
+PATIENCE = 60
+
+
+class Wrong(Exception):
+    """What didn't go as it should."""
+
+
+def want(what, is_so):
+    if not is_so:
+        raise Wrong(what)
+
+
+def until(is_so, seconds=PATIENCE):
+    """The seconds until it is so; None where it isn't in that time."""
+    begun = time.monotonic()
+    while not is_so():
+        if time.monotonic() > begun + seconds:
+            return None
+        time.sleep(0.01)
+    return time.monotonic() - begun
+
+
+def ask(process, path, body=None, seconds=5):
+    """The status and the body of an answer; 0 where none came."""
+    try:
+        with urllib.request.urlopen(f"http://{process.clients}{path}", data=body, timeout=seconds) as answer:
+            return answer.status, answer.read()
+    except urllib.error.HTTPError as error:
+        return error.code, error.read()
+    except OSError:
+        return 0, b""
+
+
+def percentile(values, part):
+    return sorted(values)[min(len(values) - 1, int(len(values) * part))]
+
+
+class Farm:
+    """Three voters that run, and their readers' ports."""
+
+    def __init__(self, options, top, name, tape=None):
+        self.options, self.folder = options, top / name
+        ports = free_ports(VOTERS)
+        self.readers = ",".join(f"127.0.0.1:{port}" for port in ports)
+        self.voters = nodes_in(options.program, self.folder, "tried", VOTERS, ports, tape)
+        self.replicas = []
+
+    def __enter__(self):
+        for voter in self.voters:
+            voter.start()
+        for voter in self.voters:
+            want("a voter doesn't begin: " + voter.log.read_text()[-300:], until(lambda: voter.published() is not None))
+        return self
+
+    def __exit__(self, *_):
+        for process in self.voters + self.replicas:
+            process.kill()
+
+    def replica(self, name, sources=None, **settings):
+        """A new replica, which runs."""
+        made = Replica(self.options.program, self.folder / name, "tried", sources or self.readers)
+        made.start(**settings)
+        self.replicas.append(made)
+        return made
+
+    def some(self, count):
+        """So many replicas, once they answer."""
+        made = [self.replica(f"replica-{number}") for number in range(count)]
+        for replica in made:
+            want("a replica doesn't begin: " + replica.log.read_text()[-300:], until(lambda: replica.published() is not None))
+        return made
+
+    def top(self):
+        """The highest sequence that a voter tells."""
+        return max(voter.published() or 0 for voter in self.voters)
+
+    def publish(self, text, voter, seconds=5):
+        """Publishes a map at a voter; whether it has published another sequence since."""
+        before = voter.published()
+        if before is None or ask(voter, "/publish", text)[0] != 202:
+            return False
+        return until(lambda: (voter.published() or 0) > before, seconds) is not None
+
+
+class Ledger:
+    """All that was told, and what contradicts it."""
+
+    def __init__(self):
+        self.lock, self.violations, self.counts = threading.Lock(), [], collections.Counter()
+        self.kept, self.told, self.sent = {}, collections.Counter(), set()
+
+    def take(self, name, sequence, kind, body):
+        with self.lock:
+            self.counts["answers"] += 1
+            if self.kept.setdefault((kind, sequence), body) != body:
+                self.violations.append(f"{name}: another {kind} at sequence {sequence}")
+            if kind == "capabilities" and sequence < self.told[name]:
+                self.violations.append(f"{name} went back from {self.told[name]} to {sequence}")
+            if kind == "picture" and body not in self.sent:
+                self.violations.append(f"{name}: the picture at sequence {sequence} is of no map that was sent")
+            self.told[name] = max(sequence, self.told[name])
+
+
+# ---- kills
+
+class Trial:
+    """Publishes and kills, and readers of every process."""
+
+    def __init__(self, farm, options):
+        self.farm, self.options = farm, options
+        self.draw, self.ledger, self.over = random.Random(options.seed), Ledger(), threading.Event()
+        self.replicas = farm.some(options.replicas)
+        self.lives, self.number = collections.Counter(), 0
+
+    def name(self, process):
+        return f"{process.folder.name} of folder {self.lives[process]}"
+
+    def read(self, process):
+        """Asks a process until the trial is over."""
+        draw = random.Random(process.folder.name)
+        while not self.over.wait(0.05):
+            name = self.name(process)
+            status, body = ask(process, CAPABILITIES)
+            if status != 200 or name != self.name(process):
+                continue
+            sequence = int(body.partition(b'updateSequence="')[2].partition(b'"')[0])
+            self.ledger.take(name, sequence, "capabilities", body)
+            if sequence:
+                at = draw.choice((sequence, draw.randint(1, sequence)))
+                status, body = ask(process, PIXEL % at)
+                if status == 200:
+                    self.ledger.take(name, at, "picture", body)
+
+    def kill(self):
+        """Kills at random, until the trial is over."""
+        counts = self.ledger.counts
+        while not self.over.wait(self.draw.uniform(0.05, 0.5)):
+            if self.draw.random() < 0.25:
+                process = self.draw.choice(self.farm.voters)
+                counts["voters killed"] += 1
+            else:
+                process = self.draw.choice(self.replicas)
+                counts["replicas killed"] += 1
+            process.kill()
+            if process in self.replicas and self.draw.random() < 0.3:
+                counts["folders removed"] += 1
+                self.lives[process] += 1
+                shutil.rmtree(process.folder)
+                process.folder.mkdir()
+            time.sleep(self.draw.uniform(0, 0.3))
+            process.start()
+            if process in self.farm.voters:
+                until(lambda: process.published() is not None)
+
+    def publish(self, count, seconds):
+        """Publishes maps until the voters stand at so many, or the time is over; where they stand."""
+        end, top = time.monotonic() + seconds, 0
+        while top < count and time.monotonic() < end:
+            self.number += 1
+            self.ledger.sent.add(picture_of(self.number))
+            self.farm.publish(map_of(self.number, self.draw.choice((0, 0, 2_000))), self.draw.choice(self.farm.voters))
+            top = self.farm.top()
+        return top
+
+
+def kills(options, top):
+    with Farm(options, top, "kills") as farm, Farm(options, top, "other") as other:
+        other.publish(map_of(1 << 20, 0), other.voters[0])
+        trial = Trial(farm, options)
+        threads = [threading.Thread(target=trial.read, args=(process,)) for process in farm.voters + trial.replicas]
+        killer, begun = threading.Thread(target=trial.kill), time.monotonic()
+        for thread in [*threads, killer]:
+            thread.start()
+        try:
+            trial.publish(options.publishes // 2, options.seconds / 2)
+            ended = mislead(farm, other)
+            trial.publish(options.publishes, options.seconds / 2)
+            took = time.monotonic() - begun
+        finally:
+            trial.over.set()
+            for thread in [*threads, killer]:
+                thread.join()
+        done, ledger = farm.top(), trial.ledger
+        late = until(lambda: all(process.published() == done for process in farm.voters + trial.replicas), 10)
+    print(f"kills: {done} sequences in {took:.0f} s, "
+          + ", ".join(f"{count:,} {what}" for what, count in sorted(ledger.counts.items()))
+          + f"; level after {late and round(late, 1)} s; the misled one: {ended}")
+    want("; ".join(ledger.violations[:5]), not ledger.violations)
+    want("the misled replica went on", ended[0] == 1)
+    want("not level", late is not None)
+    want("fewer publishes than wanted", done >= options.publishes)
+
+
+def mislead(farm, other):
+    """How a replica ends that is pointed at another farm of the same name: its status and its last line."""
+    replica = farm.replica("misled")
+    want("the replica doesn't begin", until(lambda: (replica.published() or 0) >= 1))
+    replica.kill()
+    replica.words[replica.words.index("--peers") + 1] = other.readers
+    replica.start()
+    until(lambda: replica.process.poll() is not None, 20)
+    return replica.process.poll(), replica.log.read_text().splitlines()[-1]
+
+
+def misled(options, top):
+    with Farm(options, top, "ours") as ours, Farm(options, top, "theirs") as theirs:
+        for number in range(3):
+            ours.publish(map_of(number, 0), ours.voters[0])
+        theirs.publish(map_of(100, 0), theirs.voters[0])
+        fewer = mislead(ours, theirs)
+        for number in range(4):
+            theirs.publish(map_of(100 + number, 0), theirs.voters[0])
+        ours.replicas.pop().kill()
+        shutil.rmtree(ours.folder / "misled")
+        more = mislead(ours, theirs)
+    print(f"misled: by a farm with fewer maps {fewer}, with more {more}")
+    want("it went on", fewer[0] == more[0] == 1)
+
+
+# ---- tapes and chains
+
+def tape(options, top):
+    with Farm(options, top, "tape") as farm:
+        for number in range(1, 4):
+            want("no publish", farm.publish(map_of(number, 0), farm.voters[0]))
+        replica = farm.replica("replica")
+        want("three maps didn't come", until(lambda: replica.published() == 3, 20))
+        file = replica.folder / "replica.tape"
+        whole = file.read_bytes()
+        replica.kill()
+        changed = whole[:40] + bytes([whole[40] ^ 1]) + whole[41:]
+        for name, content, left, told in (("whole", whole, 3, "opened published=3"), ("torn", whole[:-5], 2, "opened published=2"),
+                                          ("missing", None, 0, "tape-missing"), ("damaged", changed, 0, "tape-damaged")):
+            begin_with(farm, replica, content, left, told)
+            want(f"{name}: the tape isn't whole again", file.read_bytes() == whole)
+        metric = write_no_more(farm, replica, len(whole) + 100)
+    print(f"tape: whole, torn, missing and damaged ones; one that can't be written any more: {metric}")
+
+
+def begin_with(farm, replica, content, left, told):
+    """Starts a replica on this tape where no source answers, and then where they do."""
+    file, place = replica.folder / "replica.tape", replica.words.index("--peers") + 1
+    file.unlink(missing_ok=True)
+    if content is not None:
+        file.write_bytes(content)
+    replica.log.write_bytes(b"")
+    replica.words[place] = f"127.0.0.1:{free_ports(1)[0]}"
+    replica.start()
+    want(f"not {left} maps without a source", until(lambda: replica.published() == left, 20))
+    want(f"no line {told}", told in replica.log.read_text())
+    replica.kill()
+    replica.words[place] = farm.readers
+    replica.start()
+    want("the rest doesn't come", until(lambda: replica.published() == 3, 20))
+    replica.kill()
+
+
+def write_no_more(farm, replica, most):
+    """What a replica tells whose files may have so many bytes: it learns on."""
+    def limit():
+        signal.signal(signal.SIGXFSZ, signal.SIG_IGN)
+        resource.setrlimit(resource.RLIMIT_FSIZE, (most, most))
+
+    # (its log would be a file too, so it goes to a pipe)
+    replica.start(preexec_fn=limit, stderr=subprocess.PIPE)
+    try:
+        want("it doesn't begin", until(lambda: replica.published() == 3, 20))
+        for number in range(4, 6):
+            want("no publish", farm.publish(map_of(number, 0), farm.voters[0]))
+        want("it doesn't learn on", until(lambda: replica.published() == 5, 20))
+        want("a replica took a publish", ask(replica, "/publish", map_of(9, 0))[0] == 404)
+        with urllib.request.urlopen(f"http://{replica.operator}/metrics", timeout=20) as answer:
+            metrics = answer.read().decode()
+        want("not told at the operator's port", "\nwfarm_tape_failed 1\n" in metrics)
+    finally:
+        replica.kill()
+    return "wfarm_tape_failed 1"
+
+
+def chain(options, top):
+    with Farm(options, top, "chain") as farm:
+        sources, links = None, []
+        for number in range(6):
+            links.append(farm.replica(f"link-{number}", sources))
+            sources = links[-1].readers
+            until(lambda: links[-1].published() is not None)
+            time.sleep(0.5)
+        want("no publish", farm.publish(map_of(1, 0), farm.voters[0]))
+        learned = [until(lambda: link.published() == 1, 5) is not None for link in links]
+        is_told = "too far" in links[-1].log.read_text()
+    print(f"chain: of six replicas in a row learned {learned.count(True)}, the last says that it is too far: {is_told}")
+    want(f"learned: {learned}", learned == 5 * [True] + [False] and is_told)
+
+
+# ---- times
+
+class Lines(threading.Thread):
+    """The lines that processes write into pipes, each with the time at which it came."""
+
+    def __init__(self):
+        super().__init__(daemon=True)
+        self.selector, self.seen, self.rests = selectors.DefaultSelector(), [], {}
+
+    def pipe(self, process):
+        """Starts a process that writes into a pipe."""
+        reader, writer = os.pipe()
+        self.rests[reader] = b""
+        process.start(stderr=writer)
+        os.close(writer)
+        self.selector.register(reader, selectors.EVENT_READ, process)
+
+    def run(self):
+        while True:
+            for key, _ in self.selector.select(1):
+                now, came = time.monotonic(), os.read(key.fd, 1 << 16)
+                if not came:
+                    self.selector.unregister(key.fd)
+                    os.close(key.fd)
+                *lines, self.rests[key.fd] = (self.rests[key.fd] + came).split(b"\n")
+                self.seen.extend((now, key.data, line.decode()) for line in lines)
+
+
+def lag(options, top):
+    lines, draw = Lines(), random.Random(options.seed)
+    with Farm(options, top, "lag") as farm:
+        for voter in farm.voters:
+            voter.kill()
+            lines.pipe(voter)
+        replicas = farm.some(options.replicas)
+        for replica in replicas:
+            replica.kill()
+            lines.pipe(replica)
+        lines.start()
+        for process in farm.voters + replicas:
+            want("a process doesn't begin", until(lambda: process.published() is not None))
+        time.sleep(2)
+        count = 0
+        for number in range(1, 301):
+            count += farm.publish(map_of(number, 2_000), draw.choice(farm.voters))
+            time.sleep(draw.uniform(0, 0.06))
+        time.sleep(1)
+    lags = lags_in(lines.seen)
+    print(f"lag: {count} maps at {len(replicas)} replicas: median {percentile(lags, 0.5):.0f} ms, p99 {percentile(lags, 0.99):.0f} ms, "
+          f"most {max(lags):.0f} ms")
+    want("a map didn't come", len(lags) == count * len(replicas))
+    want("p99 isn't below 100 ms", percentile(lags, 0.99) < 100)
+
+
+def lags_in(seen):
+    """Milliseconds from the first voter's line about a sequence to each replica's."""
+    first, lags, last = {}, [], collections.Counter()
+    for now, process, line in seen:
+        published, learned = re.search(r" published sequence=(\d+)", line), re.search(r" learned published=(\d+)", line)
+        if published:
+            first.setdefault(int(published[1]), now)
+        if learned:
+            came = range(last[process] + 1, int(learned[1]) + 1)
+            lags += [1000 * max(0, now - first.get(sequence, now)) for sequence in came]
+            last[process] = int(learned[1])
+    return lags
+
+
+def tape_of(program, path, count):
+    """Writes a tape on which so many maps of about 2 KB are published; their size."""
+    text = subprocess.run([str(program), "canon"], input=map_of(1, 2_000), stdout=subprocess.PIPE, check=True).stdout
+    with open(path, "wb") as out:
+        for number in range(1, count + 1):
+            canon = text.replace(b'"map 1"', b'"map %d"' % number)
+            out.write(bytes([2, 4]) + (len(canon) + 2).to_bytes(4, "big") + number.to_bytes(2, "big") + canon)
+    return len(text)
+
+
+def fill(options, top):
+    size = tape_of(options.program, top / "full.tape", MOST_MAPS)
+    with Farm(options, top, "fill", top / "full.tape") as farm:
+        begun = time.monotonic()
+        replica = farm.replica("replica")
+        until(lambda: replica.published() == MOST_MAPS)
+        spent = time.monotonic() - begun
+        replica.kill()
+        begun = time.monotonic()
+        replica.start()
+        until(lambda: replica.published() == MOST_MAPS)
+        again = time.monotonic() - begun
+    print(f"fill: {MOST_MAPS:,} maps of {size:,} bytes in {spent:.1f} s from nothing, in {again:.1f} s from its tape")
+    want("not within ten seconds", spent < 10)
+
+
+def spent_by(processes, seconds):
+    """What processes cost, in percent of a core."""
+    before = [process.processor_seconds() for process in processes]
+    time.sleep(seconds)
+    return [100 * (process.processor_seconds() - begun) / seconds for process, begun in zip(processes, before)]
+
+
+def rest(options, top):
+    with Farm(options, top, "rest") as farm:
+        for number in range(3):
+            farm.publish(map_of(number, 2_000), farm.voters[0])
+        time.sleep(2)
+        alone = spent_by(farm.voters, 10)
+        replicas = farm.some(options.replicas)
+        time.sleep(2)
+        both = spent_by(farm.voters + replicas, 10)
+    beside, own = both[:VOTERS], both[VOTERS:]
+    print(f"rest: a voter costs {max(alone):.2f} % of a core alone, {max(beside):.2f} % with {len(replicas)} replicas; "
+          f"a replica {max(own):.2f} %")
+    want("replicas at rest cost two percent or more", max(after - before for after, before in zip(beside, alone)) < 2)
+
+
+CASES = [kills, lag, fill, rest, tape, chain, misled]
+
+
+def words():
+    parser = argparse.ArgumentParser(description=__doc__, formatter_class=argparse.RawDescriptionHelpFormatter)
+    parser.add_argument("--program", type=pathlib.Path, default=PROGRAM)
+    parser.add_argument("--publishes", type=int, default=1000)
+    parser.add_argument("--replicas", type=int, default=10)
+    parser.add_argument("--seconds", type=float, default=300)
+    parser.add_argument("--seed", type=int, default=1)
+    parser.add_argument("cases", nargs="*", metavar="CASE", choices=[[], *(case.__name__ for case in CASES)])
+    return parser.parse_args()
+
+
+def main():
+    options, failed = words(), 0
+    chosen = [case for case in CASES if not options.cases or case.__name__ in options.cases]
+    for case in chosen:
+        with tempfile.TemporaryDirectory(prefix="try-replicas-") as top:
+            try:
+                case(options, pathlib.Path(top))
+            except Wrong as wrong:
+                failed += 1
+                print(f"{case.__name__}: FAILED: {wrong}", flush=True)
+    print(f"{len(chosen) - failed} of {len(chosen)} cases went as they should")
+    return 1 if failed else 0
+
+
+if __name__ == "__main__":
+    sys.exit(main())

@@ -1,0 +1,214 @@
+#!/usr/bin/env python3
+"""Tries the units of systemd under a systemd of their own: the package (`tools/make_deb.py`) in a Debian that `systemd-nspawn` boots, with
+three nodes and a replica as services, and `wfarm serve` after them.
+
+Usage: tools/try_units.py [--program PROGRAM] [--root DIR]
+DIR is a Debian made before (debootstrap with the packages of INCLUDED), copied from; else one is made. A line for each thing that was
+seen; status 1 where one is not as it should be. Wants root, debootstrap, systemd-container, and a program with `wfarm replica`.
+"""
+
+import argparse
+import pathlib
+import shutil
+import subprocess
+import sys
+import tempfile
+import time
+
+import make_deb
+from farm import PROGRAM
+from try_deb import package
+
+INCLUDED = "systemd,systemd-sysv,dbus,python3,python3-minimal,adduser,procps"
+NODES = 3
+PATIENCE = 90
+NODE_CONF = "PEERS={peers}\nHTTP=127.0.0.1:{http}\nADMIN=127.0.0.1:{admin}\nMORE=--readers 127.0.0.1:{readers}\n"
+REPLICA_CONF = "FARM=county\nPEERS={readers}\nHTTP=127.0.0.1:8090\nADMIN=127.0.0.1:9190\n"
+
+
+class Container:
+    """A Debian that is booted in a folder, and what was seen in it."""
+
+    def __init__(self, path):
+        self.path, self.wrong, self.process, self.leader = path, 0, None, None
+
+    def see(self, what, seen, told=""):
+        print(f"{'ok   ' if seen else 'wrong'} {what}" + ("" if seen or not told else f": {told}"), flush=True)
+        self.wrong += not seen
+
+    def wait(self, what, holds):
+        """Waits until it holds, and says after how long."""
+        begun = time.monotonic()
+        while not holds() and time.monotonic() < begun + PATIENCE:
+            time.sleep(0.2)
+        took = time.monotonic() - begun
+        self.see(f"{what} ({took:.1f} s)", took < PATIENCE)
+
+    def before_boot(self, *words):
+        return subprocess.run(["chroot", str(self.path), *words], capture_output=True, text=True)
+
+    def boot(self):
+        """Boots it, with a network of its own; whether its systemd answers."""
+        words = ["systemd-nspawn", "--quiet", "--boot", "--register=no", "--keep-unit", "--private-network", "--directory", str(self.path)]
+        console = (self.path.parent / "console").open("wb")
+        self.process = subprocess.Popen(words, stdin=subprocess.DEVNULL, stdout=console, stderr=console)
+        until = time.monotonic() + PATIENCE
+        while time.monotonic() < until and self.process.poll() is None:
+            children = pathlib.Path(f"/proc/{self.process.pid}/task/{self.process.pid}/children").read_text().split()
+            self.leader = children[0] if children else None
+            if self.leader and self.inside("systemctl", "is-system-running").stdout.strip() in ("running", "degraded"):
+                return True
+            time.sleep(0.5)
+        return False
+
+    def inside(self, *words):
+        """What a command in the container does."""
+        entering = ["nsenter", "--target", self.leader, "--mount", "--uts", "--ipc", "--net", "--pid", "--root", "--wd=/"]
+        return subprocess.run([*entering, *words], capture_output=True, text=True)
+
+    def property(self, unit, name):
+        return self.inside("systemctl", "show", "--value", "--property", name, unit).stdout.strip()
+
+    def is_active(self, *units):
+        return all(self.property(unit, "ActiveState") == "active" for unit in units)
+
+    def is_well(self):
+        return self.inside("wfarmctl", "status").returncode == 0
+
+    def stop(self):
+        if self.process is not None:
+            self.inside("systemctl", "poweroff")
+            try:
+                self.process.wait(30)
+            except subprocess.TimeoutExpired:
+                self.process.kill()
+                self.process.wait()
+
+
+def prepare(container, program, folder):
+    """Installs an older version of the package, and makes the nodes' folders and settings."""
+    old = package(program, "0.0.9", folder)
+    shutil.copy(old, container.path / "root")
+    ran = container.before_boot("dpkg", "--install", "/root/" + old.name)
+    container.see("the package is installed", ran.returncode == 0, ran.stderr)
+    settings = container.path / "etc/wfarm"
+    settings.mkdir(exist_ok=True)
+    lines = []
+    for number in range(NODES):
+        state, user = f"/var/lib/wfarm/node-{number}", ["chroot", "--userspec=wfarm:wfarm", "/"]
+        container.before_boot("install", "-d", "-o", "wfarm", "-g", "wfarm", state)
+        made = container.before_boot(*user, "wfarm", "init", "--state", state, "--farm", "county", "--id", str(number), "--nodes", str(NODES))
+        container.see(f"init of node {number}", made.returncode == 0, made.stderr)
+        peers = ",".join(f"127.0.0.1:{7000 + each}" for each in range(NODES))
+        conf = NODE_CONF.format(peers=peers, http=8080 + number, admin=9090 + number, readers=7010 + number)
+        (settings / f"node-{number}.conf").write_text(conf)
+        lines.append(f"127.0.0.1:{8080 + number} 127.0.0.1:{9090 + number}\n")
+    readers = ",".join(f"127.0.0.1:{7010 + each}" for each in range(NODES))
+    (settings / "replica-0.conf").write_text(REPLICA_CONF.format(readers=readers))
+    (settings / "nodes").write_text("".join(lines) + "replica 127.0.0.1:8090 127.0.0.1:9190\n")
+
+
+def kill(container, unit):
+    """Ends a unit's program by SIGKILL: systemd starts it again."""
+    number = container.property(unit, "MainPID")
+    container.inside("kill", "-9", number)
+    container.wait(f"{unit} is started again after kill -9",
+                   lambda: container.is_active(unit) and container.property(unit, "MainPID") not in ("0", number))
+    container.see(f"{unit} counts one restart", container.property(unit, "NRestarts") == "1")
+
+
+def attempt(container, program, folder):
+    """Starts, kills, wears out, upgrades and stops."""
+    units = [f"wfarm-node@{number}" for number in range(NODES)] + ["wfarm-replica@0"]
+    started = container.inside("systemctl", "start", *units)
+    container.see("the units are started", started.returncode == 0, started.stderr)
+    container.wait("all are active", lambda: container.is_active(*units))
+    container.wait("wfarmctl status finds all well", container.is_well)
+    told = container.inside("wfarmctl", "publish", "/usr/share/wfarm/examples/county.map")
+    container.see("a map is published", told.stdout.startswith("published 1"), told.stderr)
+    container.wait("the replica has it", container.is_well)
+    for unit in (units[1], units[3]):
+        kill(container, unit)
+    container.wait("all are well again", container.is_well)
+    wear_out(container, units[2])
+    upgrade(container, program, folder, units)
+    stopped = container.inside("systemctl", "stop", *units)
+    container.see("the units are stopped", stopped.returncode == 0 and not any(container.is_active(unit) for unit in units))
+    container.see("no program is left", container.inside("pgrep", "-x", "wfarm").returncode == 1)
+    serve(container)
+    removed = container.inside("dpkg", "--remove", "wfarm")
+    container.see("the package is removed", removed.returncode == 0, removed.stderr)
+
+
+def serve(container):
+    """All nodes of a farm in one process."""
+    container.inside("systemctl", "start", "wfarm")
+    ask = ["python3", "-c", "import urllib.request; print(urllib.request.urlopen('http://127.0.0.1:8080/status').read().decode())"]
+    container.wait("wfarm.service answers", lambda: container.inside(*ask).stdout.startswith("node "))
+    kill(container, "wfarm")
+    container.wait("it answers again", lambda: container.inside(*ask).stdout.startswith("node "))
+    container.inside("systemctl", "stop", "wfarm")
+    container.see("it is stopped", not container.is_active("wfarm"))
+
+
+def wear_out(container, unit):
+    """A node whose folder isn't one ends at each start, until it stays ended and is reported."""
+    farm = container.path / "var/lib/wfarm/node-2/farm"
+    farm.rename(farm.with_name("away"))
+    container.inside("kill", "-9", container.property(unit, "MainPID"))
+    container.wait(f"{unit} stays ended after its starts failed", lambda: container.property(unit, "ActiveState") == "failed")
+    starts = container.property(unit, "NRestarts")
+    container.see(f"it was to be started again {starts} times, five at most were", starts in ("5", "6"))
+    container.wait("it is reported", lambda: "stays ended" in container.inside("journalctl", "--identifier", "wfarm", "--output", "cat").stdout)
+    told = container.inside("journalctl", "--unit", unit, "--output", "cat").stdout
+    container.see("the journal has its last line", "bad folder: not a node's folder: wfarm init makes one" in told, told[-300:])
+    farm.with_name("away").rename(farm)
+    container.inside("systemctl", "reset-failed", unit)
+    container.inside("systemctl", "start", unit)
+    container.wait("it is well once its folder is back", container.is_well)
+
+
+def upgrade(container, program, folder, units):
+    """A newer package starts the running services anew."""
+    new = package(program, make_deb.version_now(), folder)
+    shutil.copy(new, container.path / "root")
+    before = [container.property(unit, "MainPID") for unit in units]
+    ran = container.inside("dpkg", "--install", "/root/" + new.name)
+    container.see("the package is upgraded", ran.returncode == 0, ran.stderr)
+    after = [container.property(unit, "MainPID") for unit in units]
+    container.see("each service runs the new program", not set(before) & set(after))
+    container.wait("all are well", container.is_well)
+
+
+def main():
+    parser = argparse.ArgumentParser(description=__doc__.splitlines()[0])
+    parser.add_argument("--program", type=pathlib.Path, default=PROGRAM)
+    parser.add_argument("--root", type=pathlib.Path, help="a Debian that is there, copied from; else one is made")
+    options = parser.parse_args()
+    lacks = [name for name in ("systemd-nspawn", "nsenter", "dpkg-deb") if shutil.which(name) is None]
+    if lacks:
+        print("missing: " + ", ".join(lacks), file=sys.stderr)
+        return 2
+    with tempfile.TemporaryDirectory() as folder:
+        path = pathlib.Path(folder) / "root"
+        if options.root:
+            subprocess.run(["cp", "-a", str(options.root), str(path)], check=True)
+        else:
+            words = ["debootstrap", "--variant=minbase", f"--include={INCLUDED}", "bookworm", str(path)]
+            subprocess.run(words, check=True, stdout=subprocess.DEVNULL)
+        container = Container(path)
+        prepare(container, options.program, folder)
+        try:
+            if container.boot():
+                container.see("systemd runs in a container", True)
+                attempt(container, options.program, folder)
+            else:
+                container.see("systemd runs in a container", False, (path.parent / "console").read_text(errors="replace")[-500:])
+        finally:
+            container.stop()
+    print(f"{container.wrong} wrong")
+    return int(bool(container.wrong))
+
+
+if __name__ == "__main__":
+    sys.exit(main())
