@@ -7,7 +7,7 @@ Parts, all of them where none is named; about two minutes:
   publish  a map of 32 KB to the node that leads, until each of three nodes tells it as published; in turn with a put of as many bytes
            into three members of etcd in the same folder, at their leader, through its HTTP/JSON gateway on a kept connection. A get that
            needs no agreement shows what the gateway takes of it
-  syncs    the syncs of such a publish at each node, counted by strace
+  syncs    the syncs of such a publish at each node, counted by strace: of records with a map, and of others
   tiles    one kept tile of 256 by 256 for 32 clients of wrk, a connection per request, beside nginx (one worker, the same bytes as a
            file, no connection kept), in turns; and the processor time per 1,000 tiles of four nodes in four processes, with eight
            clients each, beside one's
@@ -181,19 +181,33 @@ def measure_syncs(options, table):
         publish(nodes, texts[0], 1)
         time.sleep(2.5)
         room = pathlib.Path(options.room)
-        tracing = ["strace", "-f", "-e", "trace=fsync,fdatasync,sync_file_range,syncfs"]
+        tracing = ["strace", "-f", "-y", "-s", "1", "-e", "trace=write,fsync,fdatasync,sync_file_range,syncfs"]
         traces = [subprocess.Popen([*tracing, "-o", str(room / f"syncs-{node.number}"), "-p", str(node.process.pid)], stderr=subprocess.DEVNULL)
                   for node in nodes]
         time.sleep(1)
         for sequence, text in enumerate(texts[1:], 2):
             publish(nodes, text, sequence)
-        # (what is heard of peers is written a second later, out of the way of any message)
         for trace in traces:
             trace.send_signal(signal.SIGINT)
             trace.wait()
-        counted = [len(re.findall(r"sync\w*\(", (room / f"syncs-{node.number}").read_text())) / count for node in nodes]
+        counted = [syncs_in((room / f"syncs-{node.number}").read_text()) for node in nodes]
     for node, syncs in zip(nodes, counted):
-        table.judge(f"syncs of a publish at node {node.number}" + (", which leads" if node.number == 0 else ""), syncs, 2.0)
+        who = f"node {node.number}" + (", which leads" if node.number == 0 else "")
+        table.judge(f"syncs of votes and publications per publish, {who}", syncs["maps"] / count, 2.0)
+        table.note("  of promises, one window in four sequences; of what it heard", f"{syncs['promises'] / count:.2f}; {syncs['heard'] / count:.2f}")
+
+
+def syncs_in(trace):
+    """How often a node synced its tape after a record that has a map, and after one that has none; and another file."""
+    syncs, last = {"maps": 0, "promises": 0, "heard": 0}, 0
+    for line in trace.splitlines():
+        if written := re.search(r" write\(\d+<[^>]*\.tape>.* = (\d+)$", line):
+            last = int(written[1])
+        elif re.search(r" \w*sync\w*\(\d+<[^>]*\.tape>", line):
+            syncs["maps" if last > 1000 else "promises"] += 1
+        elif re.search(r" \w*sync\w*\(", line):
+            syncs["heard"] += 1
+    return syncs
 
 
 def rate(address, path, seconds, clients):

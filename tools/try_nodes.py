@@ -345,7 +345,9 @@ def clients(nodes, _):
 def greeting(these, i, /, **changes):
     """The bytes by which a node greets node 0, by the file in its folder and what node 0 has heard of it, or with other fields."""
     lines = dict(line.split(" ", 1) for line in (these.place(i) / "farm").read_text().splitlines())
-    heard = (these.place(0) / "heard").read_text().splitlines()[1 + i]
+    file = these.place(0) / "heard"
+    until(lambda: file.exists() and re.search("tried", file.read_text().splitlines()[1 + i]))  # written within a second
+    heard = file.read_text().splitlines()[1 + i]
     numbers = {word: int(number, 16) for word, number in re.findall(r"(tried|promised|of) ([0-9a-f]{8})", heard)}
     told = {"magic": b"wf-node\n", "version": 1, "farm": lines["farm"], "nodes": int(lines["nodes"], 16), "node": i,
             "starts": int(lines["starts"], 16) + 1, **changes}

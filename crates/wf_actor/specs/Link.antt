@@ -1,5 +1,5 @@
 -- What is done to the ends of the connections with a peer.
-use Rattle.std.specs.Prelude.{◌≡◌, ℕ, ◌+◌, ◌-◌, ◌^◌, min, Bool, true, false, List, [], ◌∷◌, ◌++◌, length, map, slice_get, Option, Some, None, Result, Ok, Err, Vec}
+use Rattle.std.specs.Prelude.{◌≡◌, ℕ, ◌+◌, ◌-◌, ◌^◌, min, Bool, true, false, List, [], ◌∷◌, ◌++◌, length, map, slice_get, Option, Some, None, is_some, Result, Ok, Err, Vec}
 use Rattle.std.specs.declared.alloc.Global.{Global}
 use Rattle.wf_codec.specs.Message.{view}
 use Rattle.wf_codec.specs.declared.message.Message as code
@@ -23,6 +23,7 @@ arrived link = link.arrived.items
 pub record IsSameOutgoing (before after : Link) : Type 0 where
   pub outbox : after.outbox ≡ before.outbox
   pub dropped : after.dropped ≡ before.dropped
+  pub posted : after.posted ≡ before.posted
 
 pub record IsSameIncoming (before after : Link) : Type 0 where
   pub receiver : after.receiver ≡ before.receiver
@@ -52,11 +53,13 @@ pub record IsOpenedOutbox (before after : Link) : Type 0 where
   pub is : after.outbox ≡ Some outbox
   pub empty : IsEmptyOutbox outbox
   pub dropped : after.dropped ≡ 0
+  pub posted : after.posted ≡ before.posted
   pub incoming : IsSameIncoming before after
 
 pub record IsClosedOutbox (before after : Link) : Type 0 where
   pub outbox : after.outbox ≡ None
   pub dropped : after.dropped ≡ before.dropped
+  pub posted : after.posted ≡ before.posted
   pub incoming : IsSameIncoming before after
 
 -- the number of dropped messages after one more, or none
@@ -64,11 +67,18 @@ abbrev pub dropped_after : Bool → ℕ → ℕ
 dropped_after true dropped = dropped
 dropped_after false dropped = min (dropped + 1) (2 ^ 64 - 1)
 
--- the message was offered to the outbox: put in whole, or dropped and counted
+-- the number of messages that were put into an outbox, after one more that was offered: none is where there is no outbox
+abbrev pub posted_after : Bool → Bool → ℕ → ℕ
+posted_after true true posted = min (posted + 1) (2 ^ 64 - 1)
+posted_after true false posted = posted
+posted_after false kept posted = posted
+
+-- the message was offered to the outbox: put in whole, or dropped, and counted
 pub record IsOffered (m : Message Definition) (before after : Link) : Type 0 where
   pub kept : Bool
   pub put : IsPutOr kept m before.outbox after.outbox
   pub dropped : after.dropped ≡ dropped_after kept before.dropped
+  pub posted : after.posted ≡ posted_after (is_some before.outbox) kept before.posted
   pub incoming : IsSameIncoming before after
 
 -- so was each of these, in their order

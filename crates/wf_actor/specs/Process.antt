@@ -19,7 +19,7 @@ use Rattle.wf_actor.specs.Life.{all_from, logged}
 use Rattle.wf_actor.specs.Link.{arrived, ArePosted, AreUnlinked, IsPopped, TakesIn}
 use Rattle.wf_actor.specs.Queue.{queued}
 use Rattle.wf_actor.specs.Target.{includes, reply_target}
-use Rattle.wf_actor.specs.Writing.{waiting_of, dropped_of}
+use Rattle.wf_actor.specs.Writing.{waiting_of, dropped_of, posted_of}
 use Rattle.wf_actor.specs.declared.link.Link.{Link}
 use Rattle.wf_actor.specs.declared.origin.Origin.{Origin}
 use Rattle.wf_actor.specs.declared.origin.Origin.TheVariants.{Own, Peer}
@@ -86,6 +86,9 @@ waiting_at process node = waiting_of (slice_get process.links.items node)
 
 abbrev pub dropped_at : {T : Type 0} {tapes : Tape T} → Process T tapes → ℕ → ℕ
 dropped_at process node = dropped_of (slice_get process.links.items node)
+
+abbrev pub posted_at : {T : Type 0} {tapes : Tape T} → Process T tapes → ℕ → ℕ
+posted_at process node = posted_of (slice_get process.links.items node)
 
 abbrev pub arrived_of : Option Link → List Message
 arrived_of None = []

@@ -20,6 +20,10 @@ abbrev pub dropped_of : Option Link → ℕ
 dropped_of None = 0
 dropped_of (Some link) = link.dropped
 
+abbrev pub posted_of : Option Link → ℕ
+posted_of None = 0
+posted_of (Some link) = link.posted
+
 module _ {K E : Type 0} (sinks : Sink K) (result : Result ℕ E) (old new : K) where
   -- The first bytes that waited were written, at least one; or the write failed, and nothing changed.
   pub record IsWrite (before after : OutboxState) : Type 0 where
@@ -41,4 +45,5 @@ module _ {K E : Type 0} (sinks : Sink K) (result : Result ℕ E) (old new : K) w
   pub record IsWritten (before after : Link) : Type 0 where
     pub write : IsWriteOf before.outbox after.outbox
     pub dropped : after.dropped ≡ before.dropped
+    pub posted : after.posted ≡ before.posted
     pub incoming : IsSameIncoming before after

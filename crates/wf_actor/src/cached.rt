@@ -58,6 +58,13 @@ impl<T: Tape> CachedNode<T> {
         &self.node
     }
 
+    /// The pictures that are cached: those of the node's maps.
+    pub(crate) fn cache(&self) -> &Cache
+        ensures { AllKept self.now.parts.history result.now }
+    {
+        &self.cache
+    }
+
     /// The node's step.
     #[tactic(auto, using(crate::proofs::Growth::still_kept))]
     pub(crate) fn step(&mut self, alloc: Global, input: Input) -> Result<Vec<Message>, NodeFault>

@@ -2,7 +2,7 @@
 
 ghost use Rattle.std.specs.Prelude.{◌≡◌, [], length, map, IfOk};
 ghost use Rattle.wf_codec.specs.Message.{view};
-ghost use Rattle.wf_actor.specs.Link.{dropped_after, ArePosted, AreUnlinked};
+ghost use Rattle.wf_actor.specs.Link.{dropped_after, posted_after, ArePosted, AreUnlinked};
 ghost use Rattle.wf_actor.specs.Offer.{IsPutOr};
 ghost use Rattle.wf_actor.specs.Writing.{IsWriteOf};
 
@@ -26,6 +26,8 @@ pub struct Link {
     pub(crate) outbox: Option<Outbox>,
     // the messages that were dropped since the outbox was opened
     pub(crate) dropped: u64,
+    // the messages that were put into an outbox
+    pub(crate) posted: u64,
     pub(crate) receiver: Receiver,
     // the messages that the receiver returned, of which none is delivered yet
     pub(crate) arrived: VecDeque<Message>,
@@ -37,11 +39,13 @@ impl Link {
 
     /// With no connection.
     pub(crate) fn new(alloc: Global) -> Link
-        ensures { IsUnlinked result }
+        ensures unlinked { IsUnlinked result }
+        ensures posted { result.posted ≡ 0 }
     {
         Link {
             outbox: None,
             dropped: 0,
+            posted: 0,
             receiver: Receiver::new(alloc),
             arrived: VecDeque::new(alloc),
         }
@@ -115,12 +119,14 @@ impl Link {
         write_of(&mut self.outbox, sink)
     }
 
-    /// Puts the message into the outbox whole, or drops and counts it. If there is no outbox, nothing happens.
+    /// Puts the message into the outbox whole, or drops it, and counts it. If there is no outbox, nothing happens.
     pub(crate) fn offer(&mut self, message: &Message)
         ensures { IsOffered (view message.now) self.old self.new }
     {
+        let is_open = self.outbox.is_some();
         let kept = put(&mut self.outbox, message);
         self.dropped = dropped_after(kept, self.dropped);
+        self.posted = posted_after(is_open, kept, self.posted);
     }
 
     /// Offers each of the messages, in order.
@@ -150,6 +156,17 @@ fn dropped_after(kept: bool, dropped: u64) -> u64
         dropped
     } else {
         dropped.saturating_add(1)
+    }
+}
+
+/// The number of messages that were put into an outbox after one more that was offered, or none.
+fn posted_after(is_open: bool, kept: bool, posted: u64) -> u64
+    ensures { result ≡ posted_after is_open kept posted }
+{
+    if is_open && kept {
+        posted.saturating_add(1)
+    } else {
+        posted
     }
 }
 

@@ -19,6 +19,7 @@ use wf_learner::History;
 use wf_node::{Input, Node, NodeFault};
 use wf_proposer::Standing;
 use wf_tape::Tape;
+use wf_wms::cache::Cache;
 
 /// One node of a farm in a process of its own. A clause sees its actor, its own messages that wait for it, the ends of its
 /// connections by node, and logs that only proofs read: what the receivers returned, with the peer; and the runs that have ended.
@@ -60,6 +61,7 @@ impl<T: Tape> Process<T> {
     ghost use Rattle.wf_node.specs.Node.{working_of};
     ghost use Rattle.wf_proposer.specs.Standing.{standing_of};
     ghost use Rattle.wf_tape.specs.Change.{Stays};
+    ghost use Rattle.wf_wms.specs.KeptPictures.{AllKept};
 
     /// Node `id` of `n` on its tape, with a cache for `pictures` pictures. No message waits, and there are no connections. An error
     /// returns the tape: those of [`Node::open`], and P3 also if there is no memory for the process, before the tape is read.
@@ -133,6 +135,13 @@ impl<T: Tape> Process<T> {
         ensures { result.now ≡ self.now.actor.node }
     {
         self.actor.node.get()
+    }
+
+    /// The pictures that are cached, those of the node's maps, with their counts in this run. They can only be read.
+    pub fn cache(&self) -> &Cache
+        ensures { AllKept self.now.actor.node.parts.history result.now }
+    {
+        self.actor.node.cache()
     }
 
     /// The number of nodes of the farm.

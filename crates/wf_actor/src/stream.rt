@@ -16,7 +16,7 @@ use wf_wire::InboxFault;
 impl<T: Tape> Process<T> {
     ghost use Rattle.std.specs.Prelude.{[], ◌∷◌, List, true, false, None, Ok, IfSome};
     ghost use Rattle.wf_actor.specs.Link.{IsOpenedOutbox, IsClosedOutbox, IsOpenedReceiver, IsPopped};
-    ghost use Rattle.wf_actor.specs.Process.{arrived_at, dropped_at, is_peer, waiting_at, HearsFrom, IsLinkChanged, IsReception};
+    ghost use Rattle.wf_actor.specs.Process.{arrived_at, dropped_at, is_peer, posted_at, waiting_at, HearsFrom, IsLinkChanged, IsReception};
     ghost use Rattle.wf_actor.specs.Sent.{came_from};
     ghost use Rattle.wf_actor.specs.Writing.{IsWritten};
     ghost use Rattle.wf_codec.specs.declared.message.Message as code;
@@ -65,6 +65,18 @@ impl<T: Tape> Process<T> {
         let index = usize::from(peer.number());
         if index < self.links.len() {
             self.links[index].dropped
+        } else {
+            0
+        }
+    }
+
+    /// How many messages were put into outboxes for a peer in this run, to be written to it. It saturates.
+    pub fn posted(&self, peer: NodeId) -> u64
+        ensures { result ≡ posted_at self.now peer }
+    {
+        let index = usize::from(peer.number());
+        if index < self.links.len() {
+            self.links[index].posted
         } else {
             0
         }

@@ -1,5 +1,6 @@
 pub mod Asking
 pub mod AskingLaws
+pub mod Caching
 pub mod Contents
 pub mod Ending
 pub mod EndingLaws

@@ -1,6 +1,7 @@
 //! Answers that leave a node as it is.
 ghost use Rattle.std.specs.Prelude.{◌≡◌};
 ghost use Rattle.wf_http.specs.Target.{query_of};
+ghost use Rattle.wf_edge.specs.Caching.{Changes, IsReadBy};
 ghost use Rattle.wf_edge.specs.Ending.{Says};
 ghost use Rattle.wf_edge.specs.Notice.{response_of};
 ghost use Rattle.wf_edge.specs.Page.{service_page, status_at, status_page, accepted_page, bad_map_page};
@@ -65,6 +66,8 @@ fn page_for<P: Pictures>(
     requires kept { P.kept pictures.old history.now.definitions }
     ensures answers { Answers request.now.asked (query_of request.now.head.target)
         history.now.definitions status result }
+    ensures changed { Changes P.changes request.now.asked history.now.definitions
+        (query_of request.now.head.target) result pictures.old pictures.new }
     ensures kept { P.kept pictures.new history.now.definitions }
     ensures capacity { P.capacity pictures.new ≡ P.capacity pictures.old }
 {
@@ -79,7 +82,8 @@ fn page_for<P: Pictures>(
 }
 
 /// Answers a request that isn't a publish from the maps that are published and a status, and writes the response: of a node its
-/// history and [`status_of`] it. Allocation failure is answered with 503.
+/// history and [`status_of`] it. Allocation failure is answered with 503. The pictures are those after the query to the map service;
+/// a status, and an allocation failure, leave them unchanged.
 pub fn answer_get<K: Sink, P: Pictures>(
     alloc: Global,
     sink: &mut K,
@@ -92,6 +96,8 @@ pub fn answer_get<K: Sink, P: Pictures>(
     requires kept { P.kept pictures.old history.now.definitions }
     ensures read { IsRead K.Sink request.now history.now.definitions status
         sink.old sink.new result }
+    ensures changed { IsReadBy P.changes K.Sink request.now history.now.definitions status
+        sink.old sink.new pictures.old pictures.new result }
     ensures kept { P.kept pictures.new history.now.definitions }
     ensures capacity { P.capacity pictures.new ≡ P.capacity pictures.old }
 {

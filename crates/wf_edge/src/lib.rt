@@ -25,7 +25,10 @@
 //! - [`serve::serve_one`]: a response to the input is written, or a prefix of it, and the number of bytes written is reported;
 //!   and, even for readers and writers whose bytes aren't known, a failed write is the last call, and the node is unchanged or made
 //!   one step Propose, whose messages are returned whether or not the write succeeds.
-//! - [`serve::serve_one_cached`]: the same, and the cache's pictures are still those of the node's maps.
+//! - [`answer::answer_get`]: what becomes of the pictures is what the query to the map service does to them; a status and an allocation
+//!   failure leave them unchanged (`specs/Caching.antt`).
+//! - [`serve::serve_one_cached`]: as `serve_one`, and the cache's pictures are still those of the node's maps; the cache is unchanged, or
+//!   as one query to the map service leaves it.
 //! - [`law`]: equal requests to the map service have equal responses, at two nodes too, wherever these answer alike; and which
 //!   requests may be answered with 503 (`specs/Unavailable.antt`).
 //!

@@ -1,8 +1,8 @@
 //! Where the pictures of a node's maps come from.
-ghost use Rattle.std.specs.Prelude.{◌≡◌, ℕ, List, IfOk};
+ghost use Rattle.std.specs.Prelude.{◌≡◌, ℕ, List, length, IfOk, OnErr, OnOk};
 ghost use Rattle.wf_def.specs.Definition.{Definition};
 ghost use Rattle.wf_edge.specs.Page.{IsLastAnswer};
-ghost use Rattle.wf_wms.specs.KeptPictures.{AllKept};
+ghost use Rattle.wf_wms.specs.KeptPictures.{AllKept, IsCacheAfter};
 
 use std::alloc::{AllocError, Global};
 use wf_learner::History;
@@ -18,7 +18,10 @@ pub trait Pictures {
     /// The number of pictures that can be cached.
     ghost capacity: { Self → ℕ };
 
-    /// The map service's answer to a query, at the last published sequence.
+    /// What the answer to a query does to them, by these maps: those before, and those after.
+    ghost changes: { List Definition → List ℕ → Self → Self → Type 0 };
+
+    /// The map service's answer to a query, at the last published sequence. An error leaves the pictures unchanged.
     fn answer(
         &mut self,
         alloc: Global,
@@ -28,6 +31,9 @@ pub trait Pictures {
         requires { kept self.old history.now.definitions }
         ensures answer { IfOk result (IsLastAnswer history.now.definitions query.now) }
         ensures kept { kept self.new history.now.definitions }
+        ensures changed { OnOk result
+            (changes history.now.definitions query.now self.old self.new) }
+        ensures unchanged { OnErr result (self.new ≡ self.old) }
         ensures capacity { capacity self.new ≡ capacity self.old };
 }
 
@@ -39,6 +45,8 @@ impl Pictures for Uncached {
     ghost kept = { λ _ _. Unit {0} };
 
     ghost capacity = { λ _. 0 };
+
+    ghost changes = { λ _ _ old new. new ≡ old };
 
     fn answer(
         &mut self,
@@ -54,6 +62,8 @@ impl Pictures for Cache {
     ghost kept = { λ cache history. AllKept history cache };
 
     ghost capacity = { λ cache. cache.cap };
+
+    ghost changes = { λ history query old new. IsCacheAfter (length history) history query old new };
 
     fn answer(
         &mut self,

@@ -1,12 +1,13 @@
 //! Serving one request.
-ghost use Rattle.std.specs.Prelude.{◌≡◌, Vec};
+ghost use Rattle.std.specs.Prelude.{◌≡◌, ◌⊎◌, ℕ, List, length, Vec};
 ghost use Rattle.std.specs.declared.alloc.Global.{Global};
 ghost use Rattle.wf_codec.specs.declared.message.Message.{Message};
+ghost use Rattle.wf_edge.specs.Caching.{ChangesOnce};
 ghost use Rattle.wf_edge.specs.Hearing.{CountsHearing};
 ghost use Rattle.wf_edge.specs.Request.{TakesRequest};
 ghost use Rattle.wf_edge.specs.Saying.{CountsSaying};
 ghost use Rattle.wf_edge.specs.Serving.{IsEnding, IsOutcome, IsPublish, IsServed, MovesOnce, Serves};
-ghost use Rattle.wf_wms.specs.KeptPictures.{AllKept};
+ghost use Rattle.wf_wms.specs.KeptPictures.{AllKept, IsCacheAfter};
 
 use crate::answer::{answer_get, say_answer, status_of};
 use crate::outcome::Outcome;
@@ -63,6 +64,7 @@ fn serve_with<S: Source, K: Sink, T: Tape, P: Pictures>(
         node.old result.messages node.new result.outcome }
     ensures takes { TakesRequest (S.piece source.old) (S.left source.old) (S.left source.new) }
     ensures kept { P.kept pictures.new node.old.parts.history }
+    ensures changed { ChangesOnce P.changes node.old.parts.history pictures.old pictures.new }
     ensures capacity { P.capacity pictures.new ≡ P.capacity pictures.old }
 {
     match Request::read(alloc, source) {
@@ -79,7 +81,7 @@ fn serve_with<S: Source, K: Sink, T: Tape, P: Pictures>(
 }
 
 // Answers a request by the node, and writes the response.
-#[tactic(auto, using(crate::specs::ServingLaws::read_served))]
+#[tactic(auto, using(crate::specs::ServingLaws::read_served, crate::specs::Caching::read_once))]
 fn answer_request<K: Sink, T: Tape, P: Pictures>(
     alloc: Global,
     sink: &mut K,
@@ -91,6 +93,7 @@ fn answer_request<K: Sink, T: Tape, P: Pictures>(
     ensures served { IsServed T.Tape K.Sink request.now sink.old sink.new
         node.old result.messages node.new result.outcome }
     ensures kept { P.kept pictures.new node.old.parts.history }
+    ensures changed { ChangesOnce P.changes node.old.parts.history pictures.old pictures.new }
     ensures capacity { P.capacity pictures.new ≡ P.capacity pictures.old }
 {
     match request.asked() {
@@ -131,7 +134,7 @@ pub fn serve_one<S: Source, K: Sink, T: Tape>(
 }
 
 /// Serves one request as [`serve_one`] does, with a cache of pictures of the node's maps, which stays valid: a publish only adds to
-/// the node's history.
+/// the node's history. The cache is unchanged, or as one query to the map service leaves it.
 pub fn serve_one_cached<S: Source, K: Sink, T: Tape>(
     alloc: Global,
     source: &mut S,
@@ -149,6 +152,8 @@ pub fn serve_one_cached<S: Source, K: Sink, T: Tape>(
     ensures last { IsEnding T.Tape K.Sink (S.left source.old) sink.old sink.new
         node.old result.messages node.new result.outcome }
     ensures kept { AllKept node.new.parts.history cache.new }
+    ensures changed { (cache.new ≡ cache.old) ⊎ ((query : List ℕ) × IsCacheAfter
+        (length node.old.parts.history) node.old.parts.history query cache.old cache.new) }
     ensures capacity { cache.new.cap ≡ cache.old.cap }
 {
     kept_pictures_outlast_growth();

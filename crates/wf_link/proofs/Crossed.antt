@@ -41,41 +41,46 @@ all_written old new bytes appends = (length bytes, subst (λ (xs : List ℕ). Ap
 
 -- ---- pieces
 
--- the front of the bytes was written, and as many bytes have arrived
-pub record HavePassed (bytes rest : List ℕ) (old new left left_after : Option (List ℕ)) (before after : Arrival) : Type 0 where
+-- The front of the bytes was written, as many bytes have arrived, and no call failed.
+pub record HavePassed (bytes rest : List ℕ) (old new left left_after : Option (List ℕ)) (writes writes_after reads reads_after : ℕ) (before after : Arrival) : Type 0 where
   pub front : List ℕ
   pub split : bytes ≡ front ++ rest
   pub written : Appends old new front
   pub arrives : Arrives (length front) left left_after before after
+  pub calm : (writes_after ≡ writes) × (reads_after ≡ reads)
 
-pub none_passed : (bytes : List ℕ) (written left : Option (List ℕ)) (arrival : Arrival) → HavePassed bytes bytes written written left left arrival arrival
-none_passed bytes written left arrival = record { front = []; split = refl; written = appends_none written; arrives = arrived_none left arrival }
+pub none_passed : (bytes : List ℕ) (written left : Option (List ℕ)) (writes reads : ℕ) (arrival : Arrival) → HavePassed bytes bytes written written left left writes writes reads reads arrival arrival
+none_passed bytes written left writes reads arrival = record { front = []; split = refl; written = appends_none written; arrives = arrived_none left arrival; calm = (refl, refl) }
 
-pub piece_passed : (bytes rest : List ℕ) (n : ℕ) (old now new left between left_after : Option (List ℕ)) (before middle after : Arrival) → HavePassed bytes rest old now left between before middle
-    → Appends now new (take n rest) → Arrives (length (take n rest)) between left_after middle after → HavePassed bytes (drop n rest) old new left left_after before after
-piece_passed bytes rest n old now new left between left_after before middle after passed appends arrives = record {
+pub piece_passed : (bytes rest : List ℕ) (n : ℕ) (old now new left between left_after : Option (List ℕ)) (writes between_writes writes_after reads between_reads reads_after : ℕ) (before middle after : Arrival)
+    → HavePassed bytes rest old now left between writes between_writes reads between_reads before middle → Appends now new (take n rest) → Arrives (length (take n rest)) between left_after middle after
+    → (writes_after ≡ between_writes) × (reads_after ≡ between_reads) → HavePassed bytes (drop n rest) old new left left_after writes writes_after reads reads_after before after
+piece_passed bytes rest n old now new left between left_after writes between_writes writes_after reads between_reads reads_after before middle after passed appends arrives calm = record {
   front = passed.front ++ take n rest;
   split = passed.split ∙ ap (λ xs. passed.front ++ xs) (sym (take-append-drop n rest)) ∙ sym (append_assoc passed.front (take n rest) (drop n rest));
   written = appends_more old now new passed.front (take n rest) passed.written appends;
   arrives = arrived_more (length passed.front) (length (take n rest)) (length (passed.front ++ take n rest)) left between left_after before middle after (length-append passed.front (take n rest)) passed.arrives arrives;
+  calm = (calm.0 ∙ passed.calm.0, calm.1 ∙ passed.calm.1);
 }
 
 whole_front : (bytes rest front : List ℕ) → length rest ≡ 0 → bytes ≡ front ++ rest → front ≡ bytes
 whole_front bytes [] front none split = sym (append-nil front) ∙ sym split
 whole_front bytes (x ∷ rest) front none split = absurd (omega (arith, none))
 
-pub all_passed_written : (bytes rest : List ℕ) (old new left left_after : Option (List ℕ)) (before after : Arrival) → length rest ≡ 0 → HavePassed bytes rest old new left left_after before after → Appends old new bytes
-all_passed_written bytes rest old new left left_after before after none passed = subst (λ (xs : List ℕ). Appends old new xs) (whole_front bytes rest passed.front none passed.split) passed.written
+pub all_passed_written : (bytes rest : List ℕ) (old new left left_after : Option (List ℕ)) (writes writes_after reads reads_after : ℕ) (before after : Arrival) → length rest ≡ 0
+    → HavePassed bytes rest old new left left_after writes writes_after reads reads_after before after → Appends old new bytes
+all_passed_written bytes rest old new left left_after writes writes_after reads reads_after before after none passed =
+    subst (λ (xs : List ℕ). Appends old new xs) (whole_front bytes rest passed.front none passed.split) passed.written
 
-pub all_passed_arrive : (bytes rest : List ℕ) (old new left left_after : Option (List ℕ)) (before after : Arrival) → length rest ≡ 0 → HavePassed bytes rest old new left left_after before after
-    → Arrives (length bytes) left left_after before after
-all_passed_arrive bytes rest old new left left_after before after none passed =
+pub all_passed_arrive : (bytes rest : List ℕ) (old new left left_after : Option (List ℕ)) (writes writes_after reads reads_after : ℕ) (before after : Arrival) → length rest ≡ 0
+    → HavePassed bytes rest old new left left_after writes writes_after reads reads_after before after → Arrives (length bytes) left left_after before after
+all_passed_arrive bytes rest old new left left_after writes writes_after reads reads_after before after none passed =
     subst (λ (xs : List ℕ). Arrives (length xs) left left_after before after) (whole_front bytes rest passed.front none passed.split) passed.arrives
 
 -- a prefix of the next piece
-pub part_passed : (bytes rest : List ℕ) (n : ℕ) (old now new left between : Option (List ℕ)) (before middle : Arrival) → HavePassed bytes rest old now left between before middle → AppendsPart now new (take n rest)
-    → AppendsPart old new bytes
-part_passed bytes rest n old now new left between before middle passed (count, appends) =
+pub part_passed : (bytes rest : List ℕ) (n : ℕ) (old now new left between : Option (List ℕ)) (writes writes_after reads reads_after : ℕ) (before middle : Arrival)
+    → HavePassed bytes rest old now left between writes writes_after reads reads_after before middle → AppendsPart now new (take n rest) → AppendsPart old new bytes
+part_passed bytes rest n old now new left between writes writes_after reads reads_after before middle passed (count, appends) =
     let inner = prefix_of_prefix count n rest in
     let outer = prefix_behind inner.0 passed.front rest in
     let all : passed.front ++ take count (take n rest) ≡ take outer.0 bytes =

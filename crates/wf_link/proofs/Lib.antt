@@ -1,2 +1,4 @@
 mod Arrived
+mod Causes
 mod Crossed
+mod Ends

@@ -1,10 +1,12 @@
 //! A message crosses from a writer to a reader.
 
-ghost use Rattle.std.specs.Prelude.{◌≡◌, ◌-◌, IfOk, OnErr, OnOk, length, min, take};
+ghost use Rattle.std.specs.Prelude.{◌≡◌, ◌-◌, IfErr, IfOk, OnErr, OnOk, length, min, take};
 ghost use Rattle.std.specs.Io.KnownBytes.{Appends};
 ghost use Rattle.wf_codec.specs.Message.{IsMessage, view};
 ghost use Rattle.wf_codec.specs.Spelling.{spelling};
+ghost use Rattle.wf_farm.specs.declared.carrier.CarrierFault.TheVariants as faults;
 ghost use Rattle.wf_link.specs.Arrival.{Arrives, HaveArrived};
+ghost use Rattle.wf_link.specs.Cause.{BeginsNoMessage, Fares, IsAny, IsCalm, IsLost, IsOneMessage, IsUnpassed};
 ghost use Rattle.wf_link.specs.Crossing.{AppendsPart, ComesOut, IsSentIfLooped, NoneComesOut, front_of};
 
 use crate::arrival::Arrival;
@@ -36,6 +38,10 @@ pub fn cross<K: Sink, S: Source>(
         ComesOut (view message.now) (S.left source.old) (S.left source.new) (view arrived)) }
     ensures same { IfOk result (λ arrived.
         IsSentIfLooped (view message.now) (S.left source.old) (view arrived)) }
+    ensures cause { Fares result
+        (IsCalm K.Sink S.Source sink.old sink.new source.old source.new)
+        (IsLost K.Sink S.Source (length (spelling (view message.now))) IsOneMessage
+        sink.old sink.new source.old source.new) }
 {
     // The theorems: the bytes of a stream determine its messages, and an encoding has at least one byte.
     streams_split_one_way();
@@ -70,6 +76,10 @@ pub fn cut_off<K: Sink, S: Source>(
         (front_of (view message.now) count)) }
     ensures none { OnOk result
         (NoneComesOut (front_of (view message.now) count) (S.left source.old) (S.left source.new)) }
+    ensures cause { Fares result
+        (IsCalm K.Sink S.Source sink.old sink.new source.old source.new)
+        (IsLost K.Sink S.Source (length (front_of (view message.now) count)) BeginsNoMessage
+        sink.old sink.new source.old source.new) }
 {
     let bytes = match encoded(alloc, message) {
         Ok(bytes) => bytes,
@@ -87,6 +97,7 @@ pub fn cut_off<K: Sink, S: Source>(
 fn encoded(alloc: Global, message: &Message) -> Result<Vec<u8>, CarrierFault>
     ensures bytes { IfOk result (λ bytes. bytes.items ≡ spelling (view message.now)) }
     ensures is_message { IsMessage (view message.now) }
+    ensures memory { IfErr result (λ fault. fault ≡ faults.Memory) }
 {
     let mut bytes = Vec::new(alloc);
     match encode(message, &mut bytes) {
@@ -114,6 +125,10 @@ fn pass_all<K: Sink, S: Source>(
     ensures part { OnErr result (AppendsPart (K.written sink.old) (K.written sink.new) bytes.now) }
     ensures arrived { IfOk result (λ arrival.
         HaveArrived (length bytes.now) (S.left source.old) (S.left source.new) arrival) }
+    ensures cause { Fares result
+        (IsCalm K.Sink S.Source sink.old sink.new source.old source.new)
+        (IsLost K.Sink S.Source (length bytes.now) IsAny
+        sink.old sink.new source.old source.new) }
 {
     let mut arrival = nothing(alloc);
     match pass_each(alloc, bytes, sink, source, &mut arrival) {
@@ -138,14 +153,18 @@ fn pass_each<K: Sink, S: Source>(
     ensures part { OnErr result (AppendsPart (K.written sink.old) (K.written sink.new) bytes.now) }
     ensures arrives { OnOk result (Arrives
         (length bytes.now) (S.left source.old) (S.left source.new) arrival.old arrival.new) }
+    ensures cause { Fares result
+        (IsCalm K.Sink S.Source sink.old sink.new source.old source.new)
+        (IsUnpassed (length bytes.now) (K.failures sink.old) (K.failures sink.new) (S.failures source.old)
+        (S.failures source.new) (S.left source.old) (S.left source.new) arrival.old) }
 {
     let mut rest = bytes;
     while !rest.is_empty() {
         let (piece, after) = rest.split_at(rest.len().min(PIECE_BYTES));
-        if let Err(fault) = pass(alloc, piece, sink, source, arrival) {
-            return Err(fault);
+        match pass(alloc, piece, sink, source, arrival) {
+            Ok(()) => rest = after,
+            Err(fault) => return Err(fault),
         }
-        rest = after;
     }
     Ok(())
 }
@@ -163,6 +182,10 @@ fn pass<K: Sink, S: Source>(
     ensures part { OnErr result (AppendsPart (K.written sink.old) (K.written sink.new) piece.now) }
     ensures arrives { OnOk result (Arrives
         (length piece.now) (S.left source.old) (S.left source.new) arrival.old arrival.new) }
+    ensures cause { Fares result
+        (IsCalm K.Sink S.Source sink.old sink.new source.old source.new)
+        (IsUnpassed (length piece.now) (K.failures sink.old) (K.failures sink.new) (S.failures source.old)
+        (S.failures source.new) (S.left source.old) (S.left source.new) arrival.old) }
 {
     match write_all(sink, piece) {
         Ok(()) => receive(alloc, piece.len(), source, arrival),

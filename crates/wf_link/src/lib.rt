@@ -9,7 +9,9 @@
 //!
 //! Promises: [`cross`] writes the message's encoding, and a prefix of it if it fails. What it returns is the one message that came
 //! out, of exactly as many bytes as were written, with nothing behind it. If the reader has the bytes that are written, that is the
-//! message itself. [`cut_off`] never writes a whole message; after Ok no message came out.
+//! message itself. [`cut_off`] never writes a whole message; after Ok no message came out. A failure has its cause: a message is lost
+//! where a write or a read failed, the reader ended too early, or what came is something else; where an allocation failed, no call did.
+//! A [`Connection`] writes exactly the bytes of a message that it cuts off, loses none for an allocation, and is closed by a failure.
 //!
 //! Not here: what a socket gives. No contract says it, so a [`Connection`] isn't faithful; a farm tests what it brings. A read or
 //! write at a connection that waits for ten seconds fails.

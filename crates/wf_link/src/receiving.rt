@@ -1,8 +1,11 @@
 //! The receiving end of a connection.
 
-ghost use Rattle.std.specs.Prelude.{◌<◌, ◌≡◌, ◌≤◌, ◌++◌, [], ◌∷◌, ℕ, List, IfOk, OnOk, map};
+ghost use Rattle.std.specs.Prelude.{◌<◌, ◌≡◌, ◌≢◌, ◌≤◌, ◌++◌, [], ◌∷◌, ℕ, List, Err, IfErr, IfOk, OnErr, OnOk, length, map};
+ghost use Rattle.std.specs.IoError.{error_kind};
 ghost use Rattle.wf_codec.specs.Message.{view};
+ghost use Rattle.wf_farm.specs.declared.carrier.CarrierFault.TheVariants as faults;
 ghost use Rattle.wf_link.specs.Arrival.{Arrives, HasReceived, HasTaken};
+ghost use Rattle.wf_link.specs.Cause.{BeginsNoMessage, Fares, HasBroken, IsOneMessage, IsUnread};
 ghost use Rattle.wf_wire.specs.Stream.{Reads};
 
 use crate::arrival::Arrival;
@@ -12,7 +15,7 @@ use std::io::ErrorKind;
 use wf_codec::{Message, no_spelling_is_empty};
 use wf_farm::CarrierFault;
 use wf_stream::{Source, read_piece};
-use wf_wire::{Inbox, InboxFault, cuts_do_not_matter};
+use wf_wire::{Inbox, InboxFault, cuts_do_not_matter, streams_split_one_way};
 
 /// Nothing has arrived.
 #[tactic(auto, using(crate::proofs::Arrived::nothing_received))]
@@ -35,8 +38,11 @@ pub fn receive<S: Source>(
     source: &mut S,
     arrival: &mut Arrival,
 ) -> Result<(), CarrierFault>
-    ensures { OnOk result
+    ensures arrives { OnOk result
         (Arrives count (S.left source.old) (S.left source.new) arrival.old arrival.new) }
+    ensures cause { Fares result (S.failures source.new ≡ S.failures source.old)
+        (IsUnread count (S.failures source.old) (S.failures source.new)
+        (S.left source.old) (S.left source.new) arrival.old) }
 {
     let mut received = 0;
     while received < count {
@@ -61,6 +67,9 @@ fn receive_some<S: Source>(
         Arrives some (S.left source.old) (S.left source.new) arrival.old arrival.new) }
     ensures some { IfOk result (λ some. 0 < some) }
     ensures within { IfOk result (λ some. some ≤ room) }
+    ensures cause { Fares result (S.failures source.new ≡ S.failures source.old)
+        (IsUnread room (S.failures source.old) (S.failures source.new)
+        (S.left source.old) (S.left source.new) arrival.old) }
 {
     let mut piece = Vec::new(alloc);
     match read_piece(source, &mut piece, room) {
@@ -74,32 +83,45 @@ fn receive_some<S: Source>(
 }
 
 /// Why a read gave nothing.
-fn why_unread(error: io::Error) -> CarrierFault {
-    if error.kind() == ErrorKind::OutOfMemory {
-        CarrierFault::Memory
-    } else {
-        CarrierFault::Lost
+fn why_unread(error: io::Error) -> CarrierFault
+    ensures memory { result ≡ faults.Memory → error_kind error ≡ ErrorKind.OutOfMemory }
+    ensures lost { result ≡ faults.Lost → error_kind error ≢ ErrorKind.OutOfMemory }
+{
+    match error.kind() {
+        ErrorKind::OutOfMemory => CarrierFault::Memory,
+        _ => CarrierFault::Lost,
     }
 }
 
 /// A piece arrives. Err: an allocation failed, or the bytes aren't messages.
 fn take(arrival: &mut Arrival, piece: &[u8]) -> Result<(), CarrierFault>
-    ensures { OnOk result (HasTaken piece.now arrival.old arrival.new) }
+    ensures taken { OnOk result (HasTaken piece.now arrival.old arrival.new) }
+    ensures broken { result ≡ Err faults.Lost → HasBroken piece.now arrival.old }
 {
     // The theorem: two pieces give what they give when joined.
     cuts_do_not_matter();
     match arrival.inbox.feed(piece) {
         Ok(messages) => keep(&mut arrival.messages, messages),
-        Err(InboxFault::Memory) => Err(CarrierFault::Memory),
-        Err(_) => Err(CarrierFault::Lost),
+        Err(fault) => Err(why_unfed(fault)),
+    }
+}
+
+/// Why an inbox takes no bytes.
+fn why_unfed(fault: InboxFault) -> CarrierFault
+    ensures { result ≡ faults.Lost → fault ≢ InboxFault.Memory }
+{
+    match fault {
+        InboxFault::Memory => CarrierFault::Memory,
+        _ => CarrierFault::Lost,
     }
 }
 
 /// Appends the messages that came out.
 #[tactic(auto, using(crate::proofs::Arrived::kept))]
 fn keep(messages: &mut Vec<Message>, mut more: Vec<Message>) -> Result<(), CarrierFault>
-    ensures { OnOk result
+    ensures kept { OnOk result
         (map view messages.new.items ≡ map view messages.old.items ++ map view more.items) }
+    ensures memory { IfErr result (λ fault. fault ≡ faults.Memory) }
 {
     let kept = messages.append(&mut more);
     drop(more);
@@ -111,9 +133,14 @@ fn keep(messages: &mut Vec<Message>, mut more: Vec<Message>) -> Result<(), Carri
 
 /// The message that arrived, if it is one, and nothing behind it.
 pub fn only_message(arrival: Arrival) -> Result<Message, CarrierFault>
-    ensures { (bytes : List ℕ) → HasReceived bytes arrival →
+    ensures one { (bytes : List ℕ) → HasReceived bytes arrival →
         IfOk result (λ message. Reads bytes (view message ∷ []) []) }
+    ensures other { (bytes : List ℕ) → HasReceived bytes arrival →
+        OnErr result (IsOneMessage bytes → ⊥) }
+    ensures lost { IfErr result (λ fault. fault ≡ faults.Lost) }
 {
+    // The theorem: the bytes of a stream determine its messages.
+    streams_split_one_way();
     let Arrival { inbox, messages } = arrival;
     let rest = inbox.kept();
     drop(inbox);
@@ -127,7 +154,9 @@ pub fn only_message(arrival: Arrival) -> Result<Message, CarrierFault>
 /// The message of a list of one.
 #[tactic(auto, using(crate::proofs::Arrived::one_left))]
 fn only(mut messages: Vec<Message>) -> Result<Message, CarrierFault>
-    ensures { IfOk result (λ message. messages.items ≡ message ∷ []) }
+    ensures one { IfOk result (λ message. messages.items ≡ message ∷ []) }
+    ensures other { OnErr result (length messages.items ≢ 1) }
+    ensures lost { IfErr result (λ fault. fault ≡ faults.Lost) }
 {
     let message = messages.pop();
     let left = messages.len();
@@ -145,9 +174,14 @@ fn only(mut messages: Vec<Message>) -> Result<Message, CarrierFault>
 /// Err: a message arrived.
 #[tactic(auto, using(crate::proofs::Arrived::none_came_out))]
 pub fn no_message(arrival: Arrival) -> Result<(), CarrierFault>
-    ensures { (bytes : List ℕ) → HasReceived bytes arrival →
-        OnOk result ((rest : List ℕ) × Reads bytes [] rest) }
+    ensures none { (bytes : List ℕ) → HasReceived bytes arrival →
+        OnOk result (BeginsNoMessage bytes) }
+    ensures other { (bytes : List ℕ) → HasReceived bytes arrival →
+        OnErr result (BeginsNoMessage bytes → ⊥) }
+    ensures lost { IfErr result (λ fault. fault ≡ faults.Lost) }
 {
+    // The theorem: the bytes of a stream determine its messages.
+    streams_split_one_way();
     let count = arrival.messages.len();
     drop(arrival);
     if count != 0 {

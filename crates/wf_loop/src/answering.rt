@@ -25,14 +25,14 @@ impl<T: Tape> Server for Voter<T> {
     fn answer(&mut self, alloc: Global, incoming: &Incoming, outgoing: &mut Outgoing) -> Reply {
         self.process.always_lived();
         self.process.always_heard();
+        let taken = self.process.cache().taken();
         match serve(alloc, &mut self.process, incoming, outgoing) {
             Outcome::ReadFailed => Reply::Lacks(missing(incoming)),
             Outcome::NoRequest => Reply::Nothing,
             Outcome::Sent(status, bytes) | Outcome::WriteFailed(status, bytes) => {
                 self.rejected.note(alloc, status, outgoing.bytes());
-                if is_picture(outgoing.bytes()) {
-                    self.pictures = self.pictures.saturating_add(1);
-                }
+                let is_cached = self.process.cache().taken() != taken;
+                self.pictures.note(outgoing.bytes(), is_cached);
                 Reply::Sent { status, bytes }
             }
         }
@@ -52,14 +52,6 @@ fn serve<T: Tape>(
     ensures unsent { IsUnsent result outgoing.old outgoing.new }
 {
     process.serve(alloc, &mut incoming.reader(), outgoing)
-}
-
-/// The front of a response that is a picture.
-const PICTURE: &[u8] = b"HTTP/1.1 200 OK\r\nContent-Type: image/";
-
-/// Whether a response is a picture.
-fn is_picture(response: &[u8]) -> bool {
-    response.starts_with(PICTURE)
 }
 
 /// The number of bytes that a request lacks at least.

@@ -3,6 +3,7 @@
 use crate::mesh::Differing;
 use crate::notes::Notes;
 use crate::peer_state::PeerState;
+use crate::steps::Steps;
 use crate::tally::Tally;
 use std::alloc::AllocError;
 use std::fmt::Write;
@@ -10,7 +11,7 @@ use std::fs;
 use std::rt::Files;
 use wf_learner::History;
 use wf_operator::metrics::{counter, gauge, seconds};
-use wf_operator::{Health, Operated};
+use wf_operator::{Health, Operated, Pictures};
 use wf_proposer::Standing;
 use wf_visitors::Counts;
 
@@ -23,7 +24,9 @@ pub(crate) struct Facts<'a, R> {
     pub(crate) peers: &'a [PeerState],
     pub(crate) requests: &'a Counts,
     pub(crate) rejected: &'a Tally,
-    pub(crate) pictures: u64,
+    pub(crate) pictures: Pictures,
+    pub(crate) unkept: u64,
+    pub(crate) steps: Steps,
     pub(crate) tape: &'a str,
     pub(crate) is_halted: bool,
     pub(crate) proposal: Standing,
@@ -68,13 +71,16 @@ impl<'a, R: Files> Operated for Facts<'a, R> {
         push_proposal(text, self.proposal)?;
         push_peers(text, self.peers)?;
         self.requests.push_to(text)?;
-        counter(text, "wfarm_pictures_total", self.pictures)?;
+        self.pictures.push_to(text)?;
+        counter(text, "wfarm_unkept_pictures_total", self.unkept)?;
         seconds(
             text,
             "wfarm_drawing_seconds_total",
             self.requests.spent("/wms", 200),
         )?;
         self.rejected.push_to(text)?;
+        counter(text, "wfarm_steps_total", self.steps.number)?;
+        seconds(text, "wfarm_step_seconds_total", self.steps.micros)?;
         match tape_bytes(self.rt, self.tape) {
             Some(bytes) => gauge(text, "wfarm_tape_bytes", bytes),
             None => Ok(()),
@@ -123,29 +129,31 @@ fn push_proposal(text: &mut String, proposal: Standing) -> Result<(), AllocError
 
 /// Appends what is known of the peers.
 fn push_peers(text: &mut String, peers: &[PeerState]) -> Result<(), AllocError> {
-    text.push_str("# TYPE wfarm_messages_in_total counter\n")?;
+    push_type(text, "wfarm_messages_in_total")?;
     for (number, peer) in peers.iter().enumerate() {
-        let heard = peer.heard;
-        write!(
-            text,
-            "wfarm_messages_in_total{{peer=\"{number}\"}} {heard}\n"
-        )?;
+        push_of(text, "wfarm_messages_in_total", number, peer.heard)?;
     }
-    text.push_str("# TYPE wfarm_messages_dropped_total counter\n")?;
+    push_type(text, "wfarm_messages_out_total")?;
     for (number, peer) in peers.iter().enumerate() {
-        let lost = peer.lost;
-        write!(
-            text,
-            "wfarm_messages_dropped_total{{peer=\"{number}\"}} {lost}\n"
-        )?;
+        push_of(text, "wfarm_messages_out_total", number, peer.posted)?;
     }
-    text.push_str("# TYPE wfarm_bytes_out_total counter\n")?;
+    push_type(text, "wfarm_messages_dropped_total")?;
     for (number, peer) in peers.iter().enumerate() {
-        let written = peer.written;
-        write!(
-            text,
-            "wfarm_bytes_out_total{{peer=\"{number}\"}} {written}\n"
-        )?;
+        push_of(text, "wfarm_messages_dropped_total", number, peer.lost)?;
+    }
+    push_type(text, "wfarm_bytes_out_total")?;
+    for (number, peer) in peers.iter().enumerate() {
+        push_of(text, "wfarm_bytes_out_total", number, peer.written)?;
     }
     Ok(())
+}
+
+/// Appends the type of a counter.
+fn push_type(text: &mut String, name: &str) -> Result<(), AllocError> {
+    write!(text, "# TYPE {name} counter\n")
+}
+
+/// Appends a counter's sample of a peer.
+fn push_of(text: &mut String, name: &str, peer: usize, value: u64) -> Result<(), AllocError> {
+    write!(text, "{name}{{peer=\"{peer}\"}} {value}\n")
 }

@@ -30,6 +30,7 @@ mod parts;
 mod peer_state;
 mod plan;
 mod service;
+mod steps;
 mod tally;
 mod token;
 mod turn;

@@ -8,6 +8,7 @@ use crate::heard::{Came, Heard, PIECE_BYTES};
 use crate::notes::Notes;
 use crate::peer_state::PeerState;
 use crate::plan::Plan;
+use crate::steps::Steps;
 use crate::token::Socket;
 use mio::net::{TcpListener, TcpStream};
 use std::alloc::{AllocError, Global};
@@ -19,7 +20,7 @@ use wf_ballot::{NodeId, SEQUENCES};
 use wf_peer::{Greeting, Heard as HeardOf, Progress, Rejection};
 use wf_tape::Tape;
 use wf_timing::CatchUp;
-use wf_visitors::{Context, register, register_again};
+use wf_visitors::{Context, micros, register, register_again};
 
 /// The most pieces that a turn reads of a peer.
 const MOST_PIECES: u32 = 64;
@@ -45,6 +46,8 @@ pub(crate) struct Mesh {
     pub(crate) notes: Notes,
     pub(crate) catch_up: CatchUp,
     pub(crate) was_let_in: bool,
+    // the messages that the node took in
+    pub(crate) steps: Steps,
     // the peer whose history differs, and a sequence up to which it does
     pub(crate) differs: Option<Differing>,
     // what a peer said for which the node has to end
@@ -102,6 +105,7 @@ impl Mesh {
             notes,
             catch_up: CatchUp::new(time),
             was_let_in: false,
+            steps: Steps::default(),
             differs: None,
             end: None,
             is_busy: false,
@@ -357,7 +361,7 @@ impl Mesh {
 
     /// Judges what came from a peer, and delivers it. Some: the connection has ended.
     #[tactic(auto, using(crate::proofs::Going::still, crate::proofs::Going::twice))]
-    fn deliver<R: AllocGlobal, T: Tape + Drop>(
+    fn deliver<R: Clock + AllocGlobal, T: Tape + Drop>(
         &mut self,
         context: &Context<'_, '_, R>,
         process: &mut Process<T>,
@@ -377,7 +381,9 @@ impl Mesh {
                 open_receiver(context.alloc(), process, peer);
                 return Some(Why::WrongSender);
             }
+            let from = micros(context.rt);
             hear(context.alloc(), process, peer);
+            self.steps.add(from, micros(context.rt));
         }
         None
     }
@@ -414,7 +420,7 @@ impl Mesh {
         }
     }
 
-    /// Notes which peers are connected, how many messages to them were dropped, and how many bytes were written.
+    /// Notes which peers are connected, how many messages to them were posted and dropped, and how many bytes were written.
     pub(crate) fn note_states<T: Tape + Drop>(&mut self, process: &Process<T>) {
         for (index, state) in self.states.iter_mut().enumerate() {
             if let Some(dial) = self.dials.get(index) {
@@ -423,6 +429,7 @@ impl Mesh {
             }
             if let Some(peer) = id_of(index) {
                 state.lost = process.dropped(peer);
+                state.posted = process.posted(peer);
             }
         }
     }

@@ -22,7 +22,7 @@ use std::net::{Net, SocketAddr};
 use std::rt::Files;
 use std::time::{Clock, Duration};
 use wf_actor::Process;
-use wf_operator::Behind;
+use wf_operator::{Behind, Pictures};
 use wf_peer::{Heard, Rejection};
 use wf_tape::Tape;
 use wf_visitors::{Context, Log, Visitors, now};
@@ -64,7 +64,7 @@ fn voter_of<T: Tape>(alloc: Global, process: Process<T>) -> Voter<T>
     Voter {
         process,
         rejected: Tally::new(alloc),
-        pictures: 0,
+        pictures: Pictures::default(),
     }
 }
 

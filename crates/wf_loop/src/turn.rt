@@ -8,9 +8,9 @@ use crate::desk::{Desk, serve_operators};
 use crate::facts::Facts;
 use crate::mesh::Mesh;
 use crate::pace::Pace;
+use crate::steps::Steps;
 use crate::token::Socket;
 use crate::voter::Voter;
-use std::alloc::Global;
 use std::net::Net;
 use std::rt::Files;
 use std::time::Clock;
@@ -18,7 +18,7 @@ use wf_actor::Process;
 use wf_operator::{Behind, Operator};
 use wf_readers_port::Published;
 use wf_tape::Tape;
-use wf_visitors::Context;
+use wf_visitors::{Context, micros};
 
 /// The most of its own messages that a turn delivers.
 const MOST_OWN: u32 = 64;
@@ -35,7 +35,7 @@ pub(crate) fn serve_all<R: Net + Clock + Eprint + AllocGlobal, T: Tape + Drop>(
     ensures { GoesOn T.Tape voter.old.process voter.new.process }
 {
     act_on_all(context, &mut voter.process, mesh, desk, clients, tokens);
-    hear_all_own(context.alloc(), &mut voter.process);
+    hear_all_own(context, &mut voter.process, &mut mesh.steps);
     clients.serve(context, voter)
 }
 
@@ -109,13 +109,19 @@ fn answer_reader<R: Clock + Eprint + AllocGlobal, T: Tape + Drop>(
 
 /// Delivers messages of the node to itself, a bounded number of them.
 #[tactic(auto, using(crate::proofs::Going::still, crate::proofs::Going::twice))]
-fn hear_all_own<T: Tape + Drop>(alloc: Global, process: &mut Process<T>)
+fn hear_all_own<R: Clock + AllocGlobal, T: Tape + Drop>(
+    context: &Context<'_, '_, R>,
+    process: &mut Process<T>,
+    steps: &mut Steps,
+)
     ensures { GoesOn T.Tape process.old process.new }
 {
     for _ in 0..MOST_OWN {
-        if !hear_own(alloc, process) {
+        let from = micros(context.rt);
+        if !hear_own(context.alloc(), process) {
             return;
         }
+        steps.add(from, micros(context.rt));
     }
 }
 
@@ -145,6 +151,8 @@ pub(crate) fn answer_operators<R: Files + Clock + Eprint + AllocGlobal, T: Tape 
         requests: clients.visitors.counts(),
         rejected: &voter.rejected,
         pictures: voter.pictures,
+        unkept: process.cache().unkept(),
+        steps: mesh.steps,
         tape: mesh.plan.tape.as_str(),
         is_halted: process.is_halted(),
         proposal: process.node().proposal(),

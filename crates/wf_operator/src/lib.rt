@@ -1,7 +1,7 @@
 //! The operator's port of a process that has a history: `GET /healthz`, `/readyz`, `/metrics`, `/map?seq=S` and `/history?from=S`.
 //!
 //! - [`Operator`] answers what an [`Operated`] tells of itself; other paths are 404, other methods 405.
-//! - [`metrics`] writes samples in Prometheus' text form. [`Behind`] says whether a process has been behind for too long.
+//! - [`metrics`] writes samples in Prometheus' text form. [`Pictures`] counts the pictures among the responses. [`Behind`] says whether a process has been behind for too long.
 //!
 //! **Doesn't.** What is told of health and metrics has no model; it is tested with the built program.
 #![tactic(auto)]
@@ -11,7 +11,9 @@ mod lines;
 pub mod metrics;
 mod operator;
 mod page;
+mod pictures;
 mod request;
 
 pub use behind::Behind;
 pub use operator::{Health, Operated, Operator};
+pub use pictures::Pictures;

@@ -9,7 +9,7 @@ ghost use Rattle.wf_learner.specs.History.{next_of};
 ghost use Rattle.wf_model.specs.Message.{Chosen};
 ghost use Rattle.wf_replica.specs.Follower.{Grows, Learns, heard_by, list_of};
 ghost use Rattle.wf_replica.specs.Learning.{learned, messages_of, numbered};
-ghost use Rattle.wf_wms.specs.KeptPictures.{most_kept};
+ghost use Rattle.wf_wms.specs.KeptPictures.{AllKept, most_kept};
 
 use crate::follower::Follower;
 use crate::record::record_bytes;
@@ -24,6 +24,7 @@ use wf_folder::FarmName;
 use wf_learner::History;
 use wf_reader::Question;
 use wf_tape::Tape;
+use wf_wms::cache::Cache;
 
 impl<T: Tape + Drop> Follower<T> {
     /// A replica that has learned nothing, with room for so many pictures. The only error is allocation failure; the tape is dropped.
@@ -48,6 +49,13 @@ impl<T: Tape + Drop> Follower<T> {
         ensures { result.now ≡ self.now.shelf }
     {
         self.shelf.history()
+    }
+
+    /// The pictures that are cached, those of the published maps, with their counts. They can only be read.
+    pub fn cache(&self) -> &Cache
+        ensures { AllKept (list_of self.now) result.now }
+    {
+        self.shelf.cache()
     }
 
     /// The digests of these, as far as they could be had.

@@ -70,6 +70,13 @@ impl Shelf {
         self.replica.history()
     }
 
+    /// The pictures that are cached: those of the published maps.
+    pub(crate) fn cache(&self) -> &Cache
+        ensures { AllKept self.now.definitions result.now }
+    {
+        &self.cache
+    }
+
     /// Learns what the message says, as [`Replica::hear`] does.
     #[tactic(auto, using(crate::proofs::Growth::still_kept))]
     pub(crate) fn hear(&mut self, message: Message) -> Result<(), AllocError>

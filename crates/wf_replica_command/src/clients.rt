@@ -12,6 +12,7 @@ use crate::renderer::Renderer;
 use http_server::Log as Past;
 use std::net::Net;
 use std::time::Clock;
+use wf_operator::Pictures;
 use wf_replica::Follower;
 use wf_tape::Tape;
 use wf_visitors::{Context, Visitors};
@@ -43,7 +44,7 @@ impl<T: Tape + Drop> Clients<T> {
             visitors,
             renderer: Renderer {
                 follower,
-                pictures: 0,
+                pictures: Pictures::default(),
             },
             asked: Past::new(),
         }

@@ -8,7 +8,7 @@ use wf_ballot::Seq;
 use wf_digest::Digests;
 use wf_learner::History;
 use wf_operator::metrics::{counter, gauge, seconds};
-use wf_operator::{Health, Operated};
+use wf_operator::{Health, Operated, Pictures};
 use wf_visitors::Counts;
 
 /// What a replica tells its operator.
@@ -19,7 +19,8 @@ pub(crate) struct Facts<'a, R> {
     pub(crate) digests: &'a Digests,
     pub(crate) asker: &'a Asker,
     pub(crate) requests: &'a Counts,
-    pub(crate) pictures: u64,
+    pub(crate) pictures: Pictures,
+    pub(crate) unkept: u64,
     pub(crate) tape: &'a str,
     pub(crate) has_tape: bool,
     pub(crate) reader_differs: Option<u16>,
@@ -57,7 +58,8 @@ impl<'a, R: Files> Operated for Facts<'a, R> {
     fn push_metrics(&self, text: &mut String) -> Result<(), AllocError> {
         push_farm(text, self)?;
         self.requests.push_to(text)?;
-        counter(text, "wfarm_pictures_total", self.pictures)?;
+        self.pictures.push_to(text)?;
+        counter(text, "wfarm_unkept_pictures_total", self.unkept)?;
         seconds(
             text,
             "wfarm_drawing_seconds_total",

@@ -327,6 +327,7 @@ fn answer_operators<R: Files + Clock + Eprint + AllocGlobal, T: Tape + Drop>(
         asker,
         requests: clients.visitors.counts(),
         pictures: clients.renderer.pictures,
+        unkept: follower.cache().unkept(),
         tape,
         has_tape: follower.has_tape(),
         reader_differs: readers.differs(context.time),

@@ -2,6 +2,7 @@
 //! take nothing. What met an allocation failure is repeated once.
 use crate::value::{MAP_A, map, slot};
 use std::alloc::Global;
+use std::cell::Cell;
 use std::io;
 use std::io::{ErrorKind, Read, Write};
 use std::net::{Ipv4Addr, Net, Shutdown, SocketAddr, TcpListener, TcpStream};
@@ -277,6 +278,33 @@ impl<'r, R: Net<Listener = TcpListener, Stream = TcpStream>> Net for Mute<'r, R>
     }
 }
 
+/// A network whose first connection takes nothing from the end that opened it.
+#[derive(Drop)]
+struct MuteOnce<'r, R> {
+    rt: &'r R,
+    connections: Cell<u32>,
+}
+
+impl<'r, R: Net<Listener = TcpListener, Stream = TcpStream>> Net for MuteOnce<'r, R> {
+    type Stream = TcpStream;
+
+    type Listener = TcpListener;
+
+    fn bind(&self, addr: SocketAddr) -> io::Result<TcpListener> {
+        self.rt.bind(addr)
+    }
+
+    fn connect(&self, addr: SocketAddr) -> io::Result<TcpStream> {
+        let stream = self.rt.connect(addr)?;
+        let number = self.connections.get();
+        self.connections.set(number.saturating_add(1));
+        if number == 0 {
+            stream.shutdown(Shutdown::Write)?;
+        }
+        Ok(stream)
+    }
+}
+
 /// Whether a carrier loses the message.
 fn is_lost<C: Carrier>(alloc: Global, carrier: &mut C, message: &Message) -> bool {
     match carrier.carry(alloc, message) {
@@ -331,6 +359,27 @@ fn a_message_is_lost_on_a_connection_that_takes_nothing(rt: HostRuntime) {
     drop(connection);
     drop(mute);
     drop(message);
+}
+
+/// The messages after it cross one new connection.
+#[test]
+fn a_broken_connection_is_not_used_again(rt: HostRuntime) {
+    let alloc = rt.alloc();
+    let message = chosen(&rt, alloc, MAP_A);
+    let bytes = encoding_of_a(&rt, alloc);
+    let network = MuteOnce {
+        rt: &rt,
+        connections: Cell::new(0),
+    };
+    let mut connection = Connection::new(&network);
+    assert!(&rt; is_lost(alloc, &mut connection, &message));
+    assert!(&rt; is_brought(alloc, &mut connection, &message, &bytes));
+    assert!(&rt; is_brought(alloc, &mut connection, &message, &bytes));
+    assert!(&rt; network.connections.get() == 2);
+    drop(connection);
+    drop(network);
+    drop(message);
+    drop(bytes);
 }
 
 #[test]

@@ -18,10 +18,14 @@ mod edge;
 #[cfg(test)]
 mod farm;
 #[cfg(test)]
+mod kept;
+#[cfg(test)]
 mod limits;
 #[cfg(test)]
 mod listing;
 mod machine;
+#[cfg(test)]
+mod many;
 #[cfg(test)]
 mod map;
 #[cfg(test)]

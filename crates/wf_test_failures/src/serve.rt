@@ -52,7 +52,11 @@ pub(crate) fn three_nodes(port: u16, requests: u32, state: Option<&str>) -> Serv
 }
 
 /// A client that has sent a request.
-fn client<R: Abort + Net<Stream = TcpStream>>(rt: &R, port: u16, request: &[u8]) -> TcpStream {
+pub(crate) fn client<R: Abort + Net<Stream = TcpStream>>(
+    rt: &R,
+    port: u16,
+    request: &[u8],
+) -> TcpStream {
     let mut stream = TcpStream::connect(rt, (Ipv4Addr::LOCALHOST, port)).expect(rt, "a connection");
     stream.write_all(request).expect(rt, "a request");
     stream
@@ -170,6 +174,15 @@ fn long_tape(rt: &impl Abort, alloc: Global) -> Vec<u8> {
     bytes
 }
 
+/// The records that a shortened one has: the round, and the map.
+fn short_tape(rt: &impl Abort, alloc: Global) -> Vec<u8> {
+    let mut bytes = Vec::new(alloc);
+    bytes.extend_from_slice(TRIED).expect(rt, "memory");
+    bytes.extend_from_slice(PUBLISHED).expect(rt, "memory");
+    bytes.extend_from_slice(MAP_A).expect(rt, "memory");
+    bytes
+}
+
 /// A folder with three tapes of 131,072 bytes.
 fn new_long_folder(rt: &(impl Abort + Files + AllocGlobal), folder: &str) {
     new_folder(rt, folder);
@@ -183,14 +196,29 @@ fn new_long_folder(rt: &(impl Abort + Files + AllocGlobal), folder: &str) {
     drop(bytes);
 }
 
+/// Whether each tape in a folder holds these bytes.
+fn hold_all<R: Abort + Files + AllocGlobal>(rt: &R, folder: &str, bytes: &[u8]) -> bool {
+    let mut hold = true;
+    for number in 0..3 {
+        let path = format!(in rt.alloc(); "{folder}/node-{number}.tape").expect(rt, "memory");
+        hold = hold && holds(rt, path.as_str(), bytes);
+        drop(path);
+    }
+    hold
+}
+
 #[test]
-fn nodes_start_on_tapes_of_128_kilobytes(rt: HostRuntime) {
+fn nodes_start_on_tapes_of_128_kilobytes_and_shorten_them(rt: HostRuntime) {
     new_long_folder(&rt, "long");
     new_long_folder(&rt, "longer");
-    assert!(rt;
+    let short = short_tape(&rt, rt.alloc());
+    assert!(&rt;
         are_answered(&rt, waiting(&rt, STATUS), "long", AFTER_START)
+            && hold_all(&rt, "long", &short)
             || are_answered(&rt, waiting(&rt, STATUS), "longer", AFTER_START)
+                && hold_all(&rt, "longer", &short)
     );
+    drop(short);
 }
 
 /// Why nodes in a folder aren't served at this port, None if they are, and whether the port is printed.

@@ -14,7 +14,7 @@ pub fn now<R: Clock>(rt: &R) -> u64 {
 }
 
 /// The microseconds of the system's monotonic clock; 0 if it can't be read.
-pub(crate) fn micros<R: Clock>(rt: &R) -> u64 {
+pub fn micros<R: Clock>(rt: &R) -> u64 {
     match rt.monotonic() {
         Ok(time) => time
             .as_secs()

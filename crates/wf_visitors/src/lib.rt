@@ -25,7 +25,7 @@ mod socket;
 mod turn;
 mod visitors;
 
-pub use clock::now;
+pub use clock::{micros, now};
 pub use context::Context;
 pub use counts::Counts;
 pub use event::{Entry, Level, Visit};

@@ -1,15 +1,14 @@
 -- Each query has an answer at each sequence that a history has.
-use Rattle.std.proofs.Common.{◌≡◌, ℕ, ◌<◌, ◌≤◌, Bool, true, false, List, length, refl, arith}
+use Rattle.std.proofs.Common.{◌≡◌, ℕ, ◌≤◌, Bool, true, false, List, length, refl, arith}
 use Rattle.std.specs.Prelude.{Option, None, Some, codes, nat_lt, Result, Ok, Err, ⊤, if◌then◌else◌}
 use Rattle.std.specs.Char.{is_ascii_digit}
 use Rattle.std.specs.List.{list_all}
 use Rattle.std.proofs.lemmas.Bool.Decides.{nat_tests}
 use Rattle.wf_def.specs.Definition.{Definition}
-use Rattle.wf_learner.specs.History.{map_at}
 use Rattle.wf_picture.specs.Picture.{EachRequestHasAnImage}
 use Rattle.wf_picture.specs.Request.{RequestValue}
 use Rattle.wf_text.specs.Number.{number_of_digits}
-use Rattle.wf_wms.specs.Answer.{AnswerValue, EachQueryHasAnAnswer, HasAnswer, IsAnswerOf, IsAnswerOn, IsMapAnswer, metadata_answer, operation_of, picture_answer, rejection}
+use Rattle.wf_wms.specs.Answer.{AnswerValue, EachQueryHasAnAnswer, IsAnswerOf, IsAnswerOn, IsMapAnswer, metadata_answer, operation_of, picture_answer, rejection}
 use Rattle.wf_wms.specs.MapRequest.{◌>>=◌, check_version, map_sequence, picture_in, sequence_in}
 use Rattle.wf_wms.specs.Query.{pairs_of, parameter}
 use Rattle.wf_wms.specs.declared.exception.Exception.{Exception}

@@ -1,18 +1,21 @@
 -- The checks of a query, step by step.
-use Rattle.std.proofs.Common.{◌≡◌, ◌∙◌, ◌<◌, ◌≤◌, sym, subst, ℕ, List, length}
-use Rattle.std.specs.Prelude.{Some, Result, Ok, Err}
+use Rattle.std.proofs.Common.{◌≡◌, ◌∙◌, ◌<◌, ◌≤◌, ap, sym, subst, ℕ, List, length}
+use Rattle.std.specs.Prelude.{Some, None, Result, Ok, Err, codes}
 use Rattle.std.specs.List.{All}
 use Rattle.std.proofs.lemmas.Option.{same_Some}
 use Rattle.wf_def.specs.Definition.{Definition}
 use Rattle.wf_learner.specs.History.{map_at}
 use Rattle.wf_picture.specs.Request.{RequestValue}
-use Rattle.wf_wms.specs.Answer.{AnswerValue, IsAnswerOn, IsMapAnswer, rejection}
-use Rattle.wf_wms.specs.Judged.{IsAsked, IsJudged}
+use Rattle.wf_wms.specs.Answer.{AnswerValue, IsAnswerOn, IsMapAnswer, operation_of, rejection}
+use Rattle.wf_wms.specs.Judged.{IsAsked, IsJudged, wanted_in}
 use Rattle.wf_wms.specs.MapRequest.{map_sequence, picture_in}
+use Rattle.wf_wms.specs.Query.{pairs_of, parameter}
+use Rattle.wf_wms.specs.Requested.{requested, wanted_at, wanted_by, wanted_of}
 use Rattle.wf_wms.specs.declared.asked.Asked.{Asked}
 use Rattle.wf_wms.specs.declared.asked.Judged.{Judged}
 use Rattle.wf_wms.specs.declared.asked.Judged.TheVariants.{Ready, Picture}
 use Rattle.wf_wms.specs.declared.exception.Exception.{Exception}
+use Rattle.wf_wms.specs.declared.operation.Operation.{Operation}
 use Rattle.wf_wms.specs.declared.operation.Operation.TheVariants.{Map}
 use Rattle.wf_wms.proofs.HistoryLaw.{map_there}
 use Rattle.wf_wms.proofs.ServiceLaw.{map_drawn}
@@ -54,3 +57,26 @@ sequence_judged history s number pairs judged taken within is =
     let there = map_there history number within in
     judged_weaker history (IsMapAnswer there.0 (picture_in there.0 pairs)) (IsAnswerOn (Ok Map) s history pairs) judged
     (λ answer. map_drawn s history pairs number there.0 answer taken there.1) (is there.0 there.1)
+
+-- ---- the picture that a query requests
+
+-- a query for something else
+pub none_wanted : (s : ℕ) (history : List Definition) (query : List ℕ) (operation : Result Operation Exception) →
+    operation_of (parameter (codes "REQUEST") (pairs_of query)) ≡ operation → wanted_by operation s history (pairs_of query) ≡ None → None ≡ requested s history query
+unfolding requested
+none_wanted s history query operation known none =
+    sym (ap (λ (o : Result Operation Exception). wanted_by o s history (pairs_of query)) known ∙ none)
+
+-- a query for a picture
+pub map_wanted : (s : ℕ) (history : List Definition) (query : List ℕ) (pairs : List (List ℕ × List ℕ)) (judged : Judged) → pairs ≡ pairs_of query →
+    operation_of (parameter (codes "REQUEST") (pairs_of query)) ≡ Ok Map → wanted_in judged ≡ wanted_at (map_sequence s pairs) history pairs →
+    wanted_in judged ≡ requested s history query
+unfolding requested
+map_wanted s history query pairs judged read known wanted =
+    wanted ∙ ap (λ (p : List (List ℕ × List ℕ)). wanted_at (map_sequence s p) history p) read
+    ∙ sym (ap (λ (o : Result Operation Exception). wanted_by o s history (pairs_of query)) known)
+
+-- by MAPSEQ
+pub sequence_wanted : (s m : ℕ) (history : List Definition) (pairs : List (List ℕ × List ℕ)) (judged : Judged) → map_sequence s pairs ≡ Ok m →
+    wanted_in judged ≡ wanted_of m (map_at history m) pairs → wanted_in judged ≡ wanted_at (map_sequence s pairs) history pairs
+sequence_wanted s m history pairs judged taken wanted = wanted ∙ sym (ap (λ (r : Result ℕ Exception). wanted_at r history pairs) taken)

@@ -1,8 +1,9 @@
 -- Kept pictures: each stays the picture of its key, and what is cut out of it is the requested image.
-use Rattle.std.proofs.Common.{◌≡◌, ◌∙◌, ◌<◌, ◌≤◌, ap, refl, sym, subst, subst₂, ℕ, zero, suc, nat_eq, ◌&&◌, Bool, true, inl, inr, List, [], ◌∷◌, ◌++◌, length, ℤ, arith}
-use Rattle.std.specs.Prelude.{Option, Some, None, IfSome, Contains, slice_get, option_copied, Result, Ok, Err, OnOk, OnErr}
+use Rattle.std.proofs.Common.{◌≡◌, ◌∙◌, ◌<◌, ◌≤◌, ◌-◌, ap, refl, sym, subst, subst₂, ℕ, zero, suc, nat_eq, ◌&&◌, Bool, true, false, cond, inl, inr, List, [], ◌∷◌, ◌++◌, length, take, ℤ, arith}
+use Rattle.std.specs.Prelude.{Option, Some, None, IfNone, IfSome, IsSome, OnSome, Contains, slice_get, option_copied, Result, Ok, Err, OnOk, OnErr, is_ok}
 use Rattle.std.specs.List.{All}
-use Rattle.std.specs.Map.{lookup}
+use Rattle.std.specs.Map.{lookup, lookup_entry, remove_entry}
+use Rattle.std.specs.Option.{option_map_or}
 use Rattle.std.specs.Ordering.{int_eq}
 use Rattle.std.specs.Str.{bytes_eq}
 use Rattle.std.proofs.lemmas.Bool.{and_parts}
@@ -10,9 +11,9 @@ use Rattle.std.proofs.lemmas.Bool.Decides.{Decides-eqb, Decides-int_eq, nat_test
 use Rattle.std.proofs.lemmas.Slice.Eq.{bytes_eq-Decides}
 use Rattle.std.proofs.lemmas.Option.{same_Some}
 use denote.Ref.{Bor}
-use Rattle.lru.specs.LruCache.{lru_cache, promoted, put_entries}
-use Rattle.lru.proofs.CallerLemmas.{Contains-lookup, Contains-promoted, Contains-put_entries}
-use Rattle.lru.proofs.Splits.{Contains-nil}
+use Rattle.lru.specs.LruCache.{LruCache, lru_cache, promoted, put_entries}
+use Rattle.lru.proofs.CallerLemmas.{Contains-lookup, Contains-promoted, Contains-take}
+use Rattle.lru.proofs.Splits.{Contains-cons, Contains-nil}
 use Rattle.wf_def.specs.Definition.{Definition}
 use Rattle.wf_def.specs.Extent.{ExtentValue}
 use Rattle.wf_def.specs.declared.color.Color.{Color}
@@ -28,11 +29,14 @@ use Rattle.wf_picture.specs.Picture.{labelled, IsViewFor, LiesIn}
 use Rattle.wf_picture.specs.Request.{RequestValue}
 use Rattle.wf_picture.specs.Tiles.{ShareAView, SharedViewsHaveOnePicture}
 use Rattle.wf_picture.specs.declared.size.Size.{Size}
-use Rattle.wf_wms.specs.Answer.{picture_answer}
-use Rattle.wf_wms.specs.Judged.{IsAskedOf, IsPictureFor}
-use Rattle.wf_wms.specs.KeptPictures.{AllKept, CacheValue, GrowthKeepsAll, IsCellOf, IsKept, IsRequestOf, IsTileAt, IsTileOf, background_of, tile_size}
+use Rattle.wf_wms.specs.Answer.{AnswerValue, picture_answer}
+use Rattle.wf_wms.specs.Judged.{IsAskedOf, IsPictureFor, wanted_in}
+use Rattle.wf_wms.specs.KeptPictures.{AllKept, CacheValue, GrowthKeepsAll, IsAfter, IsCacheAfter, IsCellOf, IsDrawn, IsKept, IsRequestOf, IsTaken, IsTileAt, IsTileOf, IsUnkept, IsUsed, background_of, cache_of, entry_of, others, risen, tile_size}
+use Rattle.wf_wms.specs.Requested.{Wanted, requested}
 use Rattle.wf_wms.specs.contracts.key.KeyPartialEq.TheImpl as keys
 use Rattle.wf_wms.specs.declared.asked.Asked.{Asked}
+use Rattle.wf_wms.specs.declared.asked.Judged.{Judged}
+use Rattle.wf_wms.specs.declared.asked.Judged.TheVariants.{Ready, Picture}
 use Rattle.wf_wms.specs.declared.key.Key.{Key}
 
 -- ---- a history that grows
@@ -63,16 +67,6 @@ pub record SameKey (key other : Key) : Type 0 where
   pub level : key.level ≡ other.level
   pub column : key.column ≡ other.column
   pub row : key.row ≡ other.row
-
-same_back : (key other : Key) → SameKey key other → SameKey other key
-same_back key other same = record {
-  sequence = sym same.sequence;
-  layers = sym same.layers;
-  background = sym same.background;
-  level = sym same.level;
-  column = sym same.column;
-  row = sym same.row;
-}
 
 kept_under : (history : List Definition) (key other : Key) (p : PixmapValue) → SameKey key other → IsKept history other p → IsKept history key p
 kept_under history key other p same kept = record {
@@ -147,32 +141,131 @@ module _ (key other : Key) where
   pub same_key : eq key other ≡ true → SameKey key other
   same_key test = from_parts test
 
--- ---- what the cache does
+-- ---- look-ups by a test of the key
+
+module _ {K V : Type 0} (test : K → Bool) where
+  some_entry : (es : List (K × V)) (v : V) → lookup test es ≡ Some v → IsSome (lookup_entry test es)
+  some_entry [] v found = cc
+  some_entry (e ∷ es) v found = (elim (test e.0) as (λ (y : Bool). cond y (Some e.1) (lookup test es) ≡ Some v → IsSome (cond y (Some e) (lookup_entry test es))) [
+    | true ↦ λ _. refl
+    | false ↦ λ later. some_entry es v later
+  ]) found
+
+  no_entry : (es : List (K × V)) → lookup test es ≡ None → lookup_entry test es ≡ None
+  no_entry [] none = refl
+  no_entry (e ∷ es) none = (elim (test e.0) as (λ (y : Bool). cond y (Some e.1) (lookup test es) ≡ None → cond y (Some e) (lookup_entry test es) ≡ None) [
+    | true ↦ λ there. cc
+    | false ↦ λ later. no_entry es later
+  ]) none
+
+there_is : {X : Type 0} (o : Option X) → IsSome o → (x : X) × (o ≡ Some x)
+there_is None some = cc
+there_is (Some x) some = (x, refl)
+
+module _ (key : Key) (es : List (Key × PixmapValue)) where
+  pub found_there : (found : Option (Bor PixmapValue)) → option_copied found ≡ lookup (eq key) es → OnSome found (IsSome (entry_of key es))
+  unfolding entry_of
+  found_there None is = tt
+  found_there (Some pixmap) is = some_entry (eq key) es pixmap.now (sym is)
+
+  pub found_absent : (found : Option (Bor PixmapValue)) → option_copied found ≡ lookup (eq key) es → IfNone found (entry_of key es ≡ None)
+  unfolding entry_of
+  found_absent None is = no_entry (eq key) es (sym is)
+  found_absent (Some pixmap) is = tt
+
+  -- a promoted entry goes first
+  promoted_first : (entry : Key × PixmapValue) → entry_of key es ≡ Some entry → promoted (eq key) es ≡ entry ∷ others key es
+  unfolding entry_of others
+  promoted_first entry there = ap (λ (o : Option (Key × PixmapValue)). option_map_or (λ e. e ∷ remove_entry (eq key) es) o es) there
+
+  -- a new entry goes first
+  new_first : (cap : ℕ) (p : PixmapValue) → entry_of key es ≡ None → put_entries eq (lru_cache es cap) key p ≡ (key, p) ∷ take (cap - 1) es
+  unfolding entry_of
+  new_first cap p absent =
+      ap (λ (o : Option (Key × PixmapValue)). option_map_or (λ e. (e.0, p) ∷ remove_entry (eq key) es) o ((key, p) ∷ take (cap - 1) es)) absent
+
+-- ---- what becomes of the cache
+
+module _ (key : Key) (kept after : LruCache Key PixmapValue) (drawings taken unkept next : ℕ) where
+  taken_from : IsSome (entry_of key kept.entries) → after ≡ lru_cache (promoted (eq key) kept.entries) kept.cap → next ≡ risen taken →
+      IsTaken key (cache_of kept drawings taken unkept) (cache_of after drawings next unkept)
+  taken_from some promotes counts =
+      let there = there_is (entry_of key kept.entries) some in
+      let first : after.entries ≡ there.0 ∷ others key kept.entries = ap (λ (c : LruCache Key PixmapValue). c.entries) promotes ∙ promoted_first key kept.entries there.0 there.1 in
+      let room : after.cap ≡ kept.cap = ap (λ (c : LruCache Key PixmapValue). c.cap) promotes in
+      record {
+        entry = there.0;
+        is_kept = there.1;
+        goes_first = λ i. record { entries = first i; cap = room i; drawings = drawings; taken = counts i; unkept = unkept };
+      }
+
+  pub taken_of : (old : CacheValue) → cache_of kept drawings taken unkept ≡ old → IsSome (entry_of key old.entries) →
+      after ≡ lru_cache (promoted (eq key) kept.entries) kept.cap → next ≡ risen taken → IsTaken key old (cache_of after drawings next unkept)
+  taken_of old is some promotes counts =
+      subst (λ (c : CacheValue). IsTaken key c (cache_of after drawings next unkept)) is
+      (taken_from (subst (λ (c : CacheValue). IsSome (entry_of key c.entries)) (sym is) some) promotes counts)
+
+module _ (key : Key) (p : PixmapValue) (kept after : LruCache Key PixmapValue) (drawings taken unkept next : ℕ) (old : CacheValue) (is : cache_of kept drawings taken unkept ≡ old)
+    (absent : entry_of key old.entries ≡ None) (counts : next ≡ risen drawings) where
+  absent_before : entry_of key kept.entries ≡ None
+  absent_before = subst (λ (c : CacheValue). entry_of key c.entries ≡ None) (sym is) absent
+
+  drawn_from : after ≡ lru_cache ((key, p) ∷ take (kept.cap - 1) kept.entries) kept.cap →
+      IsDrawn key (cache_of kept drawings taken unkept) (cache_of after next taken unkept)
+  drawn_from puts =
+      let first : after.entries ≡ (key, p) ∷ take (kept.cap - 1) kept.entries = ap (λ (c : LruCache Key PixmapValue). c.entries) puts in
+      let room : after.cap ≡ kept.cap = ap (λ (c : LruCache Key PixmapValue). c.cap) puts in
+      record {
+        is_absent = absent_before;
+        picture = p;
+        goes_first = λ i. record { entries = first i; cap = room i; drawings = counts i; taken = taken; unkept = unkept };
+      }
+
+  pub drawn_first : after ≡ lru_cache ((key, p) ∷ take (kept.cap - 1) kept.entries) kept.cap → IsUsed key old (cache_of after next taken unkept)
+  drawn_first puts = inr (inl (subst (λ (c : CacheValue). IsDrawn key c (cache_of after next taken unkept)) is (drawn_from puts)))
+
+  unkept_from : (last : ℕ) → after ≡ kept → last ≡ risen unkept → IsUnkept key (cache_of kept drawings taken unkept) (cache_of after next taken last)
+  unkept_from last same counts_too =
+      let first : after.entries ≡ kept.entries = ap (λ (c : LruCache Key PixmapValue). c.entries) same in
+      let room : after.cap ≡ kept.cap = ap (λ (c : LruCache Key PixmapValue). c.cap) same in
+      record {
+        is_absent = absent_before;
+        entries_stay = λ i. record { entries = first i; cap = room i; drawings = counts i; taken = taken; unkept = counts_too i };
+      }
+
+  pub drawn_unkept : (last : ℕ) → after ≡ kept → last ≡ risen unkept → IsUsed key old (cache_of after next taken last)
+  drawn_unkept last same counts_too = inr (inr (subst (λ (c : CacheValue). IsUnkept key c (cache_of after next taken last)) is (unkept_from last same counts_too)))
+
+-- ---- the entries are pictures of their keys
 
 pub none_kept : (history : List Definition) (cache : CacheValue) → cache.entries ≡ [] → AllKept history cache
 unfolding AllKept
 none_kept history cache none key p there = absurd (Contains-nil (key, p) (subst (λ (es : List (Key × PixmapValue)). Contains es (key, p)) none there))
 
+-- a cache with these entries
+pub kept_with : (history : List Definition) (old new : CacheValue) → new.entries ≡ old.entries → AllKept history old → AllKept history new
+unfolding AllKept
+kept_with history old new same kept key p there = kept key p (subst (λ (es : List (Key × PixmapValue)). Contains es (key, p)) same there)
+
 module _ (history : List Definition) (cache : CacheValue) where
-  pub found_kept : (key : Key) (p : PixmapValue) → lookup (eq key) cache.entries ≡ Some p → AllKept history cache → IsKept history key p
+  found_kept : (key : Key) (p : PixmapValue) → lookup (eq key) cache.entries ≡ Some p → AllKept history cache → IsKept history key p
   unfolding AllKept
   found_kept key p found kept =
       let entry = Contains-lookup (eq key) cache.entries p found in
       kept_under history key entry.0 p (same_key key entry.0 entry.2) (kept entry.0 p entry.1)
 
-  pub touched_kept : (key : Key) → AllKept history cache → AllKept history (lru_cache (promoted (eq key) cache.entries) cache.cap)
+  pub touched_kept : (key : Key) (new : CacheValue) → new.entries ≡ promoted (eq key) cache.entries → AllKept history cache → AllKept history new
   unfolding AllKept
-  touched_kept key kept other p there = kept other p (Contains-promoted (eq key) cache.entries (other, p) there)
+  touched_kept key new promotes kept other p there =
+      kept other p (Contains-promoted (eq key) cache.entries (other, p) (subst (λ (es : List (Key × PixmapValue)). Contains es (other, p)) promotes there))
 
-  pub put_kept : (key : Key) (p : PixmapValue) → AllKept history cache → IsKept history key p → AllKept history (lru_cache (put_entries eq cache key p) cache.cap)
+  pub put_kept : (key : Key) (p : PixmapValue) (new : CacheValue) (room : ℕ) → new.entries ≡ (key, p) ∷ take room cache.entries → AllKept history cache → IsKept history key p →
+      AllKept history new
   unfolding AllKept
-  put_kept key p kept new other q there =
-      elim (Contains-put_entries eq cache key p (other, q) there) [
-        | inl was ↦ kept other q was
-        | inr is ↦ subst (IsKept history other) (sym is.0) (elim is.1 [
-          | inl named ↦ subst (λ (k : Key). IsKept history k p) (sym named) new
-          | inr stood ↦ kept_under history other key p (same_back key other (same_key key other stood.2)) new
-        ])
+  put_kept key p new room puts kept is other q there =
+      elim (Contains-cons (key, p) (take room cache.entries) (other, q) (subst (λ (es : List (Key × PixmapValue)). Contains es (other, q)) puts there)) [
+        | inl same ↦ subst (λ (e : Key × PixmapValue). IsKept history e.0 e.1) same is
+        | inr was ↦ kept other q (Contains-take room cache.entries (other, q) was)
       ]
 
 pub found_in : (cache : CacheValue) (key : Key) (found : Option (Bor PixmapValue)) → option_copied found ≡ lookup (eq key) cache.entries →
@@ -180,11 +273,20 @@ pub found_in : (cache : CacheValue) (key : Key) (found : Option (Bor PixmapValue
 found_in cache key None is = tt
 found_in cache key (Some pixmap) is = λ history kept. found_kept history cache key pixmap.now (sym is) kept
 
--- after a put each entry is its key's picture, also if the allocation failed
-pub put_or_not : {X E : Type 0} (history : List Definition) (old new : CacheValue) (key : Key) (p : PixmapValue) (result : Result X E) →
-    OnOk result (new ≡ lru_cache (put_entries eq old key p) old.cap) → OnErr result (new ≡ old) → AllKept history old → IsKept history key p → AllKept history new
-put_or_not history old new key p (Ok x) put stays kept is = subst (AllKept history) (sym put) (put_kept history old key p kept is)
-put_or_not history old new key p (Err e) put stays kept is = subst (AllKept history) (sym stays) kept
+-- ---- a put that succeeded, and one that didn't
+
+module _ {X E : Type 0} {P : Type 0} where
+  pub on_success : (result : Result X E) → OnOk result P → is_ok result ≡ true → P
+  on_success (Ok x) holds ok = holds
+  on_success (Err e) holds ok = absurd (let impossible : ⊥ = cc in impossible)
+
+  pub on_failure : (result : Result X E) → OnErr result P → is_ok result ≡ false → P
+  on_failure (Ok x) holds failed = absurd (let impossible : ⊥ = cc in impossible)
+  on_failure (Err e) holds failed = holds
+
+pub put_first : (kept after : LruCache Key PixmapValue) (key : Key) (p : PixmapValue) → entry_of key kept.entries ≡ None → after ≡ lru_cache (put_entries eq kept key p) kept.cap →
+    after ≡ lru_cache ((key, p) ∷ take (kept.cap - 1) kept.entries) kept.cap
+put_first kept after key p absent puts = puts ∙ ap (λ (es : List (Key × PixmapValue)). lru_cache es kept.cap) (new_first key kept.entries kept.cap p absent)
 
 -- ---- the picture of a tile
 
@@ -270,3 +372,52 @@ module _ (history : List Definition) (asked : Asked) (of : IsAskedOf history ask
         image = tile other asked.request (ap (map_at history) sequence ∙ other_there) (record { layers = layers; background = background; size = tile_size_asked })
             (subst (λ (m : Definition). IsViewFor m.extent asked.request view) same is);
       }
+
+  -- so its picture is used
+  pub tile_used : IsCellOf key cell → background_of key ≡ asked.request.background → (old new : CacheValue) → IsUsed key old new →
+      IsAfter history (Some (asked.sequence, asked.request)) old new
+  tile_used is_cell background old new used = λ other other_there.
+      let same : map ≡ other = same_Some map other (sym there ∙ other_there) in
+      inl (record {
+        key = key;
+        is_key = record {
+          sequence = sequence;
+          layers = layers;
+          background = background;
+          cell = cell;
+          is_tile = subst (λ (m : Definition). fits m.extent asked.request.bbox asked.request.size.width asked.request.size.height cell ≡ true) same found;
+          is_cell = is_cell;
+        };
+        used = used;
+      })
+
+-- a picture that is no tile leaves the cache as it was
+pub none_used : (history : List Definition) (asked : Asked) (map : Definition) (cache : CacheValue) → map_at history asked.sequence ≡ Some map →
+    ((cell : GridCell) → fits map.extent asked.request.bbox asked.request.size.width asked.request.size.height cell ≡ false) →
+    IsAfter history (Some (asked.sequence, asked.request)) cache cache
+none_used history asked map cache there no_tile = λ other other_there.
+    let same : map ≡ other = same_Some map other (sym there ∙ other_there) in
+    inr (record {
+      no_tile = λ cell. subst (λ (m : Definition). fits m.extent asked.request.bbox asked.request.size.width asked.request.size.height cell ≡ false) same (no_tile cell);
+      stays = refl;
+    })
+
+-- ---- the query
+
+pub after_ready : (s : ℕ) (history : List Definition) (query : List ℕ) (cache : CacheValue) (judged : Judged) (answer : AnswerValue) → judged ≡ Ready answer →
+    wanted_in judged ≡ requested s history query → IsCacheAfter s history query cache cache
+unfolding IsCacheAfter
+after_ready s history query cache judged answer is wanted =
+    subst (λ (w : Option Wanted). IsAfter history w cache cache) (ap wanted_in (sym is) ∙ wanted) refl
+
+pub after_picture : (s : ℕ) (history : List Definition) (query : List ℕ) (old new : CacheValue) (judged : Judged) (asked : Asked) → judged ≡ Picture asked →
+    wanted_in judged ≡ requested s history query → IsAfter history (Some (asked.sequence, asked.request)) old new → IsCacheAfter s history query old new
+unfolding IsCacheAfter
+after_picture s history query old new judged asked is wanted after =
+    subst (λ (w : Option Wanted). IsAfter history w old new) (ap wanted_in (sym is) ∙ wanted) after
+
+-- ---- what holds, whatever the result
+
+pub on_ok_anyway : {X E : Type 0} {P : Type 0} (result : Result X E) → P → OnOk result P
+on_ok_anyway (Ok x) holds = holds
+on_ok_anyway (Err e) holds = tt

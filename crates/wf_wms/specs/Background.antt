@@ -1,5 +1,5 @@
 -- The background of a picture: OGC 06-042, 7.3.3.10.
-use Rattle.std.specs.Prelude.{ℕ, ◌==◌, ◌&&◌, ◌||◌, Bool, List, [], ◌∷◌, Option, Some, None, ok_or, Result, Ok, if◌then◌else◌}
+use Rattle.std.specs.Prelude.{ℕ, ◌==◌, ◌&&◌, ◌||◌, Bool, List, ◌∷◌, Option, Some, None, ok_or, Result, Ok, if◌then◌else◌}
 use Rattle.wf_def.specs.Color.{hexadecimal_color}
 use Rattle.wf_def.specs.declared.color.Color.{Color}
 use Rattle.wf_wms.specs.declared.exception.Exception.{Exception}

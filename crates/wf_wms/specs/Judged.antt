@@ -1,10 +1,11 @@
 -- The checks of a query before a picture is drawn. The result is the answer, or a request for a picture whose answer is the
 -- query's.
-use Rattle.std.specs.Prelude.{◌≡◌, ◌≤◌, List, length, Some}
+use Rattle.std.specs.Prelude.{◌≡◌, ◌≤◌, List, length, Option, Some, None}
 use Rattle.wf_def.specs.Definition.{Definition}
 use Rattle.wf_learner.specs.History.{map_at}
 use Rattle.wf_wms.specs.Answer.{AnswerValue, IsPictureOf}
 use Rattle.wf_wms.specs.MapRequest.{AreLayersOf}
+use Rattle.wf_wms.specs.Requested.{Wanted}
 use Rattle.wf_wms.specs.declared.asked.Asked.{Asked}
 use Rattle.wf_wms.specs.declared.asked.Judged.{Judged}
 use Rattle.wf_wms.specs.declared.asked.Judged.TheVariants.{Ready, Picture}
@@ -28,3 +29,8 @@ pub record IsAsked (history : List Definition) (wanted : AnswerValue → Type 0)
 abbrev pub IsJudged : List Definition → (AnswerValue → Type 0) → Judged → Type 0
 IsJudged history wanted (Ready answer) = wanted answer
 IsJudged history wanted (Picture asked) = IsAsked history wanted asked
+
+-- the picture that is requested
+abbrev pub wanted_in : Judged → Option Wanted
+wanted_in (Ready answer) = None
+wanted_in (Picture asked) = Some (asked.sequence, asked.request)

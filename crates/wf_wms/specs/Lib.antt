@@ -8,5 +8,6 @@ pub mod Limit
 pub mod MapRequest
 pub mod Query
 pub mod Rejection
+pub mod Requested
 pub mod UpdateSequence
 pub mod Xml

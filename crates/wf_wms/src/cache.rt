@@ -1,10 +1,10 @@
 //! Kept pictures.
-ghost use Rattle.std.specs.Prelude.{◌≡◌, ◌≤◌, ◌<◌, List, pos, IfOk, IfSome};
-ghost use Rattle.std.specs.Map.{lookup};
+ghost use Rattle.std.specs.Prelude.{◌≡◌, ◌≤◌, ◌<◌, ◌-◌, ◌∷◌, [], List, None, pos, take, true, false, IfNone, IfOk, IfSome, IsSome, OnErr, OnOk, OnSome};
+ghost use Rattle.lru.specs.LruCache.{lru_cache};
 ghost use Rattle.wf_def.specs.Definition.{Definition};
 ghost use Rattle.wf_paint.specs.Exact.{quotient};
 ghost use Rattle.wf_paint.specs.Limit.{shared_tiles};
-ghost use Rattle.wf_wms.specs.KeptPictures.{most_kept, background_of, AllKept, IsCellOf, IsKept, IsTileAt, IsTileOf};
+ghost use Rattle.wf_wms.specs.KeptPictures.{most_kept, background_of, cache_of, entry_of, risen, AllKept, IsCellOf, IsKept, IsTaken, IsTileAt, IsTileOf, IsUsed};
 
 use crate::asked::Asked;
 use crate::key::Key;
@@ -30,36 +30,67 @@ const TILE: Size = Size {
 };
 
 /// A cache of pictures: each has 1,024 by 1,024 pixels of a map's grid, and sixteen tiles are cut out of it. When it is full, the
-/// least recently used is dropped.
+/// least recently used is dropped. It counts what was drawn, what was taken and what couldn't be kept; a count stays at its highest.
 #[derive(Drop)]
 pub struct Cache {
     kept: LruCache<Key, Pixmap>,
+    // how many pictures were drawn
+    drawings: u64,
+    // how many tiles were cut out of a picture that was kept
+    taken: u64,
+    // how many of the drawn pictures weren't kept, since an allocation failed
+    unkept: u64,
 }
 
 impl Model for Cache {
-    ghost use Rattle.wf_wms.specs.KeptPictures.{CacheValue};
+    ghost use Rattle.wf_wms.specs.KeptPictures.{CacheValue, cache_of};
 
     ghost Value = { CacheValue };
 
-    ghost view = { λ c. c.kept };
+    ghost view = { λ c. cache_of c.kept c.drawings c.taken c.unkept };
 }
 
 impl Cache {
-    /// An empty cache for `capacity` pictures, 1 to 64. A picture takes 3 MB. Returns Ok unless allocation fails.
+    /// An empty cache for `capacity` pictures, 1 to 64, whose counts are 0. A picture takes 3 MB. Returns Ok unless allocation fails.
     pub fn new(alloc: Global, capacity: usize) -> Result<Self, AllocError>
         requires least { 1 ≤ capacity }
         requires most { capacity ≤ most_kept }
+        ensures empty { IfOk result (λ cache. cache ≡ cache_of (lru_cache [] capacity) 0 0 0) }
         ensures capacity { IfOk result (λ cache. cache.cap ≡ capacity) }
         ensures kept { IfOk result (λ cache. (history : List Definition) → AllKept history cache) }
     {
         let capacity = NonZeroUsize::new(capacity).unwrap();
         Ok(Cache {
             kept: LruCache::new(alloc, capacity)?,
+            drawings: 0,
+            taken: 0,
+            unkept: 0,
         })
     }
 
+    /// How many pictures were drawn to be kept.
+    pub fn drawings(&self) -> u64
+        ensures { result ≡ self.now.drawings }
+    {
+        self.drawings
+    }
+
+    /// How many tiles were cut out of a picture that was kept, so that none was drawn.
+    pub fn taken(&self) -> u64
+        ensures { result ≡ self.now.taken }
+    {
+        self.taken
+    }
+
+    /// How many of the drawn pictures weren't kept, since an allocation failed.
+    pub fn unkept(&self) -> u64
+        ensures { result ≡ self.now.unkept }
+    {
+        self.unkept
+    }
+
     /// The file of the tile of this key and view, cut out of the key's picture. If the picture isn't kept, it is drawn, and kept
-    /// unless an allocation fails.
+    /// unless an allocation fails. An error leaves the cache unchanged.
     pub(crate) fn tile(
         &mut self,
         alloc: Global,
@@ -72,16 +103,21 @@ impl Cache {
         ensures file { IfOk result
             (λ file. IsTileOf history.now.definitions key view.now file.items) }
         ensures kept { AllKept history.now.definitions self.new }
+        ensures used { OnOk result (IsUsed key self.old self.new) }
+        ensures unchanged { OnErr result (self.new ≡ self.old) }
         ensures capacity { self.new.cap ≡ self.old.cap }
     {
-        self.touch(&key);
         match self.find(&key) {
-            Some(pixmap) => cut(alloc, pixmap, view, TILE),
+            Some(pixmap) => {
+                let file = cut(alloc, pixmap, view, TILE)?;
+                self.touch(&key);
+                Ok(file)
+            }
             None => self.drawn(alloc, history, key, view),
         }
     }
 
-    /// The same, where the picture isn't kept.
+    /// The file of a tile whose picture isn't kept: it is drawn, and kept unless an allocation fails.
     fn drawn(
         &mut self,
         alloc: Global,
@@ -91,44 +127,78 @@ impl Cache {
     ) -> Result<Vec<u8>, AllocError>
         requires kept { AllKept history.now.definitions self.old }
         requires tile { IsTileAt history.now.definitions key view.now }
+        requires absent { entry_of key self.old.entries ≡ None }
         ensures file { IfOk result
             (λ file. IsTileOf history.now.definitions key view.now file.items) }
         ensures kept { AllKept history.now.definitions self.new }
+        ensures used { OnOk result (IsUsed key self.old self.new) }
+        ensures unchanged { OnErr result (self.new ≡ self.old) }
         ensures capacity { self.new.cap ≡ self.old.cap }
     {
         tiles_are_crops_of_one_picture();
         let map = history.published_map(key.sequence);
         let pixmap = labelled(alloc, map, &key.layers, view, key.background())?;
-        let file = cut(alloc, &pixmap, view, TILE);
+        let file = cut(alloc, &pixmap, view, TILE)?;
         self.keep(key, pixmap);
-        file
+        Ok(file)
     }
 
-    /// Makes the key's picture, if it is kept, the most recently used.
+    /// Makes the key's picture the most recently used, and counts a tile that was cut out of it.
     fn touch(&mut self, key: &Key)
+        requires { IsSome (entry_of key.now self.old.entries) }
+        ensures taken { IsTaken key.now self.old self.new }
         ensures kept { (history : List Definition) →
             AllKept history self.old → AllKept history self.new }
         ensures capacity { self.new.cap ≡ self.old.cap }
     {
         let _ = self.kept.promote(key);
+        self.taken = risen(self.taken);
     }
 
     /// The key's picture, if it is kept.
     fn find(&self, key: &Key) -> Option<&Pixmap>
-        ensures { IfSome result (λ pixmap. (history : List Definition) →
+        ensures kept { IfSome result (λ pixmap. (history : List Definition) →
             AllKept history self.now → IsKept history key.now pixmap.now) }
+        ensures there { OnSome result (IsSome (entry_of key.now self.now.entries)) }
+        ensures absent { IfNone result (entry_of key.now self.now.entries ≡ None) }
     {
         self.kept.peek(key)
     }
 
-    /// Keeps a picture; if an allocation fails, the cache is unchanged.
+    /// Counts a drawn picture, and keeps it; if an allocation fails, it is counted as one that isn't kept.
     fn keep(&mut self, key: Key, pixmap: Pixmap)
+        requires { entry_of key self.old.entries ≡ None }
+        ensures used { IsUsed key self.old self.new }
         ensures kept { (history : List Definition) →
             AllKept history self.old → IsKept history key pixmap → AllKept history self.new }
         ensures capacity { self.new.cap ≡ self.old.cap }
     {
-        let _ = self.kept.put(key, pixmap);
+        self.drawings = risen(self.drawings);
+        let is_kept = put(&mut self.kept, key, pixmap);
+        if is_kept {
+            return;
+        }
+        self.unkept = risen(self.unkept);
     }
+}
+
+/// Puts a new entry before the others, of which the last goes if there is no room for it. Returns false if an allocation fails, and
+/// then the entries are unchanged.
+fn put(kept: &mut LruCache<Key, Pixmap>, key: Key, pixmap: Pixmap) -> bool
+    requires { entry_of key kept.old.entries ≡ None }
+    ensures put { result ≡ true → kept.new ≡ lru_cache
+        ((key, pixmap) ∷ take (kept.old.cap - 1) kept.old.entries) kept.old.cap }
+    ensures same { result ≡ false → kept.new ≡ kept.old }
+{
+    kept.put(key, pixmap).is_ok()
+}
+
+/// A count with one more, which stays at its highest.
+#[tactic(auto, unfolding(crate::specs::KeptPictures::risen))]
+fn risen(count: u64) -> u64
+    ensures { result ≡ risen count }
+{
+    count.saturating_add(1)
 }
 
 impl Key {

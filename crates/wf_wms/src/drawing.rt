@@ -1,7 +1,7 @@
 //! Draws the requested picture, or cuts it out of a kept one.
-ghost use Rattle.std.specs.Prelude.{◌≡◌, IfOk};
+ghost use Rattle.std.specs.Prelude.{◌≡◌, IfOk, OnErr, OnOk, Some};
 ghost use Rattle.wf_wms.specs.Judged.{IsAskedOf, IsPictureFor};
-ghost use Rattle.wf_wms.specs.KeptPictures.{AllKept};
+ghost use Rattle.wf_wms.specs.KeptPictures.{AllKept, IsAfter};
 
 use crate::answer::Answer;
 use crate::asked::Asked;
@@ -22,7 +22,8 @@ pub(crate) fn drawn<M: Maps>(alloc: Global, maps: &M, asked: Asked) -> Result<An
     Ok(Answer::picture(draw(alloc, map, &asked.request)?))
 }
 
-/// The same answer. A tile of the map's grid is cut out of the cache's picture, which is drawn if it isn't kept yet.
+/// The same answer. A tile of the map's grid is cut out of the cache's picture, which is drawn if it isn't kept yet; another picture is
+/// drawn beside the cache. An error leaves the cache unchanged.
 pub(crate) fn drawn_by(
     alloc: Global,
     cache: &mut Cache,
@@ -33,6 +34,9 @@ pub(crate) fn drawn_by(
     requires kept { AllKept history.now.definitions cache.old }
     ensures answer { IfOk result (λ answer. IsPictureFor history.now.definitions asked answer) }
     ensures kept { AllKept history.now.definitions cache.new }
+    ensures used { OnOk result (IsAfter history.now.definitions
+        (Some (asked.sequence, asked.request)) cache.old cache.new) }
+    ensures unchanged { OnErr result (cache.new ≡ cache.old) }
     ensures capacity { cache.new.cap ≡ cache.old.cap }
 {
     let map = history.published_map(asked.sequence);

@@ -3,8 +3,9 @@ ghost use Rattle.std.specs.Prelude.{◌≡◌, ◌≤◌, Ok, Some, IfOk, length
 ghost use Rattle.wf_def.specs.Definition.{Definition};
 ghost use Rattle.wf_learner.specs.History.{map_at};
 ghost use Rattle.wf_wms.specs.Answer.{IsAnswerOf, IsAnswerOn, IsMapAnswer};
-ghost use Rattle.wf_wms.specs.Judged.{IsJudged};
-ghost use Rattle.wf_wms.specs.MapRequest.{picture_in};
+ghost use Rattle.wf_wms.specs.Judged.{IsJudged, wanted_in};
+ghost use Rattle.wf_wms.specs.MapRequest.{map_sequence, picture_in};
+ghost use Rattle.wf_wms.specs.Requested.{requested, wanted_at, wanted_of};
 ghost use Rattle.wf_wms.specs.declared.operation.Operation.TheVariants.{Map};
 
 use crate::answer::Answer;
@@ -26,8 +27,10 @@ pub(crate) fn judged<M: Maps>(
     query: &[u8],
 ) -> Result<Judged, AllocError>
     requires { seq ≤ length (M.definitions maps.now) }
-    ensures { IfOk result (λ judged. IsJudged
+    ensures judged { IfOk result (λ judged. IsJudged
         (M.definitions maps.now) (IsAnswerOf seq (M.definitions maps.now) query.now) judged) }
+    ensures wanted { IfOk result
+        (λ judged. wanted_in judged ≡ requested seq (M.definitions maps.now) query.now) }
 {
     let query = Query::read(alloc, query)?;
     match operation(query.parameter("REQUEST")) {
@@ -48,8 +51,10 @@ fn map_judged<M: Maps>(
     query: &Query,
 ) -> Result<Judged, AllocError>
     requires { seq ≤ length (M.definitions maps.now) }
-    ensures { IfOk result (λ judged. IsJudged (M.definitions maps.now)
+    ensures judged { IfOk result (λ judged. IsJudged (M.definitions maps.now)
         (IsAnswerOn (Ok Map) seq (M.definitions maps.now) query.now) judged) }
+    ensures wanted { IfOk result (λ judged. wanted_in judged
+        ≡ wanted_at (map_sequence seq query.now) (M.definitions maps.now) query.now) }
 {
     match map_sequence(query, seq) {
         Err(exception) => Ok(Judged::Ready(Answer::rejection(alloc, exception)?)),
@@ -65,9 +70,11 @@ fn picture_judged<M: Maps>(
     query: &Query,
 ) -> Result<Judged, AllocError>
     requires { sequence ≤ length (M.definitions maps.now) }
-    ensures { IfOk result
+    ensures judged { IfOk result
         (λ judged. (map : Definition) → map_at (M.definitions maps.now) sequence ≡ Some map →
         IsJudged (M.definitions maps.now) (IsMapAnswer map (picture_in map query.now)) judged) }
+    ensures wanted { IfOk result (λ judged. wanted_in judged
+        ≡ wanted_of sequence (map_at (M.definitions maps.now) sequence) query.now) }
 {
     let map = maps.published_map(sequence);
     match map_request(alloc, map, query)? {

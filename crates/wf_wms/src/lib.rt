@@ -18,8 +18,11 @@
 //! - [`service::answer_cached`] returns the same answer by a [`cache::Cache`] of pictures, if each entry is its key's picture in
 //!   this history (`specs/KeptPictures.antt`); each still is afterwards, also in any history that extends this one
 //!   ([`law::kept_pictures_outlast_growth`])
+//! - which entries there are afterwards, and the counts: a tile is cut out of its picture if that is kept, which is the most recently
+//!   used then; one that isn't is drawn and kept, unless an allocation to keep it fails, in place of the least recently used if the
+//!   cache is full; nothing else changes the cache
 //!
-//! It says nothing about the transport of queries and answers, nor about which pictures are kept.
+//! It says nothing about the transport of queries and answers.
 #![tactic(auto)]
 
 mod answer;

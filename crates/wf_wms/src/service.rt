@@ -1,7 +1,7 @@
 //! Requests to a server that publishes a history.
-ghost use Rattle.std.specs.Prelude.{◌≡◌, ◌≤◌, ◌∷◌, [], IfOk, length};
+ghost use Rattle.std.specs.Prelude.{◌≡◌, ◌≤◌, ◌∷◌, [], IfOk, OnErr, OnOk, length};
 ghost use Rattle.wf_wms.specs.Answer.{IsAnswerOf};
-ghost use Rattle.wf_wms.specs.KeptPictures.{AllKept};
+ghost use Rattle.wf_wms.specs.KeptPictures.{AllKept, IsCacheAfter};
 
 use crate::answer::Answer;
 use crate::asked::Judged;
@@ -28,9 +28,10 @@ pub fn answer(
     answer_from(alloc, seq, history, query)
 }
 
-/// The same answer, by a cache of pictures of the history's maps. A tile is cut out of its kept picture; a picture that isn't
-/// kept yet is drawn and kept. If an allocation to keep it fails, the answer is the same. Returns Ok unless allocation fails; the
-/// cache's entries are pictures of their keys also after an error.
+/// The same answer, by a cache of pictures of the history's maps. A tile is cut out of its kept picture, which is the most recently
+/// used then; one that isn't kept is drawn and kept, in place of the least recently used if the cache is full. If an allocation to
+/// keep it fails, the answer is the same. What is no tile leaves the cache as it was. Returns Ok unless allocation fails; an error
+/// leaves the cache unchanged.
 pub fn answer_cached(
     alloc: Global,
     cache: &mut Cache,
@@ -43,6 +44,9 @@ pub fn answer_cached(
     ensures answer { IfOk result
         (λ answer. IsAnswerOf seq history.now.definitions query.now answer) }
     ensures kept { AllKept history.now.definitions cache.new }
+    ensures used { OnOk result
+        (IsCacheAfter seq history.now.definitions query.now cache.old cache.new) }
+    ensures unchanged { OnErr result (cache.new ≡ cache.old) }
     ensures capacity { cache.new.cap ≡ cache.old.cap }
 {
     match judged(alloc, seq, history, query)? {

@@ -1,15 +1,30 @@
-use Rattle.std.proofs.Common.{sym, arith}
+use Rattle.std.proofs.Common.{ap, sym, ℕ, arith}
+use Rattle.std.specs.Prelude.{Result}
 use Rattle.std.proofs.lemmas.Result.{IfOk-weaker}
-use Rattle.wf_wms.proofs.JudgedLaw.{sequence_judged}
+use Rattle.wf_wms.specs.Requested.{wanted_at}
+use Rattle.wf_wms.specs.declared.exception.Exception.{Exception}
+use Rattle.wf_wms.proofs.JudgedLaw.{sequence_judged, sequence_wanted}
 use Rattle.wf_wms.proofs.ServiceLaw.{map_rejected}
 use Rattle.wf_wms.proofs.judging.map_judged.Goals as goal
 
-pub returns-in_ok-rejection-in-Err : goal.returns-in_ok-rejection-in-Err
-returns-in_ok-rejection-in-Err g c =
+pub returns-in_ok-rejection-in-Err-clause-judged : goal.returns-in_ok-rejection-in-Err-clause-judged
+returns-in_ok-rejection-in-Err-clause-judged g c =
     map_rejected c.args.seq (g.M.Maps.definitions c.args.maps.now) c.args.query.now c.in-Err.exception c.in_ok-rejection-in-Err.field-0 c.requires (sym c.in-Err.ensures.value) c.in_ok-rejection-in-Err.ensures
 
-pub returns-in-Ok : goal.returns-in-Ok
-returns-in-Ok g c =
+pub returns-in-Ok-clause-judged : goal.returns-in-Ok-clause-judged
+returns-in-Ok-clause-judged g c =
     IfOk-weaker c.picture_judged.result _ _
     (λ judged is. sequence_judged (g.M.Maps.definitions c.args.maps.now) c.args.seq c.in-Ok.number c.args.query.now judged (sym c.in-Ok.ensures.value) (omega (arith, c.in-Ok.ensures.within, c.requires)) is)
-    c.picture_judged.ensures
+    c.picture_judged.ensures.judged
+
+-- what it requests
+
+pub returns-in_ok-rejection-in-Err-clause-wanted : goal.returns-in_ok-rejection-in-Err-clause-wanted
+returns-in_ok-rejection-in-Err-clause-wanted g c =
+    ap (λ (r : Result ℕ Exception). wanted_at r (g.M.Maps.definitions c.args.maps.now) c.args.query.now) c.in-Err.ensures.value
+
+pub returns-in-Ok-clause-wanted : goal.returns-in-Ok-clause-wanted
+returns-in-Ok-clause-wanted g c =
+    IfOk-weaker c.picture_judged.result _ _
+    (λ judged is. sequence_wanted c.args.seq c.in-Ok.number (g.M.Maps.definitions c.args.maps.now) c.args.query.now judged (sym c.in-Ok.ensures.value) is)
+    c.picture_judged.ensures.wanted

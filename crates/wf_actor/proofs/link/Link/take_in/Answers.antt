@@ -5,7 +5,7 @@ pub returns-in-Ok : goal.returns-in-Ok
 returns-in-Ok c =
     let counted : c.len-count.result ≡ length c.in-Ok.messages.items = search rules in (
       c.in-Ok.messages,
-      record { takes = c.in-Ok.ensures.ok; arrived = c.from_vec.ensures.items; outgoing = record { outbox = refl; dropped = refl } },
+      record { takes = c.in-Ok.ensures.ok; arrived = c.from_vec.ensures.items; outgoing = record { outbox = refl; dropped = refl; posted = refl } },
       counted,
       c.and.ensures,
     )

@@ -1,4 +1,3 @@
-use Rattle.std.proofs.lemmas.Result.{IfOk-weaker}
 use Rattle.wf_wms.proofs.KeptPicturesLaw.{drawn_kept, drawn_shows, shows_request}
 use Rattle.wf_wms.proofs.cache.Cache.drawn.Goals as goal
 
@@ -10,9 +9,7 @@ returns-clause-file c =
     let shows = drawn_shows history c.args.key view p c.requires.tile c.published_map-map.result.now c.deref.result.now c.background.result
     c.published_map-map.ensures c.deref.ensures.value c.background.ensures c.in_ok-pixmap.ensures in
     let kept = drawn_kept history c.args.key view p c.requires.tile c.tiles_are_crops_of_one_picture.ensures.one_picture shows in
-    IfOk-weaker c.cut-file.result _ _
-    (λ file drawn map request there is views. drawn map request is.size views (shows_request history c.args.key view p c.requires.tile kept map request there is))
-    c.cut-file.ensures
+    λ map request there is views. c.in_ok-file.ensures map request is.size views (shows_request history c.args.key view p c.requires.tile kept map request there is)
 
 pub returns-clause-kept : goal.returns-clause-kept
 returns-clause-kept c =
