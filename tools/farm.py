@@ -13,6 +13,15 @@ PROGRAM = pathlib.Path(__file__).resolve().parent.parent / "crates" / "wfarm" / 
 CAPABILITIES = "/wms?SERVICE=WMS&REQUEST=GetCapabilities"
 
 
+class Wrong(Exception):
+    """What didn't go as it should."""
+
+
+def want(what, is_so):
+    if not is_so:
+        raise Wrong(what)
+
+
 def serve_words(program, requests, folder, nodes=3, port=0, log=False):
     """The command line of a farm."""
     words = [str(program), "serve", "--nodes", str(nodes), "--port", str(port), "--requests", str(requests)]

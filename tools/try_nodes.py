@@ -41,7 +41,7 @@ import time
 import urllib.error
 import urllib.request
 
-from farm import CAPABILITIES, PROGRAM, free_ports
+from farm import CAPABILITIES, PROGRAM, Wrong, free_ports, want
 
 TOP = pathlib.Path(__file__).resolve().parent.parent
 MAP = """MAP NAME "{name}" EXTENT 0 0 4 4 PROJECTION "init=epsg:3857" END
@@ -50,15 +50,6 @@ LAYER NAME it TYPE POLYGON CLASS STYLE COLOR {color} END END FEATURE POINTS -9 -
 """
 NODES = 3
 PATIENCE = 30
-
-
-class Wrong(Exception):
-    """What didn't go as it should."""
-
-
-def want(what, is_so):
-    if not is_so:
-        raise Wrong(what)
 
 
 PICTURE = ("/wms?VERSION=1.3.0&REQUEST=GetMap&LAYERS=it&STYLES=&CRS=EPSG:3857&BBOX=0,0,4,4&WIDTH=8&HEIGHT=8"

@@ -36,21 +36,12 @@ import time
 import urllib.error
 import urllib.request
 
-from farm import CAPABILITIES, PROGRAM, Replica, free_ports, nodes_in
+from farm import CAPABILITIES, PROGRAM, Replica, Wrong, free_ports, nodes_in, want
 from kill_nodes import PIXEL, map_of, picture_of
 
 VOTERS = 3
 MOST_MAPS = 4_096
 PATIENCE = 60
-
-
-class Wrong(Exception):
-    """What didn't go as it should."""
-
-
-def want(what, is_so):
-    if not is_so:
-        raise Wrong(what)
 
 
 def until(is_so, seconds=PATIENCE):
