@@ -4,9 +4,9 @@
     bench/nodes.py [--program PROGRAM] [--folder FOLDER] [--count N] [--seconds S] [PART ..]
 
 Parts, all of them where none is named; about two minutes:
-  publish  a map of 32 KB to the node that leads, until each of three nodes tells it as published; in turn with a put of as many bytes
-           into three members of etcd in the same folder, at their leader, through its HTTP/JSON gateway on a kept connection. A get that
-           needs no agreement shows what the gateway takes of it
+  publish  a map of 32 KB to the node that leads, until each of three nodes tells it as published, all of them asked at once, over
+           connections that stand already; in turn with a put of as many bytes into three members of etcd in the same folder, at their
+           leader, through its HTTP/JSON gateway on a kept connection. A get that needs no agreement shows what the gateway takes of it
   syncs    the syncs of such a publish at each node, counted by strace: of records with a map, and of others
   tiles    one kept tile of 256 by 256 for 32 clients of wrk, a connection per request, beside nginx (one worker, the same bytes as a
            file, no connection kept), in turns; and the processor time per 1,000 tiles of four nodes in four processes, with eight
@@ -43,7 +43,6 @@ from publish import Etcd, call, disk_of, in_base64, texts_of  # noqa: E402
 from tiles import Map, nginx  # noqa: E402
 
 LARGE = HERE / "maps" / "large-3857.map"
-NAP = 0.0002
 PATIENCE = 60
 
 
@@ -72,24 +71,42 @@ class Table:
 
 # ---- nodes
 
-def ask(address, path, body=None):
-    """The status and the body of an answer, over a connection of its own."""
-    host, port = address.split(":")
-    head = f"{'GET' if body is None else 'POST'} {path} HTTP/1.1\r\nHost: {host}\r\n"
+def request(address, path, body=None):
+    head = f"{'GET' if body is None else 'POST'} {path} HTTP/1.1\r\nHost: {address.split(':')[0]}\r\n"
     if body is not None:
         head += f"Content-Length: {len(body)}\r\n"
-    with socket.create_connection((host, int(port)), timeout=PATIENCE) as client:
-        client.sendall(head.encode() + b"\r\n" + (body or b""))
-        pieces = []
+    return head.encode() + b"\r\n" + (body or b"")
+
+
+def connect(address):
+    host, port = address.split(":")
+    return socket.create_connection((host, int(port)), timeout=PATIENCE)
+
+
+def read_answer(client):
+    """The status and the body of an answer; the connection ends with it."""
+    pieces = []
+    with client:
         while piece := client.recv(1 << 18):
             pieces.append(piece)
     head, _, body = b"".join(pieces).partition(b"\r\n\r\n")
     return int(head.split(b" ", 2)[1]) if b" " in head else 0, body
 
 
+def ask(address, path, body=None):
+    """The status and the body of an answer, over a connection of its own."""
+    client = connect(address)
+    client.sendall(request(address, path, body))
+    return read_answer(client)
+
+
 def published(node):
     """The last sequence that a node tells as published."""
-    return int(ask(node.clients, "/status")[1].split()[3])
+    return sequence_in(ask(node.clients, "/status"))
+
+
+def sequence_in(answer):
+    return int(answer[1].split()[3])
 
 
 @contextlib.contextmanager
@@ -124,18 +141,30 @@ def wait_for(is_so):
         time.sleep(0.02)
 
 
-def publish_at(node, text):
-    status, body = ask(node.clients, "/publish", text)
+def connections(nodes):
+    """A connection to the first node to publish over, and one to each to ask over. Where a time is taken they stand before it begins, as
+    the connection to etcd does."""
+    return connect(nodes[0].clients), [connect(node.clients) for node in nodes]
+
+
+def ask_all(nodes, clients):
+    """What each node tells as published, all of them asked at once."""
+    for node, client in zip(nodes, clients):
+        client.sendall(request(node.clients, "/status"))
+    return [sequence_in(read_answer(client)) for client in clients]
+
+
+def publish(nodes, text, sequence, standing=None):
+    """Publishes a map at the first node, and asks until each node tells it."""
+    first, clients = standing or connections(nodes)
+    first.sendall(request(nodes[0].clients, "/publish", text))
+    status, body = read_answer(first)
     if status != 202:
         sys.exit(f"publish: {status} {body!r}")
-
-
-def publish(nodes, text, sequence):
-    """Publishes a map at the first node, and waits until each node tells it."""
-    publish_at(nodes[0], text)
-    for node in nodes:
-        while published(node) < sequence:
-            time.sleep(NAP)
+    while nodes:
+        told = ask_all(nodes, clients)
+        nodes = [node for node, last in zip(nodes, told) if last < sequence]
+        clients = [connect(node.clients) for node in nodes]
 
 
 # ---- parts
@@ -159,13 +188,15 @@ def measure_publish(options, table):
     with farm(options, "publish") as nodes, Etcd(pathlib.Path(options.room)) as etcd, contextlib.closing(etcd.connect()) as leader:
         for sequence, text in enumerate(texts, 1):
             body = json.dumps({"key": key, "value": in_base64(text)})
-            whole.append(timed(publish, nodes, text, sequence))
+            standing = connections(nodes)
+            whole.append(timed(publish, nodes, text, sequence, standing))
             put.append(timed(call, leader, "/v3/kv/put", body))
-            alone.append(sum(timed(published, node) for node in nodes))
+            asking = [connect(node.clients) for node in nodes]
+            alone.append(timed(ask_all, nodes, asking))
             got.append(timed(call, leader, "/v3/kv/range", local))
     # (the first makes a leader)
     table.note("publish of 32 KB until three nodes tell it", tell(whole[1:]))
-    table.note("  of it, three requests for /status", tell(alone[1:]))
+    table.note("  of it, /status of three nodes, asked at once", tell(alone[1:]))
     table.note("put of 32 KB into three members of etcd", tell(put[1:]))
     table.note("  a get that needs no agreement", tell(got[1:]))
     table.judge("publish / put, medians", statistics.median(whole[1:]) / statistics.median(put[1:]), 0.6)

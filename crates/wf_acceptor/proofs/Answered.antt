@@ -5,17 +5,17 @@ use Rattle.std.proofs.lemmas.Bool.{lt-leb}
 use Rattle.wf_ballot.specs.Ballot.{Ballot}
 use Rattle.wf_model.specs.Message as model
 use Rattle.wf_model.specs.Message.{Vote}
-use Rattle.wf_model.specs.Stored as stored_part
-use Rattle.wf_model.specs.Stored.{Stored, published}
-use Rattle.wf_model.specs.Working.{Working, window}
-use Rattle.wf_model.specs.Table.{Row, says, stores, quiet, is_above, is_refused, nack, on_prepare, prepare_open, promise_to, on_accept, accept_open, vote_for, votes_at, votes_from}
+use Rattle.wf_model.specs.DurableState as stored_part
+use Rattle.wf_model.specs.DurableState.{DurableState, published}
+use Rattle.wf_model.specs.VolatileState.{VolatileState, window}
+use Rattle.wf_model.specs.Table.{Transition, only_sends, stores, quiet, is_above, is_rejected, nack, on_prepare, prepare_open, promise_to, on_accept, accept_open, vote_for, votes_at, votes_from}
 use Rattle.wf_def.specs.Definition.{Definition}
 use Rattle.wf_codec.specs.Message.{view}
 use Rattle.wf_codec.specs.declared.message.Message.TheVariants.{Accepted, Nack}
 use Rattle.wf_acceptor.specs.Acceptor.{Part, ActsFor, votes_of}
 use Rattle.wf_acceptor.specs.Prepared.{nack_of, promising, replying, voting}
-use Rattle.wf_acceptor.specs.Answer.{accept_row, prepare_row, Answers, Stores}
-use Rattle.wf_acceptor.specs.declared.answer.Answer.{Answer}
+use Rattle.wf_acceptor.specs.AcceptorAnswer.{accept_transition, prepare_transition, Answers, Stores}
+use Rattle.wf_acceptor.specs.declared.answer.AcceptorAnswer.{AcceptorAnswer}
 use Rattle.wf_acceptor.proofs.Reported.{as_reported}
 
 nack-as : (part : Part) (s : ℕ) (b : Ballot) → option_to_list (option_map view (nack_of part s b)) ≡ nack part.id s b part.promise
@@ -26,103 +26,103 @@ nack-as part s b =
     ]
 
 -- Above the published definitions the part's promise determines the transition.
-prepare_by_promise : (part : Part) (stored : Stored Definition) (working : Working Definition) (s : ℕ) (b : Ballot) → ActsFor part stored → part.published < s →
-    prepare_row part s b stored working ≡ prepare_open part.id stored working s b part.promise
+prepare_by_promise : (part : Part) (stored : DurableState Definition) (volatile : VolatileState Definition) (s : ℕ) (b : Ballot) → ActsFor part stored → part.published < s →
+    prepare_transition part s b stored volatile ≡ prepare_open part.id stored volatile s b part.promise
 unfolding on_prepare
-prepare_by_promise part stored working s b acts above =
+prepare_by_promise part stored volatile s b acts above =
     let open_ : nat_le s (published stored) ≡ false = rw acts.published (lt-leb s part.published above) in
-    rw open_ (ap (λ promise. prepare_open part.id stored working s b promise) acts.promise)
+    rw open_ (ap (λ promise. prepare_open part.id stored volatile s b promise) acts.promise)
 
-accept_by_promise : (part : Part) (stored : Stored Definition) (working : Working Definition) (s : ℕ) (b : Ballot) (d : Definition) → ActsFor part stored → part.published < s →
-    accept_row part s b d stored working ≡ accept_open part.id stored working s b d part.promise
+accept_by_promise : (part : Part) (stored : DurableState Definition) (volatile : VolatileState Definition) (s : ℕ) (b : Ballot) (d : Definition) → ActsFor part stored → part.published < s →
+    accept_transition part s b d stored volatile ≡ accept_open part.id stored volatile s b d part.promise
 unfolding on_accept
-accept_by_promise part stored working s b d acts above =
+accept_by_promise part stored volatile s b d acts above =
     let open_ : nat_le s (published stored) ≡ false = rw acts.published (lt-leb s part.published above) in
-    rw open_ (ap (λ promise. accept_open part.id stored working s b d promise) acts.promise)
+    rw open_ (ap (λ promise. accept_open part.id stored volatile s b d promise) acts.promise)
 
 -- A ballot above the promise is promised, and the votes are reported.
-prepare_promises : (part : Part) (stored : Stored Definition) (working : Working Definition) (s : ℕ) (b : Ballot) → ActsFor part stored → part.published < s →
+prepare_promises : (part : Part) (stored : DurableState Definition) (volatile : VolatileState Definition) (s : ℕ) (b : Ballot) → ActsFor part stored → part.published < s →
     is_above part.promise b ≡ true →
-    prepare_row part s b stored working ≡ stores working (stored_part.Promised s b) (model.Promise part.id s b (votes_from (votes_of part) s window))
+    prepare_transition part s b stored volatile ≡ stores volatile (stored_part.Promised s b) (model.Promise part.id s b (votes_from (votes_of part) s window))
 unfolding prepare_open promise_to
-prepare_promises part stored working s b acts open_ high =
-    prepare_by_promise part stored working s b acts open_ ∙ rw high
-    (ap (λ (f : ℕ → Option (Vote Definition)). stores working (stored_part.Promised s b) (model.Promise part.id s b (votes_from f s window))) acts.votes)
+prepare_promises part stored volatile s b acts open_ high =
+    prepare_by_promise part stored volatile s b acts open_ ∙ rw high
+    (ap (λ (f : ℕ → Option (Vote Definition)). stores volatile (stored_part.Promised s b) (model.Promise part.id s b (votes_from f s window))) acts.votes)
 
 -- A ballot that isn't below the promise gets a vote, unless it has one.
-accept_votes : (part : Part) (stored : Stored Definition) (working : Working Definition) (s : ℕ) (b : Ballot) (d : Definition) → ActsFor part stored → part.published < s →
-    is_refused part.promise b ≡ false → votes_at (votes_of part s) b ≡ false →
-    accept_row part s b d stored working ≡ stores working (stored_part.Accepted s b d) (model.Accepted part.id s b)
+accept_votes : (part : Part) (stored : DurableState Definition) (volatile : VolatileState Definition) (s : ℕ) (b : Ballot) (d : Definition) → ActsFor part stored → part.published < s →
+    is_rejected part.promise b ≡ false → votes_at (votes_of part s) b ≡ false →
+    accept_transition part s b d stored volatile ≡ stores volatile (stored_part.Accepted s b d) (model.Accepted part.id s b)
 unfolding accept_open vote_for
-accept_votes part stored working s b d acts open_ high voted =
+accept_votes part stored volatile s b d acts open_ high voted =
     let here : votes_at (stored.votes s) b ≡ false = ap (λ (f : ℕ → Option (Vote Definition)). votes_at (f s) b) acts.votes ∙ voted in
-    accept_by_promise part stored working s b d acts open_ ∙ rw (high, here)
+    accept_by_promise part stored volatile s b d acts open_ ∙ rw (high, here)
 
 -- ---- the answers are the transitions
 
 pub promising_answers : (part : Part) (s : ℕ) (b : Ballot) → part.published < s → is_above part.promise b ≡ true →
-    Answers part (prepare_row part s b) (promising part s b)
+    Answers part (prepare_transition part s b) (promising part s b)
 unfolding stores
-promising_answers part s b open_ high stored working acts =
-    ap (λ (votes : List (Option (Vote Definition))). stores working (stored_part.Promised s b) (model.Promise part.id s b votes)) (as_reported part.votes s window)
-    ∙ sym (prepare_promises part stored working s b acts open_ high)
+promising_answers part s b open_ high stored volatile acts =
+    ap (λ (votes : List (Option (Vote Definition))). stores volatile (stored_part.Promised s b) (model.Promise part.id s b votes)) (as_reported part.votes s window)
+    ∙ sym (prepare_promises part stored volatile s b acts open_ high)
 
-pub refusal_answers : (part : Part) (s : ℕ) (b : Ballot) → part.published < s → is_above part.promise b ≡ false → is_refused part.promise b ≡ true →
-    Answers part (prepare_row part s b) (replying (nack_of part s b))
-unfolding prepare_open says
-refusal_answers part s b open_ high low stored working acts =
-    rw (nack-as part s b) (sym (prepare_by_promise part stored working s b acts open_ ∙ rw (high, low)))
+pub step_rejection_answers : (part : Part) (s : ℕ) (b : Ballot) → part.published < s → is_above part.promise b ≡ false → is_rejected part.promise b ≡ true →
+    Answers part (prepare_transition part s b) (replying (nack_of part s b))
+unfolding prepare_open only_sends
+step_rejection_answers part s b open_ high low stored volatile acts =
+    rw (nack-as part s b) (sym (prepare_by_promise part stored volatile s b acts open_ ∙ rw (high, low)))
 
-pub silence_answers : (part : Part) (s : ℕ) (b : Ballot) → part.published < s → is_above part.promise b ≡ false → is_refused part.promise b ≡ false →
-    Answers part (prepare_row part s b) (replying None)
+pub silence_answers : (part : Part) (s : ℕ) (b : Ballot) → part.published < s → is_above part.promise b ≡ false → is_rejected part.promise b ≡ false →
+    Answers part (prepare_transition part s b) (replying None)
 unfolding prepare_open quiet
-silence_answers part s b open_ high low stored working acts = sym (prepare_by_promise part stored working s b acts open_ ∙ rw (high, low))
+silence_answers part s b open_ high low stored volatile acts = sym (prepare_by_promise part stored volatile s b acts open_ ∙ rw (high, low))
 
-pub nack_answers : (part : Part) (s : ℕ) (b : Ballot) (d : Definition) → part.published < s → is_refused part.promise b ≡ true →
-    Answers part (accept_row part s b d) (replying (nack_of part s b))
-unfolding accept_open says
-nack_answers part s b d open_ low stored working acts =
-    rw (nack-as part s b) (sym (accept_by_promise part stored working s b d acts open_ ∙ rw low))
+pub nack_answers : (part : Part) (s : ℕ) (b : Ballot) (d : Definition) → part.published < s → is_rejected part.promise b ≡ true →
+    Answers part (accept_transition part s b d) (replying (nack_of part s b))
+unfolding accept_open only_sends
+nack_answers part s b d open_ low stored volatile acts =
+    rw (nack-as part s b) (sym (accept_by_promise part stored volatile s b d acts open_ ∙ rw low))
 
-pub again_answers : (part : Part) (s : ℕ) (b : Ballot) (d : Definition) → part.published < s → is_refused part.promise b ≡ false → votes_at (votes_of part s) b ≡ true →
-    Answers part (accept_row part s b d) (replying (Some (Accepted part.id s b)))
-unfolding accept_open vote_for says
-again_answers part s b d open_ high voted stored working acts =
+pub again_answers : (part : Part) (s : ℕ) (b : Ballot) (d : Definition) → part.published < s → is_rejected part.promise b ≡ false → votes_at (votes_of part s) b ≡ true →
+    Answers part (accept_transition part s b d) (replying (Some (Accepted part.id s b)))
+unfolding accept_open vote_for only_sends
+again_answers part s b d open_ high voted stored volatile acts =
     let here : votes_at (stored.votes s) b ≡ true = ap (λ (f : ℕ → Option (Vote Definition)). votes_at (f s) b) acts.votes ∙ voted in
-    sym (accept_by_promise part stored working s b d acts open_ ∙ rw (high, here))
+    sym (accept_by_promise part stored volatile s b d acts open_ ∙ rw (high, here))
 
-pub voting_answers : (part : Part) (s : ℕ) (b : Ballot) (d : Definition) → part.published < s → is_refused part.promise b ≡ false → votes_at (votes_of part s) b ≡ false →
-    Answers part (accept_row part s b d) (voting part s b d)
+pub voting_answers : (part : Part) (s : ℕ) (b : Ballot) (d : Definition) → part.published < s → is_rejected part.promise b ≡ false → votes_at (votes_of part s) b ≡ false →
+    Answers part (accept_transition part s b d) (voting part s b d)
 unfolding stores
-voting_answers part s b d open_ high voted stored working acts = sym (accept_votes part stored working s b d acts open_ high voted)
+voting_answers part s b d open_ high voted stored volatile acts = sym (accept_votes part stored volatile s b d acts open_ high voted)
 
 -- ---- transitions that store a record
 
-stores_some : (row : Row Definition) (working : Working Definition) (r : stored_part.Record Definition) (m : model.Message Definition) → row ≡ stores working r m → IsSome row.entry
+stores_some : (transition : Transition Definition) (volatile : VolatileState Definition) (r : stored_part.Record Definition) (m : model.Message Definition) → transition ≡ stores volatile r m → IsSome transition.entry
 unfolding stores
-stores_some row working r m is = subst (λ (x : Row Definition). IsSome x.entry) (sym is) refl
+stores_some transition volatile r m is = subst (λ (x : Transition Definition). IsSome x.entry) (sym is) refl
 
-pub promising_stores : (part : Part) (s : ℕ) (b : Ballot) → part.published < s → is_above part.promise b ≡ true → Stores part (prepare_row part s b)
-promising_stores part s b open_ high stored working acts =
-    stores_some (prepare_row part s b stored working) working (stored_part.Promised s b) (model.Promise part.id s b (votes_from (votes_of part) s window))
-    (prepare_promises part stored working s b acts open_ high)
+pub promising_stores : (part : Part) (s : ℕ) (b : Ballot) → part.published < s → is_above part.promise b ≡ true → Stores part (prepare_transition part s b)
+promising_stores part s b open_ high stored volatile acts =
+    stores_some (prepare_transition part s b stored volatile) volatile (stored_part.Promised s b) (model.Promise part.id s b (votes_from (votes_of part) s window))
+    (prepare_promises part stored volatile s b acts open_ high)
 
-pub voting_stores : (part : Part) (s : ℕ) (b : Ballot) (d : Definition) → part.published < s → is_refused part.promise b ≡ false → votes_at (votes_of part s) b ≡ false →
-    Stores part (accept_row part s b d)
-voting_stores part s b d open_ high voted stored working acts =
-    stores_some (accept_row part s b d stored working) working (stored_part.Accepted s b d) (model.Accepted part.id s b)
-    (accept_votes part stored working s b d acts open_ high voted)
+pub voting_stores : (part : Part) (s : ℕ) (b : Ballot) (d : Definition) → part.published < s → is_rejected part.promise b ≡ false → votes_at (votes_of part s) b ≡ false →
+    Stores part (accept_transition part s b d)
+voting_stores part s b d open_ high voted stored volatile acts =
+    stores_some (accept_transition part s b d stored volatile) volatile (stored_part.Accepted s b d) (model.Accepted part.id s b)
+    (accept_votes part stored volatile s b d acts open_ high voted)
 
 -- ---- the same for a call's result
 
 -- an answer that is equal to one that is the transition
-pub answers_as : (part : Part) (row : Stored Definition → Working Definition → Row Definition) (given wanted : Answer) → given ≡ wanted → Answers part row wanted → Answers part row given
-answers_as part row given wanted is answers = subst (λ (x : Answer). Answers part row x) (sym is) answers
+pub answers_as : (part : Part) (transition : DurableState Definition → VolatileState Definition → Transition Definition) (given wanted : AcceptorAnswer) → given ≡ wanted → Answers part transition wanted → Answers part transition given
+answers_as part transition given wanted is answers = subst (λ (x : AcceptorAnswer). Answers part transition x) (sym is) answers
 
-pub answers_if_ok : {E : Type 0} (part : Part) (row : Stored Definition → Working Definition → Row Definition) (wanted : Answer) (r : Result Answer E) →
-    IfOk r (λ answer. answer ≡ wanted) → Answers part row wanted → IfOk r (Answers part row)
-answers_if_ok part row wanted (Ok given) is answers = answers_as part row given wanted is answers
-answers_if_ok part row wanted (Err e) is answers = tt
+pub answers_if_ok : {E : Type 0} (part : Part) (transition : DurableState Definition → VolatileState Definition → Transition Definition) (wanted : AcceptorAnswer) (r : Result AcceptorAnswer E) →
+    IfOk r (λ answer. answer ≡ wanted) → Answers part transition wanted → IfOk r (Answers part transition)
+answers_if_ok part transition wanted (Ok given) is answers = answers_as part transition given wanted is answers
+answers_if_ok part transition wanted (Err e) is answers = tt
 
 pub stores_if_err : {T E : Type 0} (r : Result T E) (fact : Type 0) → fact → OnErr r fact
 stores_if_err (Ok x) fact holds = tt

@@ -5,8 +5,8 @@ use Rattle.std.specs.FinMap as map
 use Rattle.std.specs.FinMap.{FinMap}
 use Rattle.wf_ballot.specs.Ballot.{Ballot}
 use Rattle.wf_model.specs.Message.{Vote}
-use Rattle.wf_model.specs.Stored as model
-use Rattle.wf_model.specs.Stored.{Stored, published, with_record}
+use Rattle.wf_model.specs.DurableState as model
+use Rattle.wf_model.specs.DurableState.{DurableState, published, with_record}
 use Rattle.wf_def.specs.Definition.{Definition}
 use Rattle.wf_codec.specs.Message.{view_vote}
 use Rattle.wf_journal.specs.declared.record.Record.{Record}
@@ -30,14 +30,14 @@ abbrev pub votes_of : Part → ℕ → Option (Vote Definition)
 votes_of part s = view_vote (map.get part.votes s)
 
 -- The part agrees with this stored state: it has the same promise, the same votes, and the same number of published definitions.
-pub record ActsFor (part : Part) (stored : Stored Definition) : Type 0 where
+pub record ActsFor (part : Part) (stored : DurableState Definition) : Type 0 where
   pub promise : stored.promise ≡ part.promise
   pub votes : stored.votes ≡ votes_of part
   pub published : published stored ≡ part.published
 
 -- The record is applied: if the old part agrees with a stored state, the new one agrees with that state after the record.
 abbrev pub Applies : Part → Part → model.Record Definition → Type 0
-Applies old new r = (stored : Stored Definition) → ActsFor old stored → ActsFor new (with_record stored r)
+Applies old new r = (stored : DurableState Definition) → ActsFor old stored → ActsFor new (with_record stored r)
 
 -- a record of a published definition is of the next slot
 abbrev pub IsNext : Part → Record → Type 0

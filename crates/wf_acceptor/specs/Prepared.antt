@@ -4,8 +4,8 @@ use Rattle.std.specs.Ordering.{nat_cmp}
 use Rattle.std.specs.FinMap.{FinMap, get, insert, remove}
 use Rattle.wf_ballot.specs.Ballot.{Ballot}
 use Rattle.wf_ballot.specs.Sequence.{last_sequence}
-use Rattle.wf_model.specs.Stored.{raised}
-use Rattle.wf_model.specs.Working.{window}
+use Rattle.wf_model.specs.DurableState.{raised}
+use Rattle.wf_model.specs.VolatileState.{window}
 use Rattle.wf_def.specs.Definition.{Definition}
 use Rattle.wf_codec.specs.Report.{Report}
 use Rattle.wf_codec.specs.declared.message.Message.{Message}
@@ -13,7 +13,7 @@ use Rattle.wf_codec.specs.declared.message.Message.TheVariants as message
 use Rattle.wf_journal.specs.declared.record.Record.{Record}
 use Rattle.wf_journal.specs.declared.record.Record.TheVariants.{Tried, Promised, Accepted, Published}
 use Rattle.wf_acceptor.specs.Acceptor.{Acceptor, Part}
-use Rattle.wf_acceptor.specs.declared.answer.Answer.{Answer}
+use Rattle.wf_acceptor.specs.declared.answer.AcceptorAnswer.{AcceptorAnswer}
 
 -- the Nack with the promise, if there is one
 abbrev pub nack_of : Part → ℕ → Ballot → Option Message
@@ -29,13 +29,13 @@ abbrev pub report_of : Part → ℕ → Report
 report_of part s = record { slot = s; votes = reported part.votes s window }
 
 -- the answers of an acceptor that promises, that votes, and that only replies
-abbrev pub promising : Part → ℕ → Ballot → Answer
+abbrev pub promising : Part → ℕ → Ballot → AcceptorAnswer
 promising part s b = record { entry = Some (Promised s b); reply = Some (message.Promise part.id b (report_of part s)) }
 
-abbrev pub voting : Part → ℕ → Ballot → Definition → Answer
+abbrev pub voting : Part → ℕ → Ballot → Definition → AcceptorAnswer
 voting part s b d = record { entry = Some (Accepted s b d); reply = Some (message.Accepted part.id s b) }
 
-abbrev pub replying : Option Message → Answer
+abbrev pub replying : Option Message → AcceptorAnswer
 replying reply = record { entry = None; reply = reply }
 
 -- the acceptor of this part with no prepared record

@@ -1,8 +1,8 @@
 ghost use Rattle.std.specs.Prelude.{◌≡◌, None, Some};
-ghost use Rattle.wf_model.specs.Stored.{raised};
+ghost use Rattle.wf_model.specs.DurableState.{raised};
 ghost use Rattle.wf_acceptor.specs.Prepared.{definition_of};
 
-use crate::answer::Answer;
+use crate::answer::AcceptorAnswer;
 use crate::report::report_from;
 use crate::same::is_same_record;
 use crate::slots::{forget, make_room, put, value_at};
@@ -68,14 +68,14 @@ impl Model for Acceptor {
 impl Acceptor {
     ghost use Rattle.std.specs.Prelude.{◌≡◌, ◌<◌, ◌↔◌, IsTrue, IfOk, OnOk, OnErr, IsOk, Some, None, nat_le, IfSome};
     ghost use Rattle.std.specs.FinMap as map;
-    ghost use Rattle.wf_model.specs.Stored.{nothing_stored};
+    ghost use Rattle.wf_model.specs.DurableState.{nothing_stored};
     ghost use Rattle.wf_model.specs.Table as table;
     ghost use Rattle.wf_model.specs.Table.{votes_at};
     ghost use Rattle.std.specs.Option.{option_copied};
     ghost use Rattle.wf_codec.specs.Message.{view_vote};
     ghost use Rattle.wf_journal.specs.Record.{view as record_view};
     ghost use Rattle.wf_acceptor.specs.Acceptor.{votes_of, ActsFor, Applies, IsNext, HasRoomFor};
-    ghost use Rattle.wf_acceptor.specs.Answer.{accept_row, prepare_row, Answers, Stores};
+    ghost use Rattle.wf_acceptor.specs.AcceptorAnswer.{accept_transition, prepare_transition, Answers, Stores};
     ghost use Rattle.wf_acceptor.specs.Prepared.{nack_of, promising, replying, unprepared, voting, with_promise, with_open, with_entry, with_entry_at, with_published};
 
     /// The acceptor of a node that has stored nothing yet.
@@ -130,21 +130,21 @@ impl Acceptor {
     /// Answers `Prepare(slot, ballot)`: with a Promise, which reports the votes of the slot and the three after it, if the ballot
     /// is the first or above the promise; with a Nack and the promise, if the ballot is below it; with nothing, if the ballot is
     /// the promise. Allocation can fail only for a Promise.
-    pub fn on_prepare(&mut self, slot: Slot, ballot: Ballot) -> Result<Answer, AllocError>
+    pub fn on_prepare(&mut self, slot: Slot, ballot: Ballot) -> Result<AcceptorAnswer, AllocError>
         requires { self.old.part.published < slot }
-        ensures row { IfOk result (Answers self.old.part (prepare_row self.old.part slot ballot)) }
+        ensures transition { IfOk result (Answers self.old.part (prepare_transition self.old.part slot ballot)) }
         ensures part { self.new.part ≡ self.old.part }
         ensures room { IfOk result (λ answer. IfSome answer.entry (HasRoomFor self.new)) }
         ensures none_set_aside { OnOk result (self.new.prepared ≡ None) }
         ensures err { OnErr result (self.new ≡ self.old) }
         ensures memory { OnErr result
-            (Stores self.old.part (prepare_row self.old.part slot ballot)) }
+            (Stores self.old.part (prepare_transition self.old.part slot ballot)) }
     {
         if self.is_above(ballot) {
             return self.promise_to(slot, ballot);
         }
-        if self.is_refused(ballot) {
-            return Ok(self.refuse(slot, ballot));
+        if self.is_rejected(ballot) {
+            return Ok(self.reject(slot, ballot));
         }
         Ok(self.only_reply(None))
     }
@@ -156,19 +156,19 @@ impl Acceptor {
         slot: Slot,
         ballot: Ballot,
         canon: Canon,
-    ) -> Result<Answer, AllocError>
+    ) -> Result<AcceptorAnswer, AllocError>
         requires { self.old.part.published < slot }
-        ensures row { IfOk result
-            (Answers self.old.part (accept_row self.old.part slot ballot canon)) }
+        ensures transition { IfOk result
+            (Answers self.old.part (accept_transition self.old.part slot ballot canon)) }
         ensures part { self.new.part ≡ self.old.part }
         ensures room { IfOk result (λ answer. IfSome answer.entry (HasRoomFor self.new)) }
         ensures set_aside { IfOk result (λ answer. self.new.prepared ≡ answer.entry) }
         ensures err { OnErr result (self.new ≡ self.old) }
         ensures memory { OnErr result
-            (Stores self.old.part (accept_row self.old.part slot ballot canon)) }
+            (Stores self.old.part (accept_transition self.old.part slot ballot canon)) }
     {
-        if self.is_refused(ballot) {
-            return Ok(self.refuse(slot, ballot));
+        if self.is_rejected(ballot) {
+            return Ok(self.reject(slot, ballot));
         }
         if self.voted_at(slot, ballot) {
             let accepted = Message::Accepted(self.id, slot, ballot);
@@ -201,8 +201,8 @@ impl Acceptor {
     }
 
     // Whether the ballot is below the promise; false if there is no promise.
-    fn is_refused(&self, ballot: Ballot) -> bool
-        ensures { result ≡ table.is_refused self.now.part.promise ballot }
+    fn is_rejected(&self, ballot: Ballot) -> bool
+        ensures { result ≡ table.is_rejected self.now.part.promise ballot }
     {
         match self.promise() {
             Some(promise) => ballot.is_below(promise),
@@ -211,16 +211,16 @@ impl Acceptor {
     }
 
     // An answer without a record.
-    fn only_reply(&mut self, reply: Option<Message>) -> Answer
+    fn only_reply(&mut self, reply: Option<Message>) -> AcceptorAnswer
         ensures answer { result ≡ replying reply }
         ensures after { self.new ≡ record self.old { prepared = None } }
     {
         self.release();
-        Answer { entry: None, reply }
+        AcceptorAnswer { entry: None, reply }
     }
 
     // A Nack with the promise, if there is one.
-    fn refuse(&mut self, slot: Slot, ballot: Ballot) -> Answer
+    fn reject(&mut self, slot: Slot, ballot: Ballot) -> AcceptorAnswer
         ensures answer { result ≡ replying (nack_of self.old.part slot ballot) }
         ensures after { self.new ≡ record self.old { prepared = None } }
     {
@@ -245,13 +245,13 @@ impl Acceptor {
     }
 
     // Promises the ballot, and reports the votes from the slot on.
-    fn promise_to(&mut self, slot: Slot, ballot: Ballot) -> Result<Answer, AllocError>
+    fn promise_to(&mut self, slot: Slot, ballot: Ballot) -> Result<AcceptorAnswer, AllocError>
         ensures answer { IfOk result (λ answer. answer ≡ promising self.old.part slot ballot) }
         ensures ok { OnOk result (self.new ≡ record self.old { prepared = None }) }
         ensures err { OnErr result (self.new ≡ self.old) }
     {
         let report = report_from(&self.votes, slot)?;
-        let answer = Answer {
+        let answer = AcceptorAnswer {
             entry: Some(Record::Promised(slot, ballot)),
             reply: Some(Message::Promise(self.id, ballot, report)),
         };
@@ -260,7 +260,12 @@ impl Acceptor {
     }
 
     // Votes for the definition at the ballot.
-    fn vote(&mut self, slot: Slot, ballot: Ballot, canon: Canon) -> Result<Answer, AllocError>
+    fn vote(
+        &mut self,
+        slot: Slot,
+        ballot: Ballot,
+        canon: Canon,
+    ) -> Result<AcceptorAnswer, AllocError>
         ensures answer { IfOk result (λ answer. answer ≡ voting self.old.part slot ballot canon) }
         ensures ok { OnOk result (self.new ≡
             record self.old { prepared = Some (Record.Accepted slot ballot canon) }) }
@@ -269,7 +274,7 @@ impl Acceptor {
         let entry = Record::Accepted(slot, ballot, canon);
         // Without `?`: the proof of an exit that drops a record treats each kind of record separately.
         match self.prepare(&entry) {
-            Ok(()) => Ok(Answer {
+            Ok(()) => Ok(AcceptorAnswer {
                 entry: Some(entry),
                 reply: Some(Message::Accepted(self.id, slot, ballot)),
             }),
@@ -396,7 +401,7 @@ fn take_definition(prepared: &mut Option<Record>) -> Option<Canon>
 }
 
 // The promise, raised to the ballot if that is above it.
-#[tactic(auto, unfolding(wf_model::specs::Stored::raised))]
+#[tactic(auto, unfolding(wf_model::specs::DurableState::raised))]
 fn raised(promise: Option<Ballot>, ballot: Ballot) -> Option<Ballot>
     ensures { result ≡ raised promise ballot }
 {

@@ -22,4 +22,4 @@ mod same;
 mod slots;
 
 pub use acceptor::Acceptor;
-pub use answer::Answer;
+pub use answer::AcceptorAnswer;

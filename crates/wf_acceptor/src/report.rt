@@ -3,7 +3,7 @@
 ghost use Rattle.std.specs.Prelude.{◌≡◌, ◌+◌, ◌≤◌, ◌++◌, IfOk, OnOk};
 ghost use Rattle.std.specs.FinMap as map;
 ghost use Rattle.arrayvec.specs.ArrayVec.{array_vec_len};
-ghost use Rattle.wf_model.specs.Working.{window};
+ghost use Rattle.wf_model.specs.VolatileState.{window};
 ghost use Rattle.wf_acceptor.specs.Slots.{by_slot};
 ghost use Rattle.wf_acceptor.specs.Prepared.{reported};
 

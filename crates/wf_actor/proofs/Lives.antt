@@ -1,25 +1,25 @@
 -- The life of a node goes on with each of its steps.
 use Rattle.std.proofs.Common.{◌≡◌, ℕ, Bool, true, false, List, [], ◌∷◌, ◌++◌, Vec, Result, Ok, Err, IfOk, IfErr, refl, sym, ap, subst, ◌∙◌, append-nil, append_assoc}
 use Rattle.std.specs.declared.alloc.Global.{Global}
-use Rattle.wf_career.specs.RunLaws.{last_more, done_more, fold_stands, said_more}
-use Rattle.wf_career.specs.Run.{Act, Input, Run, IsAct, given_to, last_of, said}
+use Rattle.wf_career.specs.RunTheorems.{last_more, done_more, fold_stands, outputs_more}
+use Rattle.wf_career.specs.Run.{Act, Input, Run, IsAct, given_to, last_of, outputs}
 use Rattle.wf_codec.specs.declared.message.Message.{Message}
-use Rattle.wf_edge.specs.Asking.{IsAnswer}
-use Rattle.wf_edge.specs.Serving.{HandsOut, MovesOnce, Stays, Proposes}
-use Rattle.wf_farm.specs.Leading.{said_by}
+use Rattle.wf_edge.specs.StepResult.{IsAnswer}
+use Rattle.wf_edge.specs.RequestEffect.{HandsOut, MovesOnce, Stays, Proposes}
+use Rattle.wf_farm.specs.Reachability.{outputs_by}
 use Rattle.wf_farm.specs.Outcome.{StepIsAnswered, is_lost}
 use Rattle.wf_model.specs.declared.action.Action.TheVariants as action
 use Rattle.wf_node.specs.Input.{view}
-use Rattle.wf_model.specs.Working.{at_start}
-use Rattle.wf_node.specs.Node.{Node, stored_of, working_of}
-use Rattle.wf_node.specs.Opening.{IsRead}
-use Rattle.wf_node.specs.Step.{IsRow, IsSameNode, row_of}
+use Rattle.wf_model.specs.VolatileState.{at_start}
+use Rattle.wf_node.specs.Node.{Node, stored_of, volatile_of}
+use Rattle.wf_node.specs.OpenedNode.{IsRead}
+use Rattle.wf_node.specs.Step.{IsTransition, IsSameNode, transition_of}
 use Rattle.wf_node.specs.declared.fault.NodeFault.{NodeFault}
 use Rattle.wf_tape.specs.declared.tape.Tape.{Ghosts as Tape}
-use Rattle.wf_actor.specs.Life.{all_from, delivered, logged, AreOwnAmong, AreOwnHeard, IsLife, IsOpenedFrom}
+use Rattle.wf_actor.specs.Life.{all_from, delivered, logged, AreOwnAmong, AreOwnReceived, IsLife, IsOpenedFrom}
 use Rattle.wf_actor.specs.declared.origin.Origin.{Origin}
 use Rattle.wf_actor.specs.declared.origin.Origin.TheVariants.{Own, Peer}
-use Rattle.wf_actor.proofs.Runs.{heard_more, delivered_more}
+use Rattle.wf_actor.proofs.Runs.{received_more, delivered_more}
 
 -- the log of one more list
 pub logged_more : (log : List (Vec Message Global × ℕ)) (messages : Vec Message Global) (count : ℕ) → logged (log ++ (messages, count) ∷ []) ≡ logged log ++ messages.items
@@ -41,25 +41,25 @@ module _ {T A : Type 0} (tapes : Tape T) (input : Input) (before after : Node T)
   kept_numbers true is answered = (ap (λ (x : Node T). x.id) (answered.refused is).1, ap (λ (x : Node T). x.n) (answered.refused is).1)
   kept_numbers false is answered = by_result answer (answered.steps is).done (answered.steps is).same
     where
-      by_result : (r : Result (Vec Message A) NodeFault) → IfOk r (λ messages. IsRow before (row_of before (view input)) messages.items after) → IfErr r (λ fault. IsSameNode before after) →
+      by_result : (r : Result (Vec Message A) NodeFault) → IfOk r (λ messages. IsTransition before (transition_of before (view input)) messages.items after) → IfErr r (λ fault. IsSameNode before after) →
           (after.id ≡ before.id) × (after.n ≡ before.n)
-      by_result (Ok messages) row same = (row.id, row.n)
-      by_result (Err why) row same = (ap (λ (x : Node T). x.id) same, ap (λ (x : Node T). x.n) same)
+      by_result (Ok messages) transition same = (transition.id, transition.n)
+      by_result (Err why) transition same = (ap (λ (x : Node T). x.id) same, ap (λ (x : Node T). x.n) same)
 
   pub keeps_numbers : IsAnswer tapes (view input) before answer after → (after.id ≡ before.id) × (after.n ≡ before.n)
   keeps_numbers answered = kept_numbers before.halted refl answered
 
 -- so does a request
-pub moves_numbers : {T : Type 0} (tapes : Tape T) (before after : Node T) (said : Vec Message Global) → MovesOnce tapes before said after → (after.id ≡ before.id) × (after.n ≡ before.n)
-moves_numbers {T} tapes before after said (Stays unmoved) = (ap (λ (x : Node T). x.id) unmoved.same, ap (λ (x : Node T). x.n) unmoved.same)
-moves_numbers tapes before after said (Proposes d result proposed hands) = keeps_numbers tapes (action.Propose d) before after result proposed
+pub moves_numbers : {T : Type 0} (tapes : Tape T) (before after : Node T) (outputs : Vec Message Global) → MovesOnce tapes before outputs after → (after.id ≡ before.id) × (after.n ≡ before.n)
+moves_numbers {T} tapes before after outputs (Stays unmoved) = (ap (λ (x : Node T). x.id) unmoved.same, ap (λ (x : Node T). x.n) unmoved.same)
+moves_numbers tapes before after outputs (Proposes d result proposed hands) = keeps_numbers tapes (action.Propose d) before after result proposed
 
 module _ {T : Type 0} (tapes : Tape T) where
   -- ---- it begins
 
   -- what opening promises, of a tape that was logged before it
   pub opened_from : (tape : T) (i n : ℕ) (node : Node T) (start read_from : List (T × ℕ)) → start ≡ [] → read_from ≡ start ++ (tape, 0) ∷ [] → node.id ≡ i → node.n ≡ n → node.halted ≡ false →
-      working_of node ≡ at_start → IsRead tapes.honest (tapes.content tape) (stored_of node) → IsOpenedFrom tapes read_from node
+      volatile_of node ≡ at_start → IsRead tapes.durable (tapes.content tape) (stored_of node) → IsOpenedFrom tapes read_from node
   opened_from tape i n node start read_from none logs own among runs idle found = record {
     tape = tape;
     only = logs ∙ ap (λ (l : List (T × ℕ)). l ++ (tape, 0) ∷ []) none;
@@ -70,10 +70,10 @@ module _ {T : Type 0} (tapes : Tape T) where
     };
   }
 
-  pub life_begins : (node : Node T) (read_from : List (T × ℕ)) (began : List (Node T × ℕ)) (given : List (Message × Origin)) (told : List Message) → IsOpenedFrom tapes read_from node →
-      began ≡ (node, 0) ∷ [] → given ≡ [] → told ≡ [] → IsLife tapes read_from began given told node
-  unfolding last_of said delivered AreOwnHeard
-  life_begins node read_from began given told opened first no_given no_told = record {
+  pub life_begins : (node : Node T) (read_from : List (T × ℕ)) (began : List (Node T × ℕ)) (given : List (Message × Origin)) (emitted : List Message) → IsOpenedFrom tapes read_from node →
+      began ≡ (node, 0) ∷ [] → given ≡ [] → emitted ≡ [] → IsLife tapes read_from began given emitted node
+  unfolding last_of outputs delivered AreOwnReceived
+  life_begins node read_from began given emitted opened first no_given no_reported = record {
     run = record { first = node; acts = [] };
     origins = [];
     opened = opened;
@@ -82,9 +82,9 @@ module _ {T : Type 0} (tapes : Tape T) where
     done = tt;
     first = first;
     now = refl;
-    says = sym no_told;
+    sends = sym no_reported;
     takes = sym no_given;
-    heard = tt;
+    received = tt;
   }
 
   pub life_opens : (node here : Node T) (read_from : List (T × ℕ)) (start began : List (Node T × ℕ)) (given : List (Message × Origin)) (log : List (Vec Message Global × ℕ)) → IsOpenedFrom tapes read_from node → here ≡ node →
@@ -96,19 +96,19 @@ module _ {T : Type 0} (tapes : Tape T) where
 
   -- ---- it goes on
 
-  module _ (answers : StepIsAnswered tapes) (read_from : List (T × ℕ)) (began : List (Node T × ℕ)) (given : List (Message × Origin)) (told : List Message) (node : Node T) (life : IsLife tapes read_from began given told node) where
+  module _ (answers : StepIsAnswered tapes) (read_from : List (T × ℕ)) (began : List (Node T × ℕ)) (given : List (Message × Origin)) (emitted : List Message) (node : Node T) (life : IsLife tapes read_from began given emitted node) where
     -- with the same messages, spelled otherwise
-    pub life_stays : (began' : List (Node T × ℕ)) (given' : List (Message × Origin)) (told' : List Message) (node' : Node T) → began' ≡ began → given' ≡ given → told' ≡ told → node' ≡ node →
-        IsLife tapes read_from began' given' told' node'
-    life_stays began' given' told' node' e f g h =
-        subst (λ (b : List (Node T × ℕ)). IsLife tapes read_from b given' told' node') (sym e)
-        (subst (λ (l : List (Message × Origin)). IsLife tapes read_from began l told' node') (sym f)
+    pub life_stays : (began' : List (Node T × ℕ)) (given' : List (Message × Origin)) (emitted' : List Message) (node' : Node T) → began' ≡ began → given' ≡ given → emitted' ≡ emitted → node' ≡ node →
+        IsLife tapes read_from began' given' emitted' node'
+    life_stays began' given' emitted' node' e f g h =
+        subst (λ (b : List (Node T × ℕ)). IsLife tapes read_from b given' emitted' node') (sym e)
+        (subst (λ (l : List (Message × Origin)). IsLife tapes read_from began l emitted' node') (sym f)
         (subst (λ (l : List Message). IsLife tapes read_from began given l node') (sym g)
-        (subst (λ (x : Node T). IsLife tapes read_from began given told x) (sym h) life)))
+        (subst (λ (x : Node T). IsLife tapes read_from began given emitted x) (sym h) life)))
 
     -- by one more act
-    life_acts : (act : Act T) (origin : Origin) → IsAct tapes node act → (act.after.id ≡ node.id) × (act.after.n ≡ node.n) → AreOwnAmong told origin (given_to act.input) →
-        IsLife tapes read_from began (given ++ all_from origin (given_to act.input)) (told ++ act.said) act.after
+    life_acts : (act : Act T) (origin : Origin) → IsAct tapes node act → (act.after.id ≡ node.id) × (act.after.n ≡ node.n) → AreOwnAmong emitted origin (given_to act.input) →
+        IsLife tapes read_from began (given ++ all_from origin (given_to act.input)) (emitted ++ act.outputs) act.after
     life_acts act origin is numbers own = record {
       run = record { first = life.run.first; acts = life.run.acts ++ act ∷ [] };
       origins = life.origins ++ origin ∷ [];
@@ -118,45 +118,45 @@ module _ {T : Type 0} (tapes : Tape T) where
       done = done_more tapes life.run.first life.run.acts act life.done (subst (λ (x : Node T). IsAct tapes x act) (sym life.now) is);
       first = life.first;
       now = last_more life.run.first life.run.acts act;
-      says = said_more life.run.acts act ∙ ap (λ l. l ++ act.said) life.says;
-      takes = delivered_more act origin [] life.run.acts life.origins life.heard ∙ ap (λ l. l ++ all_from origin (given_to act.input)) life.takes;
-      heard = heard_more act origin [] life.run.acts life.origins life.heard (subst (λ l. AreOwnAmong l origin (given_to act.input)) (sym life.says) own);
+      sends = outputs_more life.run.acts act ∙ ap (λ l. l ++ act.outputs) life.sends;
+      takes = delivered_more act origin [] life.run.acts life.origins life.received ∙ ap (λ l. l ++ all_from origin (given_to act.input)) life.takes;
+      received = received_more act origin [] life.run.acts life.origins life.received (subst (λ l. AreOwnAmong l origin (given_to act.input)) (sym life.sends) own);
     }
 
     -- by one more step
     pub life_steps : (input : Input) (origin : Origin) (answer : Result (Vec Message Global) NodeFault) (after : Node T) → IsAnswer tapes (view input) node answer after →
-        AreOwnAmong told origin (given_to input) → IsLife tapes read_from began (given ++ all_from origin (given_to input)) (told ++ said_by answer) after
+        AreOwnAmong emitted origin (given_to input) → IsLife tapes read_from began (given ++ all_from origin (given_to input)) (emitted ++ outputs_by answer) after
     life_steps input origin answer after answered own =
-        life_acts (record { input = input; said = said_by answer; after = after }) origin
+        life_acts (record { input = input; outputs = outputs_by answer; after = after }) origin
         (record { lost = is_lost answer; takes = answers node after (view input) answer answered.refused answered.steps })
         (keeps_numbers tapes input node after answer answered) own
 
     pub life_steps_now : (input : Input) (origin : Origin) (answer : Result (Vec Message Global) NodeFault) (after : Node T) → IsAnswer tapes (view input) node answer after →
-        AreOwnAmong told origin (given_to input) → (began' : List (Node T × ℕ)) (given' : List (Message × Origin)) (told' : List Message) → began' ≡ began → given' ≡ given ++ all_from origin (given_to input) →
-        told' ≡ told ++ said_by answer → IsLife tapes read_from began' given' told' after
-    life_steps_now input origin answer after answered own began' given' told' e f g =
-        subst (λ (b : List (Node T × ℕ)). IsLife tapes read_from b given' told' after) (sym e)
-        (subst (λ (l : List (Message × Origin)). IsLife tapes read_from began l told' after) (sym f)
+        AreOwnAmong emitted origin (given_to input) → (began' : List (Node T × ℕ)) (given' : List (Message × Origin)) (emitted' : List Message) → began' ≡ began → given' ≡ given ++ all_from origin (given_to input) →
+        emitted' ≡ emitted ++ outputs_by answer → IsLife tapes read_from began' given' emitted' after
+    life_steps_now input origin answer after answered own began' given' emitted' e f g =
+        subst (λ (b : List (Node T × ℕ)). IsLife tapes read_from b given' emitted' after) (sym e)
+        (subst (λ (l : List (Message × Origin)). IsLife tapes read_from began l emitted' after) (sym f)
         (subst (λ (l : List Message). IsLife tapes read_from began (given ++ all_from origin (given_to input)) l after) (sym g)
         (life_steps input origin answer after answered own)))
 
     -- by a request, which may be a step
-    handed : (result : Result (Vec Message Global) NodeFault) (said : Vec Message Global) → HandsOut result said → said_by result ≡ said.items
-    handed (Ok messages) said hands = ap (λ (v : Vec Message Global). v.items) (sym hands)
-    handed (Err why) said hands = sym hands
+    handed : (result : Result (Vec Message Global) NodeFault) (outputs : Vec Message Global) → HandsOut result outputs → outputs_by result ≡ outputs.items
+    handed (Ok messages) outputs hands = ap (λ (v : Vec Message Global). v.items) (sym hands)
+    handed (Err why) outputs hands = sym hands
 
-    pub life_serves : (said : Vec Message Global) (after : Node T) → MovesOnce tapes node said after → (began' : List (Node T × ℕ)) (given' : List (Message × Origin)) (told' : List Message) →
-        began' ≡ began → given' ≡ given → told' ≡ told ++ said.items → IsLife tapes read_from began' given' told' after
-    life_serves said after (Stays unmoved) began' given' told' e f g =
-        life_stays began' given' told' after e f (g ∙ ap (λ l. told ++ l) unmoved.quiet ∙ append-nil told) unmoved.same
-    life_serves said after (Proposes d result proposed hands) began' given' told' e f g =
-        life_steps_now (action.Propose d) Own result after proposed (λ m is. absurd is) began' given' told' e (f ∙ sym (append-nil given)) (g ∙ ap (λ l. told ++ l) (sym (handed result said hands)))
+    pub life_serves : (outputs : Vec Message Global) (after : Node T) → MovesOnce tapes node outputs after → (began' : List (Node T × ℕ)) (given' : List (Message × Origin)) (emitted' : List Message) →
+        began' ≡ began → given' ≡ given → emitted' ≡ emitted ++ outputs.items → IsLife tapes read_from began' given' emitted' after
+    life_serves outputs after (Stays unmoved) began' given' emitted' e f g =
+        life_stays began' given' emitted' after e f (g ∙ ap (λ l. emitted ++ l) unmoved.quiet ∙ append-nil emitted) unmoved.same
+    life_serves outputs after (Proposes d result proposed hands) began' given' emitted' e f g =
+        life_steps_now (action.Propose d) Own result after proposed (λ m is. absurd is) began' given' emitted' e (f ∙ sym (append-nil given)) (g ∙ ap (λ l. emitted ++ l) (sym (handed result outputs hands)))
 
 -- what a step returns is logged
-pub told_more : (log log' : List (Vec Message Global × ℕ)) (answer : Result (Vec Message Global) NodeFault) (messages : Vec Message Global) → answer ≡ Ok messages → log' ≡ log ++ (messages, 0) ∷ [] →
-    logged log' ≡ logged log ++ said_by answer
-told_more log log' answer messages is more =
-    ap logged more ∙ logged_more log messages 0 ∙ ap (λ (r : Result (Vec Message Global) NodeFault). logged log ++ said_by r) (sym is)
+pub reported_more : (log log' : List (Vec Message Global × ℕ)) (answer : Result (Vec Message Global) NodeFault) (messages : Vec Message Global) → answer ≡ Ok messages → log' ≡ log ++ (messages, 0) ∷ [] →
+    logged log' ≡ logged log ++ outputs_by answer
+reported_more log log' answer messages is more =
+    ap logged more ∙ logged_more log messages 0 ∙ ap (λ (r : Result (Vec Message Global) NodeFault). logged log ++ outputs_by r) (sym is)
 
-pub told_nothing : (log : List (Vec Message Global × ℕ)) (answer : Result (Vec Message Global) NodeFault) (why : NodeFault) → answer ≡ Err why → logged log ≡ logged log ++ said_by answer
-told_nothing log answer why is = sym (append-nil (logged log)) ∙ ap (λ (r : Result (Vec Message Global) NodeFault). logged log ++ said_by r) (sym is)
+pub reported_nothing : (log : List (Vec Message Global × ℕ)) (answer : Result (Vec Message Global) NodeFault) (why : NodeFault) → answer ≡ Err why → logged log ≡ logged log ++ outputs_by answer
+reported_nothing log answer why is = sym (append-nil (logged log)) ∙ ap (λ (r : Result (Vec Message Global) NodeFault). logged log ++ outputs_by r) (sym is)

@@ -1,7 +1,7 @@
 -- Messages are offered to the outbox of a link.
 use Rattle.std.proofs.Common.{◌≡◌, ◌⊎◌, ℕ, Bool, true, false, List, [], ◌∷◌, ◌++◌, Option, Some, None, Result, Ok, Err, IsErrOf, OnOk, OnErr, refl, sym, ap, subst, ◌∙◌, inl, inr}
 use Rattle.std.specs.Prelude.{◌+◌, ◌<◌, length, is_ok}
-use Rattle.wf_codec.specs.Spelling.{spelling}
+use Rattle.wf_codec.specs.Encoding.{spelling}
 use Rattle.wf_def.specs.Definition.{Definition}
 use Rattle.wf_mail.specs.Outbox.{OutboxState, IsPut, IsUnchanged}
 use Rattle.wf_mail.specs.declared.dropped.Dropped.{Dropped}
@@ -29,7 +29,7 @@ offered_more m (first ∷ messages) before middle after (next, is, rest) one = (
 
 -- ---- what was put in
 
-put_by : (kept : Bool) (m : Message Definition) (before after : Option OutboxState) → IsPutOr kept m before after → (x : Message Definition) → IsIn x (put_into after) → IsIn x (put_into before) ⊎ (x ≡ m)
+put_by : (queued : Bool) (m : Message Definition) (before after : Option OutboxState) → IsPutOr queued m before after → (x : Message Definition) → IsIn x (put_into after) → IsIn x (put_into before) ⊎ (x ≡ m)
 put_by true m None after is x there = absurd (subst (λ o. IsIn x (put_into o)) is there)
 put_by true m (Some before) None is x there = absurd is
 put_by true m (Some before) (Some after) is x there =
@@ -43,7 +43,7 @@ pub all_put : (messages : List (Message Definition)) (before after : Link) → A
 unfolding AreOffered
 all_put [] before after same x there = inl (subst (λ (l : Link). IsIn x (put_into l.outbox)) same there)
 all_put (m ∷ messages) before after (middle, is, rest) x there = elim (all_put messages middle after rest x there) [
-  | inl a ↦ elim (put_by is.kept m before.outbox middle.outbox is.put x a) [ inl b ↦ inl b | inr e ↦ inr (inl e) ]
+  | inl a ↦ elim (put_by is.queued m before.outbox middle.outbox is.put x a) [ inl b ↦ inl b | inr e ↦ inr (inl e) ]
   | inr b ↦ inr (inr b)
 ]
 

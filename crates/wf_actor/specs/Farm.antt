@@ -15,10 +15,10 @@ pub record Step : Type 0 where
   pub process : ℕ
   pub takes : Input
   pub origin : Origin
-  pub said : List Message
+  pub outputs : List Message
 
 abbrev pub item_of : Step → Item
-item_of step = record { process = step.process; takes = step.takes; said = step.said }
+item_of step = record { process = step.process; takes = step.takes; outputs = step.outputs }
 
 abbrev pub items : List Step → List Item
 items steps = map item_of steps
@@ -32,14 +32,14 @@ steps_of i (step ∷ steps) = if step.process == i then step ∷ steps_of i step
 unfoldable pub steps_by : {T : Type 0} → ℕ → List (Act T) → List Origin → List Step
 steps_by i [] origins = []
 steps_by i (act ∷ acts) [] = []
-steps_by i (act ∷ acts) (origin ∷ origins) = record { process = i; takes = act.input; origin = origin; said = act.said } ∷ steps_by i acts origins
+steps_by i (act ∷ acts) (origin ∷ origins) = record { process = i; takes = act.input; origin = origin; outputs = act.outputs } ∷ steps_by i acts origins
 
 -- ---- what is heard was sent
 
 -- Each message that a step delivers as one of its own node is one of these, or earlier steps returned it.
 unfoldable pub AreOwn : List Message → List Step → Type 0
-AreOwn told [] = ⊤
-AreOwn told (step ∷ steps) = AreOwnAmong told step.origin (given_to step.takes) × AreOwn (told ++ step.said) steps
+AreOwn emitted [] = ⊤
+AreOwn emitted (step ∷ steps) = AreOwnAmong emitted step.origin (given_to step.takes) × AreOwn (emitted ++ step.outputs) steps
 
 -- each message that comes from a peer is one of these
 abbrev pub ArePeersAmong : List Message → Origin → List Message → Type 0
@@ -50,7 +50,7 @@ ArePeersAmong sent (Peer peer) messages = AreAmong messages sent
 -- connections promise that carry only what was written to them.
 unfoldable pub AreCarried : List Message → List Step → Type 0
 AreCarried sent [] = ⊤
-AreCarried sent (step ∷ steps) = ArePeersAmong sent step.origin (given_to step.takes) × AreCarried (sent ++ step.said) steps
+AreCarried sent (step ∷ steps) = ArePeersAmong sent step.origin (given_to step.takes) × AreCarried (sent ++ step.outputs) steps
 
 -- each step is of one of the n processes
 unfoldable pub AreMembers : ℕ → List Step → Type 0
@@ -72,14 +72,14 @@ abbrev pub ProcessesAreFarm : {T : Type 0} → Tape T → Type 0
 ProcessesAreFarm {T} tapes = (n : ℕ) (careers : ℕ → Career T) (steps : List Step) → AreProcesses tapes n careers steps → IsFarm tapes n careers (items steps)
 
 -- One run's part of that: a run of `wf_career` up to the node as it is, from the bytes that were read of the tape from which it was
--- opened, which are its content if it is honest. Its items are these steps, which hear only their own messages.
+-- opened, which are its content if it is durable. Its items are these steps, which hear only their own messages.
 pub record IsPart {T : Type 0} (tapes : Tape T) (read_from : List (T × ℕ)) (began : List (Node T × ℕ)) (node : Node T) : Type 0 where
   pub run : Run T
   pub origins : List Origin
   pub tape : T
   pub only : read_from ≡ (tape, 0) ∷ []
   pub bytes : List ℕ
-  pub same : tapes.honest → bytes ≡ tapes.content tape
+  pub same : tapes.durable → bytes ≡ tapes.content tape
   pub is_run : IsRun tapes node.n node.id bytes run
   pub first : began ≡ (run.first, 0) ∷ []
   pub now : last run ≡ node
@@ -88,14 +88,14 @@ pub record IsPart {T : Type 0} (tapes : Tape T) (read_from : List (T × ℕ)) (b
 
 -- What a process promises after each call is its part.
 abbrev pub LifeIsPart : {T : Type 0} → Tape T → Type 0
-LifeIsPart {T} tapes = (read_from : List (T × ℕ)) (began : List (Node T × ℕ)) (given : List (Message × Origin)) (told : List Message) (node : Node T) →
-    IsLife tapes read_from began given told node → IsPart tapes read_from began node
+LifeIsPart {T} tapes = (read_from : List (T × ℕ)) (began : List (Node T × ℕ)) (given : List (Message × Origin)) (emitted : List Message) (node : Node T) →
+    IsLife tapes read_from began given emitted node → IsPart tapes read_from began node
 
--- Where the tape is honest and was empty, that is the first run of a process of `wf_career`.
+-- Where the tape is durable and was empty, that is the first run of a process of `wf_career`.
 abbrev pub PartIsFirst : {T : Type 0} → Tape T → Type 0
-PartIsFirst {T} tapes = (read_from : List (T × ℕ)) (began : List (Node T × ℕ)) (node : Node T) (part : IsPart tapes read_from began node) → tapes.honest → tapes.content part.tape ≡ [] →
+PartIsFirst {T} tapes = (read_from : List (T × ℕ)) (began : List (Node T × ℕ)) (node : Node T) (part : IsPart tapes read_from began node) → tapes.durable → tapes.content part.tape ≡ [] →
     IsCareer tapes node.n node.id (record { ended = []; now = Some part.run })
 
 -- Runs one after the other hear only their own messages, if each of them does.
 abbrev pub RunsAreOwn : Type 0
-RunsAreOwn = (told : List Message) (steps more : List Step) → AreOwn told steps → AreOwn [] more → AreOwn told (steps ++ more)
+RunsAreOwn = (emitted : List Message) (steps more : List Step) → AreOwn emitted steps → AreOwn [] more → AreOwn emitted (steps ++ more)

@@ -4,9 +4,9 @@ pub mod Queue
 pub mod Offer
 pub mod Link
 pub mod Life
-pub mod Opening
+pub mod Start
 pub mod Sent
 pub mod Process
-pub mod Writing
+pub mod OutboxWrites
 pub mod Farm
-pub mod Responding
+pub mod Responses

@@ -2,7 +2,7 @@
 use Rattle.std.specs.Prelude.{◌≡◌, ℕ, ⊤, List, [], ◌∷◌, ◌++◌, map, Vec}
 use Rattle.std.specs.declared.alloc.Global.{Global}
 use Rattle.wf_codec.specs.declared.message.Message.{Message}
-use Rattle.wf_career.specs.Run.{Act, Run, AreDone, IsOpened, given_to, last, said}
+use Rattle.wf_career.specs.Run.{Act, Run, AreDone, IsOpened, given_to, last, outputs}
 use Rattle.wf_model.specs.Chosen.{IsIn}
 use Rattle.wf_node.specs.Node.{Node}
 use Rattle.wf_tape.specs.declared.tape.Tape.{Ghosts as Tape}
@@ -26,27 +26,28 @@ delivered (act ∷ acts) (origin ∷ origins) = all_from origin (given_to act.in
 
 -- each message that comes from the process itself is one of these
 abbrev pub AreOwnAmong : List Message → Origin → List Message → Type 0
-AreOwnAmong told Own messages = (m : Message) → IsIn m messages → IsIn m told
-AreOwnAmong told (Peer peer) messages = ⊤
+AreOwnAmong emitted Own messages = (m : Message) → IsIn m messages → IsIn m emitted
+AreOwnAmong emitted (Peer peer) messages = ⊤
 
 -- Each act has its origin, and each message of its own that an act delivers is one of these, or was returned by an earlier act.
-unfoldable pub AreOwnHeard : {T : Type 0} → List Message → List (Act T) → List Origin → Type 0
-AreOwnHeard told [] [] = ⊤
-AreOwnHeard told [] (origin ∷ origins) = ⊥
-AreOwnHeard told (act ∷ acts) [] = ⊥
-AreOwnHeard told (act ∷ acts) (origin ∷ origins) = AreOwnAmong told origin (given_to act.input) × AreOwnHeard (told ++ act.said) acts origins
+unfoldable pub AreOwnReceived : {T : Type 0} → List Message → List (Act T) → List Origin → Type 0
+AreOwnReceived emitted [] [] = ⊤
+AreOwnReceived emitted [] (origin ∷ origins) = ⊥
+AreOwnReceived emitted (act ∷ acts) [] = ⊥
+AreOwnReceived emitted (act ∷ acts) (origin ∷ origins) = AreOwnAmong emitted origin (given_to act.input) × AreOwnReceived (emitted ++ act.outputs) acts origins
 
 module _ {T : Type 0} (tapes : Tape T) where
-  -- The node was opened from the tape that the log has, and from no other: from what was read of it, which is its content if it is honest.
+  -- The node was opened from the tape that the log has, and from no other: from what was read of it, which is its content if it is
+  -- durable.
   pub record IsOpenedFrom (read_from : List (T × ℕ)) (node : Node T) : Type 0 where
     pub tape : T
     pub only : read_from ≡ (tape, 0) ∷ []
     pub opened : IsOpened tapes node.n node.id tape node
 
   -- A node that was opened from the tape that `read_from` has, as the node that `began` has, is this one by now, by the acts of a run of
-  -- `wf_career`. By them it was given exactly these messages, and returned exactly these, and of its own messages it was given only what
-  -- it had returned.
-  pub record IsLife (read_from : List (T × ℕ)) (began : List (Node T × ℕ)) (given : List (Message × Origin)) (told : List Message) (node : Node T) : Type 0 where
+  -- `wf_career`. By them it was given exactly these messages, and returned exactly these, and of its own messages it was given only
+  -- what it had returned.
+  pub record IsLife (read_from : List (T × ℕ)) (began : List (Node T × ℕ)) (given : List (Message × Origin)) (emitted : List Message) (node : Node T) : Type 0 where
     pub run : Run T
     pub origins : List Origin
     pub opened : IsOpenedFrom read_from run.first
@@ -55,6 +56,6 @@ module _ {T : Type 0} (tapes : Tape T) where
     pub done : AreDone tapes run.first run.acts
     pub first : began ≡ (run.first, 0) ∷ []
     pub now : last run ≡ node
-    pub says : said run.acts ≡ told
+    pub sends : outputs run.acts ≡ emitted
     pub takes : delivered run.acts origins ≡ given
-    pub heard : AreOwnHeard [] run.acts origins
+    pub received : AreOwnReceived [] run.acts origins

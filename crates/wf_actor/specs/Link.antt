@@ -63,22 +63,22 @@ pub record IsClosedOutbox (before after : Link) : Type 0 where
   pub incoming : IsSameIncoming before after
 
 -- the number of dropped messages after one more, or none
-abbrev pub dropped_after : Bool → ℕ → ℕ
-dropped_after true dropped = dropped
-dropped_after false dropped = min (dropped + 1) (2 ^ 64 - 1)
+abbrev pub count_dropped : Bool → ℕ → ℕ
+count_dropped true dropped = dropped
+count_dropped false dropped = min (dropped + 1) (2 ^ 64 - 1)
 
 -- the number of messages that were put into an outbox, after one more that was offered: none is where there is no outbox
 abbrev pub posted_after : Bool → Bool → ℕ → ℕ
 posted_after true true posted = min (posted + 1) (2 ^ 64 - 1)
 posted_after true false posted = posted
-posted_after false kept posted = posted
+posted_after false queued posted = posted
 
 -- the message was offered to the outbox: put in whole, or dropped, and counted
 pub record IsOffered (m : Message Definition) (before after : Link) : Type 0 where
-  pub kept : Bool
-  pub put : IsPutOr kept m before.outbox after.outbox
-  pub dropped : after.dropped ≡ dropped_after kept before.dropped
-  pub posted : after.posted ≡ posted_after (is_some before.outbox) kept before.posted
+  pub queued : Bool
+  pub put : IsPutOr queued m before.outbox after.outbox
+  pub dropped : after.dropped ≡ count_dropped queued before.dropped
+  pub posted : after.posted ≡ posted_after (is_some before.outbox) queued before.posted
   pub incoming : IsSameIncoming before after
 
 -- so was each of these, in their order

@@ -1,6 +1,6 @@
 -- A message is offered to an outbox.
 use Rattle.std.specs.Prelude.{◌≡◌, ◌⊎◌, ℕ, ◌+◌, ◌<◌, Bool, true, false, length, Option, Some, None}
-use Rattle.wf_codec.specs.Spelling.{spelling}
+use Rattle.wf_codec.specs.Encoding.{spelling}
 use Rattle.wf_def.specs.Definition.{Definition}
 use Rattle.wf_mail.specs.Outbox.{OutboxState, IsPut, IsUnchanged}
 use Rattle.wf_model.specs.Message.{Message}

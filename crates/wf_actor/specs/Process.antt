@@ -4,10 +4,10 @@ use Rattle.std.specs.declared.alloc.Global.{Global}
 use Rattle.wf_codec.specs.Message.{view}
 use Rattle.wf_codec.specs.declared.message.Message.{Message}
 use Rattle.wf_career.specs.Run.{Input, given_to}
-use Rattle.wf_edge.specs.Asking.{IsAnswer}
-use Rattle.wf_edge.specs.Serving.{IsEnding, IsOutcome, MovesOnce}
+use Rattle.wf_edge.specs.StepResult.{IsAnswer}
+use Rattle.wf_edge.specs.RequestEffect.{IsEnding, IsOutcome, MovesOnce}
 use Rattle.wf_edge.specs.declared.outcome.Outcome.{Outcome}
-use Rattle.wf_farm.specs.Leading.{said_by}
+use Rattle.wf_farm.specs.Reachability.{outputs_by}
 use Rattle.wf_model.specs.declared.action.Action.TheVariants as action
 use Rattle.wf_node.specs.Input as node
 use Rattle.wf_node.specs.declared.fault.NodeFault.{NodeFault}
@@ -19,7 +19,7 @@ use Rattle.wf_actor.specs.Life.{all_from, logged}
 use Rattle.wf_actor.specs.Link.{arrived, ArePosted, AreUnlinked, IsPopped, TakesIn}
 use Rattle.wf_actor.specs.Queue.{queued}
 use Rattle.wf_actor.specs.Target.{includes, reply_target}
-use Rattle.wf_actor.specs.Writing.{waiting_of, dropped_of, posted_of}
+use Rattle.wf_actor.specs.OutboxWrites.{waiting_of, dropped_of, posted_of}
 use Rattle.wf_actor.specs.declared.link.Link.{Link}
 use Rattle.wf_actor.specs.declared.origin.Origin.{Origin}
 use Rattle.wf_actor.specs.declared.origin.Origin.TheVariants.{Own, Peer}
@@ -28,8 +28,8 @@ use Rattle.wf_actor.specs.declared.target.Target.{Target}
 use Rattle.wf_actor.specs.declared.target.Target.TheVariants.{Everyone}
 
 -- all messages that its node returned in this run
-abbrev pub told_by : {T : Type 0} {tapes : Tape T} → Process T tapes → List Message
-told_by process = logged process.actor.told.items
+abbrev pub emitted_by : {T : Type 0} {tapes : Tape T} → Process T tapes → List Message
+emitted_by process = logged process.actor.emitted.items
 
 -- its own messages that wait
 abbrev pub waiting_in : {T : Type 0} {tapes : Tape T} → Process T tapes → List Message
@@ -39,7 +39,7 @@ waiting_in process = process.backlog.messages.items
 pub record IsBegun {T : Type 0} {tapes : Tape T} (process : Process T tapes) : Type 0 where
   pub began : process.actor.began.items ≡ (process.actor.node, 0) ∷ []
   pub given : process.actor.given.items ≡ []
-  pub told : told_by process ≡ []
+  pub emitted : emitted_by process ≡ []
   pub came : process.came.items ≡ []
   pub waiting : waiting_in process ≡ []
   pub links : AreUnlinked process.n process.links.items
@@ -47,9 +47,9 @@ pub record IsBegun {T : Type 0} {tapes : Tape T} (process : Process T tapes) : T
 -- ---- an act
 
 -- The messages went to each node that they are for: into its outbox, or into the queue of the process itself.
-pub record AreGone {T : Type 0} {tapes : Tape T} (said : List Message) (target : Target) (before after : Process T tapes) : Type 0 where
-  pub queue : waiting_in after ≡ queued (includes target before.actor.node.id) (waiting_in before) said
-  pub posted : ArePosted target (map view said) before.links.items after.links.items
+pub record AreGone {T : Type 0} {tapes : Tape T} (outputs : List Message) (target : Target) (before after : Process T tapes) : Type 0 where
+  pub queue : waiting_in after ≡ queued (includes target before.actor.node.id) (waiting_in before) outputs
+  pub posted : ArePosted target (map view outputs) before.links.items after.links.items
 
 -- the same error, or none
 abbrev pub HaveOneEnd : {A B : Type 0} → Result A NodeFault → Result B NodeFault → Type 0
@@ -133,24 +133,24 @@ module _ {T : Type 0} (tapes : Tape T) where
     pub answer : Result (Vec Message Global) NodeFault
     pub steps : IsAnswer tapes (node.view input) before.actor.node answer after.actor.node
     pub result_is : HaveOneEnd answer result
-    pub told : told_by after ≡ told_by before ++ said_by answer
+    pub emitted : emitted_by after ≡ emitted_by before ++ outputs_by answer
     pub given : after.actor.given.items ≡ before.actor.given.items ++ all_from origin (given_to input)
-    pub gone : AreGone (said_by answer) target before after
+    pub gone : AreGone (outputs_by answer) target before after
     pub goes_on : IsGoingOn before after
 
   -- The message is delivered to the node, and the answer goes to whom it is for.
-  abbrev pub IsHeard : {U : Type 0} → Message → Origin → ℕ → Process T tapes → Result U NodeFault → Process T tapes → Type 0
-  IsHeard m origin from before result after = IsActed (action.Deliver m) origin (reply_target m from) before result after
+  abbrev pub IsReceived : {U : Type 0} → Message → Origin → ℕ → Process T tapes → Result U NodeFault → Process T tapes → Type 0
+  IsReceived m origin from before result after = IsActed (action.Deliver m) origin (reply_target m from) before result after
 
   -- The first of the messages that waited was delivered; or none waited.
-  abbrev pub HearsOwn : {U : Type 0} → Process T tapes → Option (Result U NodeFault) → Process T tapes → Type 0
-  HearsOwn before None after = (waiting_in before ≡ []) × (after ≡ before)
-  HearsOwn before (Some result) after = (m : Message) × (middle : Process T tapes) × IsOwnPopped m before middle × IsHeard m Own before.actor.node.id middle result after
+  abbrev pub ReceivesOwn : {U : Type 0} → Process T tapes → Option (Result U NodeFault) → Process T tapes → Type 0
+  ReceivesOwn before None after = (waiting_in before ≡ []) × (after ≡ before)
+  ReceivesOwn before (Some result) after = (m : Message) × (middle : Process T tapes) × IsOwnPopped m before middle × IsReceived m Own before.actor.node.id middle result after
 
   -- The first of the messages that had arrived from the peer was delivered; or none had.
-  abbrev pub HearsFrom : {U : Type 0} → ℕ → Process T tapes → Option (Result U NodeFault) → Process T tapes → Type 0
-  HearsFrom peer before None after = (arrived_at before peer ≡ []) × (after ≡ before)
-  HearsFrom peer before (Some result) after = (m : Message) × (middle : Process T tapes) × IsLinkChanged peer (IsPopped m) before middle × IsHeard m (Peer peer) peer middle result after
+  abbrev pub ReceivesFrom : {U : Type 0} → ℕ → Process T tapes → Option (Result U NodeFault) → Process T tapes → Type 0
+  ReceivesFrom peer before None after = (arrived_at before peer ≡ []) × (after ≡ before)
+  ReceivesFrom peer before (Some result) after = (m : Message) × (middle : Process T tapes) × IsLinkChanged peer (IsPopped m) before middle × IsReceived m (Peer peer) peer middle result after
 
   -- ---- a client's request
 
@@ -158,11 +158,11 @@ module _ {T : Type 0} (tapes : Tape T) where
     -- One request was served as `wf_edge` serves it, with the node's answer, and the messages that the node returned by it, whether or not
     -- the response was written, went to every node.
     pub record IsServedBy (source source_after : S) (sink sink_after : K) (before : Process T tapes) (outcome : Outcome) (after : Process T tapes) : Type 0 where
-      pub said : Vec Message Global
-      pub outcome_is : IsOutcome tapes (sources.left source) (sinks.written sink) (sinks.written sink_after) before.actor.node said after.actor.node outcome
-      pub moves : MovesOnce tapes before.actor.node said after.actor.node
-      pub ends : IsEnding tapes sinks (sources.left source) sink sink_after before.actor.node said after.actor.node outcome
-      pub told : told_by after ≡ told_by before ++ said.items
+      pub outputs : Vec Message Global
+      pub outcome_is : IsOutcome tapes (sources.left source) (sinks.written sink) (sinks.written sink_after) before.actor.node outputs after.actor.node outcome
+      pub moves : MovesOnce tapes before.actor.node outputs after.actor.node
+      pub ends : IsEnding tapes sinks (sources.left source) sink sink_after before.actor.node outputs after.actor.node outcome
+      pub emitted : emitted_by after ≡ emitted_by before ++ outputs.items
       pub given : after.actor.given.items ≡ before.actor.given.items
-      pub gone : AreGone said.items Everyone before after
+      pub gone : AreGone outputs.items Everyone before after
       pub goes_on : IsGoingOn before after

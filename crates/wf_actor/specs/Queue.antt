@@ -5,5 +5,5 @@ use Rattle.wf_actor.specs.Backlog.{most_messages}
 
 -- what waits after these messages: they are appended, as far as there is room, if they are for the node itself
 abbrev pub queued : Bool → List Message → List Message → List Message
-queued true messages said = take most_messages (messages ++ said)
-queued false messages said = messages
+queued true messages outputs = take most_messages (messages ++ outputs)
+queued false messages outputs = messages

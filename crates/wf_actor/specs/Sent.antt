@@ -22,12 +22,12 @@ put_into (Some outbox) = outbox.put
 
 -- whatever was put into any outbox is one of these
 unfoldable pub ArePutAmong : List Link → List (model.Message Definition) → Type 0
-ArePutAmong links told = (i : ℕ) (link : Link) → slice_get links i ≡ Some link → AreAmong (put_into link.outbox) told
+ArePutAmong links emitted = (i : ℕ) (link : Link) → slice_get links i ≡ Some link → AreAmong (put_into link.outbox) emitted
 
 -- What waits for the node itself, and what was put into any outbox, the node returned.
-pub record AreSent (waiting : List Message) (links : List Link) (told : List Message) : Type 0 where
-  pub waits : AreAmong waiting told
-  pub put : ArePutAmong links (map view told)
+pub record AreSent (waiting : List Message) (links : List Link) (emitted : List Message) : Type 0 where
+  pub waits : AreAmong waiting emitted
+  pub put : ArePutAmong links (map view emitted)
 
 -- the messages that the receivers of a peer returned, of a log of all of them
 unfoldable pub came_from : ℕ → List (Vec Message Global × ℕ) → List Message

@@ -2,7 +2,7 @@ ghost use Rattle.std.specs.Prelude.{◌≡◌, ◌∷◌, []};
 ghost use Rattle.wf_actor.specs.Life.{logged, IsLife};
 
 use crate::cached::CachedNode;
-use crate::note::{note, tell};
+use crate::note::{note, report};
 use crate::origin::Origin;
 use http_server::Log;
 use std::alloc::Global;
@@ -17,35 +17,35 @@ use wf_tape::Tape;
 use wf_wms::cache::Cache;
 
 /// A node and its life since it was opened. A clause sees the node, and logs that only proofs read: the tape from which it was opened, as
-/// the tape was then; the node as it was opened; each message that it was given, with where that came from; and all messages that it
-/// returned.
+/// the tape was then; the node as it was opened; each message that it was given, with where that came from; and all messages that
+/// it returned.
 #[derive(Drop)]
 pub struct Actor<T: Tape> {
     pub(crate) node: CachedNode<T>,
     pub(crate) read_from: Log<T, usize>,
     pub(crate) began: Log<Node<T>, usize>,
     pub(crate) given: Log<Message, Origin>,
-    pub(crate) told: Log<Vec<Message>, usize>,
-    ghost lived: { ∥ IsLife T.Tape read_from.items began.items given.items (logged told.items) node ∥₁ },
+    pub(crate) emitted: Log<Vec<Message>, usize>,
+    ghost lived: { ∥ IsLife T.Tape read_from.items began.items given.items (logged emitted.items) node ∥₁ },
 }
 
 impl<T: Tape> Actor<T> {
     ghost use Rattle.std.specs.Prelude.{◌++◌, ◌<◌, ◌≤◌, ◌≢◌, ℕ, List, IfOk, IfErr};
     ghost use Rattle.wf_actor.specs.Life.{all_from, AreOwnAmong, IsOpenedFrom};
-    ghost use Rattle.wf_actor.specs.Opening.{IsOpened};
+    ghost use Rattle.wf_actor.specs.Start.{IsOpened};
     ghost use Rattle.wf_def.specs.Definition.{Definition};
     ghost use Rattle.wf_career.specs.Run.{given_to};
-    ghost use Rattle.wf_edge.specs.Asking.{IsAnswer};
-    ghost use Rattle.wf_edge.specs.Hearing.{CountsHearing};
-    ghost use Rattle.wf_edge.specs.Saying.{CountsSaying};
-    ghost use Rattle.wf_edge.specs.Serving.{IsEnding, IsOutcome, MovesOnce};
-    ghost use Rattle.wf_farm.specs.Leading.{said_by};
+    ghost use Rattle.wf_edge.specs.StepResult.{IsAnswer};
+    ghost use Rattle.wf_edge.specs.Receipt.{CountsReceiving};
+    ghost use Rattle.wf_edge.specs.Completion.{CountsCompleting};
+    ghost use Rattle.wf_edge.specs.RequestEffect.{IsEnding, IsOutcome, MovesOnce};
+    ghost use Rattle.wf_farm.specs.Reachability.{outputs_by};
     ghost use Rattle.wf_edge.specs.Request.{TakesRequest};
     ghost use Rattle.wf_journal.specs.Journal.{Follows, ReadsSame, IsWhyFailed};
     ghost use Rattle.wf_node.specs.Input.{view};
-    ghost use Rattle.wf_node.specs.Opening.{IsWhyBad};
+    ghost use Rattle.wf_node.specs.OpenedNode.{IsWhyBad};
     ghost use Rattle.wf_tape.specs.Change.{Stays};
-    ghost use Rattle.wf_wms.specs.KeptPictures.{AllKept};
+    ghost use Rattle.wf_wms.specs.CachedPictures.{AllCached};
 
     /// Node `id` of `n` as its tape has it, as [`Node::open`] opens it. Nothing was given to it yet.
     pub(crate) fn open(
@@ -57,25 +57,25 @@ impl<T: Tape> Actor<T> {
     ) -> Result<Actor<T>, (T, OpenFault)>
         requires nodes { n ≤ 64 }
         requires member { id < n }
-        requires cache { (history : List Definition) → AllKept history cache }
+        requires cache { (history : List Definition) → AllCached history cache }
         ensures opened { IfOk result (λ actor. IsOpened T.Tape tape id n actor.node) }
         ensures read_from { IfOk result (λ actor. actor.read_from.items ≡ (tape, 0) ∷ []) }
         ensures began { IfOk result (λ actor. actor.began.items ≡ (actor.node, 0) ∷ []) }
         ensures given { IfOk result (λ actor. actor.given.items ≡ []) }
-        ensures told { IfOk result (λ actor. logged actor.told.items ≡ []) }
-        ensures unchanged { T.honest →
+        ensures emitted { IfOk result (λ actor. logged actor.emitted.items ≡ []) }
+        ensures unchanged { T.durable →
             IfErr result (λ e. e.1 ≢ OpenFault.TapeFailed → Stays T.Tape tape e.0) }
-        ensures bad { T.honest → IfErr result (λ e. IsWhyBad e.1 (T.content tape)) }
+        ensures bad { T.durable → IfErr result (λ e. IsWhyBad e.1 (T.content tape)) }
         ensures failed { IfErr result (λ e. IsWhyFailed e.1 (T.failed tape) (T.failed e.0)) }
-        ensures images { T.honest →
+        ensures images { T.durable →
             IfErr result (λ e. Follows ReadsSame (T.images tape) (T.images e.0)) }
     {
         let read_from = Log::new().and(&tape, &0);
         match Node::open(alloc, tape, id, n) {
             Ok(node) => Ok(Actor::begin(node, read_from, cache)),
-            Err(refusal) => {
+            Err(step_rejection) => {
                 drop(cache);
-                Err(refusal)
+                Err(step_rejection)
             }
         }
     }
@@ -83,23 +83,23 @@ impl<T: Tape> Actor<T> {
     /// The life of a node that was just opened, from the tape that the log has.
     fn begin(node: Node<T>, read_from: Log<T, usize>, cache: Cache) -> Actor<T>
         requires opened { IsOpenedFrom T.Tape read_from.items node }
-        requires cache { (history : List Definition) → AllKept history cache }
+        requires cache { (history : List Definition) → AllCached history cache }
         ensures node { result.node ≡ node }
         ensures read_from { result.read_from.items ≡ read_from.items }
         ensures began { result.began.items ≡ (node, 0) ∷ [] }
         ensures given { result.given.items ≡ [] }
-        ensures told { logged result.told.items ≡ [] }
+        ensures emitted { logged result.emitted.items ≡ [] }
     {
         let began = Log::new().and(&node, &0);
         let given = Log::new();
-        let told = Log::new();
+        let emitted = Log::new();
         let node = CachedNode::new(node, cache);
         Actor {
             node,
             read_from,
             began,
             given,
-            told,
+            emitted,
         }
     }
 
@@ -110,20 +110,20 @@ impl<T: Tape> Actor<T> {
         input: Input,
         origin: Origin,
     ) -> Result<Vec<Message>, NodeFault>
-        requires { ∥ AreOwnAmong (logged self.old.told.items) origin (given_to input) ∥₁ }
+        requires { ∥ AreOwnAmong (logged self.old.emitted.items) origin (given_to input) ∥₁ }
         ensures answer { IsAnswer T.Tape (view input) self.old.node result self.new.node }
         ensures read_from { self.new.read_from.items ≡ self.old.read_from.items }
         ensures began { self.new.began.items ≡ self.old.began.items }
         ensures given { self.new.given.items ≡
             self.old.given.items ++ all_from origin (given_to input) }
-        ensures told { logged self.new.told.items ≡
-            logged self.old.told.items ++ said_by result }
+        ensures emitted { logged self.new.emitted.items ≡
+            logged self.old.emitted.items ++ outputs_by result }
     {
         // The theorem: what a step promises is one of the things that a node does with an input.
         a_step_is_answered::<T>();
         note(&mut self.given, &input, origin);
         let answer = self.node.step(alloc, input);
-        tell(&mut self.told, &answer);
+        report(&mut self.emitted, &answer);
         answer
     }
 
@@ -139,26 +139,26 @@ impl<T: Tape> Actor<T> {
         ensures moves { MovesOnce T.Tape self.old.node result.messages self.new.node }
         ensures takes { TakesRequest
             (S.piece source.old) (S.left source.old) (S.left source.new) }
-        ensures reads { CountsHearing result.outcome (S.failures source.old) (S.failures source.new) }
-        ensures writes { CountsSaying result.outcome (K.failures sink.old) (K.failures sink.new) }
+        ensures reads { CountsReceiving result.outcome (S.failures source.old) (S.failures source.new) }
+        ensures writes { CountsCompleting result.outcome (K.failures sink.old) (K.failures sink.new) }
         ensures last { IsEnding T.Tape K.Sink (S.left source.old) sink.old sink.new
             self.old.node result.messages self.new.node result.outcome }
         ensures read_from { self.new.read_from.items ≡ self.old.read_from.items }
         ensures began { self.new.began.items ≡ self.old.began.items }
         ensures given { self.new.given.items ≡ self.old.given.items }
-        ensures told { logged self.new.told.items ≡
-            logged self.old.told.items ++ result.messages.items }
+        ensures emitted { logged self.new.emitted.items ≡
+            logged self.old.emitted.items ++ result.messages.items }
     {
         a_step_is_answered::<T>();
         let served = self.node.serve(alloc, source, sink);
-        self.told = self.told.and(&served.messages, &0);
+        self.emitted = self.emitted.and(&served.messages, &0);
         served
     }
 
     /// Its life, always. The call does nothing.
     pub fn always_lived(&self)
         ensures { ∥ IsLife T.Tape self.now.read_from.items self.now.began.items
-            self.now.given.items (logged self.now.told.items) self.now.node ∥₁ }
+            self.now.given.items (logged self.now.emitted.items) self.now.node ∥₁ }
     {
         let _ = &self.began;
     }

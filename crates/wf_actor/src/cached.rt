@@ -2,13 +2,13 @@
 
 ghost use Rattle.std.specs.Prelude.{◌≡◌, List};
 ghost use Rattle.wf_def.specs.Definition.{Definition};
-ghost use Rattle.wf_edge.specs.Asking.{IsAnswer};
-ghost use Rattle.wf_edge.specs.Hearing.{CountsHearing};
-ghost use Rattle.wf_edge.specs.Saying.{CountsSaying};
-ghost use Rattle.wf_edge.specs.Serving.{IsEnding, IsOutcome, MovesOnce};
+ghost use Rattle.wf_edge.specs.StepResult.{IsAnswer};
+ghost use Rattle.wf_edge.specs.Receipt.{CountsReceiving};
+ghost use Rattle.wf_edge.specs.Completion.{CountsCompleting};
+ghost use Rattle.wf_edge.specs.RequestEffect.{IsEnding, IsOutcome, MovesOnce};
 ghost use Rattle.wf_edge.specs.Request.{TakesRequest};
 ghost use Rattle.wf_node.specs.Input.{view};
-ghost use Rattle.wf_wms.specs.KeptPictures.{AllKept};
+ghost use Rattle.wf_wms.specs.CachedPictures.{AllCached};
 
 use std::alloc::Global;
 use std::marker::Model;
@@ -18,7 +18,7 @@ use wf_node::{Input, Node, NodeFault};
 use wf_stream::{Sink, Source};
 use wf_tape::Tape;
 use wf_wms::cache::Cache;
-use wf_wms::law::kept_pictures_outlast_growth;
+use wf_wms::theorem::cached_pictures_outlast_growth;
 
 /// A node with the pictures of its maps that are cached. Model: the node.
 #[derive(Drop)]
@@ -31,7 +31,7 @@ impl<T: Tape> Model for CachedNode<T> {
     ghost use Rattle.std.specs.Coded.{codes};
     ghost use Rattle.std.specs.FinMap as map;
     ghost use Rattle.wf_node.specs.Node.{Node};
-    ghost use Rattle.wf_wms.specs.KeptPictures.{AllKept};
+    ghost use Rattle.wf_wms.specs.CachedPictures.{AllCached};
 
     ghost Value = { Node T };
 
@@ -39,13 +39,13 @@ impl<T: Tape> Model for CachedNode<T> {
 
     ghost view = { λ c. c.node };
 
-    ghost invariant = { λ c. AllKept c.node.parts.history c.cache };
+    ghost invariant = { λ c. AllCached c.node.parts.history c.cache };
 }
 
 impl<T: Tape> CachedNode<T> {
     /// The node with an empty cache.
     pub(crate) fn new(node: Node<T>, cache: Cache) -> CachedNode<T>
-        requires { (history : List Definition) → AllKept history cache }
+        requires { (history : List Definition) → AllCached history cache }
         ensures { result ≡ node }
     {
         CachedNode { node, cache }
@@ -60,7 +60,7 @@ impl<T: Tape> CachedNode<T> {
 
     /// The pictures that are cached: those of the node's maps.
     pub(crate) fn cache(&self) -> &Cache
-        ensures { AllKept self.now.parts.history result.now }
+        ensures { AllCached self.now.parts.history result.now }
     {
         &self.cache
     }
@@ -71,7 +71,7 @@ impl<T: Tape> CachedNode<T> {
         ensures { IsAnswer T.Tape (view input) self.old result self.new }
     {
         // Theorem of the map service: cached pictures are also those of a history that has grown.
-        kept_pictures_outlast_growth();
+        cached_pictures_outlast_growth();
         step(alloc, &mut self.node, input)
     }
 
@@ -87,8 +87,8 @@ impl<T: Tape> CachedNode<T> {
         ensures moves { MovesOnce T.Tape self.old result.messages self.new }
         ensures takes { TakesRequest
             (S.piece source.old) (S.left source.old) (S.left source.new) }
-        ensures reads { CountsHearing result.outcome (S.failures source.old) (S.failures source.new) }
-        ensures writes { CountsSaying result.outcome (K.failures sink.old) (K.failures sink.new) }
+        ensures reads { CountsReceiving result.outcome (S.failures source.old) (S.failures source.new) }
+        ensures writes { CountsCompleting result.outcome (K.failures sink.old) (K.failures sink.new) }
         ensures last { IsEnding T.Tape K.Sink (S.left source.old) sink.old sink.new
             self.old result.messages self.new result.outcome }
     {

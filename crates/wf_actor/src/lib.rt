@@ -1,20 +1,21 @@
 //! A node in a process of its own: its acts, the messages between it and its peers, and the life that it shows.
 //!
-//! **Model.** An [`Actor`] is a node, with logs that only proofs read: the tape from which it was opened, the node as it was then, all
-//! messages that it returned, and all that it was given, each with its [`Origin`] (`specs/Life.antt`). A [`Process`] is an actor; its
+//! **Model.** An [`Actor`] is a node, with logs that only proofs read: the tape from which it was opened, the node as it was then,
+//! all messages that it returned, and all that it was given, each with its [`Origin`] (`specs/Life.antt`). A [`Process`] is an actor; its
 //! own messages that wait for it; for each node of the farm a [`Link`], which is an outbox and a receiver; and logs of what the
 //! receivers returned and of the runs that have ended (`specs/Process.antt`).
 //!
 //! **Promises.**
-//! - Whatever was called, the node's acts since it was opened are a run of `wf_career`, from the bytes that were read of its tape, and end
+//! - Whatever was called, the node's acts since it was opened are a run of `wf_career`, from the bytes that were read of its tape,
+//! and end
 //!   at the node as it is now ([`Process::always_lived`], [`a_life_is_part_of_a_farm`]). So a loop over a process needs no invariant to
-//!   say what it did. An honest tape's content are these bytes; of a file that is a premise.
+//!   say what it did. a durable tape's content are these bytes; of a file that is a premise.
 //! - What was put into any outbox the node returned, and so what waits for the node itself; what is given to the node was returned by
-//!   it before, or by the receiver of the peer that it is said to come from ([`Process::always_heard`]).
+//!   it before, or by the receiver of the peer that it is said to come from ([`Process::always_received`]).
 //! - An act is the node's step. Each of its messages goes to each node that it is for: into the node's outbox whole, or it is dropped,
 //!   if there is no room or an allocation fails; and into the queue of the process itself, unless that is full. Replies to a Prepare, an
 //!   Accept or an Ask are for the node that sent it, all other messages are for every node (`specs/Target.antt`).
-//! - [`Process::receive`] takes exactly the messages that the piece completes, and [`Process::hear`] delivers the first of them.
+//! - [`Process::receive`] takes exactly the messages that the piece completes, and [`Process::handle`] delivers the first of them.
 //! - [`Process::serve`] answers a client as `wf_edge` does; a publish is an act.
 //! - A process whose tape failed returns N5 for each act and sends nothing more. It answers what reads. [`Process::reopen`] begins its
 //!   next run.
@@ -22,7 +23,7 @@
 //!   ([`processes_are_a_farm`]).
 //! - Node values that processes of a farm ever held respond to equal requests to the map service with equal bytes, as whole HTTP responses,
 //!   where they have published equally many maps or are asked for one map; a 503 for a failed allocation aside
-//!   ([`processes_respond_alike`], `specs/Responding.antt`).
+//!   ([`processes_respond_alike`], `specs/Responses.antt`).
 //!
 //! **Doesn't.** It doesn't promise that a connection carries what is written to it, or only that: see `wf_mail`. It has no clock and no
 //! sockets, and never blocks.
@@ -31,7 +32,6 @@
 mod actor;
 mod backlog;
 mod cached;
-mod law;
 mod link;
 mod note;
 mod origin;
@@ -40,14 +40,15 @@ mod process;
 mod service;
 mod stream;
 mod target;
+mod theorem;
 
 pub use actor::Actor;
 pub use backlog::{BACKLOG_MESSAGES, Backlog};
 pub use cached::CachedNode;
-pub use law::{
-    a_life_is_part_of_a_farm, processes_are_a_farm, processes_respond_alike, runs_hear_their_own,
-};
 pub use link::{Link, OUTBOX_BYTES};
 pub use origin::Origin;
 pub use process::Process;
 pub use target::{Target, reply_target};
+pub use theorem::{
+    a_life_is_part_of_a_farm, processes_are_a_farm, processes_respond_alike, runs_receive_their_own,
+};

@@ -2,9 +2,9 @@
 
 ghost use Rattle.std.specs.Prelude.{◌≡◌, [], length, map, IfOk};
 ghost use Rattle.wf_codec.specs.Message.{view};
-ghost use Rattle.wf_actor.specs.Link.{dropped_after, posted_after, ArePosted, AreUnlinked};
+ghost use Rattle.wf_actor.specs.Link.{count_dropped, posted_after, ArePosted, AreUnlinked};
 ghost use Rattle.wf_actor.specs.Offer.{IsPutOr};
-ghost use Rattle.wf_actor.specs.Writing.{IsWriteOf};
+ghost use Rattle.wf_actor.specs.OutboxWrites.{IsWriteOf};
 
 use crate::target::Target;
 use http_server::Log;
@@ -35,7 +35,7 @@ pub struct Link {
 
 impl Link {
     ghost use Rattle.wf_actor.specs.Link.{AreOffered, AreOfferedIf, IsClosedOutbox, IsOffered, IsOpenedOutbox, IsOpenedReceiver, IsUnlinked, Pops, TakesIn};
-    ghost use Rattle.wf_actor.specs.Writing.{waiting_in, IsWritten};
+    ghost use Rattle.wf_actor.specs.OutboxWrites.{waiting_in, IsWritten};
 
     /// With no connection.
     pub(crate) fn new(alloc: Global) -> Link
@@ -124,9 +124,9 @@ impl Link {
         ensures { IsOffered (view message.now) self.old self.new }
     {
         let is_open = self.outbox.is_some();
-        let kept = put(&mut self.outbox, message);
-        self.dropped = dropped_after(kept, self.dropped);
-        self.posted = posted_after(is_open, kept, self.posted);
+        let queued = put(&mut self.outbox, message);
+        self.dropped = count_dropped(queued, self.dropped);
+        self.posted = posted_after(is_open, queued, self.posted);
     }
 
     /// Offers each of the messages, in order.
@@ -149,10 +149,10 @@ impl Link {
 }
 
 /// The number of dropped messages after one more, or none.
-fn dropped_after(kept: bool, dropped: u64) -> u64
-    ensures { result ≡ dropped_after kept dropped }
+fn count_dropped(queued: bool, dropped: u64) -> u64
+    ensures { result ≡ count_dropped queued dropped }
 {
-    if kept {
+    if queued {
         dropped
     } else {
         dropped.saturating_add(1)
@@ -160,10 +160,10 @@ fn dropped_after(kept: bool, dropped: u64) -> u64
 }
 
 /// The number of messages that were put into an outbox after one more that was offered, or none.
-fn posted_after(is_open: bool, kept: bool, posted: u64) -> u64
-    ensures { result ≡ posted_after is_open kept posted }
+fn posted_after(is_open: bool, queued: bool, posted: u64) -> u64
+    ensures { result ≡ posted_after is_open queued posted }
 {
-    if is_open && kept {
+    if is_open && queued {
         posted.saturating_add(1)
     } else {
         posted

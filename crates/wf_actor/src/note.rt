@@ -3,7 +3,7 @@
 ghost use Rattle.std.specs.Prelude.{◌≡◌, ◌++◌};
 ghost use Rattle.wf_actor.specs.Life.{all_from, logged};
 ghost use Rattle.wf_career.specs.Run.{given_to};
-ghost use Rattle.wf_farm.specs.Leading.{said_by};
+ghost use Rattle.wf_farm.specs.Reachability.{outputs_by};
 
 use crate::origin::Origin;
 use http_server::Log;
@@ -21,11 +21,14 @@ pub(crate) fn note(given: &mut Log<Message, Origin>, input: &Input, origin: Orig
 }
 
 /// Notes the messages of a step.
-pub(crate) fn tell(told: &mut Log<Vec<Message>, usize>, answer: &Result<Vec<Message>, NodeFault>)
-    ensures { logged told.new.items ≡ logged told.old.items ++ said_by answer.now }
+pub(crate) fn report(
+    emitted: &mut Log<Vec<Message>, usize>,
+    answer: &Result<Vec<Message>, NodeFault>,
+)
+    ensures { logged emitted.new.items ≡ logged emitted.old.items ++ outputs_by answer.now }
 {
     match answer {
-        Ok(messages) => *told = told.and(messages, &0),
+        Ok(messages) => *emitted = emitted.and(messages, &0),
         Err(_) => {}
     }
 }

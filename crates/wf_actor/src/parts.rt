@@ -6,7 +6,7 @@ ghost use Rattle.wf_actor.specs.Queue.{queued};
 ghost use Rattle.wf_actor.specs.Target.{includes};
 ghost use Rattle.wf_codec.specs.Message.{view};
 ghost use Rattle.wf_def.specs.Definition.{Definition};
-ghost use Rattle.wf_wms.specs.KeptPictures.{AllKept};
+ghost use Rattle.wf_wms.specs.CachedPictures.{AllCached};
 
 use crate::backlog::Backlog;
 use crate::link::{Link, post, unlinked};
@@ -18,20 +18,24 @@ use wf_wms::cache::Cache;
 
 /// What a process has beside its node.
 #[derive(Drop)]
-pub(crate) struct Parts {
+pub(crate) struct ProcessParts {
     pub backlog: Backlog,
     pub links: Vec<Link>,
 }
 
 /// No messages, no connections and no pictures.
-pub(crate) fn make_room(alloc: Global, n: u8, pictures: usize) -> Result<(Parts, Cache), AllocError>
+pub(crate) fn make_room(
+    alloc: Global,
+    n: u8,
+    pictures: usize,
+) -> Result<(ProcessParts, Cache), AllocError>
     requires least { 1 ≤ pictures }
     requires most { pictures ≤ 64 }
     ensures backlog { IfOk result (λ made. made.0.backlog.messages.items ≡ []) }
     ensures links { IfOk result (λ made. AreUnlinked n made.0.links.items) }
-    ensures cache { IfOk result (λ made. (history : List Definition) → AllKept history made.1) }
+    ensures cache { IfOk result (λ made. (history : List Definition) → AllCached history made.1) }
 {
-    let parts = Parts {
+    let parts = ProcessParts {
         backlog: Backlog::new(alloc)?,
         links: unlinked(alloc, n)?,
     };

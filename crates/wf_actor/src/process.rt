@@ -1,13 +1,13 @@
 ghost use Rattle.std.specs.Prelude.{◌≡◌, ◌<◌, ◌≤◌, length};
 ghost use Rattle.wf_actor.specs.Life.{logged};
-ghost use Rattle.wf_farm.specs.Giving.{tells_halt};
+ghost use Rattle.wf_farm.specs.NodeInput.{reports_halt};
 ghost use Rattle.wf_actor.specs.Sent.{AreArrivedCome, AreGivenCome, AreSent};
 
 use crate::actor::Actor;
 use crate::backlog::Backlog;
 use crate::link::Link;
 use crate::origin::Origin;
-use crate::parts::{Parts, make_room, send};
+use crate::parts::{ProcessParts, make_room, send};
 use crate::target::{Target, reply_target};
 use http_server::Log;
 use std::alloc::Global;
@@ -17,7 +17,7 @@ use wf_codec::Message;
 use wf_journal::OpenFault;
 use wf_learner::History;
 use wf_node::{Input, Node, NodeFault};
-use wf_proposer::Standing;
+use wf_proposer::ProposalState;
 use wf_tape::Tape;
 use wf_wms::cache::Cache;
 
@@ -38,15 +38,15 @@ pub struct Process<T: Tape> {
     ghost among: { actor.node.n ≡ n },
     ghost member: { actor.node.id < n },
     ghost linked: { length links.items ≡ n },
-    ghost sent: { ∥ AreSent backlog.messages.items links.items (logged actor.told.items) ∥₁ },
-    ghost heard: { ∥ AreGivenCome came.items actor.given.items ∥₁ },
+    ghost sent: { ∥ AreSent backlog.messages.items links.items (logged actor.emitted.items) ∥₁ },
+    ghost received: { ∥ AreGivenCome came.items actor.given.items ∥₁ },
     ghost arrived: { ∥ AreArrivedCome came.items links.items ∥₁ },
 }
 
 impl<T: Tape> Process<T> {
     ghost use Rattle.std.specs.Prelude.{◌≢◌, ◌++◌, ◌∷◌, [], List, None, IfErr, IfOk, IfSome, OnErr, OnOk};
-    ghost use Rattle.wf_actor.specs.Opening.{IsOpened};
-    ghost use Rattle.wf_actor.specs.Process.{waiting_in, HearsOwn, IsActed, IsBegun, IsHeard, IsOwnPopped};
+    ghost use Rattle.wf_actor.specs.Start.{IsOpened};
+    ghost use Rattle.wf_actor.specs.Process.{waiting_in, ReceivesOwn, IsActed, IsBegun, IsReceived, IsOwnPopped};
     ghost use Rattle.wf_actor.specs.Life.{AreOwnAmong, IsLife};
     ghost use Rattle.wf_actor.specs.Sent.{AreCome};
     ghost use Rattle.wf_actor.specs.declared.target.Target.TheVariants as target;
@@ -57,11 +57,11 @@ impl<T: Tape> Process<T> {
     ghost use Rattle.wf_journal.specs.Journal.{Follows, ReadsSame, IsWhyFailed};
     ghost use Rattle.wf_model.specs.Chosen.{IsIn};
     ghost use Rattle.wf_model.specs.declared.action.Action.TheVariants as action;
-    ghost use Rattle.wf_node.specs.Opening.{IsWhyBad};
-    ghost use Rattle.wf_node.specs.Node.{working_of};
-    ghost use Rattle.wf_proposer.specs.Standing.{standing_of};
+    ghost use Rattle.wf_node.specs.OpenedNode.{IsWhyBad};
+    ghost use Rattle.wf_node.specs.Node.{volatile_of};
+    ghost use Rattle.wf_proposer.specs.ProposalState.{proposal_state_of};
     ghost use Rattle.wf_tape.specs.Change.{Stays};
-    ghost use Rattle.wf_wms.specs.KeptPictures.{AllKept};
+    ghost use Rattle.wf_wms.specs.CachedPictures.{AllCached};
 
     /// Node `id` of `n` on its tape, with a cache for `pictures` pictures. No message waits, and there are no connections. An error
     /// returns the tape: those of [`Node::open`], and P3 also if there is no memory for the process, before the tape is read.
@@ -82,11 +82,11 @@ impl<T: Tape> Process<T> {
         ensures begun { IfOk result (λ process. IsBegun process) }
         ensures n { IfOk result (λ process. process.n ≡ n) }
         ensures ended { IfOk result (λ process. process.ended.items ≡ []) }
-        ensures unchanged { T.honest →
+        ensures unchanged { T.durable →
             IfErr result (λ e. e.1 ≢ OpenFault.TapeFailed → Stays T.Tape tape e.0) }
-        ensures bad { T.honest → IfErr result (λ e. IsWhyBad e.1 (T.content tape)) }
+        ensures bad { T.durable → IfErr result (λ e. IsWhyBad e.1 (T.content tape)) }
         ensures failed { IfErr result (λ e. IsWhyFailed e.1 (T.failed tape) (T.failed e.0)) }
-        ensures images { T.honest →
+        ensures images { T.durable →
             IfErr result (λ e. Follows ReadsSame (T.images tape) (T.images e.0)) }
     {
         let Ok((parts, cache)) = make_room(alloc, n, pictures) else {
@@ -94,15 +94,15 @@ impl<T: Tape> Process<T> {
         };
         match Actor::open(alloc, tape, id, n, cache) {
             Ok(actor) => Ok(Process::assemble(actor, n, pictures, parts)),
-            Err(refusal) => {
+            Err(step_rejection) => {
                 drop(parts);
-                Err(refusal)
+                Err(step_rejection)
             }
         }
     }
 
     /// A new process of this actor: nothing waits, and there are no connections.
-    fn assemble(actor: Actor<T>, n: u8, pictures: usize, parts: Parts) -> Process<T>
+    fn assemble(actor: Actor<T>, n: u8, pictures: usize, parts: ProcessParts) -> Process<T>
         requires most { n ≤ 64 }
         requires some_pictures { 1 ≤ pictures }
         requires most_pictures { pictures ≤ 64 }
@@ -112,13 +112,13 @@ impl<T: Tape> Process<T> {
         requires backlog { parts.backlog.messages.items ≡ [] }
         requires began { actor.began.items ≡ (actor.node, 0) ∷ [] }
         requires given { actor.given.items ≡ [] }
-        requires told { logged actor.told.items ≡ [] }
+        requires emitted { logged actor.emitted.items ≡ [] }
         ensures actor { result.actor ≡ actor }
         ensures n { result.n ≡ n }
         ensures begun { IsBegun result }
         ensures ended { result.ended.items ≡ [] }
     {
-        let Parts { backlog, links } = parts;
+        let ProcessParts { backlog, links } = parts;
         Process {
             actor,
             n,
@@ -139,7 +139,7 @@ impl<T: Tape> Process<T> {
 
     /// The pictures that are cached, those of the node's maps, with their counts in this run. They can only be read.
     pub fn cache(&self) -> &Cache
-        ensures { AllKept self.now.actor.node.parts.history result.now }
+        ensures { AllCached self.now.actor.node.parts.history result.now }
     {
         self.actor.node.cache()
     }
@@ -153,11 +153,11 @@ impl<T: Tape> Process<T> {
     }
 
     /// Whether the tape failed: then each act returns N5 and sends nothing, and what reads is answered by what was published before.
-    #[tactic(auto, using(crate::proofs::Halting::halt_told))]
+    #[tactic(auto, using(crate::proofs::Halts::halt_reported))]
     pub fn is_halted(&self) -> bool
         ensures { result ≡ self.now.actor.node.halted }
     {
-        is_halt(self.node().retry_refusal())
+        is_halt(self.node().retry_step_rejection())
     }
 
     /// How many of its own messages wait for the node.
@@ -168,7 +168,8 @@ impl<T: Tape> Process<T> {
     }
 
     /// Proposes a definition for the next sequence. Its messages go to every node, the process's own too. Err: N2 to N4 if the step table
-    /// rejects the proposal, N5 if the node is halted, and then nothing has changed; N1 if an allocation failed, N6 if the tape did.
+    /// rejects the proposal, N5 if the node is halted, and then nothing has changed; N1 if an allocation failed, N6 if the tape
+    /// did.
     pub fn propose(&mut self, alloc: Global, canon: Canon) -> Result<(), NodeFault>
         ensures { IsActed T.Tape (action.Propose canon) origin.Own target.Everyone
             self.old result self.new }
@@ -195,8 +196,8 @@ impl<T: Tape> Process<T> {
 
     /// Delivers the first of its own messages that wait to the node. The answer goes to whom it is for. None: no message waits. Err: N1,
     /// and the message is lost, as if the network had lost it; N5 or N6.
-    pub fn hear_own(&mut self, alloc: Global) -> Option<Result<(), NodeFault>>
-        ensures { HearsOwn T.Tape self.old result self.new }
+    pub fn handle_own(&mut self, alloc: Global) -> Option<Result<(), NodeFault>>
+        ensures { ReceivesOwn T.Tape self.old result self.new }
     {
         if self.waiting() == 0 {
             return None;
@@ -213,7 +214,7 @@ impl<T: Tape> Process<T> {
     /// Takes out the first of its own messages that wait.
     fn pop_own(&mut self) -> Option<Message>
         ensures some { IfSome result (λ m. IsOwnPopped m self.old self.new) }
-        ensures told { IfSome result (λ m. ∥ IsIn m (logged self.new.actor.told.items) ∥₁) }
+        ensures emitted { IfSome result (λ m. ∥ IsIn m (logged self.new.actor.emitted.items) ∥₁) }
         ensures none { result ≡ None → waiting_in self.old ≡ [] }
     {
         match self.backlog.pop() {
@@ -230,9 +231,9 @@ impl<T: Tape> Process<T> {
         origin: Origin,
         from: NodeId,
     ) -> Result<(), NodeFault>
-        requires own { ∥ AreOwnAmong (logged self.old.actor.told.items) origin (message ∷ []) ∥₁ }
+        requires own { ∥ AreOwnAmong (logged self.old.actor.emitted.items) origin (message ∷ []) ∥₁ }
         requires come { ∥ AreCome self.old.came.items origin (message ∷ []) ∥₁ }
-        ensures { IsHeard T.Tape message origin from self.old result self.new }
+        ensures { IsReceived T.Tape message origin from self.old result self.new }
     {
         let target = reply_target(&message, from);
         self.act(alloc, Input::Deliver(message), origin, target)
@@ -246,7 +247,7 @@ impl<T: Tape> Process<T> {
         origin: Origin,
         target: Target,
     ) -> Result<(), NodeFault>
-        requires own { ∥ AreOwnAmong (logged self.old.actor.told.items) origin (given_to input) ∥₁ }
+        requires own { ∥ AreOwnAmong (logged self.old.actor.emitted.items) origin (given_to input) ∥₁ }
         requires come { ∥ AreCome self.old.came.items origin (given_to input) ∥₁ }
         ensures { IsActed T.Tape input origin target self.old result self.new }
     {
@@ -264,17 +265,17 @@ impl<T: Tape> Process<T> {
     /// its logs tell. The call does nothing.
     pub fn always_lived(&self)
         ensures { ∥ IsLife T.Tape self.now.actor.read_from.items self.now.actor.began.items
-            self.now.actor.given.items (logged self.now.actor.told.items) self.now.actor.node ∥₁ }
+            self.now.actor.given.items (logged self.now.actor.emitted.items) self.now.actor.node ∥₁ }
     {
         self.actor.always_lived();
     }
 
     /// Always: what was put into any outbox, and what waits for the node itself, the node returned in this run; and what was given to it
     /// from a peer, a receiver of that peer returned. The call does nothing.
-    pub fn always_heard(&self)
+    pub fn always_received(&self)
         ensures sent { ∥ AreSent (waiting_in self.now) self.now.links.items
-            (logged self.now.actor.told.items) ∥₁ }
-        ensures heard { ∥ AreGivenCome self.now.came.items self.now.actor.given.items ∥₁ }
+            (logged self.now.actor.emitted.items) ∥₁ }
+        ensures received { ∥ AreGivenCome self.now.came.items self.now.actor.given.items ∥₁ }
     {
         let _ = &self.came;
     }
@@ -282,10 +283,10 @@ impl<T: Tape> Process<T> {
 
 impl<T: Tape + Drop> Process<T> {
     ghost use Rattle.std.specs.Prelude.{◌≢◌, ◌++◌, ◌∷◌, [], IfErr, OnErr, OnOk};
-    ghost use Rattle.wf_actor.specs.Opening.{IsOpened};
+    ghost use Rattle.wf_actor.specs.Start.{IsOpened};
     ghost use Rattle.wf_actor.specs.Process.{IsBegun};
     ghost use Rattle.wf_journal.specs.Journal.{IsWhyFailed};
-    ghost use Rattle.wf_node.specs.Opening.{IsWhyBad};
+    ghost use Rattle.wf_node.specs.OpenedNode.{IsWhyBad};
     ghost use Rattle.wf_tape.specs.Change.{Stays};
 
     /// The next run of the process, on a tape from which its node is opened; the old node is dropped with its tape. Nothing waits, and
@@ -299,9 +300,9 @@ impl<T: Tape + Drop> Process<T> {
         ensures ended { OnOk result
             (self.new.ended.items ≡ self.old.ended.items ++ (self.old.actor, 0) ∷ []) }
         ensures same { OnErr result (self.new ≡ self.old) }
-        ensures unchanged { T.honest →
+        ensures unchanged { T.durable →
             IfErr result (λ e. e.1 ≢ OpenFault.TapeFailed → Stays T.Tape tape e.0) }
-        ensures bad { T.honest → IfErr result (λ e. IsWhyBad e.1 (T.content tape)) }
+        ensures bad { T.durable → IfErr result (λ e. IsWhyBad e.1 (T.content tape)) }
         ensures failed { IfErr result (λ e. IsWhyFailed e.1 (T.failed tape) (T.failed e.0)) }
     {
         match Process::open(alloc, tape, self.node().id(), self.n, self.pictures) {
@@ -310,16 +311,16 @@ impl<T: Tape + Drop> Process<T> {
                 *self = next;
                 Ok(())
             }
-            Err(refusal) => Err(refusal),
+            Err(step_rejection) => Err(step_rejection),
         }
     }
 }
 
 /// Whether that is the error of a halted node.
-fn is_halt(refusal: Option<NodeFault>) -> bool
-    ensures { result ≡ tells_halt refusal }
+fn is_halt(step_rejection: Option<NodeFault>) -> bool
+    ensures { result ≡ reports_halt step_rejection }
 {
-    match refusal {
+    match step_rejection {
         Some(NodeFault::Halted) => true,
         Some(
             NodeFault::Memory

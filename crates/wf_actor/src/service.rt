@@ -11,8 +11,8 @@ use wf_tape::Tape;
 
 impl<T: Tape> Process<T> {
     ghost use Rattle.wf_actor.specs.Process.{IsServedBy};
-    ghost use Rattle.wf_edge.specs.Hearing.{CountsHearing};
-    ghost use Rattle.wf_edge.specs.Saying.{CountsSaying};
+    ghost use Rattle.wf_edge.specs.Receipt.{CountsReceiving};
+    ghost use Rattle.wf_edge.specs.Completion.{CountsCompleting};
     ghost use Rattle.wf_edge.specs.Request.{TakesRequest};
 
     /// Serves one request, as [`wf_edge::serve::serve_one_cached`] does: what reads is answered by the node's history and the pictures
@@ -28,8 +28,8 @@ impl<T: Tape> Process<T> {
             source.old source.new sink.old sink.new self.old result self.new }
         ensures takes { TakesRequest
             (S.piece source.old) (S.left source.old) (S.left source.new) }
-        ensures reads { CountsHearing result (S.failures source.old) (S.failures source.new) }
-        ensures writes { CountsSaying result (K.failures sink.old) (K.failures sink.new) }
+        ensures reads { CountsReceiving result (S.failures source.old) (S.failures source.new) }
+        ensures writes { CountsCompleting result (K.failures sink.old) (K.failures sink.new) }
     {
         let own = self.node().id();
         let served = self.actor.serve(alloc, source, sink);

@@ -16,9 +16,9 @@ use wf_wire::InboxFault;
 impl<T: Tape> Process<T> {
     ghost use Rattle.std.specs.Prelude.{[], ◌∷◌, List, true, false, None, Ok, IfSome};
     ghost use Rattle.wf_actor.specs.Link.{IsOpenedOutbox, IsClosedOutbox, IsOpenedReceiver, IsPopped};
-    ghost use Rattle.wf_actor.specs.Process.{arrived_at, dropped_at, is_peer, posted_at, waiting_at, HearsFrom, IsLinkChanged, IsReception};
+    ghost use Rattle.wf_actor.specs.Process.{arrived_at, dropped_at, is_peer, posted_at, waiting_at, ReceivesFrom, IsLinkChanged, IsReception};
     ghost use Rattle.wf_actor.specs.Sent.{came_from};
-    ghost use Rattle.wf_actor.specs.Writing.{IsWritten};
+    ghost use Rattle.wf_actor.specs.OutboxWrites.{IsWritten};
     ghost use Rattle.wf_codec.specs.declared.message.Message as code;
     ghost use Rattle.wf_model.specs.Chosen.{IsIn};
 
@@ -111,7 +111,7 @@ impl<T: Tape> Process<T> {
     }
 
     /// Takes bytes that came from a peer, and returns how many messages they complete. These have arrived: each is delivered by a call of
-    /// [`Process::hear`]. Of those that arrived before and aren't delivered nothing is left. Err: the receiver is closed until
+    /// [`Process::handle`]. Of those that arrived before and aren't delivered nothing is left. Err: the receiver is closed until
     /// [`Process::open_receiver`], as its connection is to be.
     pub fn receive(&mut self, peer: NodeId, piece: &[u8]) -> Result<usize, InboxFault>
         ensures peer { is_peer self.old peer ≡ true →
@@ -143,8 +143,8 @@ impl<T: Tape> Process<T> {
 
     /// Delivers the first message that has arrived from a peer to the node. The answer goes to whom it is for. None: none has. Err: N1,
     /// and the message is lost, as if the network had lost it; N5 or N6.
-    pub fn hear(&mut self, alloc: Global, peer: NodeId) -> Option<Result<(), NodeFault>>
-        ensures { HearsFrom T.Tape peer self.old result self.new }
+    pub fn handle(&mut self, alloc: Global, peer: NodeId) -> Option<Result<(), NodeFault>>
+        ensures { ReceivesFrom T.Tape peer self.old result self.new }
     {
         if self.arrived(peer).is_none() {
             return None;

@@ -1,4 +1,4 @@
-pub mod LateAnswersLaw
-pub mod OfferLaw
-pub mod ReadingLaw
-pub mod SendersLaw
+pub mod LateAnswersTheorem
+pub mod OfferTheorem
+pub mod XmlTextTheorem
+pub mod SendersTheorem

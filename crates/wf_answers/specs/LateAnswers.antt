@@ -1,6 +1,6 @@
 -- Runs in which a node's answer to an attempt of a proposer arrives after the next attempt has begun. Three nodes; node 0 proposes.
 use Rattle.std.specs.Prelude.{◌≡◌, List, [], ◌∷◌, ◌++◌}
-use Rattle.wf_model.specs.Examples.{Map, a, ballot, run, sent_from, standing, LeavesEach, Runs, none}
+use Rattle.wf_model.specs.Examples.{Map, a, ballot, run, sent_from, proposal_state, LeavesEach, Runs, none}
 use Rattle.wf_model.specs.Message.{Accept, Nack, Prepare}
 use Rattle.wf_model.specs.World.{Event, deliver, propose, retry}
 
@@ -10,7 +10,7 @@ late_promises = propose 0 a ∷ deliver 1 0 ∷ deliver 2 0 ∷ retry 0 ∷ deli
 
 -- The proposer goes on waiting: it doesn't ask for votes at its new ballot, which no node has promised.
 abbrev pub LatePromisesDoNotCount : Type 0
-LatePromisesDoNotCount = (sent_from (run 3 late_promises) 3 ≡ Prepare 1 (ballot 2 0) ∷ []) × (standing (run 3 late_promises) 0 ≡ Runs)
+LatePromisesDoNotCount = (sent_from (run 3 late_promises) 3 ≡ Prepare 1 (ballot 2 0) ∷ []) × (proposal_state (run 3 late_promises) 0 ≡ Runs)
 
 -- nodes 1 and 2 vote in the first attempt, the proposer begins a second, and asks for votes in it; then the votes arrive
 unfoldable pub second_asks : List (Event Map)

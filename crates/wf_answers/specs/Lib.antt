@@ -1,4 +1,4 @@
 pub mod LateAnswers
 pub mod Offer
-pub mod Reading
+pub mod XmlText
 pub mod Senders

@@ -5,16 +5,16 @@ use Rattle.wf_ballot.specs.Sequence.{IsSequence, seq_bytes}
 use Rattle.wf_ballot.specs.Ballot.{Ballot, IsBallot, round_bytes, ballot_bytes}
 
 -- if the bytes of two values, each followed by other bytes, are equal, so are the values and what follows
-abbrev pub TellsApart : {A : Type 0} → (A → Type 0) → (A → List ℕ) → Type 0
-TellsApart {A} IsValue bytes_of = (x y : A) (after_x after_y : List ℕ) → IsValue x → IsValue y →
+abbrev pub AreDistinct : {A : Type 0} → (A → Type 0) → (A → List ℕ) → Type 0
+AreDistinct {A} IsValue bytes_of = (x y : A) (after_x after_y : List ℕ) → IsValue x → IsValue y →
     bytes_of x ++ after_x ≡ bytes_of y ++ after_y → (x ≡ y) × (after_x ≡ after_y)
 
 -- a field's bytes determine its value
-pub record FieldsTellApart : Type 0 where
-  pub nodes : TellsApart IsNode node_bytes
-  pub sequences : TellsApart IsSequence seq_bytes
-  pub rounds : TellsApart (λ round. round < 2 ^ 32) round_bytes
-  pub ballots : TellsApart IsBallot ballot_bytes
+pub record FieldsAreDistinct : Type 0 where
+  pub nodes : AreDistinct IsNode node_bytes
+  pub sequences : AreDistinct IsSequence seq_bytes
+  pub rounds : AreDistinct (λ round. round < 2 ^ 32) round_bytes
+  pub ballots : AreDistinct IsBallot ballot_bytes
 
 -- all fields of one kind have the same length
 pub record FieldLengths : Type 0 where

@@ -7,7 +7,7 @@ pub mod Slot
 pub mod Round
 pub mod Front
 pub mod Frame
-pub mod OrderLaws
-pub mod QuorumLaws
-pub mod FieldLaws
-pub mod FrontLaws
+pub mod OrderTheorems
+pub mod QuorumTheorems
+pub mod FieldTheorems
+pub mod FrontTheorems

@@ -1,4 +1,4 @@
-ghost use Rattle.wf_ballot.specs.Field.{FieldLengths, FieldsTellApart};
+ghost use Rattle.wf_ballot.specs.Field.{FieldLengths, FieldsAreDistinct};
 
 /// A node has 1 byte in messages and records, a sequence 2, a round 4 and a ballot 5. A theorem about the definitions: the call
 /// does nothing.
@@ -7,6 +7,6 @@ pub fn field_lengths()
 {}
 
 /// A field's bytes determine its value, whatever follows them. A theorem about the definitions: the call does nothing.
-pub fn fields_tell_apart()
-    ensures { FieldsTellApart }
+pub fn fields_are_distinct()
+    ensures { FieldsAreDistinct }
 {}

@@ -21,7 +21,7 @@ mod sequence;
 mod slot;
 
 pub use ballot::{Ballot, ROUNDS, order_is_total};
-pub use field::{field_lengths, fields_tell_apart};
+pub use field::{field_lengths, fields_are_distinct};
 pub use front::{fields_are_read, split_ballot, split_node, split_round, split_slot};
 pub use majority::{is_majority, majorities_meet};
 pub use node::{NODES, NodeId};

@@ -2,5 +2,5 @@ pub use Rattle.wf_token.specs.Lexeme
 pub use Rattle.wf_token.specs.Token
 pub mod Grammar
 pub mod Steps
-pub mod Reading
+pub mod ReadContract
 pub mod Distinct

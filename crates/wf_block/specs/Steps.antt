@@ -34,11 +34,11 @@ put_into put read = read >>= λ x. Some (put x.0, x.1)
 
 -- at most n keywords up to END, each with its effect on the slots
 unfoldable pub fill : {S : Type 0} → (S → List ℕ → List Token → Option (S × List Token)) → ℕ → S → List Token → Option (S × List Token)
-fill put zero said tokens = None
-fill put (suc most) said tokens = do
+fill put zero settings tokens = None
+fill put (suc most) settings tokens = do
   x ← word tokens
-  if is_end x.0 then Some (said, x.1) else put said x.0 x.1 >>= λ y. fill put most y.0 y.1
+  if is_end x.0 then Some (settings, x.1) else put settings x.0 x.1 >>= λ y. fill put most y.0 y.1
 
 -- a block: each of its keywords is at least one token
 abbrev pub block : {S : Type 0} → (S → List ℕ → List Token → Option (S × List Token)) → S → List Token → Option (S × List Token)
-block put said tokens = fill put (length tokens) said tokens
+block put settings tokens = fill put (length tokens) settings tokens

@@ -1,6 +1,6 @@
 //! Blocks: keywords with their arguments, up to END.
 ghost use Rattle.std.specs.Prelude.{◌≡◌, length, OnOk, Some};
-ghost use Rattle.wf_block.specs.Reading.{Gives};
+ghost use Rattle.wf_block.specs.ReadContract.{Gives};
 ghost use Rattle.wf_block.specs.Steps.{fill};
 
 use crate::fault::MapFault;
@@ -13,12 +13,12 @@ use wf_token::token::Token;
 pub trait Slots {
     ghost use Rattle.std.specs.Prelude.{◌≡◌, ℕ, List, Option, OnOk};
     ghost use Rattle.wf_token.specs.Token.{Token};
-    ghost use Rattle.wf_block.specs.Reading.{Gives};
+    ghost use Rattle.wf_block.specs.ReadContract.{Gives};
 
     // The slots' value, in the terms of the block's definition.
-    ghost Said: { Type 0 };
+    ghost Settings: { Type 0 };
 
-    ghost said: { Self → Said };
+    ghost settings: { Self → Settings };
 
     // What limits the block from outside, such as the layers before a layer; nothing for most.
     ghost Within: { Type 0 };
@@ -26,7 +26,7 @@ pub trait Slots {
     ghost within: { Self → Within };
 
     // The definition of the block: the slots after a keyword.
-    ghost put: { Within → Said → List ℕ → List Token → Option (Said × List Token) };
+    ghost put: { Within → Settings → List ℕ → List Token → Option (Settings × List Token) };
 
     // What holds of the block besides its slots.
     ghost Holds: { Self → Type 0 } = { λ _. Unit {0} };
@@ -34,8 +34,8 @@ pub trait Slots {
     /// Reads a keyword's arguments and stores them.
     fn take(&mut self, keyword: Token<'_>, parser: &mut Parser<'_>) -> Result<(), MapFault>
         requires holds { Holds self.old }
-        ensures read { Gives (λ _. (said self.new, parser.new)) result
-            (put (within self.old) (said self.old) keyword.entry.text.now parser.old) }
+        ensures read { Gives (λ _. (settings self.new, parser.new)) result
+            (put (within self.old) (settings self.old) keyword.entry.text.now parser.old) }
         ensures within { OnOk result (within self.new ≡ within self.old) }
         ensures holds { OnOk result (Holds self.new) };
 }
@@ -44,8 +44,8 @@ pub trait Slots {
 #[tactic(auto, using(crate::proofs::Blocks::fill_step, crate::proofs::Blocks::fill_past))]
 pub fn fill_block<S: Slots>(parser: &mut Parser<'_>, slots: &mut S) -> Result<(), MapFault>
     requires holds { S.Holds slots.old }
-    ensures read { Gives (λ _. (S.said slots.new, parser.new)) result
-        (fill (S.put (S.within slots.old)) (length parser.old) (S.said slots.old) parser.old) }
+    ensures read { Gives (λ _. (S.settings slots.new, parser.new)) result
+        (fill (S.put (S.within slots.old)) (length parser.old) (S.settings slots.old) parser.old) }
     ensures within { OnOk result (S.within slots.new ≡ S.within slots.old) }
     ensures holds { OnOk result (S.Holds slots.new) }
 {
@@ -60,25 +60,25 @@ pub fn fill_block<S: Slots>(parser: &mut Parser<'_>, slots: &mut S) -> Result<()
 }
 
 /// Stores a keyword's value.
-pub fn keep<T: Drop>(slot: &mut Option<T>, said: T)
-    ensures { slot.new ≡ Some said }
+pub fn keep<T: Drop>(slot: &mut Option<T>, settings: T)
+    ensures { slot.new ≡ Some settings }
 {
-    drop(replace(slot, Some(said)));
+    drop(replace(slot, Some(settings)));
 }
 
 /// Reads the arguments of a keyword that comes at most once, and stores them, or what a function makes of them, in its slot. A
 /// macro, since two exits by `?` are six calls to prove wherever they stand.
 #[macro_export]
 macro_rules! once {
-    ($slot:expr, $place:expr, $read:expr) => {
-        $crate::once!($slot, $place, $read, said => said)
+    ($slot:expr, $byte_offset:expr, $read:expr) => {
+        $crate::once!($slot, $byte_offset, $read, settings => settings)
     };
-    ($slot:expr, $place:expr, $read:expr, $said:pat => $kept:expr) => {
+    ($slot:expr, $byte_offset:expr, $read:expr, $settings:pat => $kept:expr) => {
         if $slot.is_some() {
-            return Err($crate::fault::MapFault::Repeated($place));
+            return Err($crate::fault::MapFault::Repeated($byte_offset));
         }
         match $read {
-            Ok($said) => $crate::block::keep(&mut $slot, $kept),
+            Ok($settings) => $crate::block::keep(&mut $slot, $kept),
             Err(fault) => return Err(fault),
         }
     };

@@ -1,7 +1,7 @@
 //! Choices by name.
 ghost use Rattle.std.specs.Prelude.{◌≡◌, map};
 ghost use Rattle.wf_block.specs.Grammar.{choice, chosen};
-ghost use Rattle.wf_block.specs.Reading.{Gives};
+ghost use Rattle.wf_block.specs.ReadContract.{Gives};
 
 use crate::fault::MapFault;
 use crate::keyword::is_name;
@@ -27,6 +27,6 @@ impl Parser<'_> {
             (chosen (map (λ entry. (entry.0.now, entry.1)) entries.now) self.old) }
     {
         let token = self.argument()?;
-        choose(entries, token.text).ok_or(MapFault::UnexpectedWord(token.place))
+        choose(entries, token.text).ok_or(MapFault::UnexpectedWord(token.byte_offset))
     }
 }

@@ -53,16 +53,16 @@ impl MapFault {
     }
 
     /// The byte offset of the error, if it has one.
-    fn place(self) -> Option<usize> {
+    fn byte_offset(self) -> Option<usize> {
         match self {
-            MapFault::NotUtf8(place)
-            | MapFault::BadToken(place)
-            | MapFault::UnexpectedWord(place)
-            | MapFault::MissingEnd(place)
-            | MapFault::BadNumber(place)
-            | MapFault::OutOfRange(place)
-            | MapFault::Repeated(place)
-            | MapFault::Trailing(place) => Some(place),
+            MapFault::NotUtf8(byte_offset)
+            | MapFault::BadToken(byte_offset)
+            | MapFault::UnexpectedWord(byte_offset)
+            | MapFault::MissingEnd(byte_offset)
+            | MapFault::BadNumber(byte_offset)
+            | MapFault::OutOfRange(byte_offset)
+            | MapFault::Repeated(byte_offset)
+            | MapFault::Trailing(byte_offset) => Some(byte_offset),
             MapFault::Memory | MapFault::TooLong | MapFault::Missing | MapFault::TooMany => None,
         }
     }
@@ -72,8 +72,8 @@ impl MapFault {
 impl fmt::Display for MapFault {
     fn fmt<W: fmt::Write>(&self, f: &mut fmt::Formatter<W>) -> fmt::Result {
         f.write_str(self.code())?;
-        match self.place() {
-            Some(place) => write!(f, " at {place}"),
+        match self.byte_offset() {
+            Some(byte_offset) => write!(f, " at {byte_offset}"),
             None => Ok(()),
         }
     }
@@ -89,14 +89,14 @@ impl Error for MapFault {}
 
 impl From<LexFault> for MapFault {
     ghost use Rattle.std.specs.Prelude.{◌≡◌, false};
-    ghost use Rattle.wf_block.specs.Reading.{is_memory};
+    ghost use Rattle.wf_block.specs.ReadContract.{is_memory};
 
     ghost from_gives = { λ _ e. is_memory e ≡ false };
 
     fn from(fault: LexFault) -> MapFault {
         match fault.kind {
-            LexFaultKind::BadToken => MapFault::BadToken(fault.place),
-            LexFaultKind::OutOfRange => MapFault::OutOfRange(fault.place),
+            LexFaultKind::BadToken => MapFault::BadToken(fault.byte_offset),
+            LexFaultKind::OutOfRange => MapFault::OutOfRange(fault.byte_offset),
         }
     }
 }

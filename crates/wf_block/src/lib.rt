@@ -7,7 +7,7 @@
 //! `specs/Steps.antt` defines.
 //!
 //! Promises: a reader that returns a value returns what the tokens mean and leaves the tokens after it; if it returns an error
-//! other than allocation failure, the tokens mean nothing (`Gives` of `specs/Reading.antt`). [`block::fill_block`] keeps that
+//! other than allocation failure, the tokens mean nothing (`Gives` of `specs/ReadContract.antt`). [`block::fill_block`] keeps that
 //! promise for every block whose step (`take` of [`block::Slots`]) does. Which error, and its byte offset, is tested and not
 //! proved. Not here: which keywords a block has, and what it means (wf_class, wf_feature, wf_mapfile).
 //!

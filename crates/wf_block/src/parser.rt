@@ -3,7 +3,7 @@ ghost use Rattle.std.specs.Prelude.{◌≡◌, ◌∷◌, [], drop, false, is_so
 ghost use Rattle.wf_text.specs.Text.{IsText, is_text};
 ghost use Rattle.wf_text.specs.ValueList.{is_value_list};
 ghost use Rattle.wf_token.specs.Token.{token_value, token_values};
-ghost use Rattle.wf_block.specs.Reading.{Gives, is_memory};
+ghost use Rattle.wf_block.specs.ReadContract.{Gives, is_memory};
 ghost use Rattle.wf_block.specs.Grammar.{argument, end, number, text, value_list, whole, word};
 
 use crate::fault::MapFault;
@@ -12,8 +12,8 @@ use std::alloc::Global;
 use std::marker::Model;
 use wf_text::fault::{NumberFault, TextFault};
 use wf_text::micro::Micro;
-use wf_text::text::{Text, checked};
-use wf_text::value_list::{ValueList, checked_list};
+use wf_text::text::{Text, check_text};
+use wf_text::value_list::{ValueList, check_list};
 use wf_text::whole::Whole;
 use wf_token::token::{Token, TokenKind};
 
@@ -87,9 +87,9 @@ impl<'a> Parser<'a> {
     }
 
     /// The byte offset of the first remaining token, or the file's length.
-    pub fn place(&self) -> usize {
+    pub fn byte_offset(&self) -> usize {
         match self.peek() {
-            Some(token) => token.place,
+            Some(token) => token.byte_offset,
             None => self.end,
         }
     }
@@ -111,12 +111,12 @@ impl<'a> Parser<'a> {
             TokenKind::Quoted => Ok(token),
             TokenKind::Word => {
                 if is_end(token.text) {
-                    Err(MapFault::UnexpectedWord(token.place))
+                    Err(MapFault::UnexpectedWord(token.byte_offset))
                 } else {
                     Ok(token)
                 }
             }
-            TokenKind::Braced => Err(MapFault::UnexpectedWord(token.place)),
+            TokenKind::Braced => Err(MapFault::UnexpectedWord(token.byte_offset)),
         }
     }
 
@@ -127,7 +127,9 @@ impl<'a> Parser<'a> {
     {
         let token = self.next()?;
         match token.kind {
-            TokenKind::Quoted | TokenKind::Braced => Err(MapFault::UnexpectedWord(token.place)),
+            TokenKind::Quoted | TokenKind::Braced => Err(MapFault::UnexpectedWord(
+                token.byte_offset,
+            )),
             TokenKind::Word => Ok(token),
         }
     }
@@ -141,7 +143,7 @@ impl<'a> Parser<'a> {
         if is_end(word.text) {
             Ok(())
         } else {
-            Err(MapFault::UnexpectedWord(word.place))
+            Err(MapFault::UnexpectedWord(word.byte_offset))
         }
     }
 
@@ -165,7 +167,7 @@ impl<'a> Parser<'a> {
         ensures { Gives (λ t. (t, self.new)) result (text self.old) }
     {
         let token = self.argument()?;
-        self.text_at(token.text, token.place)
+        self.text_at(token.text, token.byte_offset)
     }
 
     /// Reads a text without copying it from the file.
@@ -175,14 +177,14 @@ impl<'a> Parser<'a> {
         ensures within { IfOk result (λ t. IsText t.now) }
     {
         let token = self.argument()?;
-        text_of(token.text, token.place)
+        text_of(token.text, token.byte_offset)
     }
 
     /// The bytes of a token as a text.
-    pub fn text_at(&self, bytes: &[u8], place: usize) -> Result<Text, MapFault>
+    pub fn text_at(&self, bytes: &[u8], byte_offset: usize) -> Result<Text, MapFault>
         ensures { Gives (λ t. t) result (if is_text bytes.now then Some bytes.now else None) }
     {
-        let text = text_of(bytes, place)?;
+        let text = text_of(bytes, byte_offset)?;
         Ok(Text::from_str(self.alloc, text)?)
     }
 
@@ -193,18 +195,18 @@ impl<'a> Parser<'a> {
     {
         let token = self.next()?;
         match token.kind {
-            TokenKind::Braced => self.value_list_at(token.text, token.place),
-            TokenKind::Word | TokenKind::Quoted => Err(MapFault::UnexpectedWord(token.place)),
+            TokenKind::Braced => self.value_list_at(token.text, token.byte_offset),
+            TokenKind::Word | TokenKind::Quoted => Err(MapFault::UnexpectedWord(token.byte_offset)),
         }
     }
 
     /// The bytes of a token as the inside of a list.
-    fn value_list_at(&self, bytes: &[u8], place: usize) -> Result<ValueList, MapFault>
+    fn value_list_at(&self, bytes: &[u8], byte_offset: usize) -> Result<ValueList, MapFault>
         ensures { Gives (λ l. l) result (if is_value_list bytes.now then Some bytes.now else None) }
     {
-        match checked_list(bytes) {
+        match check_list(bytes) {
             Some(inside) => Ok(ValueList::from_str(self.alloc, inside)?),
-            None => Err(MapFault::BadToken(place)),
+            None => Err(MapFault::BadToken(byte_offset)),
         }
     }
 
@@ -216,8 +218,8 @@ impl<'a> Parser<'a> {
         let token = self.argument()?;
         match Micro::read(token.text) {
             Ok(number) => Ok(number),
-            Err(NumberFault::BadNumber) => Err(MapFault::BadNumber(token.place)),
-            Err(NumberFault::OutOfRange) => Err(MapFault::OutOfRange(token.place)),
+            Err(NumberFault::BadNumber) => Err(MapFault::BadNumber(token.byte_offset)),
+            Err(NumberFault::OutOfRange) => Err(MapFault::OutOfRange(token.byte_offset)),
         }
     }
 
@@ -226,20 +228,20 @@ impl<'a> Parser<'a> {
     pub fn whole<const LEAST: u8, const MOST: u8>(&mut self) -> Result<Whole<LEAST, MOST>, MapFault>
         ensures { Gives (λ n. (n, self.new)) result (whole LEAST MOST self.old) }
     {
-        let place = self.place();
+        let byte_offset = self.byte_offset();
         let number = self.number()?;
-        Whole::from_micro(number).ok_or(MapFault::OutOfRange(place))
+        Whole::from_micro(number).ok_or(MapFault::OutOfRange(byte_offset))
     }
 }
 
 /// The bytes of a token as a text.
-fn text_of(bytes: &[u8], place: usize) -> Result<&str, MapFault>
+fn text_of(bytes: &[u8], byte_offset: usize) -> Result<&str, MapFault>
     ensures read { Gives (λ t. t.now) result (if is_text bytes.now then Some bytes.now else None) }
     ensures within { IfOk result (λ t. IsText t.now) }
 {
-    match checked(bytes) {
+    match check_text(bytes) {
         Ok(text) => Ok(text),
-        Err(TextFault::TooLong) => Err(MapFault::OutOfRange(place)),
-        Err(_) => Err(MapFault::BadToken(place)),
+        Err(TextFault::TooLong) => Err(MapFault::OutOfRange(byte_offset)),
+        Err(_) => Err(MapFault::BadToken(byte_offset)),
     }
 }

@@ -7,12 +7,12 @@ use Rattle.std.specs.Char.{encode_utf8}
 use Rattle.std.proofs.lemmas.Bool.Decides.{nat_tests}
 use Rattle.std.proofs.lemmas.Str.{IsUtf8-append, IsUtf8-from_is_utf8, is_utf8-from_IsUtf8, chars-append}
 use Rattle.wf_text.specs.Booleans.{and_left, and_right}
-use Rattle.wf_token.specs.Utf8Laws.{text_is_utf8}
+use Rattle.wf_token.specs.Utf8Theorems.{text_is_utf8}
 use Rattle.wf_def.specs.Text.{is_text, is_text_character, has_both_quotes}
 use Rattle.wf_def.specs.declared.choice.Projection.{Projection}
 use Rattle.wf_def.specs.declared.choice.Projection.TheVariants.{Epsg4326, Epsg3857}
 use Rattle.wf_spelling.specs.Canon.{projection_text}
-use Rattle.wf_canon.proofs.TokenLaw.{text_lacks_both}
+use Rattle.wf_canon.proofs.TokenTheorem.{text_lacks_both}
 
 pub title_key : is_text (codes "wms_title") ≡ true
 unfolding is_text is_utf8 chars encode_utf8

@@ -1,8 +1,8 @@
-pub mod ClassLaw
+pub mod ClassTheorem
 pub mod KnownText
-pub mod LayerLaw
-pub mod MeaningLaw
-pub mod MapLaw
+pub mod LayerTheorem
+pub mod MeaningTheorem
+pub mod MapTheorem
 pub mod NumberWord
 pub mod Steps
-pub mod TokenLaw
+pub mod TokenTheorem

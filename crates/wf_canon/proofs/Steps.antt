@@ -46,11 +46,11 @@ is_keyword w = is_word w && not (is_end w)
 
 -- keywords up to END are read, if at least as many may come as there are tokens
 abbrev pub More : {S : Type 0} → Put S → S → List Token → S × List Token → Type 0
-More put said tokens r = (most : ℕ) → length tokens ≤ most → fill put most said tokens ≡ Some r
+More put settings tokens r = (most : ℕ) → length tokens ≤ most → fill put most settings tokens ≡ Some r
 
 -- END was read
 abbrev pub Ended : {S : Type 0} → S → List Token → S × List Token → Type 0
-Ended said rest r = r ≡ (said, rest)
+Ended settings rest r = r ≡ (settings, rest)
 
 -- the lines may be written, and take the slots from this state to the one that follows: more keywords, or nothing
 pub record Fills {S : Type 0} (put : Put S) (before : S) (lines : List (List Token)) (follows : List Token → S × List Token → Type 0) : Type 0 where
@@ -58,23 +58,23 @@ pub record Fills {S : Type 0} (put : Put S) (before : S) (lines : List (List Tok
   pub steps : (rest : List Token) (r : S × List Token) → follows rest r → More put before (tokens_of lines ++ rest) r
 
 -- a keyword with these tokens as its arguments, which are read to the value, takes the slots to the next state
-abbrev pub Says : {S A : Type 0} → Put S → S → List ℕ → Reader A → List Token → A → S → Type 0
-Says put before w reader tokens value next = (rest : List Token) → reader (tokens ++ rest) ≡ Some (value, rest) → put before w (tokens ++ rest) ≡ Some (next, rest)
+abbrev pub Denotes : {S A : Type 0} → Put S → S → List ℕ → Reader A → List Token → A → S → Type 0
+Denotes put before w reader tokens value next = (rest : List Token) → reader (tokens ++ rest) ≡ Some (value, rest) → put before w (tokens ++ rest) ≡ Some (next, rest)
 
 one_step : {S : Type 0} (put : Put S) (before next : S) (w : List ℕ) (tokens rest : List Token) (r : S × List Token)
     → is_end w ≡ false → put before w tokens ≡ Some (next, rest) → length rest ≤ length tokens → More put next rest r → More put before (Word w ∷ tokens) r
 unfolding fill word
-one_step put before next w tokens rest r other said fewer more zero enough = absurd (omega arith)
-one_step put before next w tokens rest r other said fewer more (suc most) enough = let left = more most (omega arith) in rw (other, said) left
+one_step put before next w tokens rest r other settings fewer more zero enough = absurd (omega arith)
+one_step put before next w tokens rest r other settings fewer more (suc most) enough = let left = more most (omega arith) in rw (other, settings) left
 
 -- a keyword and its arguments, on one line or more
 pub keyword : {S A : Type 0} {put : Put S} {before next : S} {w : List ℕ} {arguments : List Token} {lines : List (List Token)} {reader : Reader A} {value : A}
-    → is_keyword w ≡ true → Reads reader (arguments ++ tokens_of lines) value → Says put before w reader (arguments ++ tokens_of lines) value next → Fills put before ((Word w ∷ arguments) ∷ lines) (More put next)
+    → is_keyword w ≡ true → Reads reader (arguments ++ tokens_of lines) value → Denotes put before w reader (arguments ++ tokens_of lines) value next → Fills put before ((Word w ∷ arguments) ∷ lines) (More put next)
 unfolding is_keyword
-keyword {put = put} {before = before} {next = next} {w = w} {arguments = arguments} {lines = lines} known asked said = record {
+keyword {put = put} {before = before} {next = next} {w = w} {arguments = arguments} {lines = lines} known asked settings = record {
   written = rw (and_left (is_word w) (not (is_end w)) known, asked.written) refl;
   steps = λ rest r more.
-      one_step put before next w ((arguments ++ tokens_of lines) ++ rest) rest r (not_true (is_end w) (and_right (is_word w) (not (is_end w)) known)) (said rest (asked.read rest)) (omega (arith, length-append (arguments ++ tokens_of lines) rest)) more;
+      one_step put before next w ((arguments ++ tokens_of lines) ++ rest) rest r (not_true (is_end w) (and_right (is_word w) (not (is_end w)) known)) (settings rest (asked.read rest)) (omega (arith, length-append (arguments ++ tokens_of lines) rest)) more;
 }
 
 tokens_of-append : (xs ys : List (List Token)) → tokens_of (xs ++ ys) ≡ tokens_of xs ++ tokens_of ys
@@ -93,29 +93,29 @@ both {put = put} {before = before} {xs = xs} {ys = ys} between first second = re
 
 -- a keyword alone on its line, the lines of its block, and more lines
 pub inner : {S A : Type 0} {put : Put S} {before : S} {w : List ℕ} {more : List (List Token)} {follows : List Token → S × List Token → Type 0} {reader : Reader A} {value : A} (lines : List (List Token)) (next : S)
-    → is_keyword w ≡ true → Reads reader (tokens_of lines) value → Says put before w reader (tokens_of lines) value next → Fills put next more follows → Fills put before (alone w ∷ lines ++ more) follows
-inner {w = w} lines next known asked said others = both next (keyword {w = w} {arguments = []} {lines = lines} known asked said) others
+    → is_keyword w ≡ true → Reads reader (tokens_of lines) value → Denotes put before w reader (tokens_of lines) value next → Fills put next more follows → Fills put before (alone w ∷ lines ++ more) follows
+inner {w = w} lines next known asked settings others = both next (keyword {w = w} {arguments = []} {lines = lines} known asked settings) others
 
 -- a line, and more lines
 pub line : {S A : Type 0} {put : Put S} {before : S} {w : List ℕ} {arguments : List Token} {more : List (List Token)} {follows : List Token → S × List Token → Type 0} {reader : Reader A} {value : A} (next : S)
-    → is_keyword w ≡ true → Reads reader arguments value → Says put before w reader arguments value next → Fills put next more follows → Fills put before ((Word w ∷ arguments) ∷ more) follows
-line {put = put} {before = before} {w = w} {arguments = arguments} {reader = reader} {value = value} next known asked said others =
+    → is_keyword w ≡ true → Reads reader arguments value → Denotes put before w reader arguments value next → Fills put next more follows → Fills put before ((Word w ∷ arguments) ∷ more) follows
+line {put = put} {before = before} {w = w} {arguments = arguments} {reader = reader} {value = value} next known asked settings others =
     let alike = append-nil arguments in
     let all : Reads reader (arguments ++ []) value = rw alike asked in
-    both next (keyword {put = put} {before = before} {w = w} {arguments = arguments} {lines = []} known all (λ rest e. rw alike (said rest (asked.read rest)))) others
+    both next (keyword {put = put} {before = before} {w = w} {arguments = arguments} {lines = []} known all (λ rest e. rw alike (settings rest (asked.read rest)))) others
 
-pub none : {S : Type 0} {put : Put S} {said : S} → Fills put said [] (More put said)
+pub none : {S : Type 0} {put : Put S} {settings : S} → Fills put settings [] (More put settings)
 none = record { written = refl; steps = λ rest r more. more }
 
-at_end : {S : Type 0} (put : Put S) (said : S) (rest : List Token) → More put said (Word (codes "END") ∷ rest) (said, rest)
+at_end : {S : Type 0} (put : Put S) (settings : S) (rest : List Token) → More put settings (Word (codes "END") ∷ rest) (settings, rest)
 unfolding fill word is_end
-at_end put said rest zero enough = absurd (omega arith)
-at_end put said rest (suc most) enough = refl
+at_end put settings rest zero enough = absurd (omega arith)
+at_end put settings rest (suc most) enough = refl
 
 -- the END of a block
-pub ended : {S : Type 0} {put : Put S} {said : S} → Fills put said (end_line ∷ []) (Ended said)
+pub ended : {S : Type 0} {put : Put S} {settings : S} → Fills put settings (end_line ∷ []) (Ended settings)
 unfolding is_keyword
-ended {put = put} {said = said} = record { written = refl; steps = λ rest r is. rw is (at_end put said rest) }
+ended {put = put} {settings = settings} = record { written = refl; steps = λ rest r is. rw is (at_end put settings rest) }
 
 -- the lines of an optional value
 pub there : {S X : Type 0} {put : Put S} (P : X → Type 0) (of : Option X → List (List Token)) (state : Option X → S) (o : Option X)
@@ -131,17 +131,17 @@ pub record IsAt {X : Type 0} (xs before : List X) (x : X) : Type 0 where
   pub is : xs ≡ before ++ x ∷ after
 
 pub holds_at : {X : Type 0} {xs before : List X} {x : X} (P : X → Type 0) → IsAt xs before x → All P xs → P x
-holds_at {xs = xs} {before = before} {x = x} P place all =
-    let here : Contains (before ++ x ∷ place.after) x = Contains-append_right before (x ∷ place.after) x (zero, omega arith, refl) in
-    All-contains P (before ++ x ∷ place.after) x (All-same P (before ++ x ∷ place.after) xs (sym place.is) all) here
+holds_at {xs = xs} {before = before} {x = x} P byte_offset all =
+    let here : Contains (before ++ x ∷ byte_offset.after) x = Contains-append_right before (x ∷ byte_offset.after) x (zero, omega arith, refl) in
+    All-contains P (before ++ x ∷ byte_offset.after) x (All-same P (before ++ x ∷ byte_offset.after) xs (sym byte_offset.is) all) here
 
 -- there is room for the element
 pub room_at : {X : Type 0} {xs before : List X} {x : X} (most : ℕ) → IsAt xs before x → length xs ≤ most → ltb (length before) most ≡ true
-room_at {before = before} {x = x} most place few = lt-ltb (length before) most (omega (arith, ap length place.is, length-append before (x ∷ place.after)))
+room_at {before = before} {x = x} most byte_offset few = lt-ltb (length before) most (omega (arith, ap length byte_offset.is, length-append before (x ∷ byte_offset.after)))
 
 -- the elements before it leave at least as much as it has
 pub left_at : {X : Type 0} {xs before : List X} {x : X} (f : X → ℕ) (most : ℕ) → IsAt xs before x → sum_by f xs ≤ most → f x ≤ most - sum_by f before
-left_at {before = before} {x = x} f most place few = omega (arith, ap (sum_by f) place.is, sum_by-append f before (x ∷ place.after), sum_by-cons f x place.after)
+left_at {before = before} {x = x} f most byte_offset few = omega (arith, ap (sum_by f) byte_offset.is, sum_by-append f before (x ∷ byte_offset.after), sum_by-cons f x byte_offset.after)
 
 -- the lines of each element of a list append it to those before it
 pub each : {S X : Type 0} {put : Put S} (of : X → List (List Token)) (state : List X → S) (done xs : List X)
@@ -150,14 +150,14 @@ pub each : {S X : Type 0} {put : Put S} (of : X → List (List Token)) (state : 
 each of state done [] step = rw (append-nil done) none
 each of state done (x ∷ xs) step =
     let same : (done ++ x ∷ []) ++ xs ≡ done ++ x ∷ xs = append_assoc done (x ∷ []) xs in
-    rw same at (both (state (done ++ x ∷ [])) (step done x (record { after = xs; is = refl })) (each of state (done ++ x ∷ []) xs (λ before y place. step before y (rw same at place))))
+    rw same at (both (state (done ++ x ∷ [])) (step done x (record { after = xs; is = refl })) (each of state (done ++ x ∷ []) xs (λ before y byte_offset. step before y (rw same at byte_offset))))
 
 -- ---- blocks
 
 -- a block's lines and its END are read as its value
 pub block_again : {S A : Type 0} {put : Put S} {before after : S} {reader : Reader A} {value : A} (lines : List (List Token))
     → Fills put before lines (Ended after) → ((rest : List Token) → block put before (tokens_of lines ++ rest) ≡ Some (after, rest) → reader (tokens_of lines ++ rest) ≡ Some (value, rest)) → Reads reader (tokens_of lines) value
-block_again {after = after} lines fills says = record {
+block_again {after = after} lines fills denotes = record {
   written = fills.written;
-  read = λ rest. says rest (fills.steps rest (after, rest) refl (length (tokens_of lines ++ rest)) (omega arith));
+  read = λ rest. denotes rest (fills.steps rest (after, rest) refl (length (tokens_of lines ++ rest)) (omega arith));
 }

@@ -1,3 +1,3 @@
 pub use Rattle.wf_text.specs.NumberText as Number
-pub mod Saying
-pub mod Refusal
+pub mod TextMeaning
+pub mod StepRejection

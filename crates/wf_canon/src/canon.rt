@@ -4,10 +4,10 @@ ghost use Rattle.std.specs.Prelude.{◌≡◌, ◌<◌, ◌≤◌, true, length,
 ghost use Rattle.std.specs.Str.{is_utf8};
 ghost use Rattle.wf_def.specs.Limits.{IsWithinLimits};
 ghost use Rattle.wf_mapfile.specs.Meaning.{Means};
-ghost use Rattle.wf_block.specs.Reading.{is_memory};
+ghost use Rattle.wf_block.specs.ReadContract.{is_memory};
 ghost use Rattle.wf_spelling.specs.Canon.{canon, most_canon_bytes, IsCanon};
-ghost use Rattle.wf_spelling.specs.Refusal.{IsCauseOf};
-ghost use Rattle.wf_canon.specs.Refusal.{IsWhyRefused, refused_again};
+ghost use Rattle.wf_spelling.specs.StepRejection.{IsCauseOf};
+ghost use Rattle.wf_canon.specs.StepRejection.{IsWhyRejected, reject_again};
 
 use std::alloc::{AllocError, Global};
 use std::marker::Model;
@@ -80,13 +80,13 @@ impl Canon {
         ensures too_big { most_canon_bytes < length bytes.now → result ≡ Err CanonFault.TooBig }
         ensures value { IfOk result (λ canonical. canon canonical ≡ bytes.now) }
         ensures within { IfOk result IsWithinLimits }
-        ensures cause { IfErr result (λ fault. IsWhyRefused fault bytes.now) }
+        ensures cause { IfErr result (λ fault. IsWhyRejected fault bytes.now) }
     {
         if bytes.len() > MOST_CANON_BYTES {
             return Err(CanonFault::TooBig);
         }
         // The quick reader accepts canonical texts alone. What it leaves is decided by reading and writing again.
-        if let Some(canonical) = Self::scanned(alloc, bytes) {
+        if let Some(canonical) = Self::scan_bytes(alloc, bytes) {
             return Ok(canonical);
         }
         let def = definition_of(alloc, bytes)?;
@@ -96,8 +96,8 @@ impl Canon {
 
     /// The definition of a canonical text, if the quick reader accepts the text. `None` says nothing of the bytes: they may still be a
     /// canonical text or any other mapfile, or an allocation failed.
-    #[tactic(auto, using(crate::proofs::MeaningLaw::scanned_means))]
-    pub fn scanned(alloc: Global, bytes: &[u8]) -> Option<Self>
+    #[tactic(auto, using(crate::proofs::MeaningTheorem::scanned_means))]
+    pub fn scan_bytes(alloc: Global, bytes: &[u8]) -> Option<Self>
         ensures text { IfSome result (λ canonical. canon canonical ≡ bytes.now) }
         ensures short { OnSome result (length bytes.now ≤ most_canon_bytes) }
         ensures within { IfSome result IsWithinLimits }
@@ -154,7 +154,7 @@ fn of_scanned(alloc: Global, bytes: &[u8], def: MapDef) -> Option<Canon>
     requires { IsCanon bytes.now def }
     ensures { IfSome result (λ canonical. canonical ≡ def) }
 {
-    match copied(alloc, bytes) {
+    match copy_bytes(alloc, bytes) {
         Ok(text) => match share(alloc, text, def) {
             Ok(canonical) => Some(canonical),
             Err(AllocError) => None,
@@ -167,7 +167,7 @@ fn of_scanned(alloc: Global, bytes: &[u8], def: MapDef) -> Option<Canon>
 }
 
 /// A copy of the bytes, in exactly as much memory.
-fn copied(alloc: Global, bytes: &[u8]) -> Result<Vec<u8>, AllocError>
+fn copy_bytes(alloc: Global, bytes: &[u8]) -> Result<Vec<u8>, AllocError>
     ensures { IfOk result (λ text. text.items ≡ bytes.now) }
 {
     let mut text = Vec::with_capacity(alloc, bytes.len())?;
@@ -182,7 +182,7 @@ fn same_text(alloc: Global, def: &MapDef, bytes: &[u8]) -> Result<Vec<u8>, Canon
     ensures written { IfOk result (λ text. text.items ≡ canon def.now) }
     ensures same { IfOk result (λ text. text.items ≡ bytes.now) }
     ensures within { IsWithinLimits def.now }
-    ensures cause { IfErr result (λ fault. IsWhyRefused fault bytes.now) }
+    ensures cause { IfErr result (λ fault. IsWhyRejected fault bytes.now) }
 {
     match text_of(alloc, def, bytes.len()) {
         Ok(text) => {
@@ -191,13 +191,13 @@ fn same_text(alloc: Global, def: &MapDef, bytes: &[u8]) -> Result<Vec<u8>, Canon
             }
             Ok(text)
         }
-        Err(fault) => Err(refused_again(fault)),
+        Err(fault) => Err(reject_again(fault)),
     }
 }
 
 /// The error for bytes within the limit, given an error of writing: if the text is over the limit, the bytes aren't that text.
-fn refused_again(fault: CanonFault) -> CanonFault
-    ensures { result ≡ refused_again fault }
+fn reject_again(fault: CanonFault) -> CanonFault
+    ensures { result ≡ reject_again fault }
 {
     match fault {
         CanonFault::Memory => CanonFault::Memory,
@@ -210,16 +210,16 @@ fn definition_of(alloc: Global, bytes: &[u8]) -> Result<MapDef, CanonFault>
     requires { length bytes.now ≤ most_canon_bytes }
     ensures meant { IfOk result (λ def. Means bytes.now def) }
     ensures utf8 { OnOk result (is_utf8 bytes.now ≡ true) }
-    ensures cause { IfErr result (λ fault. IsWhyRefused fault bytes.now) }
+    ensures cause { IfErr result (λ fault. IsWhyRejected fault bytes.now) }
 {
     match read(alloc, bytes) {
         Ok(def) => Ok(def),
-        Err(fault) => Err(refusal_of(fault)),
+        Err(fault) => Err(rejection_of(fault)),
     }
 }
 
 /// The error for a canonical text, given the reader's error.
-fn refusal_of(fault: MapFault) -> CanonFault
+fn rejection_of(fault: MapFault) -> CanonFault
     ensures { result ≡ (if is_memory fault then CanonFault.Memory else CanonFault.NotCanonical) }
 {
     match fault {

@@ -6,29 +6,29 @@ use Rattle.wf_codec.specs.Message as message
 use Rattle.wf_codec.specs.declared.message.Message.{Message}
 use Rattle.wf_def.specs.Definition.{Definition}
 use Rattle.wf_def.specs.Equality.{definition_eq}
-use Rattle.wf_law.specs.Laws.{IsBeginning}
+use Rattle.wf_safety.specs.Theorems.{IsBeginning}
 use Rattle.wf_model.specs.Chosen.{IsIn}
-use Rattle.wf_model.specs.Stored.{nothing_stored}
+use Rattle.wf_model.specs.DurableState.{nothing_stored}
 use Rattle.wf_model.specs.World as world
 use Rattle.wf_model.specs.declared.action.Action.TheVariants as action
 use Rattle.wf_journal.specs.Records.{AreReadOneWay, IsReadAsNone}
 use Rattle.wf_node.specs.Growth.{IsGrown, grown_itself}
 use Rattle.wf_node.specs.Input.{view}
 use Rattle.wf_node.specs.Node.{Node}
-use Rattle.wf_farm.specs.Delivering.{AnyPart, IsNode}
+use Rattle.wf_farm.specs.Delivery.{AnyPart, IsNode}
 use Rattle.wf_tape.specs.declared.tape.Tape.{Ghosts as Tape}
 use Rattle.wf_trace.specs.Deed.{new_node, Stops}
 use Rattle.wf_trace.specs.Trace.{Entry, of_process, IsLife, node_at, IsInputOf}
 use Rattle.wf_trace.specs.Order as order
 use Rattle.wf_trace.specs.Order.{seen, AreOf, AreTaken, AreLives, AreOneTrace, LivesAreOneTrace}
-use Rattle.wf_trace.specs.Laws as trace_laws
-use Rattle.wf_trace.specs.Laws.{IsReached, TraceIsRun, published_at}
+use Rattle.wf_trace.specs.Theorems as trace_theorems
+use Rattle.wf_trace.specs.Theorems.{IsReachable, TraceIsRun, published_at}
 use Rattle.wf_career.specs.Run.{Input, Run, last}
 use Rattle.wf_career.specs.Career.{Career, IsCareer, values, Item, items_of, IsOneOf, AreInTurn, IsFarm}
-use Rattle.wf_career.specs.Laws.{IsHeld, ListsGrow, HasOneHistory, OneHistory, OneDefinition, said_in, IsOneRun, FarmIsOneRun}
+use Rattle.wf_career.specs.Theorems.{IsHeld, ListsGrow, HasOneHistory, OneHistory, OneDefinition, outputs_in, IsOneRun, FarmIsOneRun}
 use Rattle.wf_career.proofs.Lists.{begins_by, begins_through, grow_to_end, grow_between, one_definition}
-use Rattle.wf_career.proofs.Lives.{model_item, down, Led, led_both, led_once}
-use Rattle.wf_career.proofs.Careers.{stand_for_nothing, Runs, runs_lead}
+use Rattle.wf_career.proofs.Lives.{model_item, down, Reachable, reachable_both, reachable_once}
+use Rattle.wf_career.proofs.Careers.{stand_for_nothing, Runs, runs_reach}
 
 -- ---- items, as the model has them
 
@@ -60,10 +60,10 @@ items_model i (item ∷ items) = elim (cases_eq item.process i) [
   | inr other ↦ other_model i (model_item item) (map model_item items) other ∙ items_model i items ∙ ap (map model_item) (sym (other_item i item items other))
 ]
 
-said_model : (items : List Item) → order.said_in (map model_item items) ≡ map message.view (said_in items)
-unfolding order.said_in said_in
-said_model [] = refl
-said_model (item ∷ items) = ap (λ ms. map message.view item.said ++ ms) (said_model items) ∙ sym (map-append message.view item.said (said_in items))
+outputs_model : (items : List Item) → order.outputs_in (map model_item items) ≡ map message.view (outputs_in items)
+unfolding order.outputs_in outputs_in
+outputs_model [] = refl
+outputs_model (item ∷ items) = ap (λ ms. map message.view item.outputs ++ ms) (outputs_model items) ∙ sym (map-append message.view item.outputs (outputs_in items))
 
 -- ---- what is delivered was sent
 
@@ -83,7 +83,7 @@ taken_model n sent [] are = tt
 taken_model n sent (item ∷ items) are = (
   are.0,
   input_view sent item.takes are.1,
-  subst (λ ms. AreTaken n ms (map model_item items)) (map-append message.view sent item.said) (taken_model n (sent ++ item.said) items are.2),
+  subst (λ ms. AreTaken n ms (map model_item items)) (map-append message.view sent item.outputs) (taken_model n (sent ++ item.outputs) items are.2),
 )
 
 -- ---- the life of each process
@@ -93,31 +93,31 @@ module _ {T : Type 0} (one : AreReadOneWay) (none : IsReadAsNone) (tapes : Tape 
   unfolding nothing_stored
   nothing_grown = grown_itself []
 
-  career_leads : (n i : ℕ) (career : Career T) → IsCareer tapes n i career → Runs n i nothing_stored [] career.ended career.now
-  career_leads n i career is = runs_lead tapes n i one [] nothing_stored [] career.ended career.now (stand_for_nothing none) nothing_grown is
+  career_reaches : (n i : ℕ) (career : Career T) → IsCareer tapes n i career → Runs n i nothing_stored [] career.ended career.now
+  career_reaches n i career is = runs_reach tapes n i one [] nothing_stored [] career.ended career.now (stand_for_nothing none) nothing_grown is
 
   pub lists_grow : ListsGrow tapes
   lists_grow = λ n i career moment later node next is less at then.
-      let runs = career_leads n i career is in
+      let runs = career_reaches n i career is in
       begins_by node.parts.history next.parts.history (grow_between [] runs.node.stored.history (values career) moment later node next runs.grow less at then)
 
   -- from the model's new node on, which stops first
-  from_start : (n i : ℕ) (items : List Item) (node : world.Node Definition) → Led n i (down nothing_stored) items node → Led n i new_node items node
-  from_start n i items node led =
-      led_both n i new_node (down nothing_stored) node [] items (led_once n i new_node (down nothing_stored) Stops [] [] (record { silent = refl; node = refl }) refl) led
+  from_start : (n i : ℕ) (items : List Item) (node : world.Node Definition) → Reachable n i (down nothing_stored) items node → Reachable n i new_node items node
+  from_start n i items node reachable =
+      reachable_both n i new_node (down nothing_stored) node [] items (reachable_once n i new_node (down nothing_stored) Stops [] [] (record { silent = refl; node = refl }) refl) reachable
 
   module _ (n : ℕ) (careers : ℕ → Career T) (items : List Item) (farm : IsFarm tapes n careers items) where
     at_member : (i : ℕ) → i < n → Runs n i nothing_stored [] (careers i).ended (careers i).now
-    at_member i is_member = career_leads n i (careers i) (farm.each i is_member)
+    at_member i is_member = career_reaches n i (careers i) (farm.each i is_member)
 
-    led_at : (i : ℕ) (is_member : i < n) → Led n i new_node (items_of i items) (at_member i is_member).node
-    led_at i is_member =
+    reachable_at : (i : ℕ) (is_member : i < n) → Reachable n i new_node (items_of i items) (at_member i is_member).node
+    reachable_at i is_member =
         from_start n i (items_of i items) (at_member i is_member).node
-        (subst (λ xs. Led n i (down nothing_stored) xs (at_member i is_member).node) (sym (farm.own i is_member)) (at_member i is_member).led)
+        (subst (λ xs. Reachable n i (down nothing_stored) xs (at_member i is_member).node) (sym (farm.own i is_member)) (at_member i is_member).reachable)
 
     -- the entries and the node of a process; there are none of other numbers
     entries_by : (i : ℕ) → (i < n) ⊎ (n ≤ i) → List (Entry Definition)
-    entries_by i (inl is_member) = (led_at i is_member).entries
+    entries_by i (inl is_member) = (reachable_at i is_member).entries
     entries_by i (inr beyond) = []
 
     node_by : (i : ℕ) → (i < n) ⊎ (n ≤ i) → world.Node Definition
@@ -135,17 +135,17 @@ module _ {T : Type 0} (one : AreReadOneWay) (none : IsReadAsNone) (tapes : Tape 
 
     own_by : (i : ℕ) (d : (i < n) ⊎ (n ≤ i)) → i < n → AreOf i (entries_by i d)
     unfolding entries_by
-    own_by i (inl it) is_member = (led_at i it).own
+    own_by i (inl it) is_member = (reachable_at i it).own
     own_by i (inr beyond) is_member = absurd (none_beyond i is_member beyond)
 
     life_by : (i : ℕ) (d : (i < n) ⊎ (n ≤ i)) → i < n → IsLife definition_eq n i new_node (entries_by i d) (node_by i d)
     unfolding entries_by node_by
-    life_by i (inl it) is_member = (led_at i it).life
+    life_by i (inl it) is_member = (reachable_at i it).life
     life_by i (inr beyond) is_member = absurd (none_beyond i is_member beyond)
 
     items_by : (i : ℕ) (d : (i < n) ⊎ (n ≤ i)) → i < n → seen (entries_by i d) ≡ order.items_of i (map model_item items)
     unfolding entries_by
-    items_by i (inl it) is_member = (led_at i it).as_items ∙ sym (items_model i items)
+    items_by i (inl it) is_member = (reachable_at i it).as_items ∙ sym (items_model i items)
     items_by i (inr beyond) is_member = absurd (none_beyond i is_member beyond)
 
     are_lives : AreLives definition_eq n (map model_item items) lives nodes
@@ -162,7 +162,7 @@ module _ {T : Type 0} (one : AreReadOneWay) (none : IsReadAsNone) (tapes : Tape 
     runs_by i (inl it) is_member run now = (at_member i it).runs run now
     runs_by i (inr beyond) is_member run now = absurd (none_beyond i is_member beyond)
 
-    stopped_by : (i : ℕ) (d : (i < n) ⊎ (n ≤ i)) → i < n → (careers i).now ≡ None → (node_by i d).working ≡ None
+    stopped_by : (i : ℕ) (d : (i < n) ⊎ (n ≤ i)) → i < n → (careers i).now ≡ None → (node_by i d).volatile ≡ None
     unfolding node_by
     stopped_by i (inl it) is_member now = (at_member i it).stopped now
     stopped_by i (inr beyond) is_member now = absurd (none_beyond i is_member beyond)
@@ -174,19 +174,19 @@ module _ {T : Type 0} (one : AreReadOneWay) (none : IsReadAsNone) (tapes : Tape 
 
     -- ---- one trace
 
-    module _ (law : LivesAreOneTrace Definition) where
+    module _ (theorem : LivesAreOneTrace Definition) where
       are_one : AreOneTrace definition_eq n (map model_item items) lives nodes
-      are_one = law definition_eq n (map model_item items) lives nodes are_lives (taken_model n [] items farm.in_turn)
+      are_one = theorem definition_eq n (map model_item items) lives nodes are_lives (taken_model n [] items farm.in_turn)
 
       one_run : TraceIsRun Definition → IsOneRun n careers items
       one_run runs = record {
         nodes = nodes;
-        reached = subst (IsReached definition_eq n nodes) (are_one.messages ∙ said_model items) (runs definition_eq n are_one.entries nodes are_one.trace);
+        reached = subst (IsReachable definition_eq n nodes) (are_one.messages ∙ outputs_model items) (runs definition_eq n are_one.entries nodes are_one.trace);
         running = λ i run is_member now. runs_by i (cases_lt i n) is_member run now;
         stopped = λ i is_member now. stopped_by i (cases_lt i n) is_member now;
       }
 
-      one_history : trace_laws.OneHistory Definition → HasOneHistory n careers
+      one_history : trace_theorems.OneHistory Definition → HasOneHistory n careers
       one_history laws =
           let so = laws definition_eq n are_one.entries nodes are_one.trace in
           record {
@@ -215,10 +215,10 @@ module _ {T : Type 0} (one : AreReadOneWay) (none : IsReadAsNone) (tapes : Tape 
 pub farm_is_one_run : AreReadOneWay → IsReadAsNone → LivesAreOneTrace Definition → TraceIsRun Definition → {T : Type 0} (tapes : Tape T) → FarmIsOneRun tapes
 farm_is_one_run one none merges runs tapes = λ n careers items farm. one_run one none tapes n careers items farm merges runs
 
-pub farm_has_one_history : AreReadOneWay → IsReadAsNone → LivesAreOneTrace Definition → trace_laws.OneHistory Definition → {T : Type 0} (tapes : Tape T) → OneHistory tapes
+pub farm_has_one_history : AreReadOneWay → IsReadAsNone → LivesAreOneTrace Definition → trace_theorems.OneHistory Definition → {T : Type 0} (tapes : Tape T) → OneHistory tapes
 farm_has_one_history one none merges laws tapes = λ n careers items farm. one_history one none tapes n careers items farm merges laws
 
 pub farm_has_one_definition : {T : Type 0} (tapes : Tape T) → OneHistory tapes → OneDefinition tapes
-farm_has_one_definition tapes law = λ n careers items farm node other held also s c d at there.
-    let so = law n careers items farm in
+farm_has_one_definition tapes theorem = λ n careers items farm node other held also s c d at there.
+    let so = theorem n careers items farm in
     one_definition so.history node.parts.history other.parts.history (so.each node held) (so.each other also) s c d at there

@@ -2,10 +2,10 @@ mod Lists
 mod Lives
 mod Careers
 mod Farms
-mod Answering
+mod OneAnswer
 mod Replicas
-mod Going
-mod Leaving
-mod Opening
-mod Acting
+mod Continuation
+mod CrashImages
+mod Start
+mod NodeActs
 mod Started

@@ -2,8 +2,8 @@
 use Rattle.std.proofs.Common.{◌≡◌, ℕ, zero, suc, ◌≤◌, List, [], ◌∷◌, ◌++◌, slice_get, Some, refl, sym, ap, subst, ◌∙◌, arith, append_assoc}
 use Rattle.std.proofs.lemmas.Option.{none-some, same_Some}
 use Rattle.wf_def.specs.Definition.{Definition}
-use Rattle.wf_law.specs.Laws.{IsBeginning}
-use Rattle.wf_model.specs.Stored.{definition_at}
+use Rattle.wf_safety.specs.Theorems.{IsBeginning}
+use Rattle.wf_model.specs.DurableState.{definition_at}
 use Rattle.wf_node.specs.Growth.{IsGrown, grown_itself, grown_twice}
 use Rattle.wf_node.specs.Node.{Node}
 

@@ -8,31 +8,31 @@ use Rattle.wf_codec.specs.Message as message
 use Rattle.wf_codec.specs.declared.message.Message.{Message}
 use Rattle.wf_def.specs.Definition.{Definition}
 use Rattle.wf_model.specs.Chosen.{IsIn}
-use Rattle.wf_model.specs.Stored.{Stored, nothing_stored}
-use Rattle.wf_model.specs.Working as working
-use Rattle.wf_model.specs.Working.{at_start}
+use Rattle.wf_model.specs.DurableState.{DurableState, nothing_stored}
+use Rattle.wf_model.specs.VolatileState as volatile
+use Rattle.wf_model.specs.VolatileState.{at_start}
 use Rattle.wf_model.specs.Table as table
 use Rattle.wf_model.specs.declared.action.Action.TheVariants as action
 use Rattle.wf_journal.specs.Records.{AreReadOneWay, IsReadAsNone}
 use Rattle.wf_node.specs.Images.{StandsFor}
-use Rattle.wf_node.specs.Node.{Node, stored_of, working_of}
+use Rattle.wf_node.specs.Node.{Node, stored_of, volatile_of}
 use Rattle.wf_node.specs.Step.{IsStep}
 use Rattle.wf_node.specs.declared.fault.NodeFault.{NodeFault}
-use Rattle.wf_farm.specs.declared.progress.Progress.{Progress}
-use Rattle.wf_farm.specs.Delivering.{IsHanded, AreHanded, First, Next, AreHandedOut, StandAmong, StandInTurn}
-use Rattle.wf_farm.specs.Leading.{IsFresh, AreFresh, said_by}
+use Rattle.wf_farm.specs.declared.progress.PumpProgress.{PumpProgress}
+use Rattle.wf_farm.specs.Delivery.{IsHanded, AreHanded, First, Next, AreHandedOut, StandAmong, StandInTurn}
+use Rattle.wf_farm.specs.Reachability.{IsFresh, AreFresh, outputs_by}
 use Rattle.wf_farm.specs.Outcome.{is_lost, StepIsAnswered}
-use Rattle.wf_farm.specs.PlaceLaws.{get_set_same, get_set_other}
-use Rattle.wf_farm.specs.Publishing.{NoneHalted, AllPublish, PublishedOnAll, Rests}
+use Rattle.wf_farm.specs.IndexTheorems.{get_set_same, get_set_other}
+use Rattle.wf_farm.specs.Publication.{NoneHalted, AllPublish, PublishedOnAll, Rests}
 use Rattle.wf_tape.specs.declared.tape.Tape.{Ghosts as Tape}
 use Rattle.wf_career.specs.Run.{Act, Run, last_of, last, Between, IsAct, IsOpenedFrom}
-use Rattle.wf_career.specs.RunLaws.{last_more}
+use Rattle.wf_career.specs.RunTheorems.{last_more}
 use Rattle.wf_career.specs.Career.{Ended, Career, AreRuns, Item, items_of, items_by, items_in, IsOneOf, IsFarm}
-use Rattle.wf_career.specs.Laws.{said_in}
-use Rattle.wf_career.specs.Going.{with_career, left_by, left}
+use Rattle.wf_career.specs.Theorems.{outputs_in}
+use Rattle.wf_career.specs.Continuation.{with_career, left_by, left}
 use Rattle.wf_career.specs.Processes.{IsNow, AreProcesses, AreOpened, HavePublished, ThreeProcesses}
 use Rattle.wf_career.proofs.Careers.{stand_for_nothing, stand_once}
-use Rattle.wf_career.proofs.Going.{own_career, other_career, start_goes_on, step_goes_on, end_goes_on}
+use Rattle.wf_career.proofs.Continuation.{own_career, other_career, start_goes_on, step_goes_on, end_goes_on}
 
 -- ---- all of them have started
 
@@ -59,9 +59,9 @@ module _ {T : Type 0} (tapes : Tape T) where
   now_is node None at = absurd (none-some node at)
   now_is node (Some first) at = record { run = first_run first; goes_on = refl; at = same_Some first node at }
 
-  nothing_said : said_in [] ≡ []
-  unfolding said_in
-  nothing_said = refl
+  no_outputs : outputs_in [] ≡ []
+  unfolding outputs_in
+  no_outputs = refl
 
   pub all_started : (nodes : List (Node T)) → AreOpened nodes → AreProcesses tapes (length nodes) nodes []
   all_started nodes opened = record {
@@ -72,17 +72,17 @@ module _ {T : Type 0} (tapes : Tape T) where
       own = λ i less. no_items i (slice_get nodes i);
       in_turn = tt;
     };
-    said = nothing_said;
+    outputs = no_outputs;
     as_many = refl;
     now = λ i node at. now_is node (slice_get nodes i) at;
   }
 
 -- ---- one of them takes a step
 
-said_more : (items : List Item) (item : Item) → said_in (items ++ item ∷ []) ≡ said_in items ++ item.said
-unfolding said_in
-said_more [] item = append-nil item.said
-said_more (first ∷ items) item = ap (λ ms. first.said ++ ms) (said_more items item) ∙ sym (append_assoc first.said (said_in items) item.said)
+outputs_more : (items : List Item) (item : Item) → outputs_in (items ++ item ∷ []) ≡ outputs_in items ++ item.outputs
+unfolding outputs_in
+outputs_more [] item = append-nil item.outputs
+outputs_more (first ∷ items) item = ap (λ ms. first.outputs ++ ms) (outputs_more items item) ∙ sym (append_assoc first.outputs (outputs_in items) item.outputs)
 
 last_first : {T : Type 0} (node : Node T) → last (record { first = node; acts = [] }) ≡ node
 unfolding last_of
@@ -106,16 +106,16 @@ module _ {T : Type 0} (tapes : Tape T) (n : ℕ) (nodes : List (Node T)) (sent :
         subst (λ (c : Career T). IsNow c x) (sym (other_career careers i career j differs)) (elsewhere differs (sym (get_set_other nodes i j after differs) ∙ there))
   ]
 
-  pub one_acts : (act : Act T) → IsAct tapes node act → IsOneOf sent act.input → AreProcesses tapes n (slice_set nodes i act.after) (sent ++ act.said)
-  one_acts act is heard =
+  pub one_acts : (act : Act T) → IsAct tapes node act → IsOneOf sent act.input → AreProcesses tapes n (slice_set nodes i act.after) (sent ++ act.outputs)
+  one_acts act is received =
       let run = was.run in
       let career : Career T = record { ended = (are.careers i).ended; now = Some (record { first = run.first; acts = run.acts ++ act ∷ [] }) } in
       record {
         careers = with_career are.careers i career;
-        items = are.items ++ record { process = i; takes = act.input; said = act.said } ∷ [];
+        items = are.items ++ record { process = i; takes = act.input; outputs = act.outputs } ∷ [];
         farm = step_goes_on tapes n i are.careers are.items run act are.farm is_member was.goes_on (subst (λ (x : Node T). IsAct tapes x act) (sym was.at) is)
-            (subst (λ ms. IsOneOf ms act.input) (sym are.said) heard);
-        said = said_more are.items (record { process = i; takes = act.input; said = act.said }) ∙ ap (λ ms. ms ++ act.said) are.said;
+            (subst (λ ms. IsOneOf ms act.input) (sym are.outputs) received);
+        outputs = outputs_more are.items (record { process = i; takes = act.input; outputs = act.outputs }) ∙ ap (λ ms. ms ++ act.outputs) are.outputs;
         as_many = length-set nodes i act.after ∙ are.as_many;
         now = λ j x there. at_node are.careers career act.after (record { run = record { first = run.first; acts = run.acts ++ act ∷ [] }; goes_on = refl; at = last_more run.first run.acts act }) j x there
             (λ differs here. are.now j x here);
@@ -144,7 +144,7 @@ module _ {T : Type 0} (tapes : Tape T) (n : ℕ) (nodes : List (Node T)) (sent :
         items = are.items;
         farm = start_goes_on tapes n i ended_careers are.items again ended_farm is_member (ap (λ (c : Career T). c.now) own)
             (subst (λ bs. IsOpenedFrom n i bs again) (sym (ap (λ (c : Career T). left c) own ∙ left_last [] (are.careers i).ended (record { run = run; end = Between; left = bytes }))) opened);
-        said = are.said;
+        outputs = are.outputs;
         as_many = length-set nodes i again ∙ are.as_many;
         now = λ j x there. at_node ended_careers career again (record { run = record { first = again; acts = [] }; goes_on = refl; at = last_first again }) j x there
             (λ differs here. subst (λ (c : Career T). IsNow c x) (sym (other_career are.careers i ended j differs)) (are.now j x here));
@@ -162,15 +162,15 @@ module _ {T : Type 0} (tapes : Tape T) (n : ℕ) where
       IsHanded tapes i k lost nodes sent nodes_after sent_after → AreProcesses tapes n nodes_after sent_after
   handed_on i k lost nodes sent nodes_after sent_after are handed =
       subst (λ ms. AreProcesses tapes n nodes_after ms) (sym handed.sent_are)
-      (subst (λ ns. AreProcesses tapes n ns (sent ++ handed.said)) (sym handed.nodes_are)
-      (one_acts tapes n nodes sent are i handed.node handed.at (record { input = action.Deliver handed.handed; said = handed.said; after = handed.after })
+      (subst (λ ns. AreProcesses tapes n ns (sent ++ handed.outputs)) (sym handed.nodes_are)
+      (one_acts tapes n nodes sent are i handed.node handed.at (record { input = action.Deliver handed.handed; outputs = handed.outputs; after = handed.after })
       (record { lost = lost; takes = handed.takes }) (in_at handed.handed sent k handed.there)))
 
-  all_handed : (nodes : List (Node T)) (messages : List Message) (p : Progress) (lost : ℕ) (nodes_after : List (Node T)) (sent : List Message) → AreProcesses tapes n nodes messages →
+  all_handed : (nodes : List (Node T)) (messages : List Message) (p : PumpProgress) (lost : ℕ) (nodes_after : List (Node T)) (sent : List Message) → AreProcesses tapes n nodes messages →
       AreHanded tapes nodes messages p lost nodes_after sent → AreProcesses tapes n nodes_after sent
   all_handed nodes messages p lost nodes_after sent are First = are
-  all_handed nodes messages p lost nodes_after sent are (Next q count loses middle after said more before one) =
-      handed_on q.some q.whole loses middle said after more (all_handed nodes messages q count middle said are before) one
+  all_handed nodes messages p lost nodes_after sent are (Next q count loses middle after outputs more before one) =
+      handed_on q.some q.whole loses middle outputs after more (all_handed nodes messages q count middle outputs are before) one
 
 -- ---- the example
 
@@ -183,18 +183,18 @@ module _ {T : Type 0} (one : AreReadOneWay) (none : IsReadAsNone) (tapes : Tape 
   unfolding AreFresh
   fresh nodes opened = λ i node at.
       let is = opened i node at in
-      record { runs = is.runs; stored = stand_for_nothing none (stored_of node) is.stored; working = is.idle }
+      record { runs = is.runs; stored = stand_for_nothing none (stored_of node) is.stored; volatile = is.idle }
 
   -- the proposal is an act
-  proposes : (before proposed : Node T) (d : Definition) (said : Vec Message Global) → before.halted ≡ false → IsStep tapes before (table.Propose d) (Ok said) proposed →
-      IsAct tapes before (record { input = action.Propose d; said = said.items; after = proposed })
-  proposes before proposed d said runs step =
-      record { lost = false; takes = answered before proposed (table.Propose d) (Ok said) (λ halts. absurd (both_ways before.halted runs halts)) (λ is. step) }
+  proposes : (before proposed : Node T) (d : Definition) (outputs : Vec Message Global) → before.halted ≡ false → IsStep tapes before (table.Propose d) (Ok outputs) proposed →
+      IsAct tapes before (record { input = action.Propose d; outputs = outputs.items; after = proposed })
+  proposes before proposed d outputs runs step =
+      record { lost = false; takes = answered before proposed (table.Propose d) (Ok outputs) (λ halts. absurd (both_ways before.halted runs halts)) (λ is. step) }
 
   -- the one that starts again has published what it had
-  rests_idle : (node : Node T) → working_of node ≡ at_start → Rests (working_of node).proposing
+  rests_idle : (node : Node T) → volatile_of node ≡ at_start → Rests (volatile_of node).proposing
   unfolding at_start
-  rests_idle node idle = subst (λ (w : working.Working Definition). Rests w.proposing) (sym idle) tt
+  rests_idle node idle = subst (λ (w : volatile.VolatileState Definition). Rests w.proposing) (sym idle) tt
 
   still_published : (after : List (Node T)) (k : ℕ) (stopped again : Node T) (d : Definition) (bytes : List ℕ) → AllPublish after d → slice_get after k ≡ Some stopped → StandsFor (stored_of stopped) bytes →
       IsOpenedFrom 3 k bytes again → AllPublish (slice_set after k again) d
@@ -203,9 +203,9 @@ module _ {T : Type 0} (one : AreReadOneWay) (none : IsReadAsNone) (tapes : Tape 
     | inl same ↦
         let it : again ≡ node = get_set_same after k again stopped node at (subst (λ m. slice_get (slice_set after k again) m ≡ Some node) same there) in
         let stored : stored_of again ≡ stored_of stopped = stand_once one (stored_of stopped) bytes stands (stored_of again) opened.stored in
-        let here : (again.parts.history ≡ d ∷ []) × Rests (working_of again).proposing =
-        (ap (λ (s : Stored Definition). s.history) stored ∙ (all k stopped at).0, rests_idle again opened.idle) in
-        subst (λ (x : Node T). (x.parts.history ≡ d ∷ []) × Rests (working_of x).proposing) it here
+        let here : (again.parts.history ≡ d ∷ []) × Rests (volatile_of again).proposing =
+        (ap (λ (s : DurableState Definition). s.history) stored ∙ (all k stopped at).0, rests_idle again opened.idle) in
+        subst (λ (x : Node T). (x.parts.history ≡ d ∷ []) × Rests (volatile_of x).proposing) it here
     | inr differs ↦ all j node (sym (get_set_other after k j again differs) ∙ there)
   ]
 
@@ -214,13 +214,13 @@ module _ {T : Type 0} (one : AreReadOneWay) (none : IsReadAsNone) (tapes : Tape 
   none_halted after k stopped runs at = runs k stopped at
 
   pub three_processes : ThreeProcesses tapes
-  three_processes = λ nodes after i k before proposed stopped again d said done bytes three opened at step handed runs there stands reopened.
+  three_processes = λ nodes after i k before proposed stopped again d outputs done bytes three opened at step handed runs there stands reopened.
       let is_opened = opened i before at in
       let start : AreProcesses tapes 3 nodes [] = subst (λ m. AreProcesses tapes m nodes []) three (all_started tapes nodes opened) in
-      let proposal : AreProcesses tapes 3 (slice_set nodes i proposed) said.items =
-      one_acts tapes 3 nodes [] start i before at (record { input = action.Propose d; said = said.items; after = proposed }) (proposes before proposed d said is_opened.runs step) tt in
-      let delivered : AreProcesses tapes 3 after handed.sent = all_handed tapes 3 (slice_set nodes i proposed) said.items handed.come 0 after handed.sent proposal handed.handed in
-      let all = published nodes after i before proposed d said done three (in_turn nodes opened) (fresh nodes opened) at step handed runs in
+      let proposal : AreProcesses tapes 3 (slice_set nodes i proposed) outputs.items =
+      one_acts tapes 3 nodes [] start i before at (record { input = action.Propose d; outputs = outputs.items; after = proposed }) (proposes before proposed d outputs is_opened.runs step) tt in
+      let delivered : AreProcesses tapes 3 after handed.sent = all_handed tapes 3 (slice_set nodes i proposed) outputs.items handed.come 0 after handed.sent proposal handed.handed in
+      let all = published nodes after i before proposed d outputs done three (in_turn nodes opened) (fresh nodes opened) at step handed runs in
       record {
         sent = handed.sent;
         processes = one_restarts tapes 3 after handed.sent delivered k stopped there bytes again (none_halted after k stopped runs there) stands reopened;

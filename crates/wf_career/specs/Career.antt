@@ -58,7 +58,7 @@ values career = values_of career.ended career.now
 pub record Item : Type 0 where
   pub process : ℕ
   pub takes : Input
-  pub said : List Message
+  pub outputs : List Message
 
 -- the items of one process, in their order
 unfoldable pub items_of : ℕ → List Item → List Item
@@ -68,11 +68,11 @@ items_of i (item ∷ items) = if item.process == i then item ∷ items_of i item
 -- the items of a process's runs
 unfoldable pub items_by : {T : Type 0} → ℕ → List (Act T) → List Item
 items_by i [] = []
-items_by i (act ∷ acts) = record { process = i; takes = act.input; said = act.said } ∷ items_by i acts
+items_by i (act ∷ acts) = record { process = i; takes = act.input; outputs = act.outputs } ∷ items_by i acts
 
 abbrev pub items_at : ℕ → End → List Item
 items_at i Between = []
-items_at i (Within input) = record { process = i; takes = input; said = [] } ∷ []
+items_at i (Within input) = record { process = i; takes = input; outputs = [] } ∷ []
 items_at i (Failed input) = []
 
 unfoldable pub items_in : {T : Type 0} → ℕ → List (Ended T) → Option (Run T) → List Item
@@ -90,7 +90,7 @@ IsOneOf sent (action.Deliver message) = IsIn message sent
 -- Each item is of one of the n processes, and a message that it delivers is one of these or of those that earlier items returned.
 abbrev pub AreInTurn : ℕ → List Message → List Item → Type 0
 AreInTurn n sent [] = ⊤
-AreInTurn n sent (item ∷ items) = (item.process < n) × IsOneOf sent item.takes × AreInTurn n (sent ++ item.said) items
+AreInTurn n sent (item ∷ items) = (item.process < n) × IsOneOf sent item.takes × AreInTurn n (sent ++ item.outputs) items
 
 -- n processes, which nothing but messages connects. There is one order of time of their steps, in which each message that is delivered
 -- was returned earlier, by any of them.

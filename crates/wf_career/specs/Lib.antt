@@ -1,8 +1,8 @@
 pub mod Run
-pub mod RunLaws
+pub mod RunTheorems
 pub mod Career
-pub mod Laws
+pub mod Theorems
 pub mod Replica
-pub mod Going
-pub mod Leaving
+pub mod Continuation
+pub mod CrashImages
 pub mod Processes

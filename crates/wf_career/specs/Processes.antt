@@ -8,12 +8,12 @@ use Rattle.wf_model.specs.Table as table
 use Rattle.wf_node.specs.Images.{StandsFor}
 use Rattle.wf_node.specs.Node.{Node, stored_of}
 use Rattle.wf_node.specs.Step.{IsStep}
-use Rattle.wf_farm.specs.Delivering.{AreHandedOut, StandInTurn}
-use Rattle.wf_farm.specs.Publishing.{NoneHalted, AllPublish}
+use Rattle.wf_farm.specs.Delivery.{AreHandedOut, StandInTurn}
+use Rattle.wf_farm.specs.Publication.{NoneHalted, AllPublish}
 use Rattle.wf_tape.specs.declared.tape.Tape.{Ghosts as Tape}
 use Rattle.wf_career.specs.Run.{Run, last, IsOpenedFrom}
 use Rattle.wf_career.specs.Career.{Career, Item, IsFarm}
-use Rattle.wf_career.specs.Laws.{said_in}
+use Rattle.wf_career.specs.Theorems.{outputs_in}
 
 -- the process runs, and its node is this one now
 pub record IsNow {T : Type 0} (career : Career T) (node : Node T) : Type 0 where
@@ -26,7 +26,7 @@ pub record AreProcesses {T : Type 0} (tapes : Tape T) (n : ℕ) (nodes : List (N
   pub careers : ℕ → Career T
   pub items : List Item
   pub farm : IsFarm tapes n careers items
-  pub said : said_in items ≡ sent
+  pub outputs : outputs_in items ≡ sent
   pub as_many : length nodes ≡ n
   pub now : (i : ℕ) (node : Node T) → slice_get nodes i ≡ Some node → IsNow (careers i) node
 
@@ -43,7 +43,7 @@ pub record HavePublished {T : Type 0} (tapes : Tape T) (nodes : List (Node T)) (
 -- One of three processes proposed a map, the messages were delivered to all until none was left, and no delivery was lost. Then one was
 -- opened again, from bytes that stand for what it had stored.
 abbrev pub ThreeProcesses : {T : Type 0} → Tape T → Type 0
-ThreeProcesses {T} tapes = (nodes after : List (Node T)) (i k : ℕ) (before proposed stopped again : Node T) (d : Definition) (said : Vec Message Global) (done : ℕ) (left : List ℕ) →
-    length nodes ≡ 3 → AreOpened nodes → slice_get nodes i ≡ Some before → IsStep tapes before (table.Propose d) (Ok said) proposed →
-    AreHandedOut tapes (slice_set nodes i proposed) said.items done 0 false after → NoneHalted after →
+ThreeProcesses {T} tapes = (nodes after : List (Node T)) (i k : ℕ) (before proposed stopped again : Node T) (d : Definition) (outputs : Vec Message Global) (done : ℕ) (left : List ℕ) →
+    length nodes ≡ 3 → AreOpened nodes → slice_get nodes i ≡ Some before → IsStep tapes before (table.Propose d) (Ok outputs) proposed →
+    AreHandedOut tapes (slice_set nodes i proposed) outputs.items done 0 false after → NoneHalted after →
     slice_get after k ≡ Some stopped → StandsFor (stored_of stopped) left → IsOpenedFrom 3 k left again → HavePublished tapes (slice_set after k again) d

@@ -4,24 +4,24 @@ use Rattle.wf_def.specs.Definition.{Definition}
 use Rattle.wf_learner.specs.History.{next_of, with_chosen}
 use Rattle.wf_model.specs.Chosen.{IsIn}
 use Rattle.wf_model.specs.Message.{Message, Prepare, Promise, Accept, Accepted, Nack, Chosen, Ask}
-use Rattle.wf_model.specs.Stored.{definition_at}
-use Rattle.wf_model.specs.Table.{told_from, most_told}
+use Rattle.wf_model.specs.DurableState.{definition_at}
+use Rattle.wf_model.specs.Table.{reports_from, most_reports}
 use Rattle.wf_node.specs.Node.{Node}
-use Rattle.wf_law.specs.Laws.{IsBeginning}
+use Rattle.wf_safety.specs.Theorems.{IsBeginning}
 use Rattle.wf_tape.specs.declared.tape.Tape.{Ghosts as Tape}
 use Rattle.wf_wms.specs.Answer.{AnswerValue, AsksForMap, IsAnswerOf}
 use Rattle.wf_career.specs.Career.{Career, Item, IsFarm}
-use Rattle.wf_career.specs.Laws.{IsHeld}
+use Rattle.wf_career.specs.Theorems.{IsHeld}
 
 -- the list of a replica after it has heard a message: one more if the message says what is chosen under the next sequence
-abbrev pub after_hearing : List Definition → Message Definition → List Definition
-after_hearing list (Chosen s d) = with_chosen list s d
-after_hearing list (Prepare s b) = list
-after_hearing list (Promise i s b votes) = list
-after_hearing list (Accept s b d) = list
-after_hearing list (Accepted i s b) = list
-after_hearing list (Nack i s b promise) = list
-after_hearing list (Ask s) = list
+abbrev pub after_learning : List Definition → Message Definition → List Definition
+after_learning list (Chosen s d) = with_chosen list s d
+after_learning list (Prepare s b) = list
+after_learning list (Promise i s b votes) = list
+after_learning list (Accept s b d) = list
+after_learning list (Accepted i s b) = list
+after_learning list (Nack i s b promise) = list
+after_learning list (Ask s) = list
 
 -- the message says what is chosen under the next sequence
 abbrev pub IsNews : List Definition → Message Definition → Type 0
@@ -34,13 +34,13 @@ IsNews list (Nack i s b promise) = ⊥
 IsNews list (Ask s) = ⊥
 
 -- The lists that the processes of a farm, and any replicas of it, ever have: what a node has published at some moment; the empty list of a
--- replica that is new, or has lost its list; and what a replica has after it has heard one of the messages by which such a list answers
--- the question for what is chosen from some sequence on. The message may have come late, repeatedly or out of order.
+-- replica that is new, or has lost its list; and what a replica has after it has heard one of the messages by which such a list
+-- answers the question for what is chosen from some sequence on. The message may have come late, repeatedly or out of order.
 pub data IsServed {T : Type 0} (n : ℕ) (careers : ℕ → Career T) : List Definition → Type 0 where
   OfNode : (list : List Definition) (node : Node T) → IsHeld n careers node → list ≡ node.parts.history → IsServed n careers list
   Empty : (list : List Definition) → list ≡ [] → IsServed n careers list
-  Learned : (before source list : List Definition) (asked : ℕ) (heard : Message Definition) → IsServed n careers before → IsServed n careers source →
-      IsIn heard (told_from source asked most_told) → list ≡ after_hearing before heard → IsServed n careers list
+  Learned : (before source list : List Definition) (asked : ℕ) (received : Message Definition) → IsServed n careers before → IsServed n careers source →
+      IsIn received (reports_from source asked most_reports) → list ≡ after_learning before received → IsServed n careers list
 
 -- There is one history, and each of these lists is a beginning of it.
 pub record HasOneServed {T : Type 0} (n : ℕ) (careers : ℕ → Career T) : Type 0 where

@@ -2,14 +2,14 @@
 use Rattle.std.specs.Prelude.{◌≡◌, ◌⊎◌, ℕ, Bool, true, false, ⊤, List, [], ◌∷◌, ◌++◌, None}
 use Rattle.wf_codec.specs.declared.message.Message.{Message}
 use Rattle.wf_def.specs.Definition.{Definition}
-use Rattle.wf_model.specs.Working.{at_start}
+use Rattle.wf_model.specs.VolatileState.{at_start}
 use Rattle.wf_model.specs.declared.action.Action.{Action}
 use Rattle.wf_model.specs.declared.action.Action.TheVariants as action
 use Rattle.wf_node.specs.Images.{StandsFor}
 use Rattle.wf_node.specs.Input.{view}
-use Rattle.wf_node.specs.Node.{Node, stored_of, working_of}
-use Rattle.wf_node.specs.Step.{refusal_at, stored_next}
-use Rattle.wf_farm.specs.Giving.{Takes}
+use Rattle.wf_node.specs.Node.{Node, stored_of, volatile_of}
+use Rattle.wf_node.specs.Step.{step_rejection_at, stored_next}
+use Rattle.wf_farm.specs.NodeInput.{Takes}
 use Rattle.wf_tape.specs.declared.tape.Tape.{Ghosts as Tape}
 
 -- an input of a node's step; that of a delivery has the message
@@ -19,7 +19,7 @@ Input = Action Definition Message
 -- a call of a node's step: its input, the messages that it returned, and the node after it
 pub record Act (T : Type 0) : Type 0 where
   pub input : Input
-  pub said : List Message
+  pub outputs : List Message
   pub after : Node T
 
 -- a run up to some moment: the node as it was opened, and its calls since then
@@ -42,7 +42,7 @@ pub record IsOpenedFrom {T : Type 0} (n i : ℕ) (bytes : List ℕ) (node : Node
   pub among : node.n ≡ n
   pub runs : node.halted ≡ false
   pub stored : StandsFor (stored_of node) bytes
-  pub idle : working_of node ≡ at_start
+  pub idle : volatile_of node ≡ at_start
 
 -- the messages that were delivered, and those that were returned
 abbrev pub given_to : Input → List Message
@@ -55,9 +55,9 @@ unfoldable pub given : {T : Type 0} → List (Act T) → List Message
 given [] = []
 given (act ∷ acts) = given_to act.input ++ given acts
 
-unfoldable pub said : {T : Type 0} → List (Act T) → List Message
-said [] = []
-said (act ∷ acts) = act.said ++ said acts
+unfoldable pub outputs : {T : Type 0} → List (Act T) → List Message
+outputs [] = []
+outputs (act ∷ acts) = act.outputs ++ outputs acts
 
 -- How a run ended: between two steps; within the step of an input; or after its tape had failed within the step of an input.
 pub data End : Type 0 where
@@ -68,7 +68,7 @@ pub data End : Type 0 where
 -- The bytes stand for what the node has stored; or for what it has stored after this input's step, if the table doesn't reject that.
 abbrev pub StandForEither : {T : Type 0} → Node T → Input → List ℕ → Type 0
 StandForEither node input bytes =
-    StandsFor (stored_of node) bytes ⊎ ((refusal_at node (view input) ≡ None) × StandsFor (stored_next node (view input)) bytes)
+    StandsFor (stored_of node) bytes ⊎ ((step_rejection_at node (view input) ≡ None) × StandsFor (stored_next node (view input)) bytes)
 
 -- The tape failed within the step of this input: the node ran before it, and is halted after it.
 abbrev pub FailedAt : {T : Type 0} → Node T → List (Act T) → Input → Type 0
@@ -82,16 +82,16 @@ HasLeft run (Within input) bytes = ((last run).halted ≡ false) × StandForEith
 HasLeft run (Failed input) bytes = FailedAt run.first run.acts input × StandForEither (last run) input bytes
 
 module _ {T : Type 0} (tapes : Tape T) where
-  -- The node was opened from this tape: from what was read of it, which is its content if it is honest.
+  -- The node was opened from this tape: from what was read of it, which is its content if it is durable.
   pub record IsOpened (n i : ℕ) (tape : T) (node : Node T) : Type 0 where
     pub bytes : List ℕ
     pub opened : IsOpenedFrom n i bytes node
-    pub same : tapes.honest → bytes ≡ tapes.content tape
+    pub same : tapes.durable → bytes ≡ tapes.content tape
 
   -- The node did what its step promises: its input had its effect or was rejected, its tape failed, or an allocation did.
   pub record IsAct (before : Node T) (act : Act T) : Type 0 where
     pub lost : Bool
-    pub takes : Takes tapes lost (view act.input) before act.after act.said
+    pub takes : Takes tapes lost (view act.input) before act.after act.outputs
 
   abbrev pub AreDone : Node T → List (Act T) → Type 0
   AreDone before [] = ⊤

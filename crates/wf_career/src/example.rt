@@ -13,7 +13,7 @@ use wf_node::Node;
 use wf_tape::{MemoryTape, Tape};
 
 /// Node `id` of `n` on an empty tape in memory, as the first run of its process begins. Err if an allocation fails.
-#[tactic(auto, using(crate::proofs::Opening::first_run))]
+#[tactic(auto, using(crate::proofs::Start::first_run))]
 pub fn open_first(alloc: Global, id: NodeId, n: u8) -> Result<Node<MemoryTape>, AllocError>
     requires nodes { n ≤ 64 }
     requires member { id < n }
@@ -33,7 +33,7 @@ pub fn open_first(alloc: Global, id: NodeId, n: u8) -> Result<Node<MemoryTape>, 
 pub fn three_processes_publish<T: Tape>()
     ensures { ThreeProcesses T.Tape }
 {
-    // A tape stands for one stored part; a step is answered; and what one of three new nodes proposes, all publish.
+    // A tape stands for one durable state; a step is answered; and what one of three new nodes proposes, all publish.
     records_are_read_one_way();
     a_step_is_answered::<T>();
     a_proposal_is_published::<T>();

@@ -22,7 +22,7 @@ impl Model for Replica {
 impl Replica {
     ghost use Rattle.std.specs.Prelude.{◌≡◌, ◌<◌, ◌↔◌, [], length, IfOk, IfSome, IsSome, OnErr, OnOk};
     ghost use Rattle.wf_ballot.specs.Sequence.{last_sequence};
-    ghost use Rattle.wf_career.specs.Replica.{after_hearing, IsNews};
+    ghost use Rattle.wf_career.specs.Replica.{after_learning, IsNews};
     ghost use Rattle.wf_codec.specs.Message.{view};
     ghost use Rattle.wf_learner.specs.History.{next_of};
     ghost use Rattle.wf_model.specs.Message.{Ask};
@@ -54,9 +54,9 @@ impl Replica {
 
     /// Learns what the message says: a definition that is chosen for the next sequence is published; any other message changes nothing. An
     /// allocation failure changes nothing either, and comes only of such a definition.
-    pub fn hear(&mut self, message: Message) -> Result<(), AllocError>
-        ensures heard { OnOk result
-            (self.new.definitions ≡ after_hearing self.old.definitions (view message)) }
+    pub fn receive(&mut self, message: Message) -> Result<(), AllocError>
+        ensures received { OnOk result
+            (self.new.definitions ≡ after_learning self.old.definitions (view message)) }
         ensures err { OnErr result (self.new ≡ self.old) }
         ensures memory { OnErr result (IsNews self.old.definitions (view message)) }
     {

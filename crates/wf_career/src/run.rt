@@ -2,12 +2,12 @@
 
 ghost use Rattle.std.specs.Prelude.{◌≡◌, ◌<◌, ◌≤◌, true, false, Err, IfOk};
 ghost use Rattle.wf_career.specs.Run.{IsAct, IsOpened};
-ghost use Rattle.wf_farm.specs.Giving.{Takes};
-ghost use Rattle.wf_farm.specs.Leading.{said_by};
+ghost use Rattle.wf_farm.specs.NodeInput.{Takes};
+ghost use Rattle.wf_farm.specs.Reachability.{outputs_by};
 ghost use Rattle.wf_farm.specs.Outcome.{is_lost};
-ghost use Rattle.wf_node.specs.Fault.{refused_by};
+ghost use Rattle.wf_node.specs.Fault.{rejected_by};
 ghost use Rattle.wf_node.specs.Input.{view};
-ghost use Rattle.wf_node.specs.Step.{refusal_at, TakesMemory};
+ghost use Rattle.wf_node.specs.Step.{step_rejection_at, TakesMemory};
 
 use std::alloc::Global;
 use wf_ballot::NodeId;
@@ -35,12 +35,12 @@ pub fn act<T: Tape>(
     input: Input,
 ) -> Result<Vec<Message>, NodeFault>
     ensures act { IsAct T.Tape node.old
-        (record { input = input; said = said_by result; after = node.new }) }
+        (record { input = input; outputs = outputs_by result; after = node.new }) }
     ensures takes { Takes T.Tape (is_lost result) (view input) node.old node.new
-        (said_by result) }
+        (outputs_by result) }
     ensures halted { node.old.halted ≡ true → result ≡ Err NodeFault.Halted }
     ensures refused { node.old.halted ≡ false →
-        refused_by result ≡ refusal_at node.old (view input) }
+        rejected_by result ≡ step_rejection_at node.old (view input) }
     ensures memory { result ≡ Err NodeFault.Memory → TakesMemory node.old (view input) }
 {
     // The theorem: what a step promises is one of the things that a node does with an input.

@@ -1,7 +1,7 @@
 -- From the text of a report to what it begins with.
 use Rattle.std.proofs.Common.{◌≡◌, ◌∙◌, ◌+◌, ℕ, List, ap}
 use Rattle.wf_check.specs.Finding.{IsReport, headed}
-use Rattle.wf_check.specs.Line.{characters}
+use Rattle.wf_check.specs.NumberedLine.{characters}
 use Rattle.wf_check.specs.declared.finding.Finding.{Finding}
 
 pub reported : (finding : Finding) (text rest : List ℕ) (number column : ℕ) → number ≡ finding.line.number → column ≡ characters finding.line.before.now + 1

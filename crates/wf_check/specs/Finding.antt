@@ -1,6 +1,6 @@
 -- What is found in a file that isn't a map to publish, and where.
 use Rattle.std.specs.Prelude.{◌≡◌, ℕ, ◌+◌, ◌++◌, ◌<◌, ◌≤◌, false, codes, decimal, List, length, min, take, drop, Option, Some, None, IfSome}
-use Rattle.wf_block.specs.Reading.{is_memory}
+use Rattle.wf_block.specs.ReadContract.{is_memory}
 use Rattle.wf_block.specs.declared.fault.MapFault.{MapFault}
 use Rattle.wf_block.specs.declared.fault.MapFault.TheVariants as faults
 use Rattle.wf_def.specs.Definition.{Definition}
@@ -8,11 +8,11 @@ use Rattle.wf_mapfile.specs.Meaning.{Means, longest_mapfile}
 use Rattle.wf_mapfile.specs.Rejection.{HasError}
 use Rattle.wf_spelling.specs.Canon.{canon, most_canon_bytes}
 use Rattle.wf_token.specs.Token.{without_mark}
-use Rattle.wf_check.specs.Line.{characters, first_line, last_line, line_number}
+use Rattle.wf_check.specs.NumberedLine.{characters, first_line, last_line, line_number}
 use Rattle.wf_check.specs.declared.fault.CheckFault.{CheckFault}
 use Rattle.wf_check.specs.declared.fault.CheckFault.TheVariants.{Map, TooBig}
 use Rattle.wf_check.specs.declared.finding.Finding.{Finding}
-use Rattle.wf_check.specs.declared.line.Line.{Line}
+use Rattle.wf_check.specs.declared.line.NumberedLine.{NumberedLine}
 
 -- the bytes mean a map whose canonical text is within the limit
 abbrev pub IsPublishable : List ℕ → Type 0
@@ -48,7 +48,7 @@ IsOffsetOf bytes (Map fault) offset = IfSome (offset_of fault) (λ o. offset ≡
 IsOffsetOf bytes TooBig offset = offset ≤ length bytes
 
 -- The line is that of the offset, cut there: its number, its bytes before and its bytes after.
-pub record IsLineOf (bytes : List ℕ) (offset : ℕ) (line : Line) : Type 0 where
+pub record IsLineOf (bytes : List ℕ) (offset : ℕ) (line : NumberedLine) : Type 0 where
   pub number : line.number ≡ line_number (take offset bytes)
   pub before : line.before.now ≡ last_line (without_mark (take offset bytes))
   pub after : line.after.now ≡ first_line (drop offset bytes)

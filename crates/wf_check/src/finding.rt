@@ -4,7 +4,7 @@ use crate::block::Block;
 use crate::expected::Expected;
 use crate::fault::CheckFault;
 use crate::limit::Limit;
-use crate::line::Line;
+use crate::line::NumberedLine;
 use crate::walk::Missing;
 use wf_token::token::Token;
 
@@ -21,7 +21,7 @@ pub enum Opening {
 
 /// What was found.
 #[derive(Clone, Copy)]
-pub enum Found<'a> {
+pub enum FoundText<'a> {
     /// So many bytes in the file.
     FileBytes(usize),
     /// A byte that isn't UTF-8.
@@ -52,7 +52,7 @@ pub enum Found<'a> {
 
 /// What is allowed.
 #[derive(Clone, Copy)]
-pub enum Allowed {
+pub enum AllowedText {
     /// A file of at most that many bytes.
     FileBytes,
     /// UTF-8.
@@ -90,9 +90,9 @@ pub struct Finding<'a> {
     /// The byte offset that the line and the column are of.
     pub offset: usize,
     /// The line, cut at the offset.
-    pub line: Line<'a>,
+    pub line: NumberedLine<'a>,
     /// What was found there.
-    pub found: Found<'a>,
+    pub found: FoundText<'a>,
     /// What is allowed there.
-    pub allowed: Allowed,
+    pub allowed: AllowedText,
 }

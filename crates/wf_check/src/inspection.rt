@@ -5,9 +5,9 @@ ghost use Rattle.wf_spelling.specs.Canon.{canon, most_canon_bytes};
 
 use crate::fault::CheckFault;
 use crate::finding::Finding;
-use crate::line::Line;
+use crate::line::NumberedLine;
 use crate::reason::{Reason, reason_of, too_big};
-use crate::size::{Size, measure};
+use crate::size::{TextSize, measure};
 use std::alloc::{AllocError, Global};
 use wf_block::fault::MapFault;
 use wf_def::map::MapDef;
@@ -41,7 +41,7 @@ pub fn no_map_with_an_error_is_publishable()
 {}
 
 /// The size of a map's canonical text, if it is over the limit.
-fn size_over(alloc: Global, map: &MapDef) -> Result<Option<Size>, AllocError>
+fn size_over(alloc: Global, map: &MapDef) -> Result<Option<TextSize>, AllocError>
     ensures fine { IfOk result
         (λ over. IfNone over (length (canon map.now) ≤ most_canon_bytes)) }
     ensures big { IfOk result
@@ -58,7 +58,11 @@ fn size_over(alloc: Global, map: &MapDef) -> Result<Option<Size>, AllocError>
 }
 
 /// The finding for a map whose canonical text is too long.
-fn finding_of_map<'a>(alloc: Global, bytes: &'a [u8], size: Size) -> Result<Finding<'a>, AllocError>
+fn finding_of_map<'a>(
+    alloc: Global,
+    bytes: &'a [u8],
+    size: TextSize,
+) -> Result<Finding<'a>, AllocError>
     requires { IsWhy bytes.now CheckFault.TooBig }
     ensures { IfOk result (IsFinding bytes.now) }
 {
@@ -95,7 +99,7 @@ fn finding<'a>(bytes: &'a [u8], fault: CheckFault, offset: usize, reason: Reason
     Finding {
         fault,
         offset,
-        line: Line::at(bytes, offset),
+        line: NumberedLine::at(bytes, offset),
         found,
         allowed,
     }

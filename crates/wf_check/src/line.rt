@@ -1,7 +1,7 @@
 //! The line of a file in which a byte offset stands.
 ghost use Rattle.std.specs.Prelude.{◌≡◌, ◌+◌, ◌≤◌, drop, length, take};
 ghost use Rattle.std.specs.List.{count_by, prefix_len, suffix_len};
-ghost use Rattle.wf_check.specs.Line.{characters, first_line, is_feed, last_line, line_number, starts_character, stays_in_line};
+ghost use Rattle.wf_check.specs.NumberedLine.{characters, first_line, is_feed, last_line, line_number, starts_character, stays_in_line};
 ghost use Rattle.wf_token.specs.Token.{without_mark};
 
 /// U+FEFF in UTF-8, which may stand at the front of a file and is shown by no editor.
@@ -9,7 +9,7 @@ const BYTE_ORDER_MARK: [u8; 3] = [0xEF, 0xBB, 0xBF];
 
 /// The line in which a byte offset stands, cut there.
 #[derive(Clone, Copy)]
-pub struct Line<'a> {
+pub struct NumberedLine<'a> {
     /// Its number, from 1.
     pub number: usize,
     /// Its bytes before the offset, without a byte order mark at the front of the file.
@@ -18,7 +18,7 @@ pub struct Line<'a> {
     pub after: &'a [u8],
 }
 
-impl<'a> Line<'a> {
+impl<'a> NumberedLine<'a> {
     /// The line of this offset in a file.
     pub fn at(bytes: &'a [u8], offset: usize) -> Self
         requires { offset ≤ length bytes.now }
@@ -27,7 +27,7 @@ impl<'a> Line<'a> {
         ensures after { result.after.now ≡ first_line (drop offset bytes.now) }
     {
         let (before, after) = bytes.split_at(offset);
-        Line {
+        NumberedLine {
             number: line_number(before),
             before: last_line(without_mark(before)),
             after: first_line(after),
@@ -42,21 +42,21 @@ impl<'a> Line<'a> {
     }
 }
 
-#[tactic(auto, unfolding(crate::specs::Line::is_feed))]
+#[tactic(auto, unfolding(crate::specs::NumberedLine::is_feed))]
 fn is_feed(byte: u8) -> bool
     ensures { result ≡ is_feed byte }
 {
     byte == b'\n'
 }
 
-#[tactic(auto, unfolding(crate::specs::Line::starts_character))]
+#[tactic(auto, unfolding(crate::specs::NumberedLine::starts_character))]
 fn starts_character(byte: u8) -> bool
     ensures { result ≡ starts_character byte }
 {
     !(128 <= byte && byte < 192)
 }
 
-#[tactic(auto, unfolding(crate::specs::Line::stays_in_line))]
+#[tactic(auto, unfolding(crate::specs::NumberedLine::stays_in_line))]
 fn stays_in_line(byte: u8) -> bool
     ensures { result ≡ stays_in_line byte }
 {
@@ -64,7 +64,7 @@ fn stays_in_line(byte: u8) -> bool
 }
 
 /// The number of the line that follows these bytes.
-#[tactic(auto, unfolding(crate::specs::Line::line_number))]
+#[tactic(auto, unfolding(crate::specs::NumberedLine::line_number))]
 fn line_number(before: &[u8]) -> usize
     ensures { result ≡ line_number before.now }
 {
@@ -78,7 +78,7 @@ fn line_number(before: &[u8]) -> usize
 }
 
 /// The number of characters.
-#[tactic(auto, unfolding(crate::specs::Line::characters))]
+#[tactic(auto, unfolding(crate::specs::NumberedLine::characters))]
 fn characters(bytes: &[u8]) -> usize
     ensures value { result ≡ characters bytes.now }
     ensures most { result ≤ length bytes.now }
@@ -116,7 +116,7 @@ fn head_length(after: &[u8]) -> usize
 }
 
 /// The bytes after the last line feed.
-#[tactic(auto, unfolding(crate::specs::Line::last_line))]
+#[tactic(auto, unfolding(crate::specs::NumberedLine::last_line))]
 fn last_line(before: &[u8]) -> &[u8]
     ensures { result.now ≡ last_line before.now }
 {
@@ -124,7 +124,7 @@ fn last_line(before: &[u8]) -> &[u8]
 }
 
 /// The bytes before the first line feed.
-#[tactic(auto, unfolding(crate::specs::Line::first_line))]
+#[tactic(auto, unfolding(crate::specs::NumberedLine::first_line))]
 fn first_line(after: &[u8]) -> &[u8]
     ensures { result.now ≡ first_line after.now }
 {

@@ -2,7 +2,7 @@
 
 use crate::block::{Block, Takes};
 use crate::expected::Expected;
-use crate::finding::{Allowed, Found, Opening};
+use crate::finding::{AllowedText, FoundText, Opening};
 use crate::limit::Limit;
 use crate::line::line_of;
 use crate::walk::{Item, Walk};
@@ -17,8 +17,8 @@ use wf_token::token::Token;
 pub(crate) struct Reason<'a> {
     /// The byte offset. If the error has one, it is the same.
     pub(crate) offset: usize,
-    pub(crate) found: Found<'a>,
-    pub(crate) allowed: Allowed,
+    pub(crate) found: FoundText<'a>,
+    pub(crate) allowed: AllowedText,
 }
 
 /// Why the reader rejects the bytes with an error.
@@ -30,8 +30,8 @@ pub(crate) fn reason_of<'a>(
     match fault {
         MapFault::TooLong => Ok(Reason {
             offset: 0,
-            found: Found::FileBytes(bytes.len()),
-            allowed: Allowed::FileBytes,
+            found: FoundText::FileBytes(bytes.len()),
+            allowed: AllowedText::FileBytes,
         }),
         MapFault::NotUtf8(offset) => Ok(not_utf8(bytes, offset)),
         MapFault::BadToken(offset) => Ok(bad_token(bytes, offset)),
@@ -59,8 +59,8 @@ pub(crate) fn too_big<'a>(
     drop(lexed);
     Ok(Reason {
         offset: offset.unwrap_or(bytes.len()),
-        found: Found::CanonBytes(count),
-        allowed: Allowed::CanonBytes,
+        found: FoundText::CanonBytes(count),
+        allowed: AllowedText::CanonBytes,
     })
 }
 
@@ -70,7 +70,7 @@ fn offset_of_item(tokens: &[Token<'_>], item: Item) -> Option<usize> {
     for token in tokens {
         walk.step(*token);
         if walk.is_at(item) {
-            return Some(token.place);
+            return Some(token.byte_offset);
         }
     }
     None
@@ -84,13 +84,13 @@ fn rest(bytes: &[u8], offset: usize) -> &[u8] {
 /// Why a byte isn't UTF-8.
 fn not_utf8(bytes: &[u8], offset: usize) -> Reason<'_> {
     let found = match rest(bytes, offset).first() {
-        Some(byte) => Found::BadByte(*byte),
-        None => Found::EndOfFile,
+        Some(byte) => FoundText::BadByte(*byte),
+        None => FoundText::EndOfFile,
     };
     Reason {
         offset,
         found,
-        allowed: Allowed::Utf8,
+        allowed: AllowedText::Utf8,
     }
 }
 
@@ -111,7 +111,7 @@ fn begins_comment(bytes: &[u8]) -> bool {
 fn bad_token(bytes: &[u8], offset: usize) -> Reason<'_> {
     let rest = rest(bytes, offset);
     let (found, allowed) = match first_character(rest) {
-        None => (Found::EndOfFile, Allowed::Nowhere),
+        None => (FoundText::EndOfFile, AllowedText::Nowhere),
         Some(character) => bad_character(character, begins_comment(rest)),
     };
     Reason {
@@ -122,25 +122,28 @@ fn bad_token(bytes: &[u8], offset: usize) -> Reason<'_> {
 }
 
 /// Why no token may begin or go on with a character.
-fn bad_character<'a>(character: char, is_comment: bool) -> (Found<'a>, Allowed) {
+fn bad_character<'a>(character: char, is_comment: bool) -> (FoundText<'a>, AllowedText) {
     if is_comment {
         return open(Opening::Comment);
     }
     match character {
         '"' | '\'' => open(Opening::Text),
         '{' => open(Opening::List),
-        '\n' | '\r' => (Found::Character(character), Allowed::Closed(Opening::List)),
-        '(' | ')' | '[' | ']' | '}' => (Found::Character(character), Allowed::Quoted),
+        '\n' | '\r' => (
+            FoundText::Character(character),
+            AllowedText::Closed(Opening::List),
+        ),
+        '(' | ')' | '[' | ']' | '}' => (FoundText::Character(character), AllowedText::Quoted),
         _ if character > '\u{7f}' && character != '\u{FFFE}' && character != '\u{FFFF}' => {
-            (Found::Character(character), Allowed::Quoted)
+            (FoundText::Character(character), AllowedText::Quoted)
         }
-        _ => (Found::Character(character), Allowed::Nowhere),
+        _ => (FoundText::Character(character), AllowedText::Nowhere),
     }
 }
 
 /// Something that isn't closed.
-fn open<'a>(opening: Opening) -> (Found<'a>, Allowed) {
-    (Found::Open(opening), Allowed::Closed(opening))
+fn open<'a>(opening: Opening) -> (FoundText<'a>, AllowedText) {
+    (FoundText::Open(opening), AllowedText::Closed(opening))
 }
 
 /// Why a token, or what is missing, is rejected.
@@ -150,19 +153,19 @@ fn reason_of_token<'a>(bytes: &'a [u8], tokens: &[Token<'a>], fault: MapFault) -
         MapFault::Missing => missing(bytes, tokens),
         MapFault::TooMany => too_many(bytes, tokens),
         MapFault::OutOfRange(offset) => out_of_range(tokens, offset),
-        MapFault::Repeated(offset) => repeated(tokens, offset),
+        MapFault::Repeated(offset) => repeated_reason(tokens, offset),
         MapFault::UnexpectedWord(offset)
         | MapFault::BadNumber(offset)
-        | MapFault::Trailing(offset) => unexpected(tokens, offset),
+        | MapFault::Trailing(offset) => unexpected_reason(tokens, offset),
         MapFault::Memory | MapFault::TooLong | MapFault::NotUtf8(_) | MapFault::BadToken(_) =>
-            unexpected(tokens, 0),
+            unexpected_reason(tokens, 0),
     }
 }
 
 /// The token at an offset.
 fn token_at<'a>(tokens: &[Token<'a>], offset: usize) -> Option<Token<'a>> {
     for token in tokens {
-        if token.place == offset {
+        if token.byte_offset == offset {
             return Some(*token);
         }
     }
@@ -170,19 +173,19 @@ fn token_at<'a>(tokens: &[Token<'a>], offset: usize) -> Option<Token<'a>> {
 }
 
 /// What was found at an offset.
-fn found_at<'a>(tokens: &[Token<'a>], offset: usize) -> Found<'a> {
+fn find_at<'a>(tokens: &[Token<'a>], offset: usize) -> FoundText<'a> {
     match token_at(tokens, offset) {
-        Some(token) => Found::Token(token),
-        None => Found::EndOfFile,
+        Some(token) => FoundText::Token(token),
+        None => FoundText::EndOfFile,
     }
 }
 
 /// Why a token isn't what is expected there.
-fn unexpected<'a>(tokens: &[Token<'a>], offset: usize) -> Reason<'a> {
+fn unexpected_reason<'a>(tokens: &[Token<'a>], offset: usize) -> Reason<'a> {
     Reason {
         offset,
-        found: found_at(tokens, offset),
-        allowed: Allowed::Expected(Walk::before(tokens, offset).expected),
+        found: find_at(tokens, offset),
+        allowed: AllowedText::Expected(Walk::before(tokens, offset).expected),
     }
 }
 
@@ -191,15 +194,15 @@ fn missing_end<'a>(bytes: &[u8], tokens: &[Token<'a>], offset: usize) -> Reason<
     let walk = Walk::before(tokens, offset);
     let (found, allowed) = match walk.expected.block() {
         Some(block) => (
-            Found::OpenBlock(block, line_of(bytes, walk.opening())),
+            FoundText::OpenBlock(block, line_of(bytes, walk.opening())),
             Expected::End(block),
         ),
-        None => (Found::EndOfFile, walk.expected),
+        None => (FoundText::EndOfFile, walk.expected),
     };
     Reason {
         offset,
         found,
-        allowed: Allowed::Expected(allowed),
+        allowed: AllowedText::Expected(allowed),
     }
 }
 
@@ -209,13 +212,13 @@ fn missing<'a>(bytes: &[u8], tokens: &[Token<'a>]) -> Reason<'a> {
     match walk.missing() {
         Some((missing, offset)) => Reason {
             offset,
-            found: Found::Without(missing),
-            allowed: Allowed::Whole(missing),
+            found: FoundText::Without(missing),
+            allowed: AllowedText::Whole(missing),
         },
         None => Reason {
             offset: bytes.len(),
-            found: Found::EndOfFile,
-            allowed: Allowed::Expected(walk.expected),
+            found: FoundText::EndOfFile,
+            allowed: AllowedText::Expected(walk.expected),
         },
     }
 }
@@ -232,13 +235,13 @@ fn too_many<'a>(bytes: &[u8], tokens: &[Token<'a>]) -> Reason<'a> {
     match walk.over() {
         Some((limit, offset)) => Reason {
             offset,
-            found: Found::Items(limit, walk.count(limit)),
-            allowed: Allowed::Items(limit),
+            found: FoundText::Items(limit, walk.count(limit)),
+            allowed: AllowedText::Items(limit),
         },
         None => Reason {
             offset: bytes.len(),
-            found: Found::EndOfFile,
-            allowed: Allowed::Expected(walk.expected),
+            found: FoundText::EndOfFile,
+            allowed: AllowedText::Expected(walk.expected),
         },
     }
 }
@@ -259,13 +262,13 @@ fn is_counted(walk: &Walk) -> bool {
 fn out_of_range<'a>(tokens: &[Token<'a>], offset: usize) -> Reason<'a> {
     let expected = Walk::before(tokens, offset).expected;
     let (found, allowed) = match (token_at(tokens, offset), expected) {
-        (None, _) => (Found::LongText, Allowed::TextBytes),
-        (Some(_), Expected::Item(Block::Map)) => (Found::EmptyBox, Allowed::Box),
+        (None, _) => (FoundText::LongText, AllowedText::TextBytes),
+        (Some(_), Expected::Item(Block::Map)) => (FoundText::EmptyBox, AllowedText::Box),
         (Some(token), _) => {
             if token.text.len() > MOST_TEXT_BYTES {
-                (Found::LongText, Allowed::TextBytes)
+                (FoundText::LongText, AllowedText::TextBytes)
             } else {
-                (Found::Token(token), Allowed::Expected(expected))
+                (FoundText::Token(token), AllowedText::Expected(expected))
             }
         }
     };
@@ -277,18 +280,18 @@ fn out_of_range<'a>(tokens: &[Token<'a>], offset: usize) -> Reason<'a> {
 }
 
 /// Why something comes a second time.
-fn repeated<'a>(tokens: &[Token<'a>], offset: usize) -> Reason<'a> {
+fn repeated_reason<'a>(tokens: &[Token<'a>], offset: usize) -> Reason<'a> {
     let expected = Walk::before(tokens, offset).expected;
     let allowed = match expected {
         Expected::Argument {
             takes: Takes::LayerName,
             ..
-        } => Allowed::OtherName,
-        _ => Allowed::Once,
+        } => AllowedText::OtherName,
+        _ => AllowedText::Once,
     };
     let found = match (token_at(tokens, offset), expected.block()) {
-        (Some(token), Some(block)) => Found::Second(token, block),
-        _ => Found::EndOfFile,
+        (Some(token), Some(block)) => FoundText::Second(token, block),
+        _ => FoundText::EndOfFile,
     };
     Reason {
         offset,

@@ -21,14 +21,14 @@ const END: usize = 4;
 
 /// The length of a canonical text, and where it passes its limit.
 #[derive(Clone, Copy)]
-pub struct Size {
+pub struct TextSize {
     /// The number of bytes.
     pub bytes: usize,
     /// The first layer or feature of the map that ends over the limit, if one does.
     pub item: Option<Item>,
 }
 
-impl Size {
+impl TextSize {
     /// Counts bytes.
     fn add(&mut self, bytes: usize) {
         self.bytes = self.bytes.saturating_add(bytes);
@@ -43,8 +43,8 @@ impl Size {
 }
 
 /// The length of a map's canonical text.
-pub fn measure(map: &MapDef) -> Size {
-    let mut size = Size {
+pub fn measure(map: &MapDef) -> TextSize {
+    let mut size = TextSize {
         bytes: heading(map),
         item: None,
     };
@@ -57,7 +57,7 @@ pub fn measure(map: &MapDef) -> Size {
 }
 
 /// Counts a layer.
-fn add_layer(size: &mut Size, index: usize, name: &Text, layer: &Layer) {
+fn add_layer(size: &mut TextSize, index: usize, name: &Text, layer: &Layer) {
     size.add(layer_heading(name, layer));
     for class in layer.classes() {
         size.add(class_size(class));
@@ -123,7 +123,7 @@ fn with_color(keyword: &str, color: Color) -> usize {
     ])
 }
 
-/// The same, if there is a colour.
+/// A line of a keyword and a colour, if there is a colour.
 fn with_optional_color(keyword: &str, color: Option<Color>) -> usize {
     match color {
         Some(color) => with_color(keyword, color),

@@ -21,7 +21,7 @@ pub enum Missing {
 
 /// A shape with few points: the offset of its END, and the number.
 #[derive(Clone, Copy)]
-struct Shape {
+struct CheckedShape {
     end: usize,
     points: usize,
 }
@@ -29,9 +29,9 @@ struct Shape {
 /// The first shapes of a layer with fewer points than some kinds need.
 #[derive(Clone, Copy)]
 struct Shapes {
-    below_one: Option<Shape>,
-    below_two: Option<Shape>,
-    below_three: Option<Shape>,
+    below_one: Option<CheckedShape>,
+    below_two: Option<CheckedShape>,
+    below_three: Option<CheckedShape>,
 }
 
 const NO_SHAPES: Shapes = Shapes {
@@ -61,7 +61,7 @@ struct Openings {
 
 /// The numbers of items so far: of the map; of its last layer; of its last class, feature and shape.
 #[derive(Clone, Copy)]
-struct Counts {
+struct ItemCounts {
     layers: usize,
     features: usize,
     points: usize,
@@ -72,7 +72,7 @@ struct Counts {
     shape_points: usize,
 }
 
-const NO_COUNTS: Counts = Counts {
+const NO_COUNTS: ItemCounts = ItemCounts {
     layers: 0,
     features: 0,
     points: 0,
@@ -83,7 +83,7 @@ const NO_COUNTS: Counts = Counts {
     shape_points: 0,
 };
 
-impl Counts {
+impl ItemCounts {
     /// The number that a limit is about.
     fn of(&self, limit: Limit) -> usize {
         match limit {
@@ -143,7 +143,7 @@ pub struct Walk {
     /// What may stand at the next token.
     pub expected: Expected,
     openings: Openings,
-    counts: Counts,
+    counts: ItemCounts,
     required: Required,
     shapes: Shapes,
     over: Option<(Limit, usize)>,
@@ -179,7 +179,7 @@ impl Walk {
     pub fn before(tokens: &[Token<'_>], offset: usize) -> Self {
         let mut walk = Walk::new();
         for token in tokens {
-            if token.place >= offset {
+            if token.byte_offset >= offset {
                 break;
             }
             walk.step(*token);
@@ -225,17 +225,17 @@ impl Walk {
     /// Goes past a token.
     pub fn step(&mut self, token: Token<'_>) {
         match self.expected {
-            Expected::Map => self.open(Block::Map, token.place),
+            Expected::Map => self.open(Block::Map, token.byte_offset),
             Expected::Nothing => (),
             Expected::System => self.expected = Expected::End(Block::Projection),
             Expected::End(block) => {
                 if is_end_word(token) {
-                    self.close(block, token.place);
+                    self.close(block, token.byte_offset);
                 }
             }
             Expected::Item(block) => {
                 if is_end_word(token) {
-                    self.close(block, token.place);
+                    self.close(block, token.byte_offset);
                 } else {
                     self.enter(block, token);
                 }
@@ -247,7 +247,7 @@ impl Walk {
                 before,
             } => {
                 if is_end_word(token) {
-                    self.close(block, token.place);
+                    self.close(block, token.byte_offset);
                 } else {
                     self.take(block, keyword, takes, before, token);
                 }
@@ -268,7 +268,7 @@ impl Walk {
             }
             Block::Points => {
                 self.counts.add_point();
-                self.count_item(Limit::Points, token.place);
+                self.count_item(Limit::Points, token.byte_offset);
                 self.expected = Expected::Argument {
                     block,
                     keyword: "POINTS",
@@ -284,7 +284,7 @@ impl Walk {
     fn enter_keyword(&mut self, block: Block, token: Token<'_>) {
         match block.keyword(token.text) {
             None => (),
-            Some((_, Takes::Block(inner))) => self.open(inner, token.place),
+            Some((_, Takes::Block(inner))) => self.open(inner, token.byte_offset),
             Some((keyword, takes)) => {
                 self.require(block, keyword);
                 self.expected = Expected::Argument {
@@ -396,7 +396,7 @@ impl Walk {
     /// Keeps a shape with few points.
     fn close_shape(&mut self, end: usize) {
         let points = self.counts.shape_points;
-        let shape = Some(Shape { end, points });
+        let shape = Some(CheckedShape { end, points });
         if points < 1 && self.shapes.below_one.is_none() {
             self.shapes.below_one = shape;
         }

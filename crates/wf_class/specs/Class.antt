@@ -34,27 +34,27 @@ expression tokens =
 
 -- the slots after a keyword that comes at most once
 unfoldable pub class_once : ClassOnce → List ℕ → List Token → Option (ClassOnce × List Token)
-class_once said = step_by (
-    (codes "NAME", once said.name text (λ x. record said { name = Some x })) ∷
-    (codes "EXPRESSION", once said.expression expression (λ x. record said { expression = Some x })) ∷
-    (codes "LABEL", once said.label label (λ x. record said { label = Some x })) ∷ [])
+class_once settings = step_by (
+    (codes "NAME", once settings.name text (λ x. record settings { name = Some x })) ∷
+    (codes "EXPRESSION", once settings.expression expression (λ x. record settings { expression = Some x })) ∷
+    (codes "LABEL", once settings.label label (λ x. record settings { label = Some x })) ∷ [])
 
 -- the slots after a keyword
 unfoldable pub class_put : ClassSlots → List ℕ → List Token → Option (ClassSlots × List Token)
-class_put said = step_or (
-    (codes "STYLE", again most_styles said.styles style (λ more. record said { styles = more })) ∷ [])
-    (λ keyword tokens. put_into (λ x. record said { single = x }) (class_once said.single keyword tokens))
+class_put settings = step_or (
+    (codes "STYLE", again most_styles settings.styles style (λ more. record settings { styles = more })) ∷ [])
+    (λ keyword tokens. put_into (λ x. record settings { single = x }) (class_once settings.single keyword tokens))
 
 abbrev pub no_class : ClassSlots
 no_class = record { styles = []; single = record { name = None; expression = None; label = None } }
 
 -- the class of the slots: an absent name is empty
 unfoldable pub class_of : ClassSlots → ClassDefinition
-class_of said = record {
-  name = unwrap_or said.single.name [];
-  expression = said.single.expression;
-  styles = said.styles;
-  label = said.single.label;
+class_of settings = record {
+  name = unwrap_or settings.single.name [];
+  expression = settings.single.expression;
+  styles = settings.styles;
+  label = settings.single.label;
 }
 
 -- what follows the word CLASS, up to its END

@@ -54,14 +54,14 @@ label_kind tokens = chosen label_kinds tokens
 
 -- the slots after a keyword: each comes at most once, and the last is dropped
 unfoldable pub label_put : LabelSlots → List ℕ → List Token → Option (LabelSlots × List Token)
-label_put said = step_by (
-    (codes "COLOR", once said.color color (λ x. record said { color = Some x })) ∷
-    (codes "SIZE", once said.size label_size (λ x. record said { size = Some x })) ∷
-    (codes "POSITION", once said.position label_position (λ x. record said { position = Some x })) ∷
-    (codes "PRIORITY", once said.priority (whole 1 most_priority) (λ x. record said { priority = Some x })) ∷
-    (codes "FORCE", once said.force truth (λ x. record said { force = Some x })) ∷
-    (codes "BUFFER", once said.buffer (whole 0 most_buffer) (λ x. record said { buffer = Some x })) ∷
-    (codes "TYPE", once said.kind label_kind (λ x. record said { kind = Some x })) ∷ [])
+label_put settings = step_by (
+    (codes "COLOR", once settings.color color (λ x. record settings { color = Some x })) ∷
+    (codes "SIZE", once settings.size label_size (λ x. record settings { size = Some x })) ∷
+    (codes "POSITION", once settings.position label_position (λ x. record settings { position = Some x })) ∷
+    (codes "PRIORITY", once settings.priority (whole 1 most_priority) (λ x. record settings { priority = Some x })) ∷
+    (codes "FORCE", once settings.force truth (λ x. record settings { force = Some x })) ∷
+    (codes "BUFFER", once settings.buffer (whole 0 most_buffer) (λ x. record settings { buffer = Some x })) ∷
+    (codes "TYPE", once settings.kind label_kind (λ x. record settings { kind = Some x })) ∷ [])
 
 abbrev pub no_label : LabelSlots
 no_label = record { color = None; size = None; position = None; priority = None; force = None; buffer = None; kind = None }
@@ -71,13 +71,13 @@ black = record { r = 0; g = 0; b = 0 }
 
 -- the label of the slots, with defaults for absent ones
 unfoldable pub label_of : LabelSlots → LabelDefinition
-label_of said = record {
-  color = unwrap_or said.color black;
-  size = unwrap_or said.size Medium;
-  position = unwrap_or said.position CenterCenter;
-  priority = unwrap_or said.priority 1;
-  force = unwrap_or said.force false;
-  buffer = unwrap_or said.buffer 0;
+label_of settings = record {
+  color = unwrap_or settings.color black;
+  size = unwrap_or settings.size Medium;
+  position = unwrap_or settings.position CenterCenter;
+  priority = unwrap_or settings.priority 1;
+  force = unwrap_or settings.force false;
+  buffer = unwrap_or settings.buffer 0;
 }
 
 -- what follows the word LABEL, up to its END

@@ -10,22 +10,22 @@ use Rattle.wf_class.specs.Color.{color}
 
 -- the slots after a keyword: each comes at most once
 unfoldable pub style_put : StyleSlots → List ℕ → List Token → Option (StyleSlots × List Token)
-style_put said = step_by (
-    (codes "COLOR", once said.color color (λ x. record said { color = Some x })) ∷
-    (codes "OUTLINECOLOR", once said.outline_color color (λ x. record said { outline_color = Some x })) ∷
-    (codes "WIDTH", once said.width (whole 1 most_width) (λ x. record said { width = Some x })) ∷
-    (codes "SIZE", once said.size (whole 1 most_size) (λ x. record said { size = Some x })) ∷ [])
+style_put settings = step_by (
+    (codes "COLOR", once settings.color color (λ x. record settings { color = Some x })) ∷
+    (codes "OUTLINECOLOR", once settings.outline_color color (λ x. record settings { outline_color = Some x })) ∷
+    (codes "WIDTH", once settings.width (whole 1 most_width) (λ x. record settings { width = Some x })) ∷
+    (codes "SIZE", once settings.size (whole 1 most_size) (λ x. record settings { size = Some x })) ∷ [])
 
 abbrev pub no_style : StyleSlots
 no_style = record { color = None; outline_color = None; width = None; size = None }
 
 -- the style of the slots: an absent colour is none, an absent width or size is one pixel
 unfoldable pub style_of : StyleSlots → StyleDefinition
-style_of said = record {
-  color = said.color;
-  outline_color = said.outline_color;
-  width = unwrap_or said.width 1;
-  size = unwrap_or said.size 1;
+style_of settings = record {
+  color = settings.color;
+  outline_color = settings.outline_color;
+  width = unwrap_or settings.width 1;
+  size = unwrap_or settings.size 1;
 }
 
 -- what follows the word STYLE, up to its END

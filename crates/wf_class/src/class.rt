@@ -1,7 +1,7 @@
 //! CLASS: which features it contains, and how they are drawn.
 ghost use Rattle.std.specs.Prelude.{◌≡◌, IfOk, length, nat_lt};
 ghost use Rattle.wf_class.specs.Class.{begins_list, begins_pattern, class, class_of, class_once, expression, no_class};
-ghost use Rattle.wf_block.specs.Reading.{Gives, Passes};
+ghost use Rattle.wf_block.specs.ReadContract.{Gives, Passes};
 ghost use Rattle.wf_def.specs.Limit.{most_styles};
 
 use crate::label::read_label;
@@ -23,9 +23,9 @@ impl Slots for ClassSlots {
     ghost use Rattle.wf_class.specs.declared.slots.class.ClassSlots.{ClassSlots as Value};
     ghost use Rattle.wf_class.specs.Class.{class_put};
 
-    ghost Said = { Value };
+    ghost Settings = { Value };
 
-    ghost said = { λ slots. slots };
+    ghost settings = { λ slots. slots };
 
     ghost Within = { Unit {0} };
 
@@ -54,15 +54,15 @@ impl ClassOnce {
             (class_once self.old keyword.entry.text.now parser.old) }
     {
         let word = keyword.text;
-        let place = keyword.place;
+        let byte_offset = keyword.byte_offset;
         if is_name(word, "NAME") {
-            once!(self.name, place, parser.text());
+            once!(self.name, byte_offset, parser.text());
         } else if is_name(word, "EXPRESSION") {
-            once!(self.expression, place, read_expression(parser));
+            once!(self.expression, byte_offset, read_expression(parser));
         } else if is_name(word, "LABEL") {
-            once!(self.label, place, read_label(parser));
+            once!(self.label, byte_offset, read_label(parser));
         } else {
-            return Err(MapFault::UnexpectedWord(place));
+            return Err(MapFault::UnexpectedWord(byte_offset));
         }
         Ok(())
     }
@@ -90,7 +90,7 @@ impl ClassSlots {
 
     /// The class of the slots; the name is empty if there is none.
     #[tactic(auto, unfolding(crate::specs::Class::class_of))]
-    fn filled(self, alloc: Global) -> Result<Class, AllocError>
+    fn fill(self, alloc: Global) -> Result<Class, AllocError>
         ensures { IfOk result (λ c. c ≡ class_of self) }
     {
         let ClassSlots { styles, single } = self;
@@ -111,7 +111,7 @@ pub fn read_class(parser: &mut Parser<'_>) -> Result<Class, MapFault>
 {
     let mut slots = ClassSlots::new(parser.alloc());
     fill_block(parser, &mut slots)?;
-    Ok(slots.filled(parser.alloc())?)
+    Ok(slots.fill(parser.alloc())?)
 }
 
 /// Reads a list or a text to compare with (MapServer mapfile reference, EXPRESSION). A regular expression is neither.
@@ -123,7 +123,7 @@ fn read_expression(parser: &mut Parser<'_>) -> Result<Expression, MapFault>
         return Ok(Expression::OneOf(parser.value_list()?));
     }
     if begins_pattern(parser) {
-        return Err(MapFault::UnexpectedWord(parser.place()));
+        return Err(MapFault::UnexpectedWord(parser.byte_offset()));
     }
     Ok(Expression::Equals(parser.text()?))
 }

@@ -1,7 +1,7 @@
 //! Colours: three integers, or a string `#rrggbb`.
 ghost use Rattle.std.specs.Prelude.{◌≡◌, ◌==◌, option_copied};
 ghost use Rattle.wf_class.specs.Color.{color, hash_digits, rgb_color};
-ghost use Rattle.wf_block.specs.Reading.{Gives};
+ghost use Rattle.wf_block.specs.ReadContract.{Gives};
 ghost use Rattle.wf_token.specs.Token.{token_value};
 
 use wf_block::fault::MapFault;
@@ -20,7 +20,7 @@ pub fn read_color(parser: &mut Parser<'_>) -> Result<Color, MapFault>
     match hash_digits(token) {
         Some(digits) => {
             let _ = parser.next()?;
-            Color::from_hexadecimal(digits).ok_or(MapFault::BadNumber(token.place))
+            Color::from_hexadecimal(digits).ok_or(MapFault::BadNumber(token.byte_offset))
         }
         None => read_rgb_color(parser),
     }

@@ -1,7 +1,7 @@
 //! LABEL: how a feature's text is drawn.
 ghost use Rattle.std.specs.Prelude.{◌≡◌, None};
 ghost use Rattle.wf_class.specs.Label.{label, label_kind, label_of, label_position, label_size, truth};
-ghost use Rattle.wf_block.specs.Reading.{Gives};
+ghost use Rattle.wf_block.specs.ReadContract.{Gives};
 
 use crate::color::read_color;
 use crate::slots::label::LabelSlots;
@@ -24,9 +24,9 @@ impl Slots for LabelSlots {
     ghost use Rattle.wf_class.specs.declared.slots.label.LabelSlots.{LabelSlots as Value};
     ghost use Rattle.wf_class.specs.Label.{label_put};
 
-    ghost Said = { Value };
+    ghost Settings = { Value };
 
-    ghost said = { λ slots. slots };
+    ghost settings = { λ slots. slots };
 
     ghost Within = { Unit {0} };
 
@@ -37,23 +37,27 @@ impl Slots for LabelSlots {
     #[tactic(auto, unfolding(crate::specs::Label::label_put))]
     fn take(&mut self, keyword: Token<'_>, parser: &mut Parser<'_>) -> Result<(), MapFault> {
         let word = keyword.text;
-        let place = keyword.place;
+        let byte_offset = keyword.byte_offset;
         if is_name(word, "COLOR") {
-            once!(self.color, place, read_color(parser));
+            once!(self.color, byte_offset, read_color(parser));
         } else if is_name(word, "SIZE") {
-            once!(self.size, place, read_label_size(parser));
+            once!(self.size, byte_offset, read_label_size(parser));
         } else if is_name(word, "POSITION") {
-            once!(self.position, place, read_label_position(parser));
+            once!(self.position, byte_offset, read_label_position(parser));
         } else if is_name(word, "PRIORITY") {
-            once!(self.priority, place, parser.whole::<1, MOST_PRIORITY>());
+            once!(
+                self.priority,
+                byte_offset,
+                parser.whole::<1, MOST_PRIORITY>()
+            );
         } else if is_name(word, "FORCE") {
-            once!(self.force, place, read_truth(parser));
+            once!(self.force, byte_offset, read_truth(parser));
         } else if is_name(word, "BUFFER") {
-            once!(self.buffer, place, parser.whole::<0, MOST_BUFFER>());
+            once!(self.buffer, byte_offset, parser.whole::<0, MOST_BUFFER>());
         } else if is_name(word, "TYPE") {
-            once!(self.kind, place, read_label_kind(parser));
+            once!(self.kind, byte_offset, read_label_kind(parser));
         } else {
-            return Err(MapFault::UnexpectedWord(place));
+            return Err(MapFault::UnexpectedWord(byte_offset));
         }
         Ok(())
     }
@@ -62,7 +66,7 @@ impl Slots for LabelSlots {
 impl LabelSlots {
     /// The label of the slots, with defaults for absent ones.
     #[tactic(auto, unfolding(crate::specs::Label::label_of))]
-    fn filled(self) -> Label
+    fn fill(self) -> Label
         ensures { result ≡ label_of self }
     {
         Label {
@@ -83,7 +87,7 @@ pub fn read_label(parser: &mut Parser<'_>) -> Result<Label, MapFault>
 {
     let mut slots = LabelSlots::default();
     fill_block(parser, &mut slots)?;
-    Ok(slots.filled())
+    Ok(slots.fill())
 }
 
 /// Reads the size of letters.

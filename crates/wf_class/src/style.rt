@@ -1,6 +1,6 @@
 //! STYLE: how a feature is drawn.
 ghost use Rattle.std.specs.Prelude.{◌≡◌};
-ghost use Rattle.wf_block.specs.Reading.{Gives};
+ghost use Rattle.wf_block.specs.ReadContract.{Gives};
 ghost use Rattle.wf_class.specs.Style.{style, style_of};
 
 use crate::color::read_color;
@@ -19,9 +19,9 @@ impl Slots for StyleSlots {
     ghost use Rattle.wf_class.specs.declared.slots.style.StyleSlots.{StyleSlots as Value};
     ghost use Rattle.wf_class.specs.Style.{style_put};
 
-    ghost Said = { Value };
+    ghost Settings = { Value };
 
-    ghost said = { λ slots. slots };
+    ghost settings = { λ slots. slots };
 
     ghost Within = { Unit {0} };
 
@@ -32,17 +32,17 @@ impl Slots for StyleSlots {
     #[tactic(auto, unfolding(crate::specs::Style::style_put))]
     fn take(&mut self, keyword: Token<'_>, parser: &mut Parser<'_>) -> Result<(), MapFault> {
         let word = keyword.text;
-        let place = keyword.place;
+        let byte_offset = keyword.byte_offset;
         if is_name(word, "COLOR") {
-            once!(self.color, place, read_color(parser));
+            once!(self.color, byte_offset, read_color(parser));
         } else if is_name(word, "OUTLINECOLOR") {
-            once!(self.outline_color, place, read_color(parser));
+            once!(self.outline_color, byte_offset, read_color(parser));
         } else if is_name(word, "WIDTH") {
-            once!(self.width, place, parser.whole::<1, MOST_WIDTH>());
+            once!(self.width, byte_offset, parser.whole::<1, MOST_WIDTH>());
         } else if is_name(word, "SIZE") {
-            once!(self.size, place, parser.whole::<1, MOST_SIZE>());
+            once!(self.size, byte_offset, parser.whole::<1, MOST_SIZE>());
         } else {
-            return Err(MapFault::UnexpectedWord(place));
+            return Err(MapFault::UnexpectedWord(byte_offset));
         }
         Ok(())
     }
@@ -51,7 +51,7 @@ impl Slots for StyleSlots {
 impl StyleSlots {
     /// The style of the slots, with defaults for absent ones.
     #[tactic(auto, unfolding(crate::specs::Style::style_of))]
-    fn filled(self) -> Style
+    fn fill(self) -> Style
         ensures { result ≡ style_of self }
     {
         Style {
@@ -70,5 +70,5 @@ pub fn read_style(parser: &mut Parser<'_>) -> Result<Style, MapFault>
 {
     let mut slots = StyleSlots::default();
     fill_block(parser, &mut slots)?;
-    Ok(slots.filled())
+    Ok(slots.fill())
 }

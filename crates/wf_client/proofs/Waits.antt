@@ -3,7 +3,7 @@ use Rattle.std.proofs.Common.{◌≡◌, ◌≤◌, ◌<◌, ◌+◌, ℕ, suc, 
 use Rattle.std.proofs.lemmas.Bool.{cases_eq, cases_lt}
 use Rattle.wf_client.specs.Client.{Client}
 use Rattle.wf_client.specs.Slots.{IsBest, IsLongestWaiting, NoneIsWaiting, WaitsSince, waiting_since}
-use Rattle.wf_client.specs.declared.slots.Waiting.{Waiting}
+use Rattle.wf_client.specs.declared.slots.PendingRequest.{PendingRequest}
 
 -- an empty slot holds no request
 pub none_waits : (since : ℕ) → ¬ (waiting_since None ≡ Some since)
@@ -16,7 +16,7 @@ waits_within [] j since h = absurd (none_waits since h)
 waits_within (x ∷ slots) zero since h = omega arith
 waits_within (x ∷ slots) (suc j) since h = let l : j < length slots = waits_within slots j since h in omega arith
 
-pub longest_of : (slots : List (Option Client)) (one : Waiting) → IsBest slots (length slots) (Some one) → IsLongestWaiting slots one.index
+pub longest_of : (slots : List (Option Client)) (one : PendingRequest) → IsBest slots (length slots) (Some one) → IsLongestWaiting slots one.index
 longest_of slots one h = record {
   since = one.since;
   waits = h.1;
@@ -30,7 +30,7 @@ none_of slots h = λ i since w. h i since (waits_within slots i since w) w
 pub no_waiter : (slots : List (Option Client)) (n j since : ℕ) → waiting_since (slice_index_or slots n None) ≡ None → j ≡ n → ¬ WaitsSince slots j since
 no_waiter slots n j since e same w = let e2 : waiting_since (slice_index_or slots j None) ≡ None = subst (λ k. waiting_since (slice_index_or slots k None) ≡ None) (sym same) e in cc
 
-pub more_without : (slots : List (Option Client)) (n : ℕ) (found : Option Waiting) → waiting_since (slice_index_or slots n None) ≡ None → IsBest slots n found → IsBest slots (n + 1) found
+pub more_without : (slots : List (Option Client)) (n : ℕ) (found : Option PendingRequest) → waiting_since (slice_index_or slots n None) ≡ None → IsBest slots n found → IsBest slots (n + 1) found
 more_without slots n None e h = λ j since l w. elim (cases_eq j n) [ inl same ↦ no_waiter slots n j since e same w | inr other ↦ h j since (omega arith) w ]
 more_without slots n (Some one) e h = (
   omega arith,
@@ -56,7 +56,7 @@ new_best slots n since w before = (
 )
 
 -- the request that was found began no later than that in slot n
-pub old_best : (slots : List (Option Client)) (n since : ℕ) (one : Waiting) → WaitsSince slots n since → one.since ≤ since
+pub old_best : (slots : List (Option Client)) (n since : ℕ) (one : PendingRequest) → WaitsSince slots n since → one.since ≤ since
     → IsBest slots n (Some one) → IsBest slots (n + 1) (Some one)
 old_best slots n since one w le h = (
   let l : one.index < n = h.0 in omega arith,
@@ -68,7 +68,7 @@ old_best slots n since one w le h = (
 )
 
 -- one more slot, whose request isn't whole: the earlier one is the best
-pub more_with : (slots : List (Option Client)) (n since : ℕ) (found : Option Waiting) (best : Waiting)
+pub more_with : (slots : List (Option Client)) (n since : ℕ) (found : Option PendingRequest) (best : PendingRequest)
     → waiting_since (slice_index_or slots n None) ≡ Some since → IsBest slots n found
     → (found ≡ None → best ≡ record { index = n; since = since })
     → IfSome found (λ one. one.since ≤ since → best ≡ one)

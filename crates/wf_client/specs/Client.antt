@@ -1,9 +1,9 @@
 -- A client, and its phase.
 use Rattle.std.specs.Prelude.{◌≡◌, ◌≤◌, ◌+◌, ◌-◌, ◌^◌, ℕ, Bool, List, Option, None, Some, [], ◌∷◌, false, true, length, min}
-use Rattle.wf_client.specs.Incoming.{Incoming}
-use Rattle.wf_client.specs.Outgoing.{Outgoing}
+use Rattle.wf_client.specs.PartialRequest.{Incoming}
+use Rattle.wf_client.specs.ResponseBuffer.{Outgoing}
 use Rattle.wf_client.specs.declared.client.Phase.{Phase}
-use Rattle.wf_client.specs.declared.client.Phase.TheVariants.{Asking, Taking, Parting}
+use Rattle.wf_client.specs.declared.client.Phase.TheVariants.{Asking, Taking, Lingering}
 
 -- its phase, since when it is in it, its request and its answer
 pub record Client : Type 0 where
@@ -16,7 +16,7 @@ pub record Client : Type 0 where
 abbrev pub limit_of : Phase → ℕ
 limit_of Asking = 10000
 limit_of Taking = 10000
-limit_of Parting = 1000
+limit_of Lingering = 1000
 
 -- the time of its phase is over
 abbrev pub IsOver : ℕ → Client → Type 0
@@ -26,7 +26,7 @@ IsOver now client = limit_of client.phase ≤ now - client.since
 abbrev pub is_asking : Phase → Bool
 is_asking Asking = true
 is_asking Taking = false
-is_asking Parting = false
+is_asking Lingering = false
 
 -- a phase began
 abbrev pub Begins : Phase → ℕ → Client → Client → Type 0

@@ -1,5 +1,5 @@
 pub mod Arrived
-pub mod Incoming
-pub mod Outgoing
+pub mod PartialRequest
+pub mod ResponseBuffer
 pub mod Client
 pub mod Slots

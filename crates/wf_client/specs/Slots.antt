@@ -1,7 +1,7 @@
 -- Which slot is a newcomer's.
 use Rattle.std.specs.Prelude.{◌≡◌, ◌≤◌, ◌<◌, ℕ, List, Option, None, Some, length, MatchOption, if◌then◌else◌, slice_index_or}
 use Rattle.wf_client.specs.Client.{Client, is_asking}
-use Rattle.wf_client.specs.declared.slots.Waiting.{Waiting}
+use Rattle.wf_client.specs.declared.slots.PendingRequest.{PendingRequest}
 
 -- when the request in a slot began, if it isn't whole
 unfoldable pub waiting_since : Option Client → Option ℕ
@@ -25,7 +25,7 @@ abbrev pub WaitsSince : List (Option Client) → ℕ → ℕ → Type 0
 WaitsSince slots i since = waiting_since (slice_index_or slots i None) ≡ Some since
 
 -- of the requests in the first n slots that aren't whole, this one has waited longest; None: there is none
-abbrev pub IsBest : List (Option Client) → ℕ → Option Waiting → Type 0
+abbrev pub IsBest : List (Option Client) → ℕ → Option PendingRequest → Type 0
 IsBest slots n None = (j since : ℕ) → j < n → ¬ WaitsSince slots j since
 IsBest slots n (Some one) =
     (one.index < n) × WaitsSince slots one.index one.since × ((j since : ℕ) → j < n → WaitsSince slots j since → one.since ≤ since)

@@ -51,7 +51,7 @@ impl<'b> Source for Arrived<'b> {
     ghost use Rattle.std.specs.Io.{ReadsAtMost};
     ghost use Rattle.std.specs.Io.KnownBytes.{ReadConsumes};
     ghost use Rattle.wf_client.specs.Arrived.{MayComeMore, failures_of, is_closed_of, rest_of};
-    ghost use Rattle.wf_stream.specs.Reading.{Counts, GivesUpTo};
+    ghost use Rattle.wf_stream.specs.Effects.{Counts, GivesUpTo};
 
     ghost left = { λ a. Some a.rest.now };
 

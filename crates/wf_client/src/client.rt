@@ -2,9 +2,9 @@
 ghost use Rattle.std.specs.Prelude.{◌≡◌, ◌≤◌, ◌+◌, ◌↔◌, [], false, length, IsTrue};
 ghost use Rattle.wf_client.specs.Client.{Begins, IsOver, is_asking, limit_of, weight_of};
 
-use crate::incoming::Incoming;
-use crate::limits::{ANSWER_MILLIS, PARTING_MILLIS, REQUEST_MILLIS};
-use crate::outgoing::Outgoing;
+use crate::limits::{ANSWER_MILLIS, LINGER_MILLIS, REQUEST_MILLIS};
+use crate::partial_request::Incoming;
+use crate::response_buffer::Outgoing;
 use std::alloc::Global;
 use std::marker::Model;
 
@@ -16,7 +16,7 @@ pub enum Phase {
     /// The answer isn't taken.
     Taking,
     /// The answer is taken: what the client still sends is dropped.
-    Parting,
+    Lingering,
 }
 
 /// A client: its phase, since when it is in it, its request and its answer.
@@ -105,6 +105,6 @@ pub fn limit_of(phase: Phase) -> u64
     match phase {
         Phase::Asking => REQUEST_MILLIS,
         Phase::Taking => ANSWER_MILLIS,
-        Phase::Parting => PARTING_MILLIS,
+        Phase::Lingering => LINGER_MILLIS,
     }
 }

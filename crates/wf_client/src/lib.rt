@@ -2,13 +2,14 @@
 //! gives way.
 //!
 //! There are no sockets here, and the time is handed in, in milliseconds of any clock that never goes back.
-//! - [`incoming::Incoming`] is what has come of a request; [`arrived::Arrived`] reads it, and fails at its end as long as more may
+//! - [`partial_request::Incoming`] is what has come of a request; [`arrived::Arrived`] reads it, and fails at its end as long as
+//! more may
 //!   come, so a request is whole once reading it doesn't fail.
-//! - [`outgoing::Outgoing`] is an answer, and how much of it was taken.
+//! - [`response_buffer::Outgoing`] is an answer, and how much of it was taken.
 //! - [`client::Client`] is one client with its phase, and when that is over.
 //! - [`slots`] says where a newcomer goes: to a free slot, or to that of the unfinished request that has waited longest.
 //!
-//! **Model.** `specs/Incoming.antt`, `specs/Outgoing.antt` and `specs/Client.antt`.
+//! **Model.** `specs/PartialRequest.antt`, `specs/ResponseBuffer.antt` and `specs/Client.antt`.
 //!
 //! **Promises.**
 //! - What is read is what has come, from its beginning; the end of the input is reported only once the client has closed its side.
@@ -21,7 +22,7 @@
 
 pub mod arrived;
 pub mod client;
-pub mod incoming;
 pub mod limits;
-pub mod outgoing;
+pub mod partial_request;
+pub mod response_buffer;
 pub mod slots;

@@ -10,7 +10,7 @@ pub const REQUEST_MILLIS: u64 = 10_000;
 pub const ANSWER_MILLIS: u64 = 10_000;
 
 /// The time for which what a client still sends after its answer is read and dropped, in milliseconds.
-pub const PARTING_MILLIS: u64 = 1_000;
+pub const LINGER_MILLIS: u64 = 1_000;
 
 /// The bytes of all requests and answers together, from which on whole requests wait until answers were taken.
 pub const BUDGET_BYTES: usize = 67_108_864;

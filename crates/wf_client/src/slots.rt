@@ -20,7 +20,7 @@ pub fn first_free(slots: &[Option<Client>]) -> Option<usize>
 
 /// A request that isn't whole: its slot, and when it began.
 #[derive(Clone, Copy)]
-struct Waiting {
+struct PendingRequest {
     index: usize,
     since: u64,
 }
@@ -43,7 +43,7 @@ fn waiting_since(slot: &Option<Client>) -> Option<u64>
 }
 
 /// The one of both that began first; the first of them if they began at once.
-fn earlier(found: Option<Waiting>, other: Waiting) -> Waiting
+fn earlier(found: Option<PendingRequest>, other: PendingRequest) -> PendingRequest
     ensures none { found ≡ None → result ≡ other }
     ensures some { IfSome found (λ one. one.since ≤ other.since → result ≡ one) }
     ensures later { IfSome found (λ one. other.since < one.since → result ≡ other) }
@@ -56,13 +56,13 @@ fn earlier(found: Option<Waiting>, other: Waiting) -> Waiting
 
 /// The request that has waited longest of those that aren't whole; the first of several.
 #[tactic(auto, using(crate::proofs::Waits::more_without, crate::proofs::Waits::more_with))]
-fn longest(slots: &[Option<Client>]) -> Option<Waiting>
+fn longest(slots: &[Option<Client>]) -> Option<PendingRequest>
     ensures { IsBest slots.now (length slots.now) result }
 {
-    let mut found: Option<Waiting> = None;
+    let mut found: Option<PendingRequest> = None;
     for (index, slot) in slots.iter().enumerate() {
         if let Some(since) = waiting_since(slot) {
-            found = Some(earlier(found, Waiting { index, since }));
+            found = Some(earlier(found, PendingRequest { index, since }));
         }
     }
     found

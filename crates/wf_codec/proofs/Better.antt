@@ -4,7 +4,7 @@ use Rattle.std.proofs.lemmas.List.{map-append}
 use Rattle.wf_ballot.specs.Ballot.{Ballot}
 use Rattle.wf_def.specs.Definition.{Definition}
 use Rattle.wf_model.specs.Message.{Vote}
-use Rattle.wf_model.specs.Working.{better, better_each}
+use Rattle.wf_model.specs.VolatileState.{better, better_each}
 use Rattle.wf_codec.specs.Message.{view_vote, view_votes}
 
 abbrev Held : Type 0

@@ -5,9 +5,9 @@ use Rattle.wf_ballot.specs.Frame.{frame}
 use Rattle.wf_frame.specs.Frame.{frame_of}
 use Rattle.wf_def.specs.Definition.{Definition}
 use Rattle.wf_model.specs.Message.{Message, Prepare, Promise, Accept, Accepted, Nack, Chosen, Ask}
-use Rattle.wf_codec.specs.declared.kind.Kind.{Kind}
+use Rattle.wf_codec.specs.declared.kind.MessageKind.{MessageKind}
 use Rattle.wf_codec.specs.Message.{texts}
-use Rattle.wf_codec.specs.Spelling.{header_length, kind_of, body, format, text_spelling, spelling}
+use Rattle.wf_codec.specs.Encoding.{header_length, kind_of, body, format, text_spelling, spelling}
 
 -- replacing definitions by texts doesn't change the kind
 kind_of-texts : (m : Message Definition) → kind_of (texts m) ≡ kind_of m
@@ -19,11 +19,11 @@ kind_of-texts (Nack i s b q) = refl
 kind_of-texts (Chosen s d) = refl
 kind_of-texts (Ask s) = refl
 
-pub put_together : (old reserved header new : List ℕ) (m : Message Definition) (kind : Kind) → kind ≡ kind_of m → reserved ≡ old → header ++ body (texts m) ≡ reserved ++ frame_of format kind (body (texts m)) →
+pub put_together : (old reserved header new : List ℕ) (m : Message Definition) (kind : MessageKind) → kind ≡ kind_of m → reserved ≡ old → header ++ body (texts m) ≡ reserved ++ frame_of format kind (body (texts m)) →
     new ≡ header ++ body (texts m) → new ≡ old ++ spelling m
 unfolding text_spelling
 put_together old reserved header new m kind same same_old first second =
-    second ∙ first ∙ ap (λ (t : List ℕ). t ++ frame_of format kind (body (texts m))) same_old ∙ ap (λ (k : Kind). old ++ frame_of format k (body (texts m))) (same ∙ sym (kind_of-texts m))
+    second ∙ first ∙ ap (λ (t : List ℕ). t ++ frame_of format kind (body (texts m))) same_old ∙ ap (λ (k : MessageKind). old ++ frame_of format k (body (texts m))) (same ∙ sym (kind_of-texts m))
 
 pub length-text_spelling : (m : Message (List ℕ)) → length (text_spelling m) ≡ header_length + length (body m)
 unfolding text_spelling frame

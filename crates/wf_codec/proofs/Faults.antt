@@ -7,21 +7,21 @@ use Rattle.wf_frame.specs.declared.fault.FrameFault.{FrameFault}
 use Rattle.wf_frame.specs.declared.fault.FrameFault.TheVariants as frames
 use Rattle.wf_frame.specs.Frame.{body_front, length_front, kind_front, frame_front}
 use Rattle.wf_model.specs.Message.{Message}
-use Rattle.wf_codec.specs.declared.kind.Kind.{Kind}
+use Rattle.wf_codec.specs.declared.kind.MessageKind.{MessageKind}
 use Rattle.wf_codec.specs.declared.fault.DecodeFault.{DecodeFault}
 use Rattle.wf_codec.specs.declared.fault.DecodeFault.TheVariants.{Short, BadVersion, BadKind, BadField, NotCanonical, TooLong, Memory}
-use Rattle.wf_codec.specs.Kind.{most_body_bytes, kind_of_byte, can_have}
+use Rattle.wf_codec.specs.MessageKind.{most_body_bytes, kind_of_byte, can_have}
 use Rattle.wf_codec.specs.Message.{texts, definitions_of, HasOne, HasOneOf, HasDefinition}
-use Rattle.wf_codec.specs.Spelling.{message_version, format}
+use Rattle.wf_codec.specs.Encoding.{message_version, format}
 use Rattle.wf_codec.specs.Fault.{has_fields, texts_of, texts_of_kind, behind_header, body_in, check_longest, check_length, check_whole, check_fields, first_failing, first_fault, texts_in, kind_in, length_in, CarriesText, CarriesNoText, HasFault, IsNoText}
-use Rattle.wf_codec.specs.Judging.{decode_fault, fields_of, ReadsAs}
-use Rattle.wf_codec.specs.Law.{IsJudged}
+use Rattle.wf_codec.specs.Stages.{decode_fault, fields_of, ReadsAs}
+use Rattle.wf_codec.specs.Theorem.{IsValidated}
 use Rattle.wf_codec.proofs.Fields.{fields_checked}
 
 -- ---- the frame
 
 -- the checks and the text agree with the frame that was split off
-abbrev FrameIsChecked : Option DecodeFault → List (List ℕ) → Result (Kind × List ℕ) FrameFault → Type 0
+abbrev FrameIsChecked : Option DecodeFault → List (List ℕ) → Result (MessageKind × List ℕ) FrameFault → Type 0
 FrameIsChecked fault text (Ok found) = (fault ≡ check_fields (Some found.0) found.1) × (text ≡ texts_of found.0 found.1)
 FrameIsChecked fault text (Err e) = fault ≡ Some (decode_fault e)
 
@@ -29,12 +29,12 @@ alone : (o : Option DecodeFault) → first_failing (o ∷ []) ≡ o
 alone None = refl
 alone (Some e) = refl
 
-version_checked : (b : Bool) (checks : List (Option DecodeFault)) (text : List (List ℕ)) (r : Result (Kind × List ℕ) FrameFault) → FrameIsChecked (first_failing checks) text r →
+version_checked : (b : Bool) (checks : List (Option DecodeFault)) (text : List (List ℕ)) (r : Result (MessageKind × List ℕ) FrameFault) → FrameIsChecked (first_failing checks) text r →
     FrameIsChecked (first_failing (cond b None (Some BadVersion) ∷ checks)) text (cond b r (Err frames.BadVersion))
 version_checked true checks text r checked = checked
 version_checked false checks text r checked = refl
 
-body_checked : (long has few : Bool) (fields : Option DecodeFault) (kind : Kind) (body : List ℕ) → fields ≡ check_fields (Some kind) body →
+body_checked : (long has few : Bool) (fields : Option DecodeFault) (kind : MessageKind) (body : List ℕ) → fields ≡ check_fields (Some kind) body →
     FrameIsChecked (first_failing (cond long (Some TooLong) None ∷ cond has None (Some BadField) ∷ cond few (Some Short) None ∷ fields ∷ [])) (texts_of kind body)
     (cond long (Err frames.TooLong) (cond has (cond few (Err frames.Short) (Ok (kind, body))) (Err frames.BadLength)))
 body_checked true has few fields kind body is = refl
@@ -43,7 +43,7 @@ body_checked false true true fields kind body is = refl
 body_checked false true false fields kind body is = (alone fields ∙ is, refl)
 
 -- the checks after that of the version, if the kind's byte is there
-kind_checked : (version byte : ℕ) (kind : Option Kind) (bytes : List ℕ) →
+kind_checked : (version byte : ℕ) (kind : Option MessageKind) (bytes : List ℕ) →
     FrameIsChecked (first_failing (
     cond (is_some kind) None (Some BadKind)
     ∷ check_longest (length_in (version ∷ byte ∷ bytes))
@@ -79,24 +79,24 @@ missing true text e = absurd cc
 missing false text e = refl
 
 -- the body is a message's: no check of its fields fails, and its texts are those in it
-fields_there : (kind : Kind) (body : List ℕ) (m : Message (List ℕ)) → fields_of kind body ≡ Some m → (has_fields kind body ≡ true) × (definitions_of m ≡ texts_of kind body)
+fields_there : (kind : MessageKind) (body : List ℕ) (m : Message (List ℕ)) → fields_of kind body ≡ Some m → (has_fields kind body ≡ true) × (definitions_of m ≡ texts_of kind body)
 fields_there kind body m e = there (has_fields kind body) (texts_of kind body) (definitions_of m) (sym (ap (option_map (λ n. definitions_of n)) e) ∙ fields_checked kind body)
 
-fields_missing : (kind : Kind) (body : List ℕ) → fields_of kind body ≡ None → has_fields kind body ≡ false
+fields_missing : (kind : MessageKind) (body : List ℕ) → fields_of kind body ≡ None → has_fields kind body ≡ false
 fields_missing kind body e = missing (has_fields kind body) (texts_of kind body) (sym (ap (option_map (λ n. definitions_of n)) e) ∙ fields_checked kind body)
 
 -- the checks of bytes that begin with a whole frame
-record BeginsWithFrame (bytes : List ℕ) (kind : Kind) (body : List ℕ) : Type 0 where
+record BeginsWithFrame (bytes : List ℕ) (kind : MessageKind) (body : List ℕ) : Type 0 where
   fault : first_fault bytes ≡ check_fields (Some kind) body
   text : texts_in bytes ≡ texts_of kind body
 
-fields_pass : (bytes : List ℕ) (kind : Kind) (body : List ℕ) → BeginsWithFrame bytes kind body → has_fields kind body ≡ true → first_fault bytes ≡ None
+fields_pass : (bytes : List ℕ) (kind : MessageKind) (body : List ℕ) → BeginsWithFrame bytes kind body → has_fields kind body ≡ true → first_fault bytes ≡ None
 fields_pass bytes kind body begins has = begins.fault ∙ ap (λ (b : Bool). cond b None (Some BadField)) has
 
-fields_fail : (bytes : List ℕ) (kind : Kind) (body : List ℕ) → BeginsWithFrame bytes kind body → has_fields kind body ≡ false → first_fault bytes ≡ Some BadField
+fields_fail : (bytes : List ℕ) (kind : MessageKind) (body : List ℕ) → BeginsWithFrame bytes kind body → has_fields kind body ≡ false → first_fault bytes ≡ Some BadField
 fields_fail bytes kind body begins has = begins.fault ∙ ap (λ (b : Bool). cond b None (Some BadField)) has
 
-no_text : (bytes : List ℕ) (kind : Kind) (body : List ℕ) (o : Option (Message (List ℕ))) → BeginsWithFrame bytes kind body → fields_of kind body ≡ o →
+no_text : (bytes : List ℕ) (kind : MessageKind) (body : List ℕ) (o : Option (Message (List ℕ))) → BeginsWithFrame bytes kind body → fields_of kind body ≡ o →
     IsSomeAnd o (λ m. HasOneOf IsNoText (definitions_of m)) → CarriesNoText bytes
 no_text bytes kind body None begins is bad = absurd bad
 no_text bytes kind body (Some m) begins is bad =
@@ -106,7 +106,7 @@ no_text bytes kind body (Some m) begins is bad =
       no_text = subst (λ (o : List (List ℕ)). HasOneOf IsNoText o) (there.1 ∙ sym begins.text) bad;
     }
 
-a_text : (bytes : List ℕ) (kind : Kind) (body : List ℕ) (o : Option (Message (List ℕ))) → BeginsWithFrame bytes kind body → fields_of kind body ≡ o → IsSomeAnd o HasDefinition → CarriesText bytes
+a_text : (bytes : List ℕ) (kind : MessageKind) (body : List ℕ) (o : Option (Message (List ℕ))) → BeginsWithFrame bytes kind body → fields_of kind body ≡ o → IsSomeAnd o HasDefinition → CarriesText bytes
 a_text bytes kind body None begins is has = absurd has
 a_text bytes kind body (Some m) begins is has =
     let there = fields_there kind body m is in
@@ -119,7 +119,7 @@ a_text bytes kind body (Some m) begins is has =
 abbrev pub IsFirst : {X : Type 0} → Result X DecodeFault → List ℕ → Type 0
 IsFirst result bytes = MatchResult result (λ x. first_fault bytes ≡ None) (λ e. HasFault bytes e)
 
-body_answered : {X : Type 0} (view : X → Message Definition) (result : Result X DecodeFault) (bytes : List ℕ) (kind : Kind) (body : List ℕ) → BeginsWithFrame bytes kind body →
+body_answered : {X : Type 0} (view : X → Message Definition) (result : Result X DecodeFault) (bytes : List ℕ) (kind : MessageKind) (body : List ℕ) → BeginsWithFrame bytes kind body →
     ReadsAs view result (fields_of kind body) → IsFirst result bytes
 body_answered view (Ok x) bytes kind body begins reads = fields_pass bytes kind body begins (fields_there kind body (texts (view x)) reads.0).0
 body_answered view (Err Short) bytes kind body begins reads = absurd reads
@@ -137,17 +137,17 @@ frame_fault bytes frames.BadKind is = is
 frame_fault bytes frames.TooLong is = is
 frame_fault bytes frames.BadLength is = is
 
-frame_answered : {X : Type 0} (view : X → Message Definition) (result : Result (X × ℕ) DecodeFault) (bytes : List ℕ) (r : Result (Kind × List ℕ) FrameFault) →
-    FrameIsChecked (first_fault bytes) (texts_in bytes) r → IsJudged view result r → IsFirst result bytes
-frame_answered view result bytes (Ok found) checked judged =
-    body_answered (λ x. view x.0) result bytes found.0 found.1 (record { fault = checked.0; text = checked.1 }) judged.0
-frame_answered {X} view result bytes (Err e) checked judged =
-    subst (λ (r : Result (X × ℕ) DecodeFault). IsFirst r bytes) (sym judged) (frame_fault bytes e checked)
+frame_answered : {X : Type 0} (view : X → Message Definition) (result : Result (X × ℕ) DecodeFault) (bytes : List ℕ) (r : Result (MessageKind × List ℕ) FrameFault) →
+    FrameIsChecked (first_fault bytes) (texts_in bytes) r → IsValidated view result r → IsFirst result bytes
+frame_answered view result bytes (Ok found) checked validated =
+    body_answered (λ x. view x.0) result bytes found.0 found.1 (record { fault = checked.0; text = checked.1 }) validated.0
+frame_answered {X} view result bytes (Err e) checked validated =
+    subst (λ (r : Result (X × ℕ) DecodeFault). IsFirst r bytes) (sym validated) (frame_fault bytes e checked)
 
 -- the result is the first error
-pub answered : {X : Type 0} (view : X → Message Definition) (result : Result (X × ℕ) DecodeFault) (bytes : List ℕ) → IsJudged view result (frame_front format bytes) → IsFirst result bytes
-answered view result bytes judged = frame_answered view result bytes (frame_front format bytes) (frame_checked bytes) judged
+pub answered : {X : Type 0} (view : X → Message Definition) (result : Result (X × ℕ) DecodeFault) (bytes : List ℕ) → IsValidated view result (frame_front format bytes) → IsFirst result bytes
+answered view result bytes validated = frame_answered view result bytes (frame_front format bytes) (frame_checked bytes) validated
 
 -- allocation fails only for a text
-pub memory_over_text : {X : Type 0} (view : X → Message Definition) (result : Result (X × ℕ) DecodeFault) (bytes : List ℕ) → IsJudged view result (frame_front format bytes) → IsErrOf result Memory → CarriesText bytes
-memory_over_text {X} view result bytes judged memory = subst (λ (r : Result (X × ℕ) DecodeFault). IsFirst r bytes) memory (answered view result bytes judged)
+pub memory_over_text : {X : Type 0} (view : X → Message Definition) (result : Result (X × ℕ) DecodeFault) (bytes : List ℕ) → IsValidated view result (frame_front format bytes) → IsErrOf result Memory → CarriesText bytes
+memory_over_text {X} view result bytes validated memory = subst (λ (r : Result (X × ℕ) DecodeFault). IsFirst r bytes) memory (answered view result bytes validated)

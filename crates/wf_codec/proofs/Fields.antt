@@ -5,20 +5,20 @@ use Rattle.std.specs.Prelude.{option_map}
 use Rattle.wf_spelling.specs.Canon.{most_canon_bytes}
 use Rattle.wf_ballot.specs.Ballot.{ballot_bytes}
 use Rattle.wf_ballot.specs.Front.{AreBytes}
-use Rattle.wf_ballot.specs.FieldLaws.{length-ballot_bytes}
+use Rattle.wf_ballot.specs.FieldTheorems.{length-ballot_bytes}
 use Rattle.wf_frame.specs.Report.{IsText, text_bytes, vote_bytes, votes_bytes}
-use Rattle.wf_frame.specs.ReportLaws.{length-report}
+use Rattle.wf_frame.specs.ReportTheorems.{length-report}
 use Rattle.wf_frame.specs.Layout.{Body, IsBody, body_bytes, body_texts, fits, read_body}
-use Rattle.wf_frame.specs.Law.{Said}
-use Rattle.wf_frame.specs.LayoutLaws as layouts
+use Rattle.wf_frame.specs.Theorem.{Payload}
+use Rattle.wf_frame.specs.LayoutTheorems as layouts
 use Rattle.wf_model.specs.Message.{Message, Prepare, Promise, Accept, Accepted, Nack, Chosen, Ask, Vote}
-use Rattle.wf_codec.specs.declared.kind.Kind.{Kind}
-use Rattle.wf_codec.specs.declared.kind.Kind.TheVariants as kinds
-use Rattle.wf_codec.specs.Kind.{layout}
+use Rattle.wf_codec.specs.declared.kind.MessageKind.{MessageKind}
+use Rattle.wf_codec.specs.declared.kind.MessageKind.TheVariants as kinds
+use Rattle.wf_codec.specs.MessageKind.{layout}
 use Rattle.wf_codec.specs.Message.{IsMessageOf, definitions_of}
 use Rattle.wf_codec.specs.Fault.{has_fields, texts_of}
-use Rattle.wf_codec.specs.Spelling.{kind_of, values_of, message_of, body, format}
-use Rattle.wf_codec.specs.Judging.{fields_of}
+use Rattle.wf_codec.specs.Encoding.{kind_of, values_of, message_of, body, format}
+use Rattle.wf_codec.specs.Stages.{fields_of}
 
 -- ---- messages and what their bodies say
 
@@ -53,26 +53,26 @@ laid_out (Chosen s text) = refl
 laid_out (Ask s) = simp append-nil
 
 -- what a message says: its kind and what its body says
-abbrev pub said : Message (List ℕ) → Said format
-said m = (kind_of m, values_of m)
+abbrev pub payload : Message (List ℕ) → Payload format
+payload m = (kind_of m, values_of m)
 
-said_again : (kind : Kind) (x : Body (layout kind)) → said (message_of kind x) ≡ (kind, x)
-said_again kinds.Prepare x = refl
-said_again kinds.Promise x = refl
-said_again kinds.Accept x = refl
-said_again kinds.Accepted x = refl
-said_again kinds.Nack x = refl
-said_again kinds.Chosen x = refl
-said_again kinds.Ask x = refl
+payload_again : (kind : MessageKind) (x : Body (layout kind)) → payload (message_of kind x) ≡ (kind, x)
+payload_again kinds.Prepare x = refl
+payload_again kinds.Promise x = refl
+payload_again kinds.Accept x = refl
+payload_again kinds.Accepted x = refl
+payload_again kinds.Nack x = refl
+payload_again kinds.Chosen x = refl
+payload_again kinds.Ask x = refl
 
-text_said : (kind : Kind) (x : Body (layout kind)) → definitions_of (message_of kind x) ≡ body_texts (layout kind) x
-text_said kinds.Prepare x = refl
-text_said kinds.Promise x = refl
-text_said kinds.Accept x = refl
-text_said kinds.Accepted x = refl
-text_said kinds.Nack x = refl
-text_said kinds.Chosen x = refl
-text_said kinds.Ask x = refl
+text_payload : (kind : MessageKind) (x : Body (layout kind)) → definitions_of (message_of kind x) ≡ body_texts (layout kind) x
+text_payload kinds.Prepare x = refl
+text_payload kinds.Promise x = refl
+text_payload kinds.Accept x = refl
+text_payload kinds.Accepted x = refl
+text_payload kinds.Nack x = refl
+text_payload kinds.Chosen x = refl
+text_payload kinds.Ask x = refl
 
 -- ---- lengths
 
@@ -125,18 +125,18 @@ fields_again m p =
     ∙ layouts.body_again (layout (kind_of m)) (values_of m) (message_of (kind_of m)) (values_fit m p) ∙ ap Some (message_again m)
 
 -- the message is of the kind and has the body
-abbrev pub HasBody : Kind → List ℕ → Message (List ℕ) → Type 0
+abbrev pub HasBody : MessageKind → List ℕ → Message (List ℕ) → Type 0
 HasBody kind bytes m = (kind_of m ≡ kind) × (bytes ≡ body m)
 
 -- the message that is read has this body
-pub fields_stand : (kind : Kind) (bytes : List ℕ) (m : Message (List ℕ)) → AreBytes bytes → fits (layout kind) (length bytes) ≡ true → fields_of kind bytes ≡ Some m → HasBody kind bytes m
+pub fields_stand : (kind : MessageKind) (bytes : List ℕ) (m : Message (List ℕ)) → AreBytes bytes → fits (layout kind) (length bytes) ≡ true → fields_of kind bytes ≡ Some m → HasBody kind bytes m
 unfolding fields_of
 fields_stand kind bytes m fit has e =
     let stands = layouts.body_stands (layout kind) bytes (message_of kind) m fit has e in
-    let same : ◌≡◌ {A = Said format} (said m) (kind, stands.parts) = ap said (sym stands.makes) ∙ said_again kind stands.parts in
-    (ap (λ (x : Said format). x.0) same, stands.spelled ∙ sym (ap (λ (x : Said format). body_bytes (layout x.0) x.1) same) ∙ sym (laid_out m))
+    let same : ◌≡◌ {A = Payload format} (payload m) (kind, stands.parts) = ap payload (sym stands.makes) ∙ payload_again kind stands.parts in
+    (ap (λ (x : Payload format). x.0) same, stands.spelled ∙ sym (ap (λ (x : Payload format). body_bytes (layout x.0) x.1) same) ∙ sym (laid_out m))
 
 -- The message of a body exists iff each field is in its range, and its texts are those that follow the fields.
-pub fields_checked : (kind : Kind) (bytes : List ℕ) → option_map (λ m. definitions_of m) (fields_of kind bytes) ≡ cond (has_fields kind bytes) (Some (texts_of kind bytes)) None
+pub fields_checked : (kind : MessageKind) (bytes : List ℕ) → option_map (λ m. definitions_of m) (fields_of kind bytes) ≡ cond (has_fields kind bytes) (Some (texts_of kind bytes)) None
 unfolding fields_of
-fields_checked kind bytes = layouts.body_checked (layout kind) bytes (message_of kind) (λ m. definitions_of m) (text_said kind)
+fields_checked kind bytes = layouts.body_checked (layout kind) bytes (message_of kind) (λ m. definitions_of m) (text_payload kind)

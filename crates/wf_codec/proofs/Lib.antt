@@ -1,7 +1,7 @@
 pub mod Texts
 pub mod Fields
 pub mod Encoded
-pub mod Judged
+pub mod Validated
 pub mod Faults
 pub mod Reports
 pub mod Better

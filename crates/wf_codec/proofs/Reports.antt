@@ -12,7 +12,7 @@ use Rattle.wf_codec.specs.declared.fault.DecodeFault.{DecodeFault}
 use Rattle.wf_codec.specs.declared.fault.DecodeFault.TheVariants.{Short, BadVersion, BadKind, BadField, NotCanonical, TooLong, Memory}
 use Rattle.wf_codec.specs.Message.{view_vote, view_votes, vote_with, votes_with, HasOne, HasOneOf, HasText}
 use Rattle.wf_codec.specs.Fault.{IsNoText}
-use Rattle.wf_codec.specs.Judging.{ReadsVote, ReadsVotes, ReadsReport}
+use Rattle.wf_codec.specs.Stages.{ReadsVote, ReadsVotes, ReadsReport}
 
 -- ---- reading one more
 

@@ -3,7 +3,7 @@ use Rattle.std.proofs.Common.{◌≡◌, ℕ, ◌≤◌, List, [], ◌∷◌, le
 use Rattle.std.proofs.lemmas.List.{length-map}
 use Rattle.wf_def.specs.Definition.{Definition}
 use Rattle.wf_spelling.specs.Canon.{canon, line, most_canon_bytes}
-use Rattle.wf_canon.specs.Saying.{OneTextOneMap}
+use Rattle.wf_canon.specs.TextMeaning.{OneTextOneMap}
 use Rattle.wf_ballot.specs.Ballot.{Ballot}
 use Rattle.wf_frame.specs.Report.{IsText, IsVoteOf, AreVotesOf, votes_definitions}
 use Rattle.wf_model.specs.Message.{Message, Prepare, Promise, Accept, Accepted, Nack, Chosen, Ask, Vote}

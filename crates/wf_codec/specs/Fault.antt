@@ -4,17 +4,17 @@ use Rattle.std.specs.Int.{w32, from_be_bytes}
 use Rattle.wf_frame.specs.Layout as layouts
 use Rattle.wf_def.specs.Definition.{Definition}
 use Rattle.wf_spelling.specs.Canon.{canon}
-use Rattle.wf_codec.specs.declared.kind.Kind.{Kind}
+use Rattle.wf_codec.specs.declared.kind.MessageKind.{MessageKind}
 use Rattle.wf_codec.specs.declared.fault.DecodeFault.{DecodeFault}
 use Rattle.wf_codec.specs.declared.fault.DecodeFault.TheVariants.{Short, BadVersion, BadKind, BadField, NotCanonical, TooLong, Memory}
-use Rattle.wf_codec.specs.Kind.{most_body_bytes, kind_of_byte, layout, can_have}
-use Rattle.wf_codec.specs.Spelling.{message_version, header_length}
+use Rattle.wf_codec.specs.MessageKind.{most_body_bytes, kind_of_byte, layout, can_have}
+use Rattle.wf_codec.specs.Encoding.{message_version, header_length}
 use Rattle.wf_codec.specs.Message.{HasText, HasOne, HasOneOf}
 
 -- ---- what the bytes contain, as far as they are there
 
 -- the kind given by the second byte
-unfoldable pub kind_in : List ℕ → Option Kind
+unfoldable pub kind_in : List ℕ → Option MessageKind
 kind_in (version ∷ byte ∷ bytes) = kind_of_byte byte
 kind_in _ = None
 
@@ -37,11 +37,11 @@ abbrev pub body_in : List ℕ → List ℕ
 body_in bytes = front_of (length_in bytes) (behind_header bytes)
 
 -- each field of the body is in its range, by byte offset
-abbrev pub has_fields : Kind → List ℕ → Bool
+abbrev pub has_fields : MessageKind → List ℕ → Bool
 has_fields kind body = layouts.has_fields (layout kind) body
 
 -- the texts in a body of this kind
-abbrev pub texts_of : Kind → List ℕ → List (List ℕ)
+abbrev pub texts_of : MessageKind → List ℕ → List (List ℕ)
 texts_of kind body = layouts.texts_in (layout kind) body
 
 -- ---- the checks, each with its error
@@ -62,7 +62,7 @@ check_longest None = None
 check_longest (Some n) = if nat_lt most_body_bytes n then Some TooLong else None
 
 -- a body of this kind can have that many bytes
-abbrev pub check_length : Option Kind → Option ℕ → Option DecodeFault
+abbrev pub check_length : Option MessageKind → Option ℕ → Option DecodeFault
 check_length (Some kind) (Some n) = if can_have kind n then None else Some BadField
 check_length _ _ = None
 
@@ -72,7 +72,7 @@ check_whole None behind = Some Short
 check_whole (Some n) behind = if nat_lt (length behind) n then Some Short else None
 
 -- the fields are in their ranges
-abbrev pub check_fields : Option Kind → List ℕ → Option DecodeFault
+abbrev pub check_fields : Option MessageKind → List ℕ → Option DecodeFault
 check_fields None body = None
 check_fields (Some kind) body = if has_fields kind body then None else Some BadField
 
@@ -96,7 +96,7 @@ first_fault bytes = first_failing (
 -- ---- the texts, which are checked last
 
 -- the texts in a body of this kind
-abbrev pub texts_of_kind : Option Kind → List ℕ → List (List ℕ)
+abbrev pub texts_of_kind : Option MessageKind → List ℕ → List (List ℕ)
 texts_of_kind None body = []
 texts_of_kind (Some kind) body = texts_of kind body
 

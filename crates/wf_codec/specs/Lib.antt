@@ -1,8 +1,8 @@
-pub mod Kind
+pub mod MessageKind
 pub mod Report
 pub mod Message
-pub mod Spelling
-pub mod FormatLaws
+pub mod Encoding
+pub mod FormatTheorems
 pub mod Fault
-pub mod Judging
-pub mod Law
+pub mod Stages
+pub mod Theorem

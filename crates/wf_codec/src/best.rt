@@ -1,7 +1,7 @@
 ghost use Rattle.std.specs.Prelude.{◌≡◌, ◌+◌, ◌<◌, ◌≤◌, ◌++◌, ◌^◌, [], length, if◌then◌else◌, IfOk};
 ghost use Rattle.arrayvec.specs.ArrayVec.{array_vec_len};
 ghost use Rattle.wf_model.specs.Message.{first_vote, from_sequence, vote_of};
-ghost use Rattle.wf_model.specs.Working.{better, better_each, carried};
+ghost use Rattle.wf_model.specs.VolatileState.{better, better_each, carried};
 ghost use Rattle.wf_codec.specs.Message.{view_vote, view_votes};
 
 use crate::report::{Report, Votes, copy_votes};
@@ -82,7 +82,7 @@ impl BestVotes {
 }
 
 /// The definition of the first vote, or this one if there is none.
-#[tactic(auto, unfolding(wf_model::specs::Message::first_vote, wf_model::specs::Working::carried))]
+#[tactic(auto, unfolding(wf_model::specs::Message::first_vote, wf_model::specs::VolatileState::carried))]
 fn first_or<'a>(votes: &'a [Option<(Ballot, Canon)>], own: &'a Canon) -> &'a Canon
     ensures { result.now ≡ carried (first_vote (view_votes votes.now)) own.now }
 {
@@ -93,7 +93,7 @@ fn first_or<'a>(votes: &'a [Option<(Ballot, Canon)>], own: &'a Canon) -> &'a Can
 }
 
 /// The vote's definition, or this one if there is no vote.
-#[tactic(auto, unfolding(wf_model::specs::Working::carried))]
+#[tactic(auto, unfolding(wf_model::specs::VolatileState::carried))]
 fn definition_or<'a>(vote: &'a Option<(Ballot, Canon)>, own: &'a Canon) -> &'a Canon
     ensures { result.now ≡ carried (view_vote vote.now) own.now }
 {
@@ -199,7 +199,7 @@ fn better_vote(
 }
 
 /// Whether the better of the two is the vote.
-#[tactic(auto, unfolding(wf_model::specs::Working::better))]
+#[tactic(auto, unfolding(wf_model::specs::VolatileState::better))]
 fn is_better(best: &Option<(Ballot, Canon)>, vote: &Option<(Ballot, Canon)>) -> bool
     ensures { better (view_vote best.now) (view_vote vote.now) ≡
         (if result then view_vote vote.now else view_vote best.now) }

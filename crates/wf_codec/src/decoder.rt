@@ -1,5 +1,5 @@
 ghost use Rattle.std.specs.Prelude.{◌≡◌, ◌+◌, ◌≤◌, ◌++◌, ◌↔◌, length, true, Some, is_some, option_map, IfOk, IfErr, IfSome, IsErrOf, MatchResult, OnOk};
-ghost use Rattle.wf_codec.specs.declared.kind.Kind.TheVariants as kinds;
+ghost use Rattle.wf_codec.specs.declared.kind.MessageKind.TheVariants as kinds;
 ghost use Rattle.wf_codec.specs.Message.{view};
 ghost use Rattle.wf_codec.specs.Fault.{first_fault, HasFault, CarriesText};
 ghost use Rattle.arrayvec.specs.ArrayVec.{array_vec_len};
@@ -7,13 +7,13 @@ ghost use Rattle.wf_ballot.specs.Ballot.{IsBallot};
 ghost use Rattle.wf_spelling.specs.Canon.{most_canon_bytes};
 ghost use Rattle.wf_frame.specs.Report.{front_text, front_vote, votes_of, votes_in_report, IsVoteOf};
 ghost use Rattle.wf_frame.specs.Frame.{frame_front};
-ghost use Rattle.wf_codec.specs.Spelling.{Spells, format};
-ghost use Rattle.wf_codec.specs.Judging.{decode_fault, fields_of, ReadsAs, ReadsVote, ReadsVotes, ReadsReport, ReadsText};
-ghost use Rattle.wf_codec.specs.Law.{BeginsWith, BeginsWithNone, NeverBegins, IsRefusal, IsUnfinished, IsReadAs, IsJudged};
+ghost use Rattle.wf_codec.specs.Encoding.{Spells, format};
+ghost use Rattle.wf_codec.specs.Stages.{decode_fault, fields_of, ReadsAs, ReadsVote, ReadsVotes, ReadsReport, ReadsText};
+ghost use Rattle.wf_codec.specs.Theorem.{BeginsWith, BeginsWithNone, NeverBegins, IsRejection, IsUnfinished, IsReadAs, IsValidated};
 
 use crate::fault::DecodeFault;
 use crate::frame::HEADER_BYTES;
-use crate::kind::Kind;
+use crate::kind::MessageKind;
 use crate::message::Message;
 use crate::report::{Report, Votes};
 use arrayvec::ArrayVec;
@@ -42,7 +42,7 @@ pub fn decode(alloc: Global, bytes: &[u8]) -> Result<(Message, usize), DecodeFau
     ensures count { IfOk result (λ x. (1 ≤ x.1) × (x.1 ≤ length bytes.now)) }
 
     // Rejected bytes never become a message, whatever follows.
-    ensures refused { IfErr result (λ e. IsRefusal e → NeverBegins bytes.now) }
+    ensures refused { IfErr result (λ e. IsRejection e → NeverBegins bytes.now) }
 
     ensures short { IsErrOf result DecodeFault.Short ↔ IsUnfinished bytes.now }
     ensures none_yet { IsErrOf result DecodeFault.Short → BeginsWithNone bytes.now }
@@ -56,13 +56,13 @@ pub fn decode(alloc: Global, bytes: &[u8]) -> Result<(Message, usize), DecodeFau
 {
     // The theorem: maps with equal texts are equal.
     one_text_one_map();
-    judge(alloc, bytes)
+    validate(alloc, bytes)
 }
 
-fn judge(alloc: Global, bytes: &[u8]) -> Result<(Message, usize), DecodeFault>
-    ensures { IsJudged view result (frame_front format bytes.now) }
+fn validate(alloc: Global, bytes: &[u8]) -> Result<(Message, usize), DecodeFault>
+    ensures { IsValidated view result (frame_front format bytes.now) }
 {
-    let (kind, body) = match split_frame::<Kind>(bytes) {
+    let (kind, body) = match split_frame::<MessageKind>(bytes) {
         Ok(frame) => frame,
         Err(fault) => return Err(decode_fault(fault)),
     };
@@ -94,7 +94,7 @@ fn canon_of(alloc: Global, text: &[u8]) -> Result<Canon, DecodeFault>
     }
 }
 
-#[tactic(auto, unfolding(crate::specs::Judging::fields_of))]
+#[tactic(auto, unfolding(crate::specs::Stages::fields_of))]
 fn prepare_of(body: &[u8]) -> Result<Message, DecodeFault>
     ensures { ReadsAs view result (fields_of kinds.Prepare body.now) }
 {
@@ -107,7 +107,7 @@ fn prepare_of(body: &[u8]) -> Result<Message, DecodeFault>
     Ok(Message::Prepare(slot, ballot))
 }
 
-#[tactic(auto, unfolding(crate::specs::Judging::fields_of, wf_frame::specs::Report::report_of))]
+#[tactic(auto, unfolding(crate::specs::Stages::fields_of, wf_frame::specs::Report::report_of))]
 fn promise_of(alloc: Global, body: &[u8]) -> Result<Message, DecodeFault>
     ensures { ReadsAs view result (fields_of kinds.Promise body.now) }
 {
@@ -260,7 +260,7 @@ fn vote_of(alloc: Global, bytes: &[u8]) -> Result<Option<(Ballot, Canon)>, Decod
     }
 }
 
-#[tactic(auto, unfolding(crate::specs::Judging::fields_of))]
+#[tactic(auto, unfolding(crate::specs::Stages::fields_of))]
 fn accept_of(alloc: Global, body: &[u8]) -> Result<Message, DecodeFault>
     ensures { ReadsAs view result (fields_of kinds.Accept body.now) }
 {
@@ -274,8 +274,8 @@ fn accept_of(alloc: Global, body: &[u8]) -> Result<Message, DecodeFault>
     Ok(Message::Accept(slot, ballot, canon))
 }
 
-#[tactic(auto, unfolding(crate::specs::Judging::fields_of))]
-fn accepted_of(body: &[u8]) -> Result<Message, DecodeFault>
+#[tactic(auto, unfolding(crate::specs::Stages::fields_of))]
+fn parse_accepted(body: &[u8]) -> Result<Message, DecodeFault>
     ensures { ReadsAs view result (fields_of kinds.Accepted body.now) }
 {
     let Some((node, rest)) = split_node(body) else {
@@ -290,7 +290,7 @@ fn accepted_of(body: &[u8]) -> Result<Message, DecodeFault>
     Ok(Message::Accepted(node, slot, ballot))
 }
 
-#[tactic(auto, unfolding(crate::specs::Judging::fields_of))]
+#[tactic(auto, unfolding(crate::specs::Stages::fields_of))]
 fn nack_of(body: &[u8]) -> Result<Message, DecodeFault>
     ensures { ReadsAs view result (fields_of kinds.Nack body.now) }
 {
@@ -309,8 +309,8 @@ fn nack_of(body: &[u8]) -> Result<Message, DecodeFault>
     Ok(Message::Nack(node, slot, ballot, promised))
 }
 
-#[tactic(auto, unfolding(crate::specs::Judging::fields_of))]
-fn chosen_of(alloc: Global, body: &[u8]) -> Result<Message, DecodeFault>
+#[tactic(auto, unfolding(crate::specs::Stages::fields_of))]
+fn parse_chosen(alloc: Global, body: &[u8]) -> Result<Message, DecodeFault>
     ensures { ReadsAs view result (fields_of kinds.Chosen body.now) }
 {
     let Some((slot, text)) = split_slot(body) else {
@@ -320,7 +320,7 @@ fn chosen_of(alloc: Global, body: &[u8]) -> Result<Message, DecodeFault>
     Ok(Message::Chosen(slot, canon))
 }
 
-#[tactic(auto, unfolding(crate::specs::Judging::fields_of))]
+#[tactic(auto, unfolding(crate::specs::Stages::fields_of))]
 fn ask_of(body: &[u8]) -> Result<Message, DecodeFault>
     ensures { ReadsAs view result (fields_of kinds.Ask body.now) }
 {
@@ -330,16 +330,16 @@ fn ask_of(body: &[u8]) -> Result<Message, DecodeFault>
     Ok(Message::Ask(slot))
 }
 
-fn message_of(alloc: Global, kind: Kind, body: &[u8]) -> Result<Message, DecodeFault>
+fn message_of(alloc: Global, kind: MessageKind, body: &[u8]) -> Result<Message, DecodeFault>
     ensures { ReadsAs view result (fields_of kind body.now) }
 {
     match kind {
-        Kind::Prepare => prepare_of(body),
-        Kind::Promise => promise_of(alloc, body),
-        Kind::Accept => accept_of(alloc, body),
-        Kind::Accepted => accepted_of(body),
-        Kind::Nack => nack_of(body),
-        Kind::Chosen => chosen_of(alloc, body),
-        Kind::Ask => ask_of(body),
+        MessageKind::Prepare => prepare_of(body),
+        MessageKind::Promise => promise_of(alloc, body),
+        MessageKind::Accept => accept_of(alloc, body),
+        MessageKind::Accepted => parse_accepted(body),
+        MessageKind::Nack => nack_of(body),
+        MessageKind::Chosen => parse_chosen(alloc, body),
+        MessageKind::Ask => ask_of(body),
     }
 }

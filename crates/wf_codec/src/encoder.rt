@@ -1,11 +1,11 @@
 ghost use Rattle.std.specs.Prelude.{◌≡◌, ◌+◌, ◌*◌, ◌<◌, ◌≤◌, ◌++◌, length, vec_len, vec_capacity, OnOk, OnErr};
 ghost use Rattle.wf_codec.specs.Message.{view, view_vote, view_votes, vote_with, votes_with, texts, HasText, IsMessage};
-ghost use Rattle.wf_codec.specs.Spelling.{kind_of, body, spelling, written_vote, written_votes};
+ghost use Rattle.wf_codec.specs.Encoding.{kind_of, body, spelling, written_vote, written_votes};
 ghost use Rattle.wf_frame.specs.Report.{vote_bytes, votes_bytes, text_bytes, IsVoteOf, AreVotesOf};
 ghost use Rattle.wf_spelling.specs.Canon.{canon, most_canon_bytes};
 
 use crate::frame::{BODY_BYTES, HEADER_BYTES};
-use crate::kind::Kind;
+use crate::kind::MessageKind;
 use crate::message::Message;
 use std::alloc::AllocError;
 use wf_ballot::Ballot;
@@ -30,7 +30,7 @@ pub fn encode(message: &Message, out: &mut Vec<u8>) -> Result<(), AllocError>
 
 /// The message's kind, and the number of bytes of its body.
 #[tactic(auto, using(crate::proofs::Fields::body_has_length))]
-fn shape_of(message: &Message) -> (Kind, usize)
+fn shape_of(message: &Message) -> (MessageKind, usize)
     ensures kind { result.0 ≡ kind_of (view message.now) }
     ensures length { result.1 ≡ length (body (texts (view message.now))) }
     ensures most { result.1 ≤ BODY_BYTES }
@@ -40,39 +40,39 @@ fn shape_of(message: &Message) -> (Kind, usize)
         Message::Prepare(slot, ballot) => {
             slot_in_range(*slot);
             ballot_in_range(*ballot);
-            (Kind::Prepare, 7)
+            (MessageKind::Prepare, 7)
         }
         Message::Promise(node, ballot, report) => {
             node_in_range(*node);
             slot_in_range(report.slot());
             ballot_in_range(*ballot);
-            (Kind::Promise, 8 + votes_length(report.votes()))
+            (MessageKind::Promise, 8 + votes_length(report.votes()))
         }
         Message::Accept(slot, ballot, canon) => {
             slot_in_range(*slot);
             ballot_in_range(*ballot);
-            (Kind::Accept, 7 + text_length(canon))
+            (MessageKind::Accept, 7 + text_length(canon))
         }
         Message::Accepted(node, slot, ballot) => {
             node_in_range(*node);
             slot_in_range(*slot);
             ballot_in_range(*ballot);
-            (Kind::Accepted, 8)
+            (MessageKind::Accepted, 8)
         }
         Message::Nack(node, slot, ballot, promised) => {
             node_in_range(*node);
             slot_in_range(*slot);
             ballot_in_range(*ballot);
             ballot_in_range(*promised);
-            (Kind::Nack, 13)
+            (MessageKind::Nack, 13)
         }
         Message::Chosen(slot, canon) => {
             slot_in_range(*slot);
-            (Kind::Chosen, 2 + text_length(canon))
+            (MessageKind::Chosen, 2 + text_length(canon))
         }
         Message::Ask(slot) => {
             slot_in_range(*slot);
-            (Kind::Ask, 2)
+            (MessageKind::Ask, 2)
         }
     }
 }
@@ -117,7 +117,7 @@ fn text_length(text: &Canon) -> usize
 }
 
 /// Appends the body, for which there is room.
-#[tactic(auto, using(crate::proofs::Fields::body_has_length), unfolding(crate::specs::Spelling::body, wf_frame::specs::Report::report_bytes))]
+#[tactic(auto, using(crate::proofs::Fields::body_has_length), unfolding(crate::specs::Encoding::body, wf_frame::specs::Report::report_bytes))]
 fn put_body(out: &mut Vec<u8>, message: &Message)
     requires { vec_len out.old + length (body (texts (view message.now))) ≤ vec_capacity out.old }
     ensures { out.new.items ≡ out.old.items ++ body (texts (view message.now)) }

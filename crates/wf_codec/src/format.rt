@@ -1,10 +1,10 @@
 use crate::frame::{BODY_BYTES, VERSION};
-use crate::kind::Kind;
+use crate::kind::MessageKind;
 use wf_frame::FrameKind;
 
-impl FrameKind for Kind {
-    ghost use Rattle.wf_codec.specs.Spelling.{format as format_of_messages};
-    ghost use Rattle.wf_codec.specs.FormatLaws.{is_format as messages_have_a_format};
+impl FrameKind for MessageKind {
+    ghost use Rattle.wf_codec.specs.Encoding.{format as format_of_messages};
+    ghost use Rattle.wf_codec.specs.FormatTheorems.{is_format as messages_have_a_format};
 
     ghost format = { format_of_messages };
 
@@ -13,7 +13,7 @@ impl FrameKind for Kind {
     }
 
     fn with(_version: u8, byte: u8) -> Option<Self> {
-        Kind::of_byte(byte)
+        MessageKind::of_byte(byte)
     }
 
     fn version(self) -> u8 {
@@ -21,16 +21,16 @@ impl FrameKind for Kind {
     }
 
     fn byte(self) -> u8 {
-        Kind::byte(self)
+        MessageKind::byte(self)
     }
 
     fn longest() -> usize {
         BODY_BYTES
     }
 
-    #[tactic(auto, unfolding(crate::specs::Kind::can_have))]
+    #[tactic(auto, unfolding(crate::specs::MessageKind::can_have))]
     fn can_have(self, length: usize) -> bool {
-        Kind::can_have(self, length)
+        MessageKind::can_have(self, length)
     }
 
     ghost is_format = { messages_have_a_format };

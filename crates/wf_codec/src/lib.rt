@@ -1,7 +1,7 @@
 //! Messages as bytes: the encoder and the decoder.
 //!
 //! A message's encoding is a version, a kind, the length of its body and its body; numbers are big-endian. The canonical text of
-//! a definition fills the rest of the body; a Promise may have several, each behind its length (`specs/Spelling.antt`). Model: a
+//! a definition fills the rest of the body; a Promise may have several, each behind its length (`specs/Encoding.antt`). Model: a
 //! [`Message`] is that of wf_model, with definitions (`specs/Message.antt`).
 //!
 //! Promises: each message has exactly one encoding, and no encoding is a prefix of another. [`encode`] appends that encoding or
@@ -20,17 +20,17 @@ mod fault;
 mod format;
 mod frame;
 mod kind;
-mod law;
 mod message;
 mod report;
+mod theorem;
 
 pub use best::BestVotes;
 pub use decoder::decode;
 pub use encoder::encode;
 pub use fault::DecodeFault;
 pub use frame::{BODY_BYTES, HEADER_BYTES, VERSION};
-pub use law::{
-    longest_body, no_spelling_is_empty, none_begins_another, numbers_of_messages, one_spelling,
-};
 pub use message::Message;
 pub use report::{MOST_VOTES, Report, Votes};
+pub use theorem::{
+    longest_body, no_spelling_is_empty, none_begins_another, numbers_of_messages, one_spelling,
+};

@@ -8,9 +8,9 @@ use Rattle.wf_check.specs.declared.fault.CheckFault.{CheckFault}
 use Rattle.wf_check.specs.declared.fault.CheckFault.TheVariants as found
 use Rattle.wf_check.specs.declared.finding.Finding.{Finding}
 use Rattle.wf_mapfile.specs.Meaning.{meaning}
-use Rattle.wf_stream.specs.KnownLaws.{keeps_same}
-use Rattle.wf_commands.proofs.Judged.{cut_meaning}
-use Rattle.wf_commands.specs.Counting.{CountsReads, CountsWrites}
+use Rattle.wf_stream.specs.KnownTheorems.{keeps_same}
+use Rattle.wf_commands.proofs.Examined.{cut_meaning}
+use Rattle.wf_commands.specs.FailureCount.{CountsReads, CountsWrites}
 use Rattle.wf_commands.specs.Run.{HasReport, HasReportIn, IsCheckOf, IsChecked, IsFindingWritten, IsInputFault, IsWriting, checked, fault_of, most_checked_bytes}
 use Rattle.wf_commands.specs.declared.fault.RunFault.{RunFault}
 use Rattle.wf_commands.specs.declared.fault.RunFault.TheVariants as faults

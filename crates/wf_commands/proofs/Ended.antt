@@ -6,22 +6,22 @@ use Rattle.std.specs.declared.io.ErrorKind.{ErrorKind as IoErrorKind}
 use Rattle.clap.specs.Walk.{Text}
 use Rattle.clap.specs.declared.error.kind.ErrorKind.{ErrorKind}
 use Rattle.wf_listing.specs.declared.fault.TapeReadFault.{TapeReadFault}
-use Rattle.wf_serve.specs.Fault as serving
-use Rattle.wf_serve.specs.Listening.{IsTold}
+use Rattle.wf_serve.specs.StartFault as serving
+use Rattle.wf_serve.specs.PortLine.{IsPrinted}
 use Rattle.wf_serve.specs.Served.{HasServed}
 use Rattle.wf_serve.specs.declared.fault.ServeFault.{ServeFault}
 use Rattle.wf_serve.specs.declared.fault.ServeFault.TheVariants as serve
 use Rattle.wf_service.specs.declared.service.Service.{Service}
-use Rattle.wf_stream.specs.KnownLaws.{consumes_none}
-use Rattle.wf_stream.specs.Reading.{TakesUpTo}
+use Rattle.wf_stream.specs.KnownTheorems.{consumes_none}
+use Rattle.wf_stream.specs.Effects.{TakesUpTo}
 use Rattle.wf_tape.specs.declared.tape.Tape.{Ghosts as Tape}
-use Rattle.wf_commands.specs.Counting.{CountsReads, CountsWrites}
-use Rattle.wf_commands.specs.Ending.{left_to_report, rejection_status, reported, run_status, unreadable_status}
+use Rattle.wf_commands.specs.FailureCount.{CountsReads, CountsWrites}
+use Rattle.wf_commands.specs.ProgramEnd.{left_to_report, rejection_status, reported, run_status, unreadable_status}
 use Rattle.wf_commands.specs.Folder.{Contents, HasFolderListing, IsTapeDone}
 use Rattle.wf_commands.specs.Program.{IsFarmProcess, IsProcess, IsDone, IsRun, IsRunOf, Serves}
 use Rattle.wf_commands.specs.Run.{HasListing, HasMap, IsTapeWriting, IsWhyUnlisted, IsWhyUnwritten, most_read}
-use Rattle.wf_commands.specs.Serving.{IsMachineServing, run_outcome}
-use Rattle.wf_commands.specs.declared.ending.Ending.{Ending}
+use Rattle.wf_commands.specs.ServeRun.{IsMachineServing, run_outcome}
+use Rattle.wf_commands.specs.declared.program_end.Ending.{Ending}
 use Rattle.wf_commands.specs.declared.fault.RunFault.{RunFault}
 use Rattle.wf_commands.specs.declared.fault.RunFault.TheVariants as faults
 use Rattle.wf_line.specs.CommandLine.{IsRejection}
@@ -67,48 +67,48 @@ module _ (serves : Serves) (contents : Contents) (input left old new : Option (L
   pub run_ended : (line : Line) (result : Result (Unit {0}) RunFault) → IsDone serves contents line input old new result → TakesUpTo (most_read line) input left →
       CountsReads result reads reads_after → CountsWrites result writes writes_after → ending.reported ≡ left_to_report line (reported result) → ending.status ≡ run_status result →
       IsRunOf serves contents line input left old new reads reads_after writes writes_after ending
-  run_ended line result done most read written told status = record { result = result; done = done; most = most; read = read; written = written; told = told; status = status }
+  run_ended line result done most read written reported_as status = record { result = result; done = done; most = most; read = read; written = written; reported_as = reported_as; status = status }
 
 module _ (serves : Serves) (contents : Contents) (input old new : Option (List ℕ)) (reads writes writes_after : ℕ) (ending : Ending) where
   -- of `serve`, by the server's result
   pub serving_ended : (service : Service) (outcome : Result (Unit {0}) ServeFault) → serves service old new outcome → serving.CountsWrites outcome writes writes_after →
       ending.reported ≡ left_to_report (lines.Serve service) (reported (run_outcome outcome)) → ending.status ≡ run_status (run_outcome outcome) →
       IsRunOf serves contents (lines.Serve service) input input old new reads reads writes writes_after ending
-  serving_ended service (Ok done) is counts told status = run_ended serves contents input input old new reads reads writes writes_after ending (lines.Serve service) (Ok done) is (nothing_read input) refl counts told status
-  serving_ended service (Err serve.Start) is counts told status = run_ended serves contents input input old new reads reads writes writes_after ending (lines.Serve service) (Err faults.Serve) is (nothing_read input) refl counts told status
-  serving_ended service (Err serve.Write) is counts told status = run_ended serves contents input input old new reads reads writes writes_after ending (lines.Serve service) (Err faults.Write) is (nothing_read input) refl counts told status
+  serving_ended service (Ok done) is counts reported_as status = run_ended serves contents input input old new reads reads writes writes_after ending (lines.Serve service) (Ok done) is (nothing_read input) refl counts reported_as status
+  serving_ended service (Err serve.Start) is counts reported_as status = run_ended serves contents input input old new reads reads writes writes_after ending (lines.Serve service) (Err faults.Serve) is (nothing_read input) refl counts reported_as status
+  serving_ended service (Err serve.Write) is counts reported_as status = run_ended serves contents input input old new reads reads writes writes_after ending (lines.Serve service) (Err faults.Write) is (nothing_read input) refl counts reported_as status
 
   -- of `tape`
   pub listing_ended : (file : Bor (List ℕ)) (map : Option ℕ) (result : Result (Unit {0}) RunFault) → IsTapeDone contents file.now map old new result → CountsWrites result writes writes_after →
       ending.reported ≡ left_to_report (lines.Tape file map) (reported result) → ending.status ≡ run_status result →
       IsRunOf serves contents (lines.Tape file map) input input old new reads reads writes writes_after ending
-  listing_ended file map result done counts told status =
+  listing_ended file map result done counts reported_as status =
       run_ended serves contents input input old new reads reads writes writes_after ending (lines.Tape file map) result done (nothing_read input)
-      (listing_reads_nothing contents file.now map old new result reads done) counts told status
+      (listing_reads_nothing contents file.now map old new result reads done) counts reported_as status
 
--- The same of a line that is one of these.
+-- a run whose line is one of these
 module _ (serves : Serves) (contents : Contents) (input old new : Option (List ℕ)) (reads writes writes_after : ℕ) (ending : Ending) (line : Line) where
   pub served_line : (service : Service) → line ≡ lines.Serve service → (outcome : Result (Unit {0}) ServeFault) (result : Result (Unit {0}) RunFault) → result ≡ run_outcome outcome →
       serves service old new outcome → serving.CountsWrites outcome writes writes_after → ending.reported ≡ left_to_report (lines.Serve service) (reported result) → ending.status ≡ run_status result →
       IsRunOf serves contents line input input old new reads reads writes writes_after ending
-  served_line service is outcome result same done counts told status =
+  served_line service is outcome result same done counts reported_as status =
       subst (λ (l : Line). IsRunOf serves contents l input input old new reads reads writes writes_after ending) (sym is)
       (serving_ended serves contents input old new reads writes writes_after ending service outcome done counts
-      (told ∙ ap (λ (r : Result (Unit {0}) RunFault). left_to_report (lines.Serve service) (reported r)) same)
+      (reported_as ∙ ap (λ (r : Result (Unit {0}) RunFault). left_to_report (lines.Serve service) (reported r)) same)
       (status ∙ ap (λ (r : Result (Unit {0}) RunFault). run_status r) same))
 
   pub listed_line : (file : Bor (List ℕ)) (map : Option ℕ) → line ≡ lines.Tape file map → (result : Result (Unit {0}) RunFault) → IsTapeDone contents file.now map old new result →
       CountsWrites result writes writes_after → ending.reported ≡ left_to_report (lines.Tape file map) (reported result) → ending.status ≡ run_status result →
       IsRunOf serves contents line input input old new reads reads writes writes_after ending
-  listed_line file map is result done counts told status =
+  listed_line file map is result done counts reported_as status =
       subst (λ (l : Line). IsRunOf serves contents l input input old new reads reads writes writes_after ending) (sym is)
       (listing_ended serves contents input old new reads writes writes_after ending file map result done counts
-      told status)
+      reported_as status)
 
 -- what the machine's serving of a service is, by its parts
 pub machine_serves : {M F : Type 0} (inside : Tape M) (outside : Tape F) (service : Service) (old new : Option (List ℕ)) (result : Result (Unit {0}) ServeFault) →
-    IsTold service.port old new result → OnOk result (HasServed inside outside service) → IsMachineServing inside outside service old new result
-machine_serves inside outside service old new result told served = record { told = told; served = served }
+    IsPrinted service.port old new result → OnOk result (HasServed inside outside service) → IsMachineServing inside outside service old new result
+machine_serves inside outside service old new result reported_as served = record { reported_as = reported_as; served = served }
 
 -- ---- the process
 

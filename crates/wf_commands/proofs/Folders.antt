@@ -5,7 +5,7 @@ use Rattle.std.specs.Io.KnownBytes.{Appends}
 use Rattle.std.specs.Prelude.{Option, Result, Ok, Err, IfSome}
 use Rattle.wf_listing.specs.Listing.{IsListing}
 use Rattle.wf_listing.specs.declared.fault.TapeReadFault.{TapeReadFault}
-use Rattle.wf_stream.specs.KnownLaws.{keeps_same}
+use Rattle.wf_stream.specs.KnownTheorems.{keeps_same}
 use Rattle.wf_serve.specs.Folder.{tape_path}
 use Rattle.wf_commands.specs.Folder.{AreListed, Contents, HasListingAppended, IsAppended, IsExtended, IsFolderListed, IsFolderListing, IsFront, IsNamedListing, tape_line}
 use Rattle.wf_commands.specs.declared.fault.RunFault.{RunFault}

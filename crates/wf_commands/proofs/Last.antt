@@ -4,13 +4,13 @@ use Rattle.std.specs.Prelude.{Result, Ok, Err, IfErr}
 use Rattle.wf_play.specs.Fault as played
 use Rattle.wf_play.specs.declared.fault.PlayFault.{PlayFault}
 use Rattle.wf_play.specs.declared.fault.PlayFault.TheVariants as play
-use Rattle.wf_serve.specs.Fault as counted
-use Rattle.wf_serve.specs.Listening.{IsEnded}
+use Rattle.wf_serve.specs.StartFault as counted
+use Rattle.wf_serve.specs.PortLine.{IsEnded}
 use Rattle.wf_serve.specs.declared.fault.ServeFault.{ServeFault}
 use Rattle.wf_serve.specs.declared.fault.ServeFault.TheVariants as serve
-use Rattle.wf_stream.specs.Reading.{EndsByFailing}
+use Rattle.wf_stream.specs.Effects.{EndsByFailing}
 use Rattle.wf_stream.specs.declared.stream.Sink.{Ghosts as Sink}
-use Rattle.wf_commands.specs.Counting.{FailsLast}
+use Rattle.wf_commands.specs.FailureCount.{FailsLast}
 
 module _ {K : Type 0} (sinks : Sink K) (old new : K) where
   -- no write has failed

@@ -1,7 +1,7 @@
 mod Checked
 mod Ended
 mod Folders
-mod Judged
+mod Examined
 mod Last
 mod Listed
 mod Outcome

@@ -5,10 +5,10 @@ use Rattle.std.specs.Prelude.{Option, Result, Ok, Err, Some, None, IfSome, Vec}
 use Rattle.std.specs.declared.alloc.Global.{Global}
 use Rattle.wf_listing.specs.Listing.{IsListing}
 use Rattle.wf_listing.specs.Map.{IsTextOf}
-use Rattle.wf_listing.specs.Reading.{most_tape_bytes}
+use Rattle.wf_listing.specs.TapeBytes.{most_tape_bytes}
 use Rattle.wf_listing.specs.declared.fault.TapeReadFault.{TapeReadFault}
 use Rattle.wf_listing.specs.declared.fault.TapeReadFault.TheVariants as tapes
-use Rattle.wf_stream.specs.KnownLaws.{keeps_same}
+use Rattle.wf_stream.specs.KnownTheorems.{keeps_same}
 use Rattle.wf_commands.specs.Folder.{Contents, IsFolderListed, IsTapeDone}
 use Rattle.wf_commands.specs.Run.{HasListing, HasMap, IsListed, IsMapWritten, IsWhyUnlisted, IsWhyUnwritten}
 use Rattle.wf_commands.specs.declared.fault.RunFault.{RunFault}

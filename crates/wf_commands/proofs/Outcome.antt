@@ -6,10 +6,10 @@ use Rattle.wf_def.specs.Limits.{IsWithinLimits}
 use Rattle.wf_mapfile.specs.Meaning.{Means}
 use Rattle.wf_spelling.specs.declared.fault.CanonFault.{CanonFault}
 use Rattle.wf_commands.specs.Run.{IsReadingFault, IsWriting, IsWritingOf, IsOutcome}
-use Rattle.wf_commands.specs.Counting.{CountsReads, CountsWrites}
+use Rattle.wf_commands.specs.FailureCount.{CountsReads, CountsWrites}
 use Rattle.wf_commands.specs.declared.fault.RunFault.{RunFault}
 use Rattle.wf_commands.specs.declared.fault.RunFault.TheVariants as faults
-use Rattle.wf_stream.specs.KnownLaws.{keeps_same}
+use Rattle.wf_stream.specs.KnownTheorems.{keeps_same}
 
 module _ (HasOutput : Definition → List ℕ → Type 0) (rejects : CanonFault → Definition → Type 0) (input old new : Option (List ℕ)) where
   pub written_outcome : (result : Result (Unit {0}) RunFault) (d : Definition) (bytes : List ℕ) → IfSome input (λ known. Means known d) → IsWithinLimits d

@@ -1,6 +1,6 @@
-pub mod Counting
-pub mod Ending
+pub mod FailureCount
+pub mod ProgramEnd
 pub mod Program
 pub mod Run
-pub mod Serving
+pub mod ServeRun
 pub mod Folder

@@ -7,14 +7,14 @@ use Rattle.clap.specs.Walk.{Text}
 use Rattle.clap.specs.declared.error.kind.ErrorKind.{ErrorKind}
 use Rattle.wf_serve.specs.declared.fault.ServeFault.{ServeFault}
 use Rattle.wf_service.specs.declared.service.Service.{Service}
-use Rattle.wf_stream.specs.Reading.{TakesUpTo}
+use Rattle.wf_stream.specs.Effects.{TakesUpTo}
 use Rattle.wf_line.specs.CommandLine.{Asks, IsRejection, program}
-use Rattle.wf_commands.specs.Counting.{CountsReads, CountsWrites}
-use Rattle.wf_commands.specs.Ending.{left_to_report, rejection_status, reported, run_status, unreadable_status}
+use Rattle.wf_commands.specs.FailureCount.{CountsReads, CountsWrites}
+use Rattle.wf_commands.specs.ProgramEnd.{left_to_report, rejection_status, reported, run_status, unreadable_status}
 use Rattle.wf_commands.specs.Folder.{Contents, IsTapeDone}
 use Rattle.wf_commands.specs.Run.{IsOutcomeOf, most_read}
-use Rattle.wf_commands.specs.Serving.{IsServing}
-use Rattle.wf_commands.specs.declared.ending.Ending.{Ending}
+use Rattle.wf_commands.specs.ServeRun.{IsServing}
+use Rattle.wf_commands.specs.declared.program_end.Ending.{Ending}
 use Rattle.wf_commands.specs.declared.fault.RunFault.{RunFault}
 use Rattle.wf_line.specs.declared.line.Line.{Line}
 use Rattle.wf_line.specs.declared.line.Line.TheVariants as lines
@@ -54,7 +54,7 @@ pub record IsRunOf (serves : Serves) (contents : Contents) (line : Line) (input 
   pub read : CountsReads result reads reads_after
   pub written : CountsWrites result writes writes_after
   -- the line on standard error, and the exit status
-  pub told : ending.reported ≡ left_to_report line (reported result)
+  pub reported_as : ending.reported ≡ left_to_report line (reported result)
   pub status : ending.status ≡ run_status result
 
 -- The run of a command line's words: that of the line that they ask for.

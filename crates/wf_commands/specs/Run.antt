@@ -4,10 +4,10 @@ use Rattle.std.specs.Io.KnownBytes.{Appends, Keeps}
 use Rattle.wf_def.specs.Definition.{Definition}
 use Rattle.wf_def.specs.Limits.{IsWithinLimits}
 use Rattle.wf_mapfile.specs.Meaning.{Means, MeansNothing, longest_mapfile}
-use Rattle.wf_block.specs.Reading.{is_memory}
+use Rattle.wf_block.specs.ReadContract.{is_memory}
 use Rattle.wf_block.specs.declared.fault.MapFault.{MapFault}
 use Rattle.wf_spelling.specs.Canon.{canon}
-use Rattle.wf_spelling.specs.Refusal.{IsCauseOf}
+use Rattle.wf_spelling.specs.StepRejection.{IsCauseOf}
 use Rattle.wf_spelling.specs.declared.fault.CanonFault.{CanonFault}
 use Rattle.wf_spelling.specs.declared.fault.CanonFault.TheVariants as canons
 use Rattle.wf_check.specs.Finding.{IsPublishable, IsReport, IsReportOf}
@@ -17,13 +17,13 @@ use Rattle.wf_check.specs.declared.finding.Finding.{Finding}
 use Rattle.wf_wms.specs.Answer.{AnswerValue, IsAnswerOf, description}
 use Rattle.wf_script.specs.Fault as script
 use Rattle.wf_script.specs.Lines.{most_script_bytes}
-use Rattle.wf_play.specs.Ending.{WritesBeginning}
-use Rattle.wf_play.specs.Running.{IsFaultOf, IsScriptText, PlaysInput}
+use Rattle.wf_play.specs.PlayEnd.{WritesBeginning}
+use Rattle.wf_play.specs.ScriptRun.{IsFaultOf, IsScriptText, PlaysInput}
 use Rattle.wf_play.specs.declared.fault.PlayFault.TheVariants as plays
 use Rattle.std.specs.declared.alloc.Global.{Global}
 use Rattle.wf_listing.specs.Listing.{IsListing}
 use Rattle.wf_listing.specs.Map.{IsTextOf}
-use Rattle.wf_listing.specs.Reading.{most_tape_bytes}
+use Rattle.wf_listing.specs.TapeBytes.{most_tape_bytes}
 use Rattle.wf_listing.specs.declared.fault.TapeReadFault.{TapeReadFault}
 use Rattle.wf_listing.specs.declared.fault.TapeReadFault.TheVariants as tapes
 use Rattle.wf_line.specs.declared.line.Line.{Line}
@@ -52,8 +52,8 @@ most_read (lines.Tape file map) = 0
 most_read (lines.Serve service) = 0
 
 -- the prefix of an input that is checked
-abbrev pub judged : List ℕ → List ℕ
-judged input = take most_input_bytes input
+abbrev pub examined : List ℕ → List ℕ
+examined input = take most_input_bytes input
 
 -- ---- the outcome of a run
 
@@ -151,10 +151,10 @@ abbrev pub IsPreview : List ℕ → Definition → List ℕ → Type 0
 IsPreview query d bytes = (answer : AnswerValue) × IsAnswerOf 1 (d ∷ []) query answer × (bytes ≡ answer.bytes)
 
 -- What is written for a script: nothing if it can't be read or isn't one. An error of the script, unless an allocation failed, is
--- the input's, with its line. If it is played to its end, to a failed write or to a message that is lost on its way, the whole input
--- was read; if the input is known, it is a script. If it is played to its end, each of its orders was performed in turn on a new
--- farm, and what they write was written; before an error a beginning of that, in the words of `WritesBeginning`. `loses` is whether a
--- message may be lost.
+-- the input's, with its line. If it is played to its end, to a failed write or to a message that is lost on its way, the whole
+-- input was read; if the input is known, it is a script. If it is played to its end, each of its orders was performed in turn on a new
+-- farm, and what they write was written; before an error a beginning of that, in the words of `WritesBeginning`. `loses` is whether
+-- a message may be lost.
 abbrev pub IsPlayed : Type 0 → Option (List ℕ) → Option (List ℕ) → Option (List ℕ) → Result (Unit {0}) RunFault → Type 0
 IsPlayed loses input old new (Ok done) = IfSome input IsScriptText × PlaysInput input old new
 IsPlayed loses input old new (Err faults.Write) = IfSome input IsScriptText × WritesBeginning input old new plays.Write

@@ -1,6 +1,6 @@
 //! The listing of a folder's tapes.
 ghost use Rattle.std.specs.Prelude.{◌≡◌, ◌++◌, [], IfOk, OnOk, length, string_bytes};
-ghost use Rattle.wf_commands.specs.Counting.{CountsWrites, FailsLast};
+ghost use Rattle.wf_commands.specs.FailureCount.{CountsWrites, FailsLast};
 ghost use Rattle.wf_commands.specs.Folder.{HasListingAppended, IsAppended, IsExtended, IsFolderListed, IsFolderListing, IsFront, IsNamedListing, tape_line};
 ghost use Rattle.wf_serve.specs.Folder.{tape_path};
 
@@ -10,7 +10,7 @@ use std::alloc::{AllocError, Global};
 use std::fmt::Write;
 use wf_folder::{Beginning, Start};
 use wf_listing::{TapeReadFault, list};
-use wf_serve::{Cause, Fault, Survey};
+use wf_serve::{Cause, StartFault, Survey};
 use wf_stream::{Sink, write_all};
 
 /// Writes the listing of the tapes in the folder at a path with this in it: each tape's, after a line with its name, and a line that
@@ -225,7 +225,7 @@ fn end_of(
             format!(in alloc; "whole, {nodes} tapes of one farm, began {began}\n")
         }
         Err(cause) => {
-            let fault = Fault {
+            let fault = StartFault {
                 cause,
                 folder: Some(path),
             };

@@ -2,13 +2,13 @@
 //! script of a farm of servers, also with its messages crossing a connection, list what a node's tape holds, and serve a farm's
 //! nodes over HTTP; and they run the processes of a farm, nodes and replicas.
 //!
-//! The crate is thin. [`wf_line::arguments::line`] parses the command line's arguments to a [`wf_line::line::Line`]; [`run::run_line`] runs the
-//! commands about standard input, over any reader and writer; [`tapes::run_tape`] lists the tape in a file or the tapes in a folder, which a [`tapes::Tapes`] reads, or writes a map on a tape;
-//! a [`server::Server`] serves nodes. [`server::Host`] is both: the machine's files, and its nodes over HTTP.
+//! The crate is thin. [`wf_line::arguments::line`] parses the command line's arguments to a [`wf_line::line::Line`];
+//! [`run::run_line`] runs the commands about standard input, over any reader and writer; [`tapes::run_tape`] lists the tape in a file or the tapes in a folder, which a [`tapes::Tapes`] reads, or writes a map on a tape;
+//! a [`server::NodeServer`] serves nodes. [`server::Host`] is both: the machine's files, and its nodes over HTTP.
 //! A [`wf_farm::Carrier`] brings the messages of `wire` to their nodes: [`wf_link::Connection`], over a connection of the machine.
 //! [`program::run_words`] is the program over any words, reader, writer, server and carrier, and [`program::program`] connects it
-//! to the process. A [`fault::RunFault`] is the error of a run, an [`ending::Ending`] what is left to print, with the exit status. Readers
-//! and writers are [`wf_stream::Source`] and [`wf_stream::Sink`], which count failed calls; [`wf_stream::Stream`] makes them of
+//! to the process. A [`fault::RunFault`] is the error of a run, an [`program_end::Ending`] what is left to print, with the exit
+//! status. Readers and writers are [`wf_stream::Source`] and [`wf_stream::Sink`], which count failed calls; [`wf_stream::Stream`] makes them of
 //! std's.
 //!
 //! [`run::run_line`] promises, about a mapfile:
@@ -32,29 +32,29 @@
 //! Of these: a read error is returned only if a read has failed, a write error iff a write has; and a failed write is the last call
 //! of the writer, so that no text is written once more.
 //!
-//! [`tapes::run_tape`] promises: after Ok exactly the listing of the file's bytes is written (wf_listing defines it), or of a folder
-//! those of its tapes, each after its name, and a last line; or the text of the map that the tape has as published. Before a write error
+//! [`tapes::run_tape`] promises: after Ok exactly the listing of the file's bytes is written (wf_listing defines it), or of a
+//! folder those of its tapes, each after its name, and a last line; or the text of the map that the tape has as published. Before a write error
 //! a prefix of it is written, before any other error nothing. A file with known content is listed unless it is too long or an
 //! allocation fails.
 //!
 //! [`program::run_words`] promises that exactly the command of that line was run, or none: for `serve`, that the server was called
-//! with the line's numbers of nodes, connections and pictures, its port and its folder, or none if it has none, and whether it asks for
-//! a log. The error of the
+//! with the line's numbers of nodes, connections and pictures, its port and its folder, or none if it has none, and whether it asks
+//! for a log. The error of the
 //! run is the one to be printed, unless a write failed, and the exit status is 0 without an error and 1 with one. What serving
-//! means is the server's; of [`server::Host`] it is `wf_serve`'s contract: if the nodes were served, there were as many as the line asks
-//! for, new ones if it names no folder, each with a cache for its number of pictures; they served its number of connections, and what
-//! the headline says holds of them. [`program::program`] promises that of the process, and of a command about a process of a farm, which
-//! [`wf_line::process_arguments::process_command`] parses, the contract of [`wf_node_command::run`] or [`wf_replica_command::run`].
+//! means is the server's; of [`server::Host`] it is `wf_serve`'s contract: if the nodes were served, there were as many as the line
+//! asks for, new ones if it names no folder, each with a cache for its number of pictures; they served its number of connections, and what
+//! the headline says holds of them. [`program::program`] promises that of the process, and of a command about a process of a farm,
+//! which [`wf_line::process_arguments::process_command`] parses, the contract of [`wf_node_command::run`] or [`wf_replica_command::run`].
 //!
 //! No contract says what standard input holds, what happens to the bytes after standard output, what text an error prints, or that
 //! the process hands its own words, input and output on; the stored run of `wfarm` shows these.
 #![tactic(auto)]
 
-pub mod checking;
-pub mod ending;
 pub mod fault;
 mod folder;
+pub mod map_check;
 pub mod program;
+pub mod program_end;
 pub mod run;
 pub mod server;
 pub mod tapes;

@@ -4,18 +4,18 @@ ghost use Rattle.std.specs.IoError.{error_kind};
 ghost use Rattle.clap.specs.Values.{kind_of};
 ghost use Rattle.std.specs.Process.{exit_status};
 ghost use Rattle.wf_line.specs.CommandLine.{IsRejection, IsWhyRejected};
-ghost use Rattle.wf_commands.specs.Counting.{FailsLast};
-ghost use Rattle.wf_commands.specs.Ending.{is_found, is_written, left_to_report, run_status, reported, rejection_status, unreadable_status};
+ghost use Rattle.wf_commands.specs.FailureCount.{FailsLast};
+ghost use Rattle.wf_commands.specs.ProgramEnd.{is_found, is_written, left_to_report, run_status, reported, rejection_status, unreadable_status};
 ghost use Rattle.wf_commands.specs.Program.{IsFarmProcess, IsProcess, IsRun};
 ghost use Rattle.wf_line.specs.ProcessCommandLine.{names_process_command};
 ghost use Rattle.wf_node_command.specs.Done.{command_status};
 ghost use Rattle.wf_replica_command.specs.Done.{replica_status};
-ghost use Rattle.wf_commands.specs.Serving.{IsMachineServing, run_outcome};
+ghost use Rattle.wf_commands.specs.ServeRun.{IsMachineServing, run_outcome};
 
-use crate::ending::Ending;
 use crate::fault::RunFault;
+use crate::program_end::Ending;
 use crate::run::run_line;
-use crate::server::{Host, ServeFault, Server};
+use crate::server::{Host, NodeServer, ServeFault};
 use crate::tapes::{Tapes, run_tape};
 use clap::Error;
 use clap::error::ErrorKind;
@@ -58,7 +58,7 @@ fn served(outcome: Result<(), ServeFault>) -> Result<(), RunFault>
 
 // How a run with this result ends: the text of a failed write isn't printed, since what failed may be the terminal.
 fn ending_of(outcome: Result<(), RunFault>) -> Ending
-    ensures told { result.reported ≡ reported outcome }
+    ensures reported_as { result.reported ≡ reported outcome }
     ensures status { result.status ≡ run_status outcome }
     ensures low { result.status ≤ 1 }
 {
@@ -101,7 +101,7 @@ fn is_written(line: Line<'_>, fault: RunFault) -> bool
 
 // The ending without an error that the command has written a report of.
 fn reported_once(line: Line<'_>, ending: Ending) -> Ending
-    ensures told { result.reported ≡ left_to_report line.entry ending.reported }
+    ensures reported_as { result.reported ≡ left_to_report line.entry ending.reported }
     ensures status { result.status ≡ ending.status }
 {
     match ending.reported {
@@ -115,7 +115,7 @@ fn reported_once(line: Line<'_>, ending: Ending) -> Ending
 
 // How a run of a line with this result ends.
 fn end(line: Line<'_>, outcome: Result<(), RunFault>) -> Ending
-    ensures told { result.reported ≡ left_to_report line.entry (reported outcome) }
+    ensures reported_as { result.reported ≡ left_to_report line.entry (reported outcome) }
     ensures status { result.status ≡ run_status outcome }
     ensures low { result.status ≤ 1 }
 {
@@ -123,14 +123,14 @@ fn end(line: Line<'_>, outcome: Result<(), RunFault>) -> Ending
 }
 
 /// Runs the words of a command line, without the program's name: the command of the line that they ask for. A command about standard
-/// input goes between the reader and the writer, with the messages of `wire` by the carrier; `tape` reads the files that the server has,
-/// and `serve` is the server's, whose line goes to the writer. Returns the error whose text is the line on standard error, and the exit
+/// input goes between the reader and the writer, with the messages of `wire` by the carrier; `tape` reads the files that the server
+/// has, and `serve` is the server's, whose line goes to the writer. Returns the error whose text is the line on standard error, and the exit
 /// status.
 ///
 /// Err: no command was run, and nothing was read or written. The error's text is for the user: it is help or the version, if the
 /// words ask for these.
 #[tactic(auto, using(crate::proofs::Last::none_failed, crate::proofs::Ended::run_ended, crate::proofs::Ended::serving_ended, crate::proofs::Ended::listing_ended))]
-pub fn run_words<'a, S: AsStr, I: Source, K: Sink, V: Server + Tapes, C: Carrier>(
+pub fn run_words<'a, S: AsStr, I: Source, K: Sink, V: NodeServer + Tapes, C: Carrier>(
     alloc: Global,
     words: &'a [S],
     source: &mut I,
@@ -275,8 +275,8 @@ fn run_farm<'a, S: AsStr, R: Files<File = File> + Clock + Print + Eprint + Net +
 
 /// Runs the command line, as by [`run_words`] with the words of the process, its standard input and output, the machine as server,
 /// and a connection of the machine to itself as carrier; or a command about a process of a farm, as by [`wf_node_command::run`] or
-/// [`wf_replica_command::run`] with as many turns as there can be. Returns the exit status: 0 for success; 1 for an error, with one line on
-/// standard error, except for a failed write; 2 for a bad command line, with a line or the parser's text there.
+/// [`wf_replica_command::run`] with as many turns as there can be. Returns the exit status: 0 for success; 1 for an error, with one
+/// line on standard error, except for a failed write; 2 for a bad command line, with a line or the parser's text there.
 #[tactic(auto, using(crate::proofs::Ended::process_run, crate::proofs::Ended::process_rejected, crate::proofs::Ended::process_unreadable, crate::proofs::Ended::process_of_farm))]
 pub fn program<
     'a,

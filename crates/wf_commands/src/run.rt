@@ -4,17 +4,17 @@ ghost use Rattle.std.specs.Io.KnownBytes.{IsAtEnd};
 ghost use Rattle.wf_def.specs.Limits.{IsWithinLimits};
 ghost use Rattle.wf_mapfile.specs.Meaning.{Means, longest_mapfile};
 ghost use Rattle.wf_spelling.specs.Canon.{canon};
-ghost use Rattle.wf_spelling.specs.Refusal.{IsCauseOf};
+ghost use Rattle.wf_spelling.specs.StepRejection.{IsCauseOf};
 ghost use Rattle.wf_wms.specs.Answer.{description};
 ghost use Rattle.wf_ballot.specs.Sequence.{last_sequence};
 ghost use Rattle.wf_line.specs.Line.{IsInRange, IsOfInput};
-ghost use Rattle.wf_stream.specs.Reading.{TakesUpTo};
+ghost use Rattle.wf_stream.specs.Effects.{TakesUpTo};
 ghost use Rattle.wf_script.specs.Lines.{most_script_bytes};
 ghost use Rattle.wf_commands.specs.Run.{most_checked_bytes, most_input_bytes, most_read, IsInputFault, IsMapFault, IsReadingFault, IsWriting, IsWritingOf, IsOutcome, IsOutcomeOf, IsCanonical, IsDescription, IsPreview, IsPlayed};
-ghost use Rattle.wf_commands.specs.Counting.{CountsReads, CountsWrites, FailsLast};
+ghost use Rattle.wf_commands.specs.FailureCount.{CountsReads, CountsWrites, FailsLast};
 
-use crate::checking::{MOST_CHECKED_BYTES, run_check};
 use crate::fault::RunFault;
+use crate::map_check::{MOST_CHECKED_BYTES, run_check};
 use std::alloc::Global;
 use std::io::ErrorKind;
 use wf_ballot::SEQUENCES;
@@ -261,7 +261,7 @@ pub fn run_script<S: Source, K: Sink>(
     play_script(alloc, &mut copies, source, sink)
 }
 
-/// The same, with the messages brought to their nodes by the carrier: what the script does and writes is what [`run_script`] does
+/// Plays a script whose messages the carrier brings to their nodes: what the script does and writes is what [`run_script`] does
 /// and writes. Err: also `Wire` where the carrier failed, or brought another message; then what the orders before write is written.
 pub fn wire_script<S: Source, K: Sink, C: Carrier>(
     alloc: Global,

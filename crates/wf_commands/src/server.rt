@@ -1,8 +1,8 @@
 //! What serves the nodes of a `serve` line.
 ghost use Rattle.std.specs.Prelude.{ℕ, List, Option, Result};
-ghost use Rattle.wf_commands.specs.Counting.{FailsLast};
-ghost use Rattle.wf_serve.specs.Fault.{CountsWrites};
-ghost use Rattle.wf_commands.specs.Serving.{IsMachineServing};
+ghost use Rattle.wf_commands.specs.FailureCount.{FailsLast};
+ghost use Rattle.wf_serve.specs.StartFault.{CountsWrites};
+ghost use Rattle.wf_commands.specs.ServeRun.{IsMachineServing};
 ghost use Rattle.wf_service.specs.Service.{IsService};
 ghost use Rattle.wf_serve.specs.declared.fault.ServeFault.{ServeFault};
 ghost use Rattle.wf_service.specs.declared.service.Service.{Service};
@@ -17,7 +17,7 @@ use wf_stream::Sink;
 use wf_tape::{FileTape, MemoryTape, Tape};
 
 /// What serves nodes: the machine, or in a test what stands for it.
-pub trait Server {
+pub trait NodeServer {
     /// What it means that this server serves a service: by the bytes written before and after, if known, and the result.
     ghost serves: { Self → Service → Option (List ℕ) → Option (List ℕ) → Result (Unit {0}) ServeFault → Type 0 };
 
@@ -43,7 +43,7 @@ impl<
         + Clock
         + Net<Listener = TcpListener, Stream = TcpStream>
         + AllocGlobal,
-> Server for Host<'a, R> {
+> NodeServer for Host<'a, R> {
     ghost serves = { λ _ service old new result. IsMachineServing ⟦<MemoryTape as Tape>⟧ ⟦<FileTape<&'a R> as Tape>⟧ service old new result };
 
     #[tactic(auto, using(crate::proofs::Last::line_fails_last, crate::proofs::Ended::machine_serves))]

@@ -1,9 +1,9 @@
 //! Where the tapes of a `tape` line are read from, and the command that lists them.
 ghost use Rattle.std.specs.Prelude.{◌≡◌, ◌<◌, ℕ, List, None, Option, Some, IfOk, IfSome, IsErrOf, length};
-ghost use Rattle.wf_commands.specs.Counting.{CountsWrites, FailsLast};
+ghost use Rattle.wf_commands.specs.FailureCount.{CountsWrites, FailsLast};
 ghost use Rattle.wf_commands.specs.Folder.{IsTapeDone};
 ghost use Rattle.wf_commands.specs.Run.{IsListed, IsMapWritten};
-ghost use Rattle.wf_listing.specs.Reading.{most_tape_bytes};
+ghost use Rattle.wf_listing.specs.TapeBytes.{most_tape_bytes};
 
 use crate::fault::RunFault;
 use crate::folder::run_folder;

@@ -12,6 +12,6 @@ pub mod Limit
 pub mod Limits
 pub mod Layer
 pub mod Equality
-pub mod EqualityLaws
+pub mod EqualityTheorems
 pub mod Attribute
 pub mod Held

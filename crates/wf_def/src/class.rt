@@ -149,7 +149,7 @@ impl Clone for Class {
 
 impl Limited for Class {
     ghost use Rattle.wf_def.specs.Limits.{IsClass};
-    ghost use Rattle.wf_def.specs.EqualityLaws.{class_eq-Decides};
+    ghost use Rattle.wf_def.specs.EqualityTheorems.{class_eq-Decides};
 
     ghost IsWithin = { IsClass };
 

@@ -3,7 +3,7 @@ ghost use Rattle.std.specs.Prelude.{◌≡◌, ◌↔◌, IsTrue};
 ghost use Rattle.std.specs.Cmp.{partial_equiv_from_equiv};
 ghost use Rattle.wf_def.specs.Equality.{class_eq, expression_eq, feature_eq, layer_eq};
 ghost use Rattle.wf_def.specs.declared.expression.Expression.TheVariants.{Equals, OneOf};
-ghost use Rattle.wf_def.specs.EqualityLaws.{class_eq_equiv, expression_eq_equiv, feature_eq_equiv, layer_eq_equiv};
+ghost use Rattle.wf_def.specs.EqualityTheorems.{class_eq_equiv, expression_eq_equiv, feature_eq_equiv, layer_eq_equiv};
 
 use crate::class::Class;
 use crate::expression::Expression;

@@ -14,11 +14,11 @@ use wf_text::text::Text;
 pub type Part = Members<Point>;
 
 /// The parts of a shape, in order.
-pub type Parts = Members<Part>;
+pub type ShapeParts = Members<Part>;
 
 /// A shape with its attributes and its label's text (MapServer mapfile reference, FEATURE).
 pub struct Feature {
-    parts: Parts,
+    parts: ShapeParts,
     items: Text,
     text: Text,
 }
@@ -48,7 +48,7 @@ impl Feature {
     /// The feature of these parts, its attributes' values between semicolons, and its label's text. `None` if there are no parts.
     #[inline]
     #[tactic(auto, unfolding(crate::specs::Layer::feature_of))]
-    pub fn new(parts: Parts, items: Text, text: Text) -> Option<Self>
+    pub fn new(parts: ShapeParts, items: Text, text: Text) -> Option<Self>
         ensures { result ≡ feature_of parts items text }
     {
         know_text(&items);
@@ -98,7 +98,7 @@ impl Clone for Feature {
 
 impl Limited for Feature {
     ghost use Rattle.wf_def.specs.Limits.{IsFeature};
-    ghost use Rattle.wf_def.specs.EqualityLaws.{feature_eq-Decides};
+    ghost use Rattle.wf_def.specs.EqualityTheorems.{feature_eq-Decides};
 
     ghost IsWithin = { IsFeature };
 

@@ -111,13 +111,13 @@ impl<T: Limited + Drop> Clone for Members<T> {
     fn clone(&self) -> Result<Self, AllocError> {
         Ok(Members {
             alloc: self.alloc,
-            held: copied(&self.held)?,
+            held: copy_list(&self.held)?,
         })
     }
 }
 
 /// A copy of the members, each of which is within its limits.
-fn copied<T: Limited + Drop>(held: &Held<T>) -> Result<Held<T>, AllocError>
+fn copy_list<T: Limited + Drop>(held: &Held<T>) -> Result<Held<T>, AllocError>
     ensures { IfOk result (λ copy. held_members copy ≡ held_members held.now) }
 {
     match held {

@@ -13,7 +13,7 @@ pub struct Point {
 
 impl Limited for Point {
     ghost use Rattle.wf_def.specs.Limits.{IsPoint};
-    ghost use Rattle.wf_def.specs.EqualityLaws.{point_eq-Decides};
+    ghost use Rattle.wf_def.specs.EqualityTheorems.{point_eq-Decides};
 
     ghost IsWithin = { IsPoint };
 

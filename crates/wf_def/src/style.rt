@@ -22,7 +22,7 @@ pub struct Style {
 
 impl Limited for Style {
     ghost use Rattle.wf_def.specs.Limits.{IsStyle};
-    ghost use Rattle.wf_def.specs.EqualityLaws.{style_eq-Decides};
+    ghost use Rattle.wf_def.specs.EqualityTheorems.{style_eq-Decides};
 
     ghost IsWithin = { IsStyle };
 

@@ -3,8 +3,8 @@ ghost use Rattle.std.specs.Prelude.{◌≡◌, IfOk};
 ghost use Rattle.wf_text.specs.Text.{IsText};
 
 use std::alloc::AllocError;
-pub use wf_text::text::{Text, checked, is_text_character};
-pub use wf_text::value_list::{ValueList, checked_list};
+pub use wf_text::text::{Text, check_text, is_text_character};
+pub use wf_text::value_list::{ValueList, check_list};
 
 /// Makes it known to the prover that a text is within its limits.
 pub(crate) fn know_text(text: &Text)

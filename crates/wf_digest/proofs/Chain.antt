@@ -10,8 +10,8 @@ use Rattle.std.proofs.Common.{get_or}
 use Rattle.std.proofs.Math.Seq.{take-suc}
 use Rattle.std.proofs.lemmas.List.{length-take}
 use Rattle.std.proofs.lemmas.Option.{get_or_from_slice_get, slice_get-get_or}
-use Rattle.wf_model.specs.Stored.{definition_at}
-use Rattle.wf_canon.specs.Saying.{OneTextOneMap}
+use Rattle.wf_model.specs.DurableState.{definition_at}
+use Rattle.wf_canon.specs.TextMeaning.{OneTextOneMap}
 use Rattle.wf_def.specs.Definition.{Definition, empty_map}
 use Rattle.wf_def.specs.Limits.{IsWithinLimits}
 use Rattle.wf_spelling.specs.Canon.{canon}

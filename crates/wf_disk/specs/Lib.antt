@@ -1,6 +1,6 @@
 pub mod Moments
 pub mod Folder
 pub mod Call
-pub mod FolderLaws
+pub mod FolderTheorems
 pub mod MemoryDisk
 pub mod MemoryMoments

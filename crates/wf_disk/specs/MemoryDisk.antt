@@ -46,8 +46,8 @@ abbrev pub cut_to : ℕ → ℕ → Folder → Folder
 cut_to back keep folder = record { own = option_map (left_by keep) (file_back back folder); second = folder.second; earlier = [] }
 
 -- how much is kept by the next call, if that one fails
-unfoldable pub burning : ℕ → ℕ → Option ℕ
-burning call kept = if nat_eq call 1 then Some kept else None
+unfoldable pub burn : ℕ → ℕ → Option ℕ
+burn call kept = if nat_eq call 1 then Some kept else None
 
 -- the error of a call that fails after it has done what it is for, or after it couldn't
 abbrev pub fault_after : Option DiskFault → DiskFault

@@ -3,10 +3,10 @@
 ghost use Rattle.std.specs.Prelude.{◌≡◌, ◌∷◌, ◌-◌, ◌≤◌, [], None, IfOk, OnOk, IsErrOf};
 ghost use Rattle.wf_disk.specs.Moments.{HasRisen};
 ghost use Rattle.wf_disk.specs.Folder.{IsCrashed};
-ghost use Rattle.wf_disk.specs.MemoryDisk.{cut_to, burning};
+ghost use Rattle.wf_disk.specs.MemoryDisk.{cut_to, burn};
 
 use crate::disk::Disk;
-use crate::failing;
+use crate::failure;
 use crate::fault::DiskFault;
 use crate::folder::MemoryFolder;
 use crate::name::Name;
@@ -14,8 +14,8 @@ use http_server::Log;
 use std::alloc::Global;
 use std::marker::Model;
 
-/// A disk in memory. It is honest, and its device fails only where a failure was set (`set_fuse`), or where the file of a call isn't
-/// there. What a power cut at each earlier moment could have left is known in proofs alone, and takes no memory.
+/// A disk in memory. It is durable, and its device fails only where a failure was set (`set_fuse`), or where the file of a call
+/// isn't there. What a power cut at each earlier moment could have left is known in proofs alone, and takes no memory.
 pub struct MemoryDisk {
     folder: MemoryFolder,
     past: Log<MemoryFolder, ()>,
@@ -71,7 +71,7 @@ impl MemoryDisk {
 
     /// A power cut: under the own name is then one of the files that it may put back there, the one that is there for 0, with all its
     /// synced bytes and at most `keep` bytes of the rest. The second file stays as it is. No earlier moment is known any more.
-    #[tactic(auto, using(crate::specs::FolderLaws::cut_crashes))]
+    #[tactic(auto, using(crate::specs::FolderTheorems::cut_crashes))]
     pub fn cut(&mut self, back: usize, keep: usize)
         ensures crashed { IsCrashed self.old.folder self.new.folder }
         ensures exact { self.new.folder ≡ cut_to back keep self.old.folder }
@@ -100,7 +100,7 @@ impl MemoryDisk {
 
     /// Notes the folder, and counts a call. If the failure that is set is this call's, returns how much it keeps.
     fn begin(&mut self) -> Option<usize>
-        ensures kept { result ≡ burning self.old.call self.old.kept }
+        ensures kept { result ≡ burn self.old.call self.old.kept }
         ensures call { self.new.call ≡ self.old.call - 1 }
         ensures folder { self.new.folder ≡ self.old.folder }
         ensures past { self.new.past ≡ self.old.folder ∷ self.old.past }
@@ -109,7 +109,7 @@ impl MemoryDisk {
         self.past = self.past.and(&self.folder, &());
         let call = self.call;
         self.call = call.saturating_sub(1);
-        burning(call, self.kept)
+        burn(call, self.kept)
     }
 
     /// Counts a failure, if it is the device's.
@@ -130,9 +130,9 @@ impl MemoryDisk {
 }
 
 /// How much the next call keeps, if that one fails.
-#[tactic(auto, unfolding(crate::specs::MemoryDisk::burning))]
-fn burning(call: usize, kept: usize) -> Option<usize>
-    ensures { result ≡ burning call kept }
+#[tactic(auto, unfolding(crate::specs::MemoryDisk::burn))]
+fn burn(call: usize, kept: usize) -> Option<usize>
+    ensures { result ≡ burn call kept }
 {
     if call == 1 { Some(kept) } else { None }
 }
@@ -142,7 +142,7 @@ impl Disk for MemoryDisk {
     ghost use Rattle.wf_disk.specs.MemoryDisk.{moment_of, IsLeftSince};
     ghost use Rattle.wf_disk.specs.MemoryMoments.{memory_now, memory_nested};
 
-    ghost honest = { Unit {0} };
+    ghost durable = { Unit {0} };
 
     ghost folder = { λ d. d.folder };
 
@@ -158,7 +158,7 @@ impl Disk for MemoryDisk {
 
     fn open(&mut self) -> Result<(), DiskFault> {
         let kept = self.begin();
-        match failing::open(&mut self.folder, kept) {
+        match failure::open(&mut self.folder, kept) {
             Ok(()) => Ok(()),
             Err(fault) => Err(self.count(fault)),
         }
@@ -166,7 +166,7 @@ impl Disk for MemoryDisk {
 
     fn make(&mut self) -> Result<(), DiskFault> {
         let kept = self.begin();
-        match failing::make(&mut self.folder, kept) {
+        match failure::make(&mut self.folder, kept) {
             Ok(()) => Ok(()),
             Err(fault) => Err(self.count(fault)),
         }
@@ -174,7 +174,7 @@ impl Disk for MemoryDisk {
 
     fn append(&mut self, name: Name, bytes: &[u8]) -> Result<(), DiskFault> {
         let kept = self.begin();
-        match failing::append(&mut self.folder, name, bytes, kept) {
+        match failure::append(&mut self.folder, name, bytes, kept) {
             Ok(()) => Ok(()),
             Err(fault) => Err(self.count(fault)),
         }
@@ -182,7 +182,7 @@ impl Disk for MemoryDisk {
 
     fn sync(&mut self, name: Name) -> Result<(), DiskFault> {
         let kept = self.begin();
-        match failing::sync(&mut self.folder, name, kept) {
+        match failure::sync(&mut self.folder, name, kept) {
             Ok(()) => Ok(()),
             Err(fault) => Err(self.count(fault)),
         }
@@ -190,7 +190,7 @@ impl Disk for MemoryDisk {
 
     fn rename(&mut self) -> Result<(), DiskFault> {
         let kept = self.begin();
-        match failing::rename(&mut self.folder, kept) {
+        match failure::rename(&mut self.folder, kept) {
             Ok(()) => Ok(()),
             Err(fault) => Err(self.count(fault)),
         }
@@ -198,7 +198,7 @@ impl Disk for MemoryDisk {
 
     fn sync_names(&mut self) -> Result<(), DiskFault> {
         let kept = self.begin();
-        match failing::sync_names(&mut self.folder, kept) {
+        match failure::sync_names(&mut self.folder, kept) {
             Ok(()) => Ok(()),
             Err(fault) => Err(self.count(fault)),
         }
@@ -206,7 +206,7 @@ impl Disk for MemoryDisk {
 
     fn read(&mut self, alloc: Global) -> Result<Vec<u8>, DiskFault> {
         let kept = self.begin();
-        match failing::read(&self.folder, alloc, kept) {
+        match failure::read(&self.folder, alloc, kept) {
             Ok(bytes) => Ok(bytes),
             Err(fault) => Err(self.count(fault)),
         }

@@ -19,7 +19,7 @@ pub const FILE_READS: u32 = 1_048_576;
 const PIECE_BYTES: usize = 8192;
 
 /// A disk of the system: the file at a path, and a second one beside it. No contract sees what a file holds, so it declares itself
-/// not honest: that its calls leave what they say is an assumption, stated in words.
+/// not durable: that its calls leave what they say is an assumption, stated in words.
 #[derive(Drop)]
 pub struct SystemDisk<R: Files + Drop> {
     files: R,
@@ -120,43 +120,43 @@ fn sync_folder<R: Files>(files: &R, path: &str) -> io::Result<()> {
 }
 
 /// The result of reading to the end.
-enum Given {
+enum ReadResult {
     Bytes(Vec<u8>),
     Memory,
     Failed,
 }
 
 /// Reads the file from its start to its end.
-fn read_whole<F: Read + Seek>(file: &mut Option<F>, alloc: Global) -> Given {
+fn read_whole<F: Read + Seek>(file: &mut Option<F>, alloc: Global) -> ReadResult {
     match file {
-        None => Given::Failed,
+        None => ReadResult::Failed,
         Some(file) => match file.seek(SeekFrom::Start(0)) {
             Ok(_) => read_to_end(file, alloc),
-            Err(_) => Given::Failed,
+            Err(_) => ReadResult::Failed,
         },
     }
 }
 
 /// Reads to the end.
-fn read_to_end<F: Read>(file: &mut F, alloc: Global) -> Given {
+fn read_to_end<F: Read>(file: &mut F, alloc: Global) -> ReadResult {
     let mut bytes = Vec::new(alloc);
     let mut piece = [0u8; PIECE_BYTES];
     for _ in 0..FILE_READS {
         match file.read(&mut piece) {
-            Ok(0) => return Given::Bytes(bytes),
+            Ok(0) => return ReadResult::Bytes(bytes),
             Ok(count) => {
                 if bytes.extend_from_slice(&piece[..count]).is_err() {
-                    return Given::Memory;
+                    return ReadResult::Memory;
                 }
             }
-            Err(_) => return Given::Failed,
+            Err(_) => return ReadResult::Failed,
         }
     }
-    Given::Failed
+    ReadResult::Failed
 }
 
 impl<R: Files + Drop> Disk for SystemDisk<R> {
-    ghost honest = { ⊥ };
+    ghost durable = { ⊥ };
 
     ghost folder = { λ _. record { own = None; second = None; earlier = [] } };
 
@@ -222,9 +222,9 @@ impl<R: Files + Drop> Disk for SystemDisk<R> {
 
     fn read(&mut self, alloc: Global) -> Result<Vec<u8>, DiskFault> {
         match read_whole(&mut self.own, alloc) {
-            Given::Bytes(bytes) => Ok(bytes),
-            Given::Memory => Err(DiskFault::Memory),
-            Given::Failed => Err(self.fail()),
+            ReadResult::Bytes(bytes) => Ok(bytes),
+            ReadResult::Memory => Err(DiskFault::Memory),
+            ReadResult::Failed => Err(self.fail()),
         }
     }
 

@@ -1,4 +1,4 @@
-mod PublishLaw
-mod RequestLaw
-mod ServiceLaw
-mod UnavailableLaw
+mod PublishTheorem
+mod RequestTheorem
+mod ServiceTheorem
+mod UnavailableTheorem

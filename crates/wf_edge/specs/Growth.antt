@@ -9,8 +9,8 @@ use Rattle.wf_node.specs.Growth.{IsGrown, grown_itself, step_grown}
 use Rattle.wf_node.specs.Node.{Node}
 use Rattle.wf_node.specs.declared.fault.NodeFault.{NodeFault}
 use Rattle.wf_edge.specs.Publish.{IsProposed}
-use Rattle.wf_edge.specs.Serving.{MovesOnce, Stays, Proposes}
-use Rattle.wf_wms.specs.KeptPictures.{AllKept, CacheValue, GrowthKeepsAll}
+use Rattle.wf_edge.specs.RequestEffect.{MovesOnce, Stays, Proposes}
+use Rattle.wf_wms.specs.CachedPictures.{AllCached, CacheValue, GrowthKeepsAll}
 use Rattle.wf_tape.specs.declared.tape.Tape.{Ghosts as Tape}
 
 unmoved_grown : {T : Type 0} (before after : Node T) → after ≡ before → IsGrown before.parts.history after.parts.history
@@ -26,5 +26,5 @@ module _ {T A : Type 0} (tapes : Tape T) (before after : Node T) where
   moved_grown sent (Stays unmoved) = unmoved_grown before after unmoved.same
   moved_grown sent (Proposes d result proposed hands) = proposed_grown before.halted refl d result proposed
 
-pub kept_on : GrowthKeepsAll → (history other : List Definition) (cache : CacheValue) → IsGrown history other → AllKept history cache → AllKept other cache
-kept_on law history other cache grown kept = subst (λ (h : List Definition). AllKept h cache) grown.is (law history grown.more cache kept)
+pub cached_on : GrowthKeepsAll → (history other : List Definition) (cache : CacheValue) → IsGrown history other → AllCached history cache → AllCached other cache
+cached_on theorem history other cache grown cached = subst (λ (h : List Definition). AllCached h cache) grown.is (theorem history grown.more cache cached)

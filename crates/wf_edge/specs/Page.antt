@@ -3,15 +3,15 @@ use Rattle.std.specs.Prelude.{◌≡◌, ℕ, ◌+◌, List, ◌++◌, codes, de
 use Rattle.wf_def.specs.Definition.{Definition}
 use Rattle.wf_block.specs.declared.fault.MapFault.{MapFault}
 use Rattle.wf_block.specs.declared.fault.MapFault.TheVariants as map
-use Rattle.wf_node.specs.Node.{Node, working_of}
-use Rattle.wf_proposer.specs.Standing.{standing_of}
-use Rattle.wf_proposer.specs.declared.standing.Standing.{Standing}
-use Rattle.wf_proposer.specs.declared.standing.Standing.TheVariants as standing
+use Rattle.wf_node.specs.Node.{Node, volatile_of}
+use Rattle.wf_proposer.specs.ProposalState.{proposal_state_of}
+use Rattle.wf_proposer.specs.declared.proposal_state.ProposalState.{ProposalState}
+use Rattle.wf_proposer.specs.declared.proposal_state.ProposalState.TheVariants as proposal_state
 use Rattle.wf_wms.specs.Answer.{AnswerValue, IsAnswerOf}
 use Rattle.wf_http.specs.Response.{Response}
-use Rattle.wf_edge.specs.Notice.{plain, text_line}
-use Rattle.wf_edge.specs.declared.notice.Notice.{Notice}
-use Rattle.wf_edge.specs.declared.notice.Notice.TheVariants as notice
+use Rattle.wf_edge.specs.ErrorResponse.{plain, text_line}
+use Rattle.wf_edge.specs.declared.error_response.ErrorResponse.{ErrorResponse}
+use Rattle.wf_edge.specs.declared.error_response.ErrorResponse.TheVariants as error_response
 use Rattle.wf_edge.specs.declared.status.Status.{Status}
 
 -- the greatest length of a line, in bytes: more than any has
@@ -43,30 +43,30 @@ pub record IsServicePage (history : List Definition) (query : List ℕ) (page : 
   pub is_page : page ≡ service_page answer
 
 -- That page, or an allocation of the map service failed. Only the map service answers a query: none is rejected before.
-abbrev pub IsServiceGiven : List Definition → List ℕ → Result Response Notice → Type 0
+abbrev pub IsServiceGiven : List Definition → List ℕ → Result Response ErrorResponse → Type 0
 IsServiceGiven history query (Ok page) = IsServicePage history query page
-IsServiceGiven history query (Err n) = n ≡ notice.Unavailable
+IsServiceGiven history query (Err n) = n ≡ error_response.Unavailable
 
 -- ---- GET /status
 
-abbrev pub standing_words : Standing → List ℕ
-standing_words standing.None = codes "none"
-standing_words standing.Running = codes "running"
-standing_words (standing.Published s) = codes "published " ++ decimal s
-standing_words (standing.Overtaken s) = codes "overtaken " ++ decimal s
+abbrev pub proposal_state_words : ProposalState → List ℕ
+proposal_state_words proposal_state.None = codes "none"
+proposal_state_words proposal_state.Running = codes "running"
+proposal_state_words (proposal_state.Published s) = codes "published " ++ decimal s
+proposal_state_words (proposal_state.Overtaken s) = codes "overtaken " ++ decimal s
 
 -- the state of a node's proposal: a halted node has none
-abbrev pub standing_at : {T : Type 0} → Node T → Standing
-standing_at node = if node.halted then standing.None else standing_of (working_of node).proposing
+abbrev pub proposal_state_at : {T : Type 0} → Node T → ProposalState
+proposal_state_at node = if node.halted then proposal_state.None else proposal_state_of (volatile_of node).proposing
 
 -- the node's number, its last published sequence and the state of its proposal
-unfoldable pub status_words : ℕ → ℕ → Standing → List ℕ
+unfoldable pub status_words : ℕ → ℕ → ProposalState → List ℕ
 status_words id published stands =
-    codes "node " ++ decimal id ++ codes " published " ++ decimal published ++ codes " proposal " ++ standing_words stands
+    codes "node " ++ decimal id ++ codes " published " ++ decimal published ++ codes " proposal " ++ proposal_state_words stands
 
 -- the status of a node
 abbrev pub status_at : {T : Type 0} → Node T → Status
-status_at node = record { id = node.id; published = length node.parts.history; proposal = standing_at node }
+status_at node = record { id = node.id; published = length node.parts.history; proposal = proposal_state_at node }
 
 abbrev pub status_page : Status → Response
 status_page status = line_page 200 (status_words status.id status.published status.proposal)
@@ -81,22 +81,22 @@ abbrev pub accepted_page : ℕ → Response
 accepted_page published = line_page 202 (accepted_words published)
 
 -- the number of an error, and its position
-unfoldable pub at_place : List ℕ → ℕ → List ℕ
-at_place number place = number ++ codes " " ++ decimal place
+unfoldable pub at_offset : List ℕ → ℕ → List ℕ
+at_offset number byte_offset = number ++ codes " " ++ decimal byte_offset
 
 abbrev pub fault_words : MapFault → List ℕ
 fault_words map.Memory = codes "M1"
 fault_words map.TooLong = codes "M2"
-fault_words (map.NotUtf8 place) = at_place (codes "M3") place
-fault_words (map.BadToken place) = at_place (codes "M4") place
-fault_words (map.UnexpectedWord place) = at_place (codes "M5") place
-fault_words (map.MissingEnd place) = at_place (codes "M6") place
-fault_words (map.BadNumber place) = at_place (codes "M7") place
-fault_words (map.OutOfRange place) = at_place (codes "M8") place
+fault_words (map.NotUtf8 byte_offset) = at_offset (codes "M3") byte_offset
+fault_words (map.BadToken byte_offset) = at_offset (codes "M4") byte_offset
+fault_words (map.UnexpectedWord byte_offset) = at_offset (codes "M5") byte_offset
+fault_words (map.MissingEnd byte_offset) = at_offset (codes "M6") byte_offset
+fault_words (map.BadNumber byte_offset) = at_offset (codes "M7") byte_offset
+fault_words (map.OutOfRange byte_offset) = at_offset (codes "M8") byte_offset
 fault_words map.Missing = codes "M9"
-fault_words (map.Repeated place) = at_place (codes "M10") place
+fault_words (map.Repeated byte_offset) = at_offset (codes "M10") byte_offset
 fault_words map.TooMany = codes "M11"
-fault_words (map.Trailing place) = at_place (codes "M12") place
+fault_words (map.Trailing byte_offset) = at_offset (codes "M12") byte_offset
 
 -- the page of a body that isn't a map: allocation failure is answered with 503, never with M1
 abbrev pub bad_map_page : MapFault → Response

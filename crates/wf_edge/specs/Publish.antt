@@ -8,17 +8,17 @@ use Rattle.wf_codec.specs.declared.message.Message.{Message}
 use Rattle.wf_def.specs.Definition.{Definition}
 use Rattle.wf_mapfile.specs.Meaning.{Means, longest_mapfile}
 use Rattle.wf_mapfile.specs.Rejection.{HasError}
-use Rattle.wf_block.specs.Reading.{is_memory}
+use Rattle.wf_block.specs.ReadContract.{is_memory}
 use Rattle.wf_block.specs.declared.fault.MapFault.{MapFault}
 use Rattle.wf_model.specs.Table.{Propose}
 use Rattle.wf_node.specs.Node.{Node}
 use Rattle.wf_node.specs.declared.fault.NodeFault.{NodeFault}
 use Rattle.wf_http.specs.Response.{Response}
-use Rattle.wf_edge.specs.Asking.{IsAnswer}
-use Rattle.wf_edge.specs.Notice.{notice_of}
+use Rattle.wf_edge.specs.StepResult.{IsAnswer}
+use Rattle.wf_edge.specs.ErrorResponse.{error_of_result}
 use Rattle.wf_edge.specs.Page.{accepted_page, bad_map_page}
-use Rattle.wf_edge.specs.declared.notice.Notice.{Notice}
-use Rattle.wf_edge.specs.declared.notice.Notice.TheVariants as notice
+use Rattle.wf_edge.specs.declared.error_response.ErrorResponse.{ErrorResponse}
+use Rattle.wf_edge.specs.declared.error_response.ErrorResponse.TheVariants as error_response
 use Rattle.wf_edge.specs.declared.publish_fault.PublishFault.{PublishFault}
 use Rattle.wf_edge.specs.declared.publish_fault.PublishFault.TheVariants as fault
 use Rattle.wf_tape.specs.declared.tape.Tape.{Ghosts as Tape}
@@ -69,8 +69,8 @@ module _ {T A : Type 0} (tapes : Tape T) where
 
 -- The response for an error: 400 for a body that isn't a map, or has no canonical text; 409 if the step table rejects now; 503
 -- for allocation failure, and for a node that is halted or whose tape fails. None of these pages allocates.
-abbrev pub TellsFault : PublishFault → Result Response Notice → Type 0
-TellsFault (fault.Map why) answer = answer ≡ Ok (bad_map_page why)
-TellsFault fault.TooBig answer = answer ≡ Err notice.TooBig
-TellsFault fault.Memory answer = answer ≡ Err notice.Unavailable
-TellsFault (fault.Node why) answer = answer ≡ Err (notice_of why)
+abbrev pub ReportsFault : PublishFault → Result Response ErrorResponse → Type 0
+ReportsFault (fault.Map why) answer = answer ≡ Ok (bad_map_page why)
+ReportsFault fault.TooBig answer = answer ≡ Err error_response.TooBig
+ReportsFault fault.Memory answer = answer ≡ Err error_response.Unavailable
+ReportsFault (fault.Node why) answer = answer ≡ Err (error_of_result why)

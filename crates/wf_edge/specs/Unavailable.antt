@@ -1,19 +1,19 @@
 -- Which requests may be answered with 503: those alone for which something is allocated, and a publish whose step the node's tape
--- fails. That an allocation was refused can't be said: std's contracts have no count of refused allocations, and don't say when
+-- fails. That an allocation was rejected can't be said: std's contracts have no count of rejected allocations, and don't say when
 -- one succeeds.
 use Rattle.std.specs.Prelude.{◌≡◌, ℕ, List, Some, Err, Vec}
 use Rattle.wf_codec.specs.declared.message.Message.{Message}
 use Rattle.wf_def.specs.Definition.{Definition}
 use Rattle.wf_edge.specs.Request.{Request, BeginsWith, HasBody}
 use Rattle.wf_http.specs.Response.{Response}
-use Rattle.wf_edge.specs.declared.resource.Asked.TheVariants.{Publish}
+use Rattle.wf_edge.specs.declared.resource.RequestedResource.TheVariants.{Publish}
 use Rattle.wf_node.specs.Node.{Node}
 use Rattle.wf_node.specs.declared.fault.NodeFault.{NodeFault}
-use Rattle.wf_edge.specs.Law.{AsksMapService}
-use Rattle.wf_edge.specs.Notice.{notice_of}
+use Rattle.wf_edge.specs.Theorem.{AsksMapService}
+use Rattle.wf_edge.specs.ErrorResponse.{error_of_result}
 use Rattle.wf_edge.specs.Publish.{IsMapOf, IsProposed, IsText}
-use Rattle.wf_edge.specs.Serving.{Responds}
-use Rattle.wf_edge.specs.declared.notice.Notice.TheVariants.{Unavailable}
+use Rattle.wf_edge.specs.RequestEffect.{Responds}
+use Rattle.wf_edge.specs.declared.error_response.ErrorResponse.TheVariants.{Unavailable}
 use Rattle.wf_tape.specs.declared.tape.Tape.{Ghosts as Tape}
 
 -- the input begins with a publish of that body
@@ -31,7 +31,7 @@ module _ {T : Type 0} (A : Type 0) (tapes : Tape T) where
     pub of_body : IsMapOf body map
     pub why : NodeFault
     pub step : IsProposed {A = A} tapes before map (Err why) after
-    pub is : notice_of why ≡ Unavailable
+    pub is : error_of_result why ≡ Unavailable
 
   -- A request to the map service, whose documents are allocated; a publish whose body, of at least one byte, isn't read yet; or one
   -- whose body is within the limit of a mapfile and UTF-8, so that it is read as a map; or one whose step fails.

@@ -2,20 +2,20 @@
 ghost use Rattle.std.specs.Prelude.{◌≡◌};
 ghost use Rattle.wf_http.specs.Target.{query_of};
 ghost use Rattle.wf_edge.specs.Caching.{Changes, IsReadBy};
-ghost use Rattle.wf_edge.specs.Ending.{Says};
-ghost use Rattle.wf_edge.specs.Notice.{response_of};
+ghost use Rattle.wf_edge.specs.ResponseEnd.{Completes};
+ghost use Rattle.wf_edge.specs.ErrorResponse.{response_of};
 ghost use Rattle.wf_edge.specs.Page.{service_page, status_at, status_page, accepted_page, bad_map_page};
-ghost use Rattle.wf_edge.specs.Serving.{Answers, IsRead, IsReading};
+ghost use Rattle.wf_edge.specs.RequestEffect.{Answers, IsRead, IsReading};
 
-use crate::notice::Notice;
+use crate::completion::write_response;
+use crate::error_report::respond_to_error;
+use crate::error_response::ErrorResponse;
 use crate::outcome::Outcome;
 use crate::page::Page;
 use crate::pictures::Pictures;
 use crate::request::Request;
-use crate::resource::Asked;
-use crate::saying::say;
+use crate::resource::RequestedResource;
 use crate::status::Status;
-use crate::telling::told;
 use crate::text_line::{accepted_line, fault_line, status_line};
 use http::StatusCode;
 use std::alloc::Global;
@@ -61,29 +61,29 @@ fn page_for<P: Pictures>(
     status: Status,
     pictures: &mut P,
     request: &Request,
-) -> Result<Page, Notice>
+) -> Result<Page, ErrorResponse>
     requires reads { IsReading request.now.asked }
-    requires kept { P.kept pictures.old history.now.definitions }
+    requires cached { P.cached pictures.old history.now.definitions }
     ensures answers { Answers request.now.asked (query_of request.now.head.target)
         history.now.definitions status result }
     ensures changed { Changes P.changes request.now.asked history.now.definitions
         (query_of request.now.head.target) result pictures.old pictures.new }
-    ensures kept { P.kept pictures.new history.now.definitions }
+    ensures cached { P.cached pictures.new history.now.definitions }
     ensures capacity { P.capacity pictures.new ≡ P.capacity pictures.old }
 {
     match request.asked() {
-        Asked::Wms => match pictures.answer(alloc, history, request.query()) {
+        RequestedResource::Wms => match pictures.answer(alloc, history, request.query()) {
             Ok(answer) => Ok(service_page(answer)),
-            Err(_) => Err(Notice::Unavailable),
+            Err(_) => Err(ErrorResponse::Unavailable),
         },
-        Asked::Status => Ok(status_page(status)),
-        Asked::Publish(_) => unreachable!(),
+        RequestedResource::Status => Ok(status_page(status)),
+        RequestedResource::Publish(_) => unreachable!(),
     }
 }
 
 /// Answers a request that isn't a publish from the maps that are published and a status, and writes the response: of a node its
-/// history and [`status_of`] it. Allocation failure is answered with 503. The pictures are those after the query to the map service;
-/// a status, and an allocation failure, leave them unchanged.
+/// history and [`status_of`] it. Allocation failure is answered with 503. The pictures are those after the query to the map
+/// service; a status, and an allocation failure, leave them unchanged.
 pub fn answer_get<K: Sink, P: Pictures>(
     alloc: Global,
     sink: &mut K,
@@ -93,27 +93,27 @@ pub fn answer_get<K: Sink, P: Pictures>(
     request: &Request,
 ) -> Outcome
     requires reads { IsReading request.now.asked }
-    requires kept { P.kept pictures.old history.now.definitions }
+    requires cached { P.cached pictures.old history.now.definitions }
     ensures read { IsRead K.Sink request.now history.now.definitions status
         sink.old sink.new result }
     ensures changed { IsReadBy P.changes K.Sink request.now history.now.definitions status
         sink.old sink.new pictures.old pictures.new result }
-    ensures kept { P.kept pictures.new history.now.definitions }
+    ensures cached { P.cached pictures.new history.now.definitions }
     ensures capacity { P.capacity pictures.new ≡ P.capacity pictures.old }
 {
     let answer = page_for(alloc, history, status, pictures, request);
-    let outcome = say_answer(sink, &answer);
+    let outcome = write_answer(sink, &answer);
     drop(answer);
     outcome
 }
 
-/// Writes a page, or the notice in its place.
-pub(crate) fn say_answer<K: Sink>(sink: &mut K, answer: &Result<Page, Notice>) -> Outcome
-    ensures { Says K.Sink (response_of answer.now) sink.old sink.new result }
+/// Writes a page, or the error response in its place.
+pub(crate) fn write_answer<K: Sink>(sink: &mut K, answer: &Result<Page, ErrorResponse>) -> Outcome
+    ensures { Completes K.Sink (response_of answer.now) sink.old sink.new result }
 {
     match answer {
-        Ok(page) => say(sink, &page.response()),
-        Err(notice) => say(sink, &told(*notice)),
+        Ok(page) => write_response(sink, &page.response()),
+        Err(error_response) => write_response(sink, &respond_to_error(*error_response)),
     }
 }
 
@@ -125,7 +125,7 @@ pub(crate) fn accept(published: Seq) -> Page
 }
 
 /// The page for a body that isn't a map, with its error. Allocates nothing.
-pub(crate) fn tell_fault(fault: MapFault) -> Page
+pub(crate) fn write_fault(fault: MapFault) -> Page
     ensures { result ≡ bad_map_page fault }
 {
     Page::of_line(StatusCode::BAD_REQUEST, fault_line(fault))

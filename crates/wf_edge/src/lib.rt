@@ -3,24 +3,25 @@
 //! Heads, bodies and responses are wf_http's; readers and writers are wf_stream's.
 //! - [`route`] has the resources of a node, `/wms`, `/status` and `/publish`, and the method of each. [`request::Request`] is a
 //!   request to one of them.
-//! - [`saying::say`] writes a response and returns its [`outcome::Outcome`]. A [`notice::Notice`] is a response of one line;
-//!   [`saying::say_fault`] responds if there is no request.
+//! - [`completion::write_response`] writes a response and returns its [`outcome::Outcome`]. A [`error_response::ErrorResponse`] is
+//! a response of one line;
+//!   [`completion::write_error`] responds if there is no request.
 //! - [`answer::answer_get`] answers a request that isn't a publish. It takes no node, but a history and a [`status::Status`], as
 //!   [`answer::status_of`] returns it of a node; where the pictures come from is a [`pictures::Pictures`].
 //! - [`serve::publish_request`] lets a node propose the map of a publish.
 //! - [`serve::serve_one`] does everything: it reads a request, answers it by a node, and writes the response;
 //!   [`serve::serve_one_cached`] does so with a cache of pictures of the node's maps. A caller for whom only a publish is an
-//!   event calls these one by one: `specs/ServingLaws.antt` and `specs/EndingLaws.antt` lead from their contracts to that of
+//!   event calls these one by one: `specs/RequestEffectTheorems.antt` and `specs/ResponseEndTheorems.antt` lead from their contracts to that of
 //!   `serve_one`.
 //!
 //! **Model.** `specs/Route.antt` states what the head of a request asks for, `specs/Request.antt` which request an input begins with
-//! and why there is none. `specs/Serving.antt` states the response to a request and the node's step, with the pages in `specs/Page.antt` and a
+//! and why there is none. `specs/RequestEffect.antt` states the response to a request and the node's step, with the pages in `specs/Page.antt` and a
 //! publish in `specs/Publish.antt`.
 //!
 //! **Promises.**
 //! - [`request::Request::read`]: the request is the one at the front of the input; a rejection is for its head, for the first check
 //!   that fails, or for a truncated body; nothing after it is taken but what came in one piece with the last of its head.
-//! - [`saying::say_fault`]: the response for the reason why there is no request is written (`specs/Notice.antt`), and nothing if the
+//! - [`completion::write_error`]: the response for the reason why there is no request is written (`specs/ErrorResponse.antt`), and nothing if the
 //!   input is empty or a read failed.
 //! - [`serve::serve_one`]: a response to the input is written, or a prefix of it, and the number of bytes written is reported;
 //!   and, even for readers and writers whose bytes aren't known, a failed write is the last call, and the node is unchanged or made
@@ -29,7 +30,7 @@
 //!   failure leave them unchanged (`specs/Caching.antt`).
 //! - [`serve::serve_one_cached`]: as `serve_one`, and the cache's pictures are still those of the node's maps; the cache is unchanged, or
 //!   as one query to the map service leaves it.
-//! - [`law`]: equal requests to the map service have equal responses, at two nodes too, wherever these answer alike; and which
+//! - [`theorem`]: equal requests to the map service have equal responses, at two nodes too, wherever these answer alike; and which
 //!   requests may be answered with 503 (`specs/Unavailable.antt`).
 //!
 //! Only a body, an answer of the map service and the step of a publish allocate: a request that its head rejects, a request for
@@ -41,9 +42,10 @@
 #![tactic(auto)]
 
 pub mod answer;
+pub mod completion;
 mod contents;
-pub mod law;
-pub mod notice;
+pub mod error_report;
+pub mod error_response;
 pub mod outcome;
 mod page;
 pub mod pictures;
@@ -52,8 +54,7 @@ mod publish_fault;
 pub mod request;
 pub mod resource;
 pub mod route;
-pub mod saying;
 pub mod serve;
 pub mod status;
-pub mod telling;
 mod text_line;
+pub mod theorem;

@@ -1,11 +1,11 @@
 //! A node's responses with a body of their own.
 ghost use Rattle.std.specs.Prelude.{◌≡◌};
 ghost use Rattle.wf_edge.specs.Contents.{bytes_of};
-ghost use Rattle.wf_edge.specs.Notice.{plain};
+ghost use Rattle.wf_edge.specs.ErrorResponse.{plain};
 ghost use Rattle.wf_edge.specs.Page.{page_of};
 
 use crate::contents::Contents;
-use crate::telling::PLAIN;
+use crate::error_report::PLAIN;
 use crate::text_line::TextLine;
 use http::StatusCode;
 use std::marker::Model;

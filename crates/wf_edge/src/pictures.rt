@@ -2,7 +2,7 @@
 ghost use Rattle.std.specs.Prelude.{◌≡◌, ℕ, List, length, IfOk, OnErr, OnOk};
 ghost use Rattle.wf_def.specs.Definition.{Definition};
 ghost use Rattle.wf_edge.specs.Page.{IsLastAnswer};
-ghost use Rattle.wf_wms.specs.KeptPictures.{AllKept, IsCacheAfter};
+ghost use Rattle.wf_wms.specs.CachedPictures.{AllCached, IsCacheAfter};
 
 use std::alloc::{AllocError, Global};
 use wf_learner::History;
@@ -13,7 +13,7 @@ use wf_wms::service::{answer, answer_cached};
 /// Where the pictures of a node's maps come from.
 pub trait Pictures {
     /// The pictures that are cached are those of these maps.
-    ghost kept: { Self → List Definition → Type 0 };
+    ghost cached: { Self → List Definition → Type 0 };
 
     /// The number of pictures that can be cached.
     ghost capacity: { Self → ℕ };
@@ -28,9 +28,9 @@ pub trait Pictures {
         history: &History,
         query: &[u8],
     ) -> Result<Answer, AllocError>
-        requires { kept self.old history.now.definitions }
+        requires { cached self.old history.now.definitions }
         ensures answer { IfOk result (IsLastAnswer history.now.definitions query.now) }
-        ensures kept { kept self.new history.now.definitions }
+        ensures cached { cached self.new history.now.definitions }
         ensures changed { OnOk result
             (changes history.now.definitions query.now self.old self.new) }
         ensures unchanged { OnErr result (self.new ≡ self.old) }
@@ -42,7 +42,7 @@ pub trait Pictures {
 pub struct Uncached;
 
 impl Pictures for Uncached {
-    ghost kept = { λ _ _. Unit {0} };
+    ghost cached = { λ _ _. Unit {0} };
 
     ghost capacity = { λ _. 0 };
 
@@ -59,7 +59,7 @@ impl Pictures for Uncached {
 }
 
 impl Pictures for Cache {
-    ghost kept = { λ cache history. AllKept history cache };
+    ghost cached = { λ cache history. AllCached history cache };
 
     ghost capacity = { λ cache. cache.cap };
 

@@ -1,15 +1,15 @@
 //! Publishing a map: it is parsed, made canonical, and proposed by the node.
 ghost use Rattle.std.specs.Prelude.{◌≡◌, IfOk, IfErr, if◌then◌else◌};
 ghost use Rattle.wf_mapfile.specs.Meaning.{Means};
-ghost use Rattle.wf_block.specs.Reading.{is_memory};
-ghost use Rattle.wf_edge.specs.Publish.{IsMapOf, IsWhyNoMap, IsProposed, IsPublished, TellsFault, unwritten};
-ghost use Rattle.wf_edge.specs.Serving.{GivesPublish};
+ghost use Rattle.wf_block.specs.ReadContract.{is_memory};
+ghost use Rattle.wf_edge.specs.Publish.{IsMapOf, IsWhyNoMap, IsProposed, IsPublished, ReportsFault, unwritten};
+ghost use Rattle.wf_edge.specs.RequestEffect.{GivesPublish};
 
-use crate::answer::{accept, tell_fault};
-use crate::notice::Notice;
+use crate::answer::{accept, write_fault};
+use crate::error_report::error_of_result;
+use crate::error_response::ErrorResponse;
 use crate::page::Page;
 use crate::publish_fault::PublishFault;
-use crate::telling::notice_of;
 use std::alloc::Global;
 use wf_canon::{Canon, CanonFault};
 use wf_codec::Message;
@@ -40,7 +40,7 @@ fn unwritten(fault: CanonFault) -> PublishFault
 }
 
 // The map in a body.
-#[tactic(auto, using(crate::proofs::PublishLaw::why_unread))]
+#[tactic(auto, using(crate::proofs::PublishTheorem::why_unread))]
 fn map_in(alloc: Global, body: &[u8]) -> Result<MapDef, PublishFault>
     ensures ok { IfOk result (λ map. Means body.now map) }
     ensures err { IfErr result (IsWhyNoMap body.now) }
@@ -52,7 +52,7 @@ fn map_in(alloc: Global, body: &[u8]) -> Result<MapDef, PublishFault>
 }
 
 // The map of a body, with its canonical text.
-#[tactic(auto, using(crate::proofs::PublishLaw::is_map, crate::proofs::PublishLaw::why_unwritten))]
+#[tactic(auto, using(crate::proofs::PublishTheorem::is_map, crate::proofs::PublishTheorem::why_unwritten))]
 fn canon_of(alloc: Global, body: &[u8], map: MapDef) -> Result<Canon, PublishFault>
     requires { Means body.now map }
     ensures ok { IfOk result (IsMapOf body.now) }
@@ -66,12 +66,12 @@ fn canon_of(alloc: Global, body: &[u8], map: MapDef) -> Result<Canon, PublishFau
 
 // The map in a body, with its canonical text. A body that is a canonical text, as `wfarm canon` writes it, is scanned: that takes a
 // fraction of the time.
-#[tactic(auto, using(crate::proofs::PublishLaw::is_scanned))]
+#[tactic(auto, using(crate::proofs::PublishTheorem::is_scanned))]
 fn canon_in(alloc: Global, body: &[u8]) -> Result<Canon, PublishFault>
     ensures ok { IfOk result (IsMapOf body.now) }
     ensures err { IfErr result (IsWhyNoMap body.now) }
 {
-    if let Some(canon) = Canon::scanned(alloc, body) {
+    if let Some(canon) = Canon::scan_bytes(alloc, body) {
         return Ok(canon);
     }
     match map_in(alloc, body) {
@@ -92,7 +92,7 @@ fn propose<T: Tape>(
 }
 
 // Proposes a map. The step is the last to allocate.
-#[tactic(auto, using(crate::proofs::PublishLaw::accepted, crate::proofs::PublishLaw::node_fails))]
+#[tactic(auto, using(crate::proofs::PublishTheorem::accepted, crate::proofs::PublishTheorem::node_fails))]
 fn publish_map<T: Tape>(
     alloc: Global,
     node: &mut Node<T>,
@@ -127,37 +127,41 @@ fn publish<T: Tape>(
     }
 }
 
-/// The notice for a map that isn't proposed. Allocates nothing.
-fn tell_publish_fault(fault: PublishFault) -> Result<Page, Notice>
-    ensures { TellsFault fault result }
+/// The error response for a map that isn't proposed. Allocates nothing.
+fn write_publish_fault(fault: PublishFault) -> Result<Page, ErrorResponse>
+    ensures { ReportsFault fault result }
 {
     match fault {
-        PublishFault::Map(fault) => Ok(tell_fault(fault)),
-        PublishFault::TooBig => Err(Notice::TooBig),
-        PublishFault::Memory => Err(Notice::Unavailable),
-        PublishFault::Node(fault) => Err(notice_of(fault)),
+        PublishFault::Map(fault) => Ok(write_fault(fault)),
+        PublishFault::TooBig => Err(ErrorResponse::TooBig),
+        PublishFault::Memory => Err(ErrorResponse::Unavailable),
+        PublishFault::Node(fault) => Err(error_of_result(fault)),
     }
 }
 
-/// A page or the notice in its place, and the messages that the node sends.
+/// A page or the error response in its place, and the messages that the node sends.
 #[derive(Drop)]
-pub(crate) struct Reply {
-    pub(crate) answer: Result<Page, Notice>,
+pub(crate) struct PublishReply {
+    pub(crate) answer: Result<Page, ErrorResponse>,
     pub(crate) messages: Vec<Message>,
 }
 
 /// The reply to a publish of the map in a body.
-#[tactic(auto, using(crate::specs::ServingLaws::gives_published))]
-pub(crate) fn reply_to_publish<T: Tape>(alloc: Global, node: &mut Node<T>, body: &[u8]) -> Reply
+#[tactic(auto, using(crate::specs::RequestEffectTheorems::gives_published))]
+pub(crate) fn reply_to_publish<T: Tape>(
+    alloc: Global,
+    node: &mut Node<T>,
+    body: &[u8],
+) -> PublishReply
     ensures { GivesPublish T.Tape body.now node.old result.answer result.messages node.new }
 {
     match publish(alloc, node, body) {
-        Ok((page, messages)) => Reply {
+        Ok((page, messages)) => PublishReply {
             answer: Ok(page),
             messages,
         },
-        Err(fault) => Reply {
-            answer: tell_publish_fault(fault),
+        Err(fault) => PublishReply {
+            answer: write_publish_fault(fault),
             messages: Vec::new(alloc),
         },
     }

@@ -3,10 +3,10 @@ ghost use Rattle.std.specs.Prelude.{◌≡◌, Ok, IfOk, IfErr, IfSome};
 ghost use Rattle.wf_http.specs.Front.{CountsReads};
 ghost use Rattle.wf_http.specs.Target.{query_of};
 ghost use Rattle.wf_edge.specs.Request.{body_bytes, BeginsWith, IsRequestFault, TakesRequest};
-ghost use Rattle.wf_edge.specs.Route.{judged};
+ghost use Rattle.wf_edge.specs.Route.{resolved};
 
-use crate::resource::Asked;
-use crate::route::judge;
+use crate::resource::RequestedResource;
+use crate::route::resolve;
 use std::alloc::Global;
 use std::marker::Model;
 use wf_http::body::read_body;
@@ -19,7 +19,7 @@ use wf_stream::Source;
 #[derive(Drop)]
 pub struct Request {
     front: Front,
-    asked: Asked,
+    asked: RequestedResource,
     body: Vec<u8>,
 }
 
@@ -32,21 +32,21 @@ impl Model for Request {
 }
 
 // The length of the body, by what is asked for.
-fn body_bytes(asked: Asked) -> usize
+fn body_bytes(asked: RequestedResource) -> usize
     ensures { result ≡ body_bytes asked }
 {
     match asked {
-        Asked::Wms | Asked::Status => 0,
-        Asked::Publish(bytes) => bytes,
+        RequestedResource::Wms | RequestedResource::Status => 0,
+        RequestedResource::Publish(bytes) => bytes,
     }
 }
 
 impl Request {
     /// Reads a request: its head, the checks on it, and its body. Bytes after it are ignored, and are read only in one piece with
     /// the last of the head. A rejection is that of the first check that fails. Only a body allocates.
-    #[tactic(auto, using(crate::proofs::RequestLaw::head_failed, crate::proofs::RequestLaw::check_failed, crate::proofs::RequestLaw::body_failed, crate::proofs::RequestLaw::request_read, crate::proofs::RequestLaw::request_taken))]
+    #[tactic(auto, using(crate::proofs::RequestTheorem::head_failed, crate::proofs::RequestTheorem::check_failed, crate::proofs::RequestTheorem::body_failed, crate::proofs::RequestTheorem::request_read, crate::proofs::RequestTheorem::request_taken))]
     pub fn read<S: Source>(alloc: Global, source: &mut S) -> Result<Self, RequestFault>
-        ensures asks { IfOk result (λ request. judged request.head ≡ Ok request.asked) }
+        ensures asks { IfOk result (λ request. resolved request.head ≡ Ok request.asked) }
         ensures ok { IfOk result
             (λ request. IfSome (S.left source.old) (λ input. BeginsWith input request)) }
         ensures err { IfErr result
@@ -58,9 +58,9 @@ impl Request {
             Ok(front) => front,
             Err(fault) => return Err(fault),
         };
-        let asked = match judge(&front) {
+        let asked = match resolve(&front) {
             Ok(asked) => asked,
-            Err(refusal) => return Err(RequestFault::Refused(refusal)),
+            Err(http_error) => return Err(RequestFault::Rejected(http_error)),
         };
         match read_body(alloc, source, front.behind(), body_bytes(asked)) {
             Ok(body) => Ok(Request { front, asked, body }),
@@ -69,7 +69,7 @@ impl Request {
     }
 
     /// What is asked for.
-    pub fn asked(&self) -> Asked
+    pub fn asked(&self) -> RequestedResource
         ensures { result ≡ self.now.asked }
     {
         self.asked

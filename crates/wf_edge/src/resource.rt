@@ -13,7 +13,7 @@ pub enum Resource {
 
 /// What a request asks for, by its head.
 #[derive(Clone, Copy, PartialEq, Eq)]
-pub enum Asked {
+pub enum RequestedResource {
     /// The map service's answer to the target's query.
     Wms,
     /// The status of the node.

@@ -1,14 +1,14 @@
 //! The routes of a node: its resources, and the method that each has.
 ghost use Rattle.std.specs.Prelude.{◌≡◌, Some};
 ghost use Rattle.wf_http.specs.Checks.{first_failing};
-ghost use Rattle.wf_edge.specs.Route.{resource_at, method_of, check_path, check_method, head_checks, asked_at, judged};
+ghost use Rattle.wf_edge.specs.Route.{resource_at, method_of, check_path, check_method, head_checks, resolve_at, resolved};
 
-use crate::resource::{Asked, Resource};
+use crate::resource::{RequestedResource, Resource};
 use wf_http::check::{body_length, check_target};
 use wf_http::fields::Fields;
 use wf_http::front::Front;
+use wf_http::http_error::{Allowed, HttpError};
 use wf_http::method::method_name;
-use wf_http::refusal::{Allowed, Refusal};
 use wf_http::target::path_of;
 
 /// The resource at a path.
@@ -37,16 +37,16 @@ pub fn method_of(resource: Resource) -> Allowed
     }
 }
 
-fn check_path(found: Option<Resource>) -> Option<Refusal>
+fn check_path(found: Option<Resource>) -> Option<HttpError>
     ensures { result ≡ check_path found }
 {
     match found {
-        None => Some(Refusal::NotFound),
+        None => Some(HttpError::NotFound),
         Some(_) => None,
     }
 }
 
-fn check_method(found: Option<Resource>, method: &[u8]) -> Option<Refusal>
+fn check_method(found: Option<Resource>, method: &[u8]) -> Option<HttpError>
     ensures { result ≡ check_method found method.now }
 {
     match found {
@@ -55,19 +55,19 @@ fn check_method(found: Option<Resource>, method: &[u8]) -> Option<Refusal>
     }
 }
 
-fn check_method_of(resource: Resource, method: &[u8]) -> Option<Refusal>
+fn check_method_of(resource: Resource, method: &[u8]) -> Option<HttpError>
     ensures { result ≡ check_method (Some resource) method.now }
 {
     let allowed = method_of(resource);
     if method == method_name(allowed) {
         None
     } else {
-        Some(Refusal::MethodNotAllowed(allowed))
+        Some(HttpError::MethodNotAllowed(allowed))
     }
 }
 
 // The rejection by the first check on any head that fails.
-fn refuse_head(found: Option<Resource>, target: &[u8], method: &[u8]) -> Option<Refusal>
+fn reject_head(found: Option<Resource>, target: &[u8], method: &[u8]) -> Option<HttpError>
     ensures { result ≡ first_failing (head_checks found target.now method.now) }
 {
     check_target(target)
@@ -76,16 +76,16 @@ fn refuse_head(found: Option<Resource>, target: &[u8], method: &[u8]) -> Option<
 }
 
 // The request to the resource at the path.
-fn asked_at(found: Option<Resource>, fields: &Fields<'_>) -> Result<Asked, Refusal>
-    ensures { result ≡ asked_at found fields.now }
+fn resolve_at(found: Option<Resource>, fields: &Fields<'_>) -> Result<RequestedResource, HttpError>
+    ensures { result ≡ resolve_at found fields.now }
 {
     match found {
-        None => Err(Refusal::NotFound),
-        Some(Resource::Wms) => Ok(Asked::Wms),
-        Some(Resource::Status) => Ok(Asked::Status),
+        None => Err(HttpError::NotFound),
+        Some(Resource::Wms) => Ok(RequestedResource::Wms),
+        Some(Resource::Status) => Ok(RequestedResource::Status),
         Some(Resource::Publish) => match body_length(fields) {
-            Ok(bytes) => Ok(Asked::Publish(bytes)),
-            Err(refusal) => Err(refusal),
+            Ok(bytes) => Ok(RequestedResource::Publish(bytes)),
+            Err(http_error) => Err(http_error),
         },
     }
 }
@@ -93,14 +93,14 @@ fn asked_at(found: Option<Resource>, fields: &Fields<'_>) -> Result<Asked, Refus
 /// What a head asks for, or the rejection by the first check that fails: of the target (400), its path (404), its method (405),
 /// and, for a publish, the body's coding (501), whether its length is given (411), is one whole number (400) and is within the
 /// limit (413).
-#[tactic(auto, unfolding(crate::specs::Route::judged))]
-pub fn judge(front: &Front) -> Result<Asked, Refusal>
-    ensures { result ≡ judged front.now.head }
+#[tactic(auto, unfolding(crate::specs::Route::resolved))]
+pub fn resolve(front: &Front) -> Result<RequestedResource, HttpError>
+    ensures { result ≡ resolved front.now.head }
 {
     let target = front.target();
     let found = resource_at(path_of(target));
-    match refuse_head(found, target, front.method()) {
-        Some(refusal) => Err(refusal),
-        None => asked_at(found, &front.fields()),
+    match reject_head(found, target, front.method()) {
+        Some(http_error) => Err(http_error),
+        None => resolve_at(found, &front.fields()),
     }
 }

@@ -3,26 +3,26 @@ ghost use Rattle.std.specs.Prelude.{◌≡◌, ◌⊎◌, ℕ, List, length, Vec
 ghost use Rattle.std.specs.declared.alloc.Global.{Global};
 ghost use Rattle.wf_codec.specs.declared.message.Message.{Message};
 ghost use Rattle.wf_edge.specs.Caching.{ChangesOnce};
-ghost use Rattle.wf_edge.specs.Hearing.{CountsHearing};
+ghost use Rattle.wf_edge.specs.Receipt.{CountsReceiving};
 ghost use Rattle.wf_edge.specs.Request.{TakesRequest};
-ghost use Rattle.wf_edge.specs.Saying.{CountsSaying};
-ghost use Rattle.wf_edge.specs.Serving.{IsEnding, IsOutcome, IsPublish, IsServed, MovesOnce, Serves};
-ghost use Rattle.wf_wms.specs.KeptPictures.{AllKept, IsCacheAfter};
+ghost use Rattle.wf_edge.specs.Completion.{CountsCompleting};
+ghost use Rattle.wf_edge.specs.RequestEffect.{IsEnding, IsOutcome, IsPublish, IsServed, MovesOnce, Serves};
+ghost use Rattle.wf_wms.specs.CachedPictures.{AllCached, IsCacheAfter};
 
-use crate::answer::{answer_get, say_answer, status_of};
+use crate::answer::{answer_get, status_of, write_answer};
+use crate::completion::write_error;
 use crate::outcome::Outcome;
 use crate::pictures::{Pictures, Uncached};
-use crate::publish::{Reply, reply_to_publish};
+use crate::publish::{PublishReply, reply_to_publish};
 use crate::request::Request;
-use crate::resource::Asked;
-use crate::saying::say_fault;
+use crate::resource::RequestedResource;
 use std::alloc::Global;
 use wf_codec::Message;
 use wf_node::Node;
 use wf_stream::{Sink, Source};
 use wf_tape::Tape;
 use wf_wms::cache::Cache;
-use wf_wms::law::kept_pictures_outlast_growth;
+use wf_wms::theorem::cached_pictures_outlast_growth;
 
 /// The outcome of one request, and the messages that the node sends.
 #[derive(Drop)]
@@ -34,7 +34,7 @@ pub struct Served {
 
 /// Proposes the map in a publish's body by a node, and writes the response. The messages of the node's step are returned whether or
 /// not the write succeeds; nothing is allocated after the step.
-#[tactic(auto, using(crate::specs::ServingLaws::publish_served))]
+#[tactic(auto, using(crate::specs::RequestEffectTheorems::publish_served))]
 pub fn publish_request<K: Sink, T: Tape>(
     alloc: Global,
     sink: &mut K,
@@ -45,8 +45,8 @@ pub fn publish_request<K: Sink, T: Tape>(
     ensures { IsServed T.Tape K.Sink request.now sink.old sink.new
         node.old result.messages node.new result.outcome }
 {
-    let Reply { answer, messages } = reply_to_publish(alloc, node, request.body());
-    let outcome = say_answer(sink, &answer);
+    let PublishReply { answer, messages } = reply_to_publish(alloc, node, request.body());
+    let outcome = write_answer(sink, &answer);
     drop(answer);
     Served { outcome, messages }
 }
@@ -59,11 +59,11 @@ fn serve_with<S: Source, K: Sink, T: Tape, P: Pictures>(
     node: &mut Node<T>,
     pictures: &mut P,
 ) -> Served
-    requires { P.kept pictures.old node.old.parts.history }
+    requires { P.cached pictures.old node.old.parts.history }
     ensures serves { Serves T.Tape K.Sink S.Source source.old source.new sink.old sink.new
         node.old result.messages node.new result.outcome }
     ensures takes { TakesRequest (S.piece source.old) (S.left source.old) (S.left source.new) }
-    ensures kept { P.kept pictures.new node.old.parts.history }
+    ensures cached { P.cached pictures.new node.old.parts.history }
     ensures changed { ChangesOnce P.changes node.old.parts.history pictures.old pictures.new }
     ensures capacity { P.capacity pictures.new ≡ P.capacity pictures.old }
 {
@@ -74,14 +74,14 @@ fn serve_with<S: Source, K: Sink, T: Tape, P: Pictures>(
             served
         }
         Err(fault) => Served {
-            outcome: say_fault(sink, fault),
+            outcome: write_error(sink, fault),
             messages: Vec::new(alloc),
         },
     }
 }
 
 // Answers a request by the node, and writes the response.
-#[tactic(auto, using(crate::specs::ServingLaws::read_served, crate::specs::Caching::read_once))]
+#[tactic(auto, using(crate::specs::RequestEffectTheorems::read_served, crate::specs::Caching::read_once))]
 fn answer_request<K: Sink, T: Tape, P: Pictures>(
     alloc: Global,
     sink: &mut K,
@@ -89,15 +89,15 @@ fn answer_request<K: Sink, T: Tape, P: Pictures>(
     pictures: &mut P,
     request: &Request,
 ) -> Served
-    requires { P.kept pictures.old node.old.parts.history }
+    requires { P.cached pictures.old node.old.parts.history }
     ensures served { IsServed T.Tape K.Sink request.now sink.old sink.new
         node.old result.messages node.new result.outcome }
-    ensures kept { P.kept pictures.new node.old.parts.history }
+    ensures cached { P.cached pictures.new node.old.parts.history }
     ensures changed { ChangesOnce P.changes node.old.parts.history pictures.old pictures.new }
     ensures capacity { P.capacity pictures.new ≡ P.capacity pictures.old }
 {
     match request.asked() {
-        Asked::Wms | Asked::Status => {
+        RequestedResource::Wms | RequestedResource::Status => {
             let status = status_of(node);
             let outcome = answer_get(alloc, sink, node.history(), status, pictures, request);
             Served {
@@ -105,7 +105,7 @@ fn answer_request<K: Sink, T: Tape, P: Pictures>(
                 messages: Vec::new(alloc),
             }
         }
-        Asked::Publish(_) => publish_request(alloc, sink, node, request),
+        RequestedResource::Publish(_) => publish_request(alloc, sink, node, request),
     }
 }
 
@@ -125,8 +125,8 @@ pub fn serve_one<S: Source, K: Sink, T: Tape>(
         node.old result.messages node.new result.outcome }
     ensures moves { MovesOnce T.Tape node.old result.messages node.new }
     ensures takes { TakesRequest (S.piece source.old) (S.left source.old) (S.left source.new) }
-    ensures reads { CountsHearing result.outcome (S.failures source.old) (S.failures source.new) }
-    ensures writes { CountsSaying result.outcome (K.failures sink.old) (K.failures sink.new) }
+    ensures reads { CountsReceiving result.outcome (S.failures source.old) (S.failures source.new) }
+    ensures writes { CountsCompleting result.outcome (K.failures sink.old) (K.failures sink.new) }
     ensures last { IsEnding T.Tape K.Sink (S.left source.old) sink.old sink.new
         node.old result.messages node.new result.outcome }
 {
@@ -142,20 +142,20 @@ pub fn serve_one_cached<S: Source, K: Sink, T: Tape>(
     node: &mut Node<T>,
     cache: &mut Cache,
 ) -> Served
-    requires { AllKept node.old.parts.history cache.old }
+    requires { AllCached node.old.parts.history cache.old }
     ensures outcome { IsOutcome T.Tape (S.left source.old) (K.written sink.old) (K.written sink.new)
         node.old result.messages node.new result.outcome }
     ensures moves { MovesOnce T.Tape node.old result.messages node.new }
     ensures takes { TakesRequest (S.piece source.old) (S.left source.old) (S.left source.new) }
-    ensures reads { CountsHearing result.outcome (S.failures source.old) (S.failures source.new) }
-    ensures writes { CountsSaying result.outcome (K.failures sink.old) (K.failures sink.new) }
+    ensures reads { CountsReceiving result.outcome (S.failures source.old) (S.failures source.new) }
+    ensures writes { CountsCompleting result.outcome (K.failures sink.old) (K.failures sink.new) }
     ensures last { IsEnding T.Tape K.Sink (S.left source.old) sink.old sink.new
         node.old result.messages node.new result.outcome }
-    ensures kept { AllKept node.new.parts.history cache.new }
+    ensures cached { AllCached node.new.parts.history cache.new }
     ensures changed { (cache.new ≡ cache.old) ⊎ ((query : List ℕ) × IsCacheAfter
         (length node.old.parts.history) node.old.parts.history query cache.old cache.new) }
     ensures capacity { cache.new.cap ≡ cache.old.cap }
 {
-    kept_pictures_outlast_growth();
+    cached_pictures_outlast_growth();
     serve_with(alloc, source, sink, node, cache)
 }

@@ -1,7 +1,7 @@
 //! The status of a node.
 
 use wf_ballot::{NodeId, Seq};
-use wf_proposer::Standing;
+use wf_proposer::ProposalState;
 
 /// The status of a node, as GET /status reports it.
 #[derive(Clone, Copy)]
@@ -11,5 +11,5 @@ pub struct Status {
     /// The sequence of the last map that it has published.
     pub published: Seq,
     /// How its proposal stands; a halted node has none.
-    pub proposal: Standing,
+    pub proposal: ProposalState,
 }

@@ -1,14 +1,14 @@
 //! Lines of plain text.
 ghost use Rattle.std.specs.Prelude.{◌≡◌, ◌≤◌, ◌+◌, ◌++◌, [], decimal, length};
-ghost use Rattle.wf_edge.specs.Notice.{text_line};
-ghost use Rattle.wf_edge.specs.Page.{most_line_bytes, standing_words, status_words, accepted_words, at_place, fault_words};
+ghost use Rattle.wf_edge.specs.ErrorResponse.{text_line};
+ghost use Rattle.wf_edge.specs.Page.{most_line_bytes, proposal_state_words, status_words, accepted_words, at_offset, fault_words};
 
 use arrayvec::ArrayVec;
 use itoa::Buffer;
 use wf_ballot::{NodeId, Seq, Slot};
 use wf_http::buffer::append;
 use wf_mapfile::fault::MapFault;
-use wf_proposer::Standing;
+use wf_proposer::ProposalState;
 
 /// The greatest length of a line, in bytes: more than any has.
 const MOST_LINE_BYTES: usize = 128;
@@ -54,16 +54,16 @@ impl TextLine {
     }
 
     // Appends the state of a proposal.
-    fn push_standing(&mut self, standing: Standing)
+    fn push_proposal_state(&mut self, proposal_state: ProposalState)
         requires { length self.old.bytes.items + 30 ≤ most_line_bytes }
-        ensures text { self.new.bytes.items ≡ self.old.bytes.items ++ standing_words standing }
+        ensures text { self.new.bytes.items ≡ self.old.bytes.items ++ proposal_state_words proposal_state }
         ensures size { length self.new.bytes.items ≤ length self.old.bytes.items + 30 }
     {
-        match standing {
-            Standing::None => self.push_text("none"),
-            Standing::Running => self.push_text("running"),
-            Standing::Published(slot) => self.push_slot("published ", slot),
-            Standing::Overtaken(slot) => self.push_slot("overtaken ", slot),
+        match proposal_state {
+            ProposalState::None => self.push_text("none"),
+            ProposalState::Running => self.push_text("running"),
+            ProposalState::Published(slot) => self.push_slot("published ", slot),
+            ProposalState::Overtaken(slot) => self.push_slot("overtaken ", slot),
         }
     }
 
@@ -78,16 +78,16 @@ impl TextLine {
     }
 
     // Appends an error's number and its position.
-    #[tactic(auto, unfolding(crate::specs::Page::at_place))]
-    fn push_at_place(&mut self, number: &str, place: usize)
+    #[tactic(auto, unfolding(crate::specs::Page::at_offset))]
+    fn push_at_offset(&mut self, number: &str, byte_offset: usize)
         requires { length self.old.bytes.items + length number.now + 21 ≤ most_line_bytes }
-        ensures text { self.new.bytes.items ≡ self.old.bytes.items ++ at_place number.now place }
+        ensures text { self.new.bytes.items ≡ self.old.bytes.items ++ at_offset number.now byte_offset }
         ensures size { length self.new.bytes.items
             ≤ length self.old.bytes.items + length number.now + 21 }
     {
         self.push_text(number);
         self.push_text(" ");
-        self.push_number(place);
+        self.push_number(byte_offset);
     }
 
     // Appends an error of a mapfile.
@@ -99,24 +99,24 @@ impl TextLine {
         match fault {
             MapFault::Memory => self.push_text("M1"),
             MapFault::TooLong => self.push_text("M2"),
-            MapFault::NotUtf8(place) => self.push_at_place("M3", place),
-            MapFault::BadToken(place) => self.push_at_place("M4", place),
-            MapFault::UnexpectedWord(place) => self.push_at_place("M5", place),
-            MapFault::MissingEnd(place) => self.push_at_place("M6", place),
-            MapFault::BadNumber(place) => self.push_at_place("M7", place),
-            MapFault::OutOfRange(place) => self.push_at_place("M8", place),
+            MapFault::NotUtf8(byte_offset) => self.push_at_offset("M3", byte_offset),
+            MapFault::BadToken(byte_offset) => self.push_at_offset("M4", byte_offset),
+            MapFault::UnexpectedWord(byte_offset) => self.push_at_offset("M5", byte_offset),
+            MapFault::MissingEnd(byte_offset) => self.push_at_offset("M6", byte_offset),
+            MapFault::BadNumber(byte_offset) => self.push_at_offset("M7", byte_offset),
+            MapFault::OutOfRange(byte_offset) => self.push_at_offset("M8", byte_offset),
             MapFault::Missing => self.push_text("M9"),
-            MapFault::Repeated(place) => self.push_at_place("M10", place),
+            MapFault::Repeated(byte_offset) => self.push_at_offset("M10", byte_offset),
             MapFault::TooMany => self.push_text("M11"),
-            MapFault::Trailing(place) => self.push_at_place("M12", place),
+            MapFault::Trailing(byte_offset) => self.push_at_offset("M12", byte_offset),
         }
     }
 }
 
 /// The line with the node's status: its number, its last published sequence and the state of its proposal.
 #[tactic(auto, unfolding(crate::specs::Page::status_words))]
-pub(crate) fn status_line(id: NodeId, published: Seq, standing: Standing) -> TextLine
-    ensures { result.bytes.items ≡ text_line (status_words id published standing) }
+pub(crate) fn status_line(id: NodeId, published: Seq, proposal_state: ProposalState) -> TextLine
+    ensures { result.bytes.items ≡ text_line (status_words id published proposal_state) }
 {
     let mut line = TextLine::new();
     line.push_text("node ");
@@ -124,7 +124,7 @@ pub(crate) fn status_line(id: NodeId, published: Seq, standing: Standing) -> Tex
     line.push_text(" published ");
     line.push_number(usize::from(published.number()));
     line.push_text(" proposal ");
-    line.push_standing(standing);
+    line.push_proposal_state(proposal_state);
     line.push_text("\n");
     line
 }

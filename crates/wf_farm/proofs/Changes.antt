@@ -1,21 +1,10 @@
 -- What one question changes: its asker alone, which comes on.
-use Rattle.std.proofs.Common.{◌≡◌, ◌⊎◌, ◌<◌, ◌≤◌, ◌+◌, ◌||◌, ℕ, zero, suc, Bool, true, false, List, [], map, length, slice_get, slice_set, Some, refl, sym, ap, subst, ◌∙◌, inl, inr, arith, Result, Ok, Err, IfOk}
-use Rattle.std.proofs.lemmas.Bool.{cases_eq, false≢true}
-use Rattle.std.proofs.lemmas.Option.{same_Some}
-use Rattle.wf_ballot.specs.Sequence.{last_sequence}
+use Rattle.std.proofs.Common.{◌≡◌, ◌⊎◌, ◌<◌, ◌≤◌, ◌+◌, ◌||◌, ℕ, zero, suc, Bool, true, false, List, [], map, length, slice_get, slice_set, Some, refl, sym, ap, subst, ◌∙◌, inl, inr, arith}
+use Rattle.wf_farm.proofs.Common.{cases_eq, false≢true, same_Some, last_sequence, Message, most_reports, reports_from, Node, NodeHost, Running, BringsOn, EndsUp, FirstEndUp, HasReceived, HasMost, ReceivesAt, IsAnswerTo, IsBehind, IsLevelAt, IsQuestion, OneChanges, lacks, lacks_by, rank, rank_at, nodes_of, nodes_get, nodes_set, get_set_other, set_same, set_there}
 use Rattle.wf_codec.specs.Message as message
-use Rattle.wf_codec.specs.declared.message.Message.{Message}
 use Rattle.wf_codec.specs.declared.message.Message.TheVariants as code
-use Rattle.wf_model.specs.Table.{most_told, told_from}
-use Rattle.wf_node.specs.Node.{Node}
-use Rattle.wf_farm.specs.declared.place.Place.{Place}
-use Rattle.wf_farm.specs.declared.place.Place.TheVariants.{Running}
-use Rattle.wf_farm.specs.CatchUp.{BringsOn, EndsUp, FirstEndUp, HasHeard, HasMost, HearsAt, IsAnswerTo, IsBehind, IsLevelAt, IsQuestion, OneChanges, lacks, lacks_by, rank, rank_at}
-use Rattle.wf_farm.specs.Nodes.{nodes_of}
-use Rattle.wf_farm.specs.NodesLaws.{nodes_get, nodes_set}
-use Rattle.wf_farm.specs.PlaceLaws.{get_set_other, set_same, set_there}
 use Rattle.wf_farm.proofs.Asked.{answers_ask, asks_next, loses_ask}
-use Rattle.wf_farm.proofs.Level.{Outcome, count_of, heard_answer, node_ranked, rank_halted, rank_running, rank_there, runs_there}
+use Rattle.wf_farm.proofs.Level.{Outcome, count_of, received_answer, node_ranked, rank_halted, rank_running, rank_there, runs_there}
 use Rattle.wf_tape.specs.declared.tape.Tape.{Ghosts as Tape}
 
 -- ---- one node changes
@@ -88,9 +77,9 @@ module _ {T : Type 0} (asked asker : ℕ) (nodes after : List (Node T)) (one : O
 
 -- ---- a question
 
-module _ {T : Type 0} (tapes : Tape T) (places : List (Place T)) (asked asker : ℕ) (behind : IsBehind (nodes_of places) asked asker) (most : rank_at (nodes_of places) asked ≤ last_sequence + 1) where
+module _ {T : Type 0} (tapes : Tape T) (hosts : List (NodeHost T)) (asked asker : ℕ) (behind : IsBehind (nodes_of hosts) asked asker) (most : rank_at (nodes_of hosts) asked ≤ last_sequence + 1) where
   abbrev nodes : List (Node T)
-  nodes = nodes_of places
+  nodes = nodes_of hosts
 
   differs : asked ≡ asker → ⊥
   differs same = omega (arith, behind.1, ap (rank_at nodes) same)
@@ -116,7 +105,7 @@ module _ {T : Type 0} (tapes : Tape T) (places : List (Place T)) (asked asker : 
 
     -- The answer is lost: nothing is changed.
     unanswered : IsQuestion tapes asked asker nodes true nodes
-    unfolding HasHeard
+    unfolding HasReceived
     unanswered = record {
       behind = behind;
       before = before;
@@ -130,12 +119,12 @@ module _ {T : Type 0} (tapes : Tape T) (places : List (Place T)) (asked asker : 
       unanswered = true;
       answers = loses_ask tapes other goes (count_of before + 1);
       unheard = false;
-      hears = (refl, refl);
+      receives = (refl, refl);
       is_lost = refl;
       nodes_are = sym (set_same nodes asker before asker_at);
     }
 
-    module _ (answer : List Message) (lost : Bool) (after : Node T) (answer_is : map message.view answer ≡ told_from other.parts.history (count_of before + 1) most_told) (heard : HasHeard tapes answer lost before after) where
+    module _ (answer : List Message) (lost : Bool) (after : Node T) (answer_is : map message.view answer ≡ reports_from other.parts.history (count_of before + 1) most_reports) (received : HasReceived tapes answer lost before after) where
       -- The asker hears an answer.
       answered : IsQuestion tapes asked asker nodes lost (slice_set nodes asker after)
       answered = record {
@@ -151,7 +140,7 @@ module _ {T : Type 0} (tapes : Tape T) (places : List (Place T)) (asked asker : 
         unanswered = false;
         answers = answers_ask tapes other goes (count_of before + 1) answer answer_is;
         unheard = lost;
-        hears = heard;
+        receives = received;
         is_lost = refl;
         nodes_are = refl;
       }
@@ -159,10 +148,10 @@ module _ {T : Type 0} (tapes : Tape T) (places : List (Place T)) (asked asker : 
       now_there : rank_at (slice_set nodes asker after) asker ≡ rank (Some after)
       now_there = ap rank (set_there nodes asker after before asker_at)
 
-      outcome : Outcome tapes other.parts.history most_told lost before after
-      outcome = heard_answer tapes other.parts.history most_told lost after answer before runs (omega (arith, fewer)) answer_is heard
+      outcome : Outcome tapes other.parts.history most_reports lost before after
+      outcome = received_answer tapes other.parts.history most_reports lost after answer before runs (omega (arith, fewer)) answer_is received
 
-      within_by : Outcome tapes other.parts.history most_told lost before after → rank (Some after) ≤ rank_at nodes asked
+      within_by : Outcome tapes other.parts.history most_reports lost before after → rank (Some after) ≤ rank_at nodes asked
       within_by (inl ended) = omega (arith, rank_halted after ended.1)
       within_by (inr on) = omega (arith, rank_running after on.runs, on.within, asked_rank)
 
@@ -174,7 +163,7 @@ module _ {T : Type 0} (tapes : Tape T) (places : List (Place T)) (asked asker : 
       }
 
     brings_by : (answer : List Message) (lost : Bool) (after : Node T) → rank_at (slice_set nodes asker after) asker ≡ rank (Some after) → rank_at (slice_set nodes asker after) asked ≡ rank_at nodes asked →
-        Outcome tapes other.parts.history most_told lost before after → BringsOn asked asker nodes lost (slice_set nodes asker after)
+        Outcome tapes other.parts.history most_reports lost before after → BringsOn asked asker nodes lost (slice_set nodes asker after)
     brings_by answer true after now still (inl ended) = absurd (false≢true (sym ended.0))
     brings_by answer true after now still (inr on) =
         (omega (arith, now, rank_running after on.runs), omega (arith, now, still, rank_running after on.runs, asked_rank, on.part refl))
@@ -200,43 +189,39 @@ module _ {T : Type 0} (tapes : Tape T) (places : List (Place T)) (asked asker : 
         on = behind;
       }
 
-  pub asked_answered : (answer : List Message) (lost : Bool) (after : List (Place T)) → IsAnswerTo nodes asked asker answer → HearsAt tapes asker answer lost places after → IsAsked lost (nodes_of after)
-  asked_answered answer lost after is hears =
-      let before = hears.before in
-      let at : slice_get nodes asker ≡ Some before = nodes_get places asker (Running before) hears.at in
+  pub asked_answered : (answer : List Message) (lost : Bool) (after : List (NodeHost T)) → IsAnswerTo nodes asked asker answer → ReceivesAt tapes asker answer lost hosts after → IsAsked lost (nodes_of after)
+  asked_answered answer lost after is receives =
+      let before = receives.before in
+      let at : slice_get nodes asker ≡ Some before = nodes_get hosts asker (Running before) receives.at in
       let it : is.before ≡ before = same_Some is.before before (sym is.asker_at ∙ at) in
-      let answer_is = subst (λ (x : Node T). map message.view answer ≡ told_from is.other.parts.history (count_of x + 1) most_told) it is.answer_is in
-      let outcome_here = outcome before is.other at is.asked_at answer lost hears.after answer_is hears.heard in
-      let now = now_there before is.other at is.asked_at answer lost hears.after answer_is hears.heard in
-      let one_here = changed before is.other at is.asked_at answer lost hears.after answer_is hears.heard in
-      let nodes_are : nodes_of after ≡ slice_set nodes asker hears.after = ap nodes_of hears.places_are ∙ nodes_set places asker (Running hears.after) in
+      let answer_is = subst (λ (x : Node T). map message.view answer ≡ reports_from is.other.parts.history (count_of x + 1) most_reports) it is.answer_is in
+      let outcome_here = outcome before is.other at is.asked_at answer lost receives.after answer_is receives.received in
+      let now = now_there before is.other at is.asked_at answer lost receives.after answer_is receives.received in
+      let one_here = changed before is.other at is.asked_at answer lost receives.after answer_is receives.received in
+      let nodes_are : nodes_of after ≡ slice_set nodes asker receives.after = ap nodes_of receives.hosts_are ∙ nodes_set hosts asker (Running receives.after) in
       subst (IsAsked lost) (sym nodes_are) (record {
-        question = answered before is.other at is.asked_at answer lost hears.after answer_is hears.heard;
+        question = answered before is.other at is.asked_at answer lost receives.after answer_is receives.received;
         one = one_here;
-        on = brings_by before is.other at is.asked_at answer lost hears.after now (ap rank one_here.asked_stays) outcome_here;
+        on = brings_by before is.other at is.asked_at answer lost receives.after now (ap rank one_here.asked_stays) outcome_here;
       })
 
 -- ---- an answer
 
-module _ {T : Type 0} (places : List (Place T)) (asked asker : ℕ) (behind : IsBehind (nodes_of places) asked asker) (node other : Node T) (at : slice_get places asker ≡ Some (Running node)) (there : slice_get places asked ≡ Some (Running other)) where
-  asker_is : slice_get (nodes_of places) asker ≡ Some node
-  asker_is = nodes_get places asker (Running node) at
+module _ {T : Type 0} (hosts : List (NodeHost T)) (asked asker : ℕ) (behind : IsBehind (nodes_of hosts) asked asker) (node other : Node T) (at : slice_get hosts asker ≡ Some (Running node)) (there : slice_get hosts asked ≡ Some (Running other)) where
+  asker_is : slice_get (nodes_of hosts) asker ≡ Some node
+  asker_is = nodes_get hosts asker (Running node) at
 
-  asked_is : slice_get (nodes_of places) asked ≡ Some other
-  asked_is = nodes_get places asked (Running other) there
+  asked_is : slice_get (nodes_of hosts) asked ≡ Some other
+  asked_is = nodes_get hosts asked (Running other) there
 
-  pub other_rank : rank_at (nodes_of places) asked ≡ count_of other + 1
-  other_rank = rank_there (nodes_of places) asked other asked_is ∙ rank_running other (runs_there (nodes_of places) asked other asked_is (omega (arith, behind.0, behind.1)))
+  pub other_rank : rank_at (nodes_of hosts) asked ≡ count_of other + 1
+  other_rank = rank_there (nodes_of hosts) asked other asked_is ∙ rank_running other (runs_there (nodes_of hosts) asked other asked_is (omega (arith, behind.0, behind.1)))
 
-  node_rank : rank_at (nodes_of places) asker ≡ count_of node + 1
-  node_rank = rank_there (nodes_of places) asker node asker_is ∙ rank_running node (runs_there (nodes_of places) asker node asker_is behind.0)
+  node_rank : rank_at (nodes_of hosts) asker ≡ count_of node + 1
+  node_rank = rank_there (nodes_of hosts) asker node asker_is ∙ rank_running node (runs_there (nodes_of hosts) asker node asker_is behind.0)
 
   pub fewer_published : length node.parts.history < length other.parts.history
   fewer_published = omega (arith, behind.1, other_rank, node_rank)
 
-  pub answer_to : (answer : List Message) → map message.view answer ≡ told_from other.parts.history (length node.parts.history + 1) most_told → IsAnswerTo (nodes_of places) asked asker answer
+  pub answer_to : (answer : List Message) → map message.view answer ≡ reports_from other.parts.history (length node.parts.history + 1) most_reports → IsAnswerTo (nodes_of hosts) asked asker answer
   answer_to answer is = record { before = node; other = other; asker_at = asker_is; asked_at = asked_is; answer_is = is }
-
-pub if_ok : {A E : Type 0} (P Q : A → Type 0) (result : Result A E) → ((x : A) → P x → Q x) → IfOk result P → IfOk result Q
-if_ok P Q (Ok x) leads holds = leads x holds
-if_ok P Q (Err e) leads holds = tt

@@ -1,22 +1,13 @@
--- A tape that a crash within a step left, and the node that is opened from it: which stored part it has shows in the tape's length.
+-- A tape that a crash within a step left, and the node that is opened from it: which durable state it has shows in the tape's
+-- length.
 use Rattle.std.proofs.Common.{◌≡◌, ℕ, ◌+◌, ◌<◌, true, false, List, [], ◌∷◌, ◌++◌, length, take, Option, Some, None, sym, ap, subst, ◌∙◌, arith, inl, inr, Bool, nat_lt, length-append, if◌then◌else◌}
-use Rattle.std.proofs.lemmas.Bool.{le-ltb, lt-ltb}
-use Rattle.std.proofs.lemmas.List.{append-nil, nil_from_length, take-take, take_all}
-use Rattle.std.proofs.lemmas.Option.{same_Some}
+use Rattle.wf_farm.proofs.Common.{le-ltb, lt-ltb, append-nil, nil_from_length, take-take, take_all, same_Some, Definition, DurableState, Record, fold, ReadsOn, ReadsWith, IsFoldOf, Follows, IsSettled, ReadsSame, TapeValue, IsImageOf, AreReadOneWay, AreRecords, BeginsWithNone, ReadsAs, Splits, length_of, IsCutTape, kept_beyond, stored_by}
 use Rattle.wf_ballot.specs.Frame.{frame}
-use Rattle.wf_def.specs.Definition.{Definition}
-use Rattle.wf_model.specs.Stored.{Stored, Record, fold}
-use Rattle.wf_node.specs.Images.{ReadsOn, ReadsWith}
-use Rattle.wf_node.specs.Opening.{IsFoldOf}
-use Rattle.wf_journal.specs.Journal.{Follows, IsSettled, ReadsSame}
-use Rattle.wf_tape.specs.MemoryTape.{TapeValue, IsImageOf}
-use Rattle.wf_journal.specs.Records.{AreReadOneWay, AreRecords, BeginsWithNone, ReadsAs, Splits, length_of}
-use Rattle.wf_journal.specs.Spelling.{spelling, text_spelling}
-use Rattle.wf_journal.specs.SpellingLaws.{length_of_encoding}
+use Rattle.wf_journal.specs.Encoding.{spelling, text_spelling}
+use Rattle.wf_journal.specs.EncodingTheorems.{length_of_encoding}
 use Rattle.wf_tape.specs.Tape.{IsBeginning}
 use Rattle.wf_model.specs.declared.kept.Kept.TheVariants as declared
 use Rattle.wf_model.specs.Kept.{view as view_kept}
-use Rattle.wf_farm.specs.Fused.{IsCutTape, kept_beyond, stored_by}
 use Rattle.wf_farm.proofs.Steps.{begins_taken}
 
 -- ---- records by their bytes
@@ -75,15 +66,15 @@ not_longer long now same = le-ltb long now (omega (arith, same))
 is_longer : (long now more : ℕ) → now ≡ long + more → 0 < more → nat_lt long now ≡ true
 is_longer long now more sum some = lt-ltb long now (omega (arith, sum, some))
 
-module _ (one : AreReadOneWay) (long : ℕ) (r : Record Definition) (before after stored : Stored Definition) (content cut now : List ℕ) (records found : List (Record Definition))
+module _ (one : AreReadOneWay) (long : ℕ) (r : Record Definition) (before after stored : DurableState Definition) (content cut now : List ℕ) (records found : List (Record Definition))
     (are : AreRecords content records) (is_long : length content ≡ long) (reads : ReadsAs cut found) (folds : fold found ≡ Some stored) (settled : AreRecords now found) where
   -- The record isn't there.
   kept_before : ReadsOn before content cut → stored ≡ stored_by (view_kept (kept_beyond long (length now))) before after
   kept_before on =
       let same : found ≡ records = one cut found on.records reads on.new ∙ one content on.records records on.old (whole_reads content records are) in
-      let tells = not_longer long (length now) (long_records now found settled ∙ ap length_of same ∙ sym (long_records content records are) ∙ is_long) in
+      let reports = not_longer long (length now) (long_records now found settled ∙ ap length_of same ∙ sym (long_records content records are) ∙ is_long) in
       let is : stored ≡ before = same_Some stored before (sym folds ∙ ap fold (one cut found on.records reads on.new) ∙ on.folds) in
-      is ∙ sym (ap (λ (b : Bool). stored_by (view_kept (if b then declared.After else declared.Before)) before after) tells)
+      is ∙ sym (ap (λ (b : Bool). stored_by (view_kept (if b then declared.After else declared.Before)) before after) reports)
 
   -- It is there.
   kept_after : ReadsWith r after content cut → stored ≡ stored_by (view_kept (kept_beyond long (length now))) before after
@@ -92,12 +83,12 @@ module _ (one : AreReadOneWay) (long : ℕ) (r : Record Definition) (before afte
       let same : with_it.records ≡ records = one content with_it.records records with_it.old (whole_reads content records are) in
       let sum : length now ≡ long + length (spelling r) =
       omega (arith, long_records now found settled, ap length_of more, long_more with_it.records r, ap length_of same, long_records content records are, is_long) in
-      let tells = is_longer long (length now) (length (spelling r)) sum (some_bytes r) in
+      let reports = is_longer long (length now) (length (spelling r)) sum (some_bytes r) in
       let is : stored ≡ after = same_Some stored after (sym folds ∙ ap fold more ∙ with_it.folds) in
-      is ∙ sym (ap (λ (b : Bool). stored_by (view_kept (if b then declared.After else declared.Before)) before after) tells)
+      is ∙ sym (ap (λ (b : Bool). stored_by (view_kept (if b then declared.After else declared.Before)) before after) reports)
 
 -- The node that is opened after a crash has stored what its tape's length tells.
-pub cut_opened : AreReadOneWay → (long keep : ℕ) (entry : Option (Record Definition)) (before after stored : Stored Definition) (left crashed now : TapeValue) → crashed.bytes ≡ take (left.synced + keep) left.bytes →
+pub cut_opened : AreReadOneWay → (long keep : ℕ) (entry : Option (Record Definition)) (before after stored : DurableState Definition) (left crashed now : TapeValue) → crashed.bytes ≡ take (left.synced + keep) left.bytes →
     crashed.synced ≡ length crashed.bytes → IsFoldOf stored crashed.bytes → Follows ReadsSame (IsImageOf crashed) (IsImageOf now) → IsSettled now.bytes (IsImageOf now) →
     IsCutTape long entry before after left → stored ≡ stored_by (view_kept (kept_beyond long (length now.bytes))) before after
 cut_opened one long keep None before after stored left crashed now taken all fold_of follows settled cut = absurd cut.cut

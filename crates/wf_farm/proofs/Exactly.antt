@@ -1,32 +1,13 @@
 -- Deliveries of which none is lost, and at which no tape fails, are those of a pump; and until no message is left both lead to one
 -- world.
 use Rattle.std.proofs.Common.{◌≡◌, ◌≤◌, ◌<◌, ◌+◌, ◌-◌, ℕ, zero, suc, Bool, true, false, List, [], ◌∷◌, ◌++◌, length, slice_get, slice_set, get_or, Some, refl, sym, ap, subst, ◌∙◌, inl, inr, arith, length-append, if◌then◌else◌, ◌==◌}
-use Rattle.std.proofs.lemmas.Bool.{both_ways, cases_lt}
-use Rattle.std.proofs.lemmas.List.{append-nil, length-map}
-use Rattle.std.proofs.lemmas.Option.{none-some, slice_get_past, slice_get_within}
+use Rattle.wf_farm.proofs.Common.{both_ways, cases_lt, append-nil, length-map, none-some, slice_get_past, slice_get_within, Message, Definition, definition_eq, steps_in_turn, step_rejection, World, deliver, after_turn, happens, input_of, steps, Node, PumpProgress, Moves, AnyPart, Refines, StandInTurn, KeepHalted, KeepTurn, IsHanded, AreHanded, First, Next, AreHandedOut, none_before, keeps_turn, keeps_turn_itself, keeps_turn_twice, MemoryFarm, size, Answers, set_there, counted, next, NoneHalted, ArePumped, DeliveredExactly, PumpedAlike, AreTargets, IsPumped, begun, count, deliveries, rounds, to_each}
 use Rattle.wf_codec.specs.Message as message
-use Rattle.wf_codec.specs.declared.message.Message.{Message}
-use Rattle.wf_def.specs.Definition.{Definition}
-use Rattle.wf_def.specs.Equality.{definition_eq}
-use Rattle.wf_model.specs.StepsLaws.{steps_in_turn}
 use Rattle.wf_model.specs.Table as table
-use Rattle.wf_model.specs.Table.{refusal}
 use Rattle.wf_model.specs.World as world
-use Rattle.wf_model.specs.World.{World, deliver, after_turn, happens, input_of, steps}
-use Rattle.wf_node.specs.Node.{Node}
-use Rattle.wf_farm.specs.declared.progress.Progress.{Progress}
-use Rattle.wf_farm.specs.Cluster.{Moves}
-use Rattle.wf_farm.specs.Delivering.{AnyPart, Shows, StandInTurn, KeepHalted, KeepTurn, IsHanded, AreHanded, First, Next, AreHandedOut}
-use Rattle.wf_farm.specs.DeliveringLaws.{none_before, keeps_turn, keeps_turn_itself, keeps_turn_twice}
 use Rattle.wf_farm.specs.Farm as farm
-use Rattle.wf_farm.specs.Farm.{MemoryFarm, size}
-use Rattle.wf_farm.specs.Giving as giving
-use Rattle.wf_farm.specs.Giving.{Answers}
-use Rattle.wf_farm.specs.PlaceLaws.{set_there}
-use Rattle.wf_farm.specs.Progress.{counted, next}
-use Rattle.wf_farm.specs.Publishing.{NoneHalted, ArePumped, DeliveredExactly, PumpedAlike}
-use Rattle.wf_farm.specs.Pump.{AreTargets, IsPumped, begun, count, deliveries, rounds, to_each}
-use Rattle.wf_farm.proofs.Counting.{begun_most}
+use Rattle.wf_farm.specs.NodeInput as giving
+use Rattle.wf_farm.proofs.DeliveryCount.{begun_most}
 use Rattle.wf_farm.proofs.Deliveries.{keeps_halted, stays_halted, stays_itself, steps_shown}
 use Rattle.wf_farm.proofs.Events.{as_many, sent_message}
 use Rattle.wf_farm.proofs.Listed.{IsUpTo, targets_up_to}
@@ -42,14 +23,14 @@ module _ {T : Type 0} (tapes : Tape T) (i k : ℕ) (nodes after : List (Node T))
     pub keeps_failed : KeepHalted nodes after
     keeps_failed =
         subst (KeepHalted nodes) (sym one.nodes_are)
-        (keeps_halted nodes i one.node one.after one.at (stays_halted tapes one.node one.after (table.Deliver (message.view one.handed)) one.said loses one.takes))
+        (keeps_halted nodes i one.node one.after one.at (stays_halted tapes one.node one.after (table.Deliver (message.view one.handed)) one.outputs loses one.takes))
 
     keeps_index : KeepTurn nodes after
     keeps_index =
         subst (KeepTurn nodes) (sym one.nodes_are)
-        (keeps_turn nodes i one.node one.after one.at (stays_itself tapes one.node one.after (table.Deliver (message.view one.handed)) one.said loses one.takes))
+        (keeps_turn nodes i one.node one.after one.at (stays_itself tapes one.node one.after (table.Deliver (message.view one.handed)) one.outputs loses one.takes))
 
-  module _ (one : IsHanded tapes i k false nodes sent after more) (w : World Definition) (turns : StandInTurn nodes) (shows : Shows AnyPart nodes sent w) (running : NoneHalted nodes) (none : NoneHalted after) where
+  module _ (one : IsHanded tapes i k false nodes sent after more) (w : World Definition) (turns : StandInTurn nodes) (refines : Refines AnyPart nodes sent w) (running : NoneHalted nodes) (none : NoneHalted after) where
     runs_here : one.node.halted ≡ false
     unfolding NoneHalted
     runs_here = running i one.node one.at
@@ -58,23 +39,23 @@ module _ {T : Type 0} (tapes : Tape T) (i k : ℕ) (nodes after : List (Node T))
     unfolding NoneHalted
     runs_there = none i one.after (subst (λ ns. slice_get ns i ≡ Some one.after) (sym one.nodes_are) (set_there nodes i one.after one.node one.at))
 
-    takes_exactly : Answers tapes (table.Deliver (message.view one.handed)) one.node one.after one.said → Shows AnyPart (slice_set nodes i one.after) (sent ++ one.said) (happens definition_eq w (deliver i k))
-    unfolding happens refusal
+    takes_exactly : Answers tapes (table.Deliver (message.view one.handed)) one.node one.after one.outputs → Refines AnyPart (slice_set nodes i one.after) (sent ++ one.outputs) (happens definition_eq w (deliver i k))
+    unfolding happens step_rejection
     takes_exactly (giving.Halts halted same quiet) = absurd (both_ways one.node.halted runs_here halted)
     takes_exactly (giving.Rejects why runs refused same quiet) = absurd (none-some why refused)
     takes_exactly (giving.Steps runs goes is grown) =
-        steps_shown AnyPart nodes sent i one.node one.after (table.Deliver k) (table.Deliver (message.view one.handed)) one.at (sent_message sent k one.handed one.there) turns w one.said runs goes is shows
+        steps_shown AnyPart nodes sent i one.node one.after (table.Deliver k) (table.Deliver (message.view one.handed)) one.at (sent_message sent k one.handed one.there) turns w one.outputs runs goes is refines
     takes_exactly (giving.Fails runs goes halts same part each quiet) = absurd (both_ways one.after.halted runs_there halts)
 
     -- The delivery leads to exactly the world after it.
-    one_exactly : Shows AnyPart after more (happens definition_eq w (deliver i k))
+    one_exactly : Refines AnyPart after more (happens definition_eq w (deliver i k))
     one_exactly =
-        subst (λ ns. Shows AnyPart ns more (happens definition_eq w (deliver i k))) (sym one.nodes_are)
-        (subst (λ ms. Shows AnyPart (slice_set nodes i one.after) ms (happens definition_eq w (deliver i k))) (sym one.sent_are) (takes_exactly one.takes))
+        subst (λ ns. Refines AnyPart ns more (happens definition_eq w (deliver i k))) (sym one.nodes_are)
+        (subst (λ ms. Refines AnyPart (slice_set nodes i one.after) ms (happens definition_eq w (deliver i k))) (sym one.sent_are) (takes_exactly one.takes))
 
 -- as many messages were sent as the world has
-pub as_many_sent : {T : Type 0} (nodes : List (Node T)) (sent : List Message) (w : World Definition) → Shows AnyPart nodes sent w → length w.sent ≡ length sent
-as_many_sent nodes sent w shows = ap length shows.messages ∙ length-map sent message.view
+pub as_many_sent : {T : Type 0} (nodes : List (Node T)) (sent : List Message) (w : World Definition) → Refines AnyPart nodes sent w → length w.sent ≡ length sent
+as_many_sent nodes sent w refines = ap length refines.messages ∙ length-map sent message.view
 
 -- ---- many deliveries
 
@@ -87,44 +68,44 @@ module _ {T : Type 0} (tapes : Tape T) (nodes : List (Node T)) (messages : List 
   world_after whole some = steps definition_eq w (deliveries targets 0 whole some)
 
   -- The deliveries so far were those of a pump, each of a message that was sent by then.
-  record HasGone (p : Progress) (after : List (Node T)) (sent : List Message) : Type 0 where
-    shows : Shows AnyPart after sent (world_after p.whole p.some)
+  record HasGone (p : PumpProgress) (after : List (Node T)) (sent : List Message) : Type 0 where
+    refines : Refines AnyPart after sent (world_after p.whole p.some)
     counted : length (deliveries targets 0 p.whole p.some) ≡ p.done
     part : p.some < length targets
     turn : KeepTurn nodes after
     left : (k : ℕ) → k < p.whole + begun p.some → k < length (world_after k 0).sent
 
-  gone_nowhere : 0 < length targets → Shows AnyPart nodes messages w → HasGone (record { whole = 0; some = 0; done = 0 }) nodes messages
+  gone_nowhere : 0 < length targets → Refines AnyPart nodes messages w → HasGone (record { whole = 0; some = 0; done = 0 }) nodes messages
   unfolding steps
-  gone_nowhere some shows = record {
-    shows = subst (λ es. Shows AnyPart nodes messages (steps definition_eq w es)) (sym (no_deliveries targets 0)) shows;
+  gone_nowhere some refines = record {
+    refines = subst (λ es. Refines AnyPart nodes messages (steps definition_eq w es)) (sym (no_deliveries targets 0)) refines;
     counted = ap length (no_deliveries targets 0);
     part = some;
     turn = keeps_turn_itself nodes;
     left = λ k below. absurd (omega (arith, below));
   }
 
-  module _ (p : Progress) (middle after : List (Node T)) (said more : List Message) (gone : HasGone p middle said) (one : IsHanded tapes p.some p.whole false middle said after more)
+  module _ (p : PumpProgress) (middle after : List (Node T)) (outputs more : List Message) (gone : HasGone p middle outputs) (one : IsHanded tapes p.some p.whole false middle outputs after more)
       (own : get_or targets p.some 0 ≡ p.some) (turns : StandInTurn nodes) (none : NoneHalted after) where
-    one_named : IsHanded tapes (get_or targets p.some 0) (0 + p.whole) false middle said after more
+    one_named : IsHanded tapes (get_or targets p.some 0) (0 + p.whole) false middle outputs after more
     one_named =
-        subst (λ i. IsHanded tapes i (0 + p.whole) false middle said after more) (sym own)
-        (subst (λ k. IsHanded tapes p.some k false middle said after more) (let same : p.whole ≡ 0 + p.whole = omega arith in same) one)
+        subst (λ i. IsHanded tapes i (0 + p.whole) false middle outputs after more) (sym own)
+        (subst (λ k. IsHanded tapes p.some k false middle outputs after more) (let same : p.whole ≡ 0 + p.whole = omega arith in same) one)
 
-    one_further : Shows AnyPart after more (world_after p.whole (p.some + 1))
+    one_further : Refines AnyPart after more (world_after p.whole (p.some + 1))
     one_further =
         let so_far = deliveries targets 0 p.whole p.some in let event = deliver (get_or targets p.some 0) (0 + p.whole) in
-        subst (λ es. Shows AnyPart after more (steps definition_eq w es)) (one_more targets 0 p.whole p.some gone.part)
-        (subst (Shows AnyPart after more) (sym (steps_more w so_far event))
-        (one_exactly tapes (get_or targets p.some 0) (0 + p.whole) middle after said more one_named (world_after p.whole p.some) (gone.turn.in_turn turns) gone.shows
-        (none_before middle after (keeps_failed tapes p.some p.whole middle after said more false one) none) none))
+        subst (λ es. Refines AnyPart after more (steps definition_eq w es)) (one_more targets 0 p.whole p.some gone.part)
+        (subst (Refines AnyPart after more) (sym (steps_more w so_far event))
+        (one_exactly tapes (get_or targets p.some 0) (0 + p.whole) middle after outputs more one_named (world_after p.whole p.some) (gone.turn.in_turn turns) gone.refines
+        (none_before middle after (keeps_failed tapes p.some p.whole middle after outputs more false one) none) none))
 
     counted_further : length (deliveries targets 0 p.whole (p.some + 1)) ≡ p.done + 1
     counted_further =
         ap length (sym (one_more targets 0 p.whole p.some gone.part)) ∙ length-append (deliveries targets 0 p.whole p.some) (deliver (get_or targets p.some 0) (0 + p.whole) ∷ []) ∙ ap (λ k. k + 1) gone.counted
 
     is_sent : p.whole < length (world_after p.whole p.some).sent
-    is_sent = let there : p.whole < length said = slice_get_within said p.whole one.handed one.there in omega (arith, there, as_many_sent middle said (world_after p.whole p.some) gone.shows)
+    is_sent = let there : p.whole < length outputs = slice_get_within outputs p.whole one.handed one.there in omega (arith, there, as_many_sent middle outputs (world_after p.whole p.some) gone.refines)
 
     -- whether the delivery is the first one of its message or not
     left_by : (some : ℕ) → p.some ≡ some → (k : ℕ) → k < p.whole + 1 → k < length (world_after k 0).sent
@@ -140,37 +121,37 @@ module _ {T : Type 0} (tapes : Tape T) (nodes : List (Node T)) (messages : List 
         HasGone (if whole then record { whole = p.whole + 1; some = 0; done = p.done + 1 } else record { whole = p.whole; some = p.some + 1; done = p.done + 1 }) after more
     further_by true all =
         let is = whole_round targets 0 p.whole (p.some + 1) (grind (arith, all)) in record {
-          shows = subst (λ es. Shows AnyPart after more (steps definition_eq w es)) is one_further;
+          refines = subst (λ es. Refines AnyPart after more (steps definition_eq w es)) is one_further;
           counted = ap length (sym is) ∙ counted_further;
           part = omega (arith, gone.part);
-          turn = keeps_turn_twice nodes middle after gone.turn (keeps_index tapes p.some p.whole middle after said more false one);
+          turn = keeps_turn_twice nodes middle after gone.turn (keeps_index tapes p.some p.whole middle after outputs more false one);
           left = λ k below. left_by p.some refl k (omega (arith, below));
         }
     further_by false some = record {
-      shows = one_further;
+      refines = one_further;
       counted = counted_further;
       part = grind (arith, some, gone.part);
-      turn = keeps_turn_twice nodes middle after gone.turn (keeps_index tapes p.some p.whole middle after said more false one);
+      turn = keeps_turn_twice nodes middle after gone.turn (keeps_index tapes p.some p.whole middle after outputs more false one);
       left = λ k below. left_by p.some refl k (omega (arith, below, begun_most (p.some + 1)));
     }
 
     gone_further : HasGone (next (length targets) p) after more
     gone_further = further_by (p.some + 1 == length targets) refl
 
-  module _ (shows : Shows AnyPart nodes messages w) (turns : StandInTurn nodes) (some : 0 < length nodes) (are : IsUpTo (length nodes) targets) where
-    gone_exactly : (p : Progress) (lost : ℕ) (after : List (Node T)) (sent : List Message) → AreHanded tapes nodes messages p lost after sent → lost ≡ 0 → NoneHalted after → HasGone p after sent
-    gone_exactly _ _ _ _ First kept none = gone_nowhere (omega (arith, some, are.long)) shows
-    gone_exactly _ _ _ _ (Next p lost loses middle after said more handed one) kept none =
+  module _ (refines : Refines AnyPart nodes messages w) (turns : StandInTurn nodes) (some : 0 < length nodes) (are : IsUpTo (length nodes) targets) where
+    gone_exactly : (p : PumpProgress) (lost : ℕ) (after : List (Node T)) (sent : List Message) → AreHanded tapes nodes messages p lost after sent → lost ≡ 0 → NoneHalted after → HasGone p after sent
+    gone_exactly _ _ _ _ First kept none = gone_nowhere (omega (arith, some, are.long)) refines
+    gone_exactly _ _ _ _ (Next p lost loses middle after outputs more handed one) kept none =
         let before = none_lost lost loses kept in
-        let gone = gone_exactly p lost middle said handed before.0 (none_before middle after (keeps_failed tapes p.some p.whole middle after said more loses one) none) in
+        let gone = gone_exactly p lost middle outputs handed before.0 (none_before middle after (keeps_failed tapes p.some p.whole middle after outputs more loses one) none) in
         subst (λ n. HasGone (next n p) after more) are.long
-        (gone_further p middle after said more gone (subst (λ b. IsHanded tapes p.some p.whole b middle said after more) before.1 one)
+        (gone_further p middle after outputs more gone (subst (λ b. IsHanded tapes p.some p.whole b middle outputs after more) before.1 one)
         (are.own p.some 0 (omega (arith, gone.part, are.long))) turns none)
 
 pub delivered_exactly : {T : Type 0} (tapes : Tape T) → DeliveredExactly tapes
-delivered_exactly tapes = λ nodes after messages done stopped w targets some are turns shows out none.
-    let gone = gone_exactly tapes nodes messages w targets shows turns some (targets_up_to (length nodes) targets are) out.come 0 after out.sent out.handed refl none in
-    record { come = out.come; part = gone.part; counted = gone.counted ∙ out.count; sent = out.sent; shows = gone.shows; ended = out.ended }
+delivered_exactly tapes = λ nodes after messages done stopped w targets some are turns refines out none.
+    let gone = gone_exactly tapes nodes messages w targets refines turns some (targets_up_to (length nodes) targets are) out.come 0 after out.sent out.handed refl none in
+    record { come = out.come; part = gone.part; counted = gone.counted ∙ out.count; sent = out.sent; refines = gone.refines; ended = out.ended }
 
 -- ---- no message is left
 
@@ -220,36 +201,36 @@ module _ (w : World Definition) (targets : List ℕ) where
 
 -- ---- a pump and deliveries alike
 
-module _ (before now : MemoryFarm) (w : World Definition) (shows : farm.Shows before w) (first : before.pumped ≡ 0) (pumped : IsPumped [] before now false) where
+module _ (before now : MemoryFarm) (w : World Definition) (refines : farm.Refines before w) (first : before.pumped ≡ 0) (pumped : IsPumped [] before now false) where
   pump_rounds : deliveries pumped.0.targets before.pumped pumped.0.whole pumped.0.some ≡ rounds pumped.0.targets 0 pumped.0.whole
   pump_rounds =
       ap (λ f. deliveries pumped.0.targets f pumped.0.whole pumped.0.some) first ∙ ap (deliveries pumped.0.targets 0 pumped.0.whole) pumped.1.1 ∙ whole_rounds w pumped.0.targets pumped.0.whole
 
-  pub pump_shown : farm.Shows now (after_rounds w pumped.0.targets pumped.0.whole)
+  pub pump_shown : farm.Refines now (after_rounds w pumped.0.targets pumped.0.whole)
   unfolding Moves
-  pump_shown = subst (λ es. farm.Shows now (steps definition_eq w es)) pump_rounds (pumped.0.runs w shows)
+  pump_shown = subst (λ es. farm.Refines now (steps definition_eq w es)) pump_rounds (pumped.0.runs w refines)
 
   pub pump_ended : pumped.0.whole ≡ length (after_rounds w pumped.0.targets pumped.0.whole).sent
   pump_ended = omega (arith, first, pumped.1.2, ap length pump_shown.messages ∙ length-map now.sent message.view)
 
 module _ {T : Type 0} (tapes : Tape T) (nodes after : List (Node T)) (messages : List Message) (done : ℕ) (w : World Definition) (before now : MemoryFarm)
-    (turns : StandInTurn nodes) (shows : Shows AnyPart nodes messages w) (out : AreHandedOut tapes nodes messages done 0 false after) (none : NoneHalted after) (held : farm.Shows before w) (first : before.pumped ≡ 0)
+    (turns : StandInTurn nodes) (refines : Refines AnyPart nodes messages w) (out : AreHandedOut tapes nodes messages done 0 false after) (none : NoneHalted after) (held : farm.Refines before w) (first : before.pumped ≡ 0)
     (pumped : IsPumped [] before now false) where
   same_size : size before ≡ length nodes
-  same_size = sym (as_many before.places w.nodes held.nodes) ∙ shows.nodes_are.as_many
+  same_size = sym (as_many before.hosts w.nodes held.nodes) ∙ refines.nodes_are.as_many
 
   some_nodes : 0 < length nodes
   some_nodes = omega (arith, same_size, (targets_up_to (size before) pumped.0.targets pumped.0.are_targets).long, pumped.0.part)
 
   delivered : ArePumped pumped.0.targets w done false after
   delivered =
-      delivered_exactly tapes nodes after messages done false w pumped.0.targets some_nodes (subst (λ n. AreTargets n [] pumped.0.targets) same_size pumped.0.are_targets) turns shows out none
+      delivered_exactly tapes nodes after messages done false w pumped.0.targets some_nodes (subst (λ n. AreTargets n [] pumped.0.targets) same_size pumped.0.are_targets) turns refines out none
 
   delivered_rounds : deliveries pumped.0.targets 0 delivered.come.whole delivered.come.some ≡ rounds pumped.0.targets 0 delivered.come.whole
   delivered_rounds = ap (deliveries pumped.0.targets 0 delivered.come.whole) delivered.ended.0 ∙ whole_rounds w pumped.0.targets delivered.come.whole
 
-  delivered_shown : Shows AnyPart after delivered.sent (after_rounds w pumped.0.targets delivered.come.whole)
-  delivered_shown = subst (λ es. Shows AnyPart after delivered.sent (steps definition_eq w es)) delivered_rounds delivered.shows
+  delivered_shown : Refines AnyPart after delivered.sent (after_rounds w pumped.0.targets delivered.come.whole)
+  delivered_shown = subst (λ es. Refines AnyPart after delivered.sent (steps definition_eq w es)) delivered_rounds delivered.refines
 
   same_rounds : delivered.come.whole ≡ pumped.0.whole
   same_rounds =
@@ -260,15 +241,15 @@ module _ {T : Type 0} (tapes : Tape T) (nodes after : List (Node T)) (messages :
   same_count =
       ap length (pump_rounds before now w held first pumped ∙ ap (rounds pumped.0.targets 0) (sym same_rounds) ∙ sym delivered_rounds) ∙ delivered.counted
 
-  pub alike : (sent : List Message) × (x : World Definition) × Shows AnyPart after sent x × farm.Shows now x × (count pumped.0 ≡ done)
+  pub alike : (sent : List Message) × (x : World Definition) × Refines AnyPart after sent x × farm.Refines now x × (count pumped.0 ≡ done)
   alike = (
     delivered.sent,
     after_rounds w pumped.0.targets pumped.0.whole,
-    subst (λ k. Shows AnyPart after delivered.sent (after_rounds w pumped.0.targets k)) same_rounds delivered_shown,
+    subst (λ k. Refines AnyPart after delivered.sent (after_rounds w pumped.0.targets k)) same_rounds delivered_shown,
     pump_shown before now w held first pumped,
     same_count,
   )
 
 pub pumped_alike : {T : Type 0} (tapes : Tape T) → PumpedAlike tapes
-pumped_alike tapes = λ nodes after messages done w before now turns shows out none held first pumped.
-    alike tapes nodes after messages done w before now turns shows out none held first pumped
+pumped_alike tapes = λ nodes after messages done w before now turns refines out none held first pumped.
+    alike tapes nodes after messages done w before now turns refines out none held first pumped

@@ -1,16 +1,17 @@
+pub mod Common
 mod Turns
 mod Steps
 mod Entries
 mod Events
 mod Idle
-mod Allocating
+mod Allocation
 mod Runs
 mod Carried
 mod Worlds
 mod Listed
-mod Counting
+mod DeliveryCount
 mod Rounds
-mod Pumping
+mod PumpResult
 mod Answered
 pub mod Deliveries
 mod OneRun
@@ -24,8 +25,9 @@ mod Exchanges
 mod Reopened
 mod CutTapes
 mod Tried
+mod Taken
 mod TriedEvents
-mod Faring
+mod TornRuns
 mod Asked
 mod Level
 mod Changes

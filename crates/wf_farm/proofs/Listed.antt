@@ -1,15 +1,12 @@
 -- The nodes that a pump delivers to.
 use Rattle.std.proofs.Common.{◌≡◌, ℕ, zero, suc, ◌+◌, ◌<◌, ◌≤◌, List, [], ◌∷◌, ◌++◌, ◌↔◌, length, get_or, Contains, refl, sym, ap, subst, ◌∙◌, inl, inr, arith, eqb, nat_cmp}
-use Rattle.std.proofs.lemmas.Bool.{cases_lt}
+use Rattle.wf_farm.proofs.Common.{cases_lt, get_or_append_left, get_or_default, get_or_push, length_push, dedup, AreTargets}
 use Rattle.std.proofs.lemmas.List.Filters.{dedup_is}
 use Rattle.std.proofs.lemmas.List.Kept.{Contains-dedup_nat, Contains-from_dedup}
 use Rattle.std.proofs.lemmas.List.Sorted.{Contains-permutation, IsPermutation-sym}
-use Rattle.std.proofs.lemmas.List.{get_or_append_left, get_or_default, get_or_push, length_push}
 use Rattle.std.proofs.lemmas.Map.Keys.{IsStrictlyIncreasing-dedup}
-use Rattle.std.specs.List.{dedup}
 use Rattle.std.specs.List.Sorted.{IsPermutation, IsSorted, IsStrictlyIncreasing}
 use Rattle.std.specs.List.Retain.{DiffersFromLast, IsFiltered}
-use Rattle.wf_farm.specs.Pump.{AreTargets}
 
 -- ---- every node
 

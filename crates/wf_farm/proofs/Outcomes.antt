@@ -1,24 +1,16 @@
 -- What a node does is what its step returned.
 use Rattle.std.proofs.Common.{◌≡◌, true, false, Ok, Err, Vec}
 use Rattle.std.specs.Prelude.{Result}
-use Rattle.std.specs.declared.alloc.Global.{Global}
-use Rattle.wf_codec.specs.declared.message.Message.{Message}
-use Rattle.wf_def.specs.Definition.{Definition}
-use Rattle.wf_model.specs.Table.{Input}
-use Rattle.wf_node.specs.Node.{Node}
-use Rattle.wf_node.specs.Step.{IsStep}
-use Rattle.wf_node.specs.declared.fault.NodeFault.{NodeFault}
+use Rattle.wf_farm.proofs.Common.{Global, Message, Definition, Input, Node, IsStep, NodeFault, Takes, outputs_by}
 use Rattle.wf_node.specs.declared.fault.NodeFault.TheVariants.{Halted}
 use Rattle.wf_farm.specs.Outcome.{is_lost, StepIsAnswered}
-use Rattle.wf_farm.specs.Giving.{Takes}
-use Rattle.wf_farm.specs.Leading.{said_by}
 use Rattle.wf_farm.proofs.OneRun.{takes_answered}
 use Rattle.wf_tape.specs.declared.tape.Tape.{Ghosts as Tape}
 
 module _ {T : Type 0} (tapes : Tape T) (before after : Node T) (input : Input Definition) where
   answered : (answer : Result (Vec Message Global) NodeFault) → (before.halted ≡ true → (answer ≡ Err Halted) × (after ≡ before)) → (before.halted ≡ false → IsStep tapes before input answer after) →
-      Takes tapes (is_lost answer) input before after (said_by answer)
-  answered (Ok said) refused steps = takes_answered tapes before after input (Ok said) refused steps
+      Takes tapes (is_lost answer) input before after (outputs_by answer)
+  answered (Ok outputs) refused steps = takes_answered tapes before after input (Ok outputs) refused steps
   answered (Err why) refused steps = takes_answered tapes before after input (Err why) refused steps
 
 pub step_is_answered : {T : Type 0} (tapes : Tape T) → StepIsAnswered tapes

@@ -1,30 +1,10 @@
 -- A proposal at one of three new nodes is published on all.
 use Rattle.std.proofs.Common.{◌≡◌, ◌<◌, ℕ, zero, suc, true, false, List, [], ◌∷◌, length, slice_get, slice_set, Some, Ok, Vec, refl, sym, ap, subst, ◌∙◌, arith, inl, inr}
-use Rattle.std.specs.declared.alloc.Global.{Global}
-use Rattle.std.specs.List.{AllByRecursion}
-use Rattle.std.proofs.lemmas.Option.{none-some, same_Some, slice_get_within, slice_get_cases}
-use Rattle.wf_codec.specs.declared.message.Message.{Message}
-use Rattle.wf_def.specs.Definition.{Definition}
-use Rattle.wf_def.specs.Equality.{definition_eq}
-use Rattle.wf_def.specs.EqualityLaws.{definition_eq_equiv}
-use Rattle.wf_model.specs.Stored.{definition_at}
+use Rattle.wf_farm.proofs.Common.{Global, AllByRecursion, none-some, same_Some, slice_get_within, slice_get_cases, Message, Definition, definition_eq, definition_at, World, propose, happens, input_of, start, steps, transition_grown, Node, IsStep, transition_of, Running, Stopped, HasStored, Publishes, Moves, AnyPart, AreNodes, Refines, StandInTurn, KeepTurn, AreHandedOut, keeps_turn, MemoryFarm, Runs, size, AreFresh, MemoryHost, IsNode, NoneHalted, AllPublish, ArePumped, PublishedOnAll, PublishedByPump, AreTargets, IsPumped, deliveries, rounds}
+use Rattle.wf_def.specs.EqualityTheorems.{definition_eq_equiv}
 use Rattle.wf_model.specs.Table as table
 use Rattle.wf_model.specs.World as world
-use Rattle.wf_model.specs.World.{World, propose, happens, input_of, start, steps}
-use Rattle.wf_node.specs.Growth.{row_grown}
-use Rattle.wf_node.specs.Node.{Node}
-use Rattle.wf_node.specs.Step.{IsStep, row_of}
-use Rattle.wf_farm.specs.declared.place.Place.TheVariants.{Running, Stopped}
-use Rattle.wf_farm.specs.Agreement.{HasStored, Publishes}
-use Rattle.wf_farm.specs.Cluster.{Moves}
-use Rattle.wf_farm.specs.Delivering.{AnyPart, AreNodes, Shows, StandInTurn, KeepTurn, AreHandedOut}
-use Rattle.wf_farm.specs.DeliveringLaws.{keeps_turn}
 use Rattle.wf_farm.specs.Farm as farm
-use Rattle.wf_farm.specs.Farm.{MemoryFarm, Runs, size}
-use Rattle.wf_farm.specs.Leading.{AreFresh}
-use Rattle.wf_farm.specs.Place.{MemoryPlace, IsNode}
-use Rattle.wf_farm.specs.Publishing.{NoneHalted, AllPublish, ArePumped, PublishedOnAll, PublishedByPump}
-use Rattle.wf_farm.specs.Pump.{AreTargets, IsPumped, deliveries, rounds}
 use Rattle.wf_farm.proofs.Deliveries.{is_running, steps_shown}
 use Rattle.wf_farm.proofs.Events.{as_many, node_at}
 use Rattle.wf_farm.proofs.Exactly.{as_many_sent, delivered_exactly, ends_once, pump_ended, pump_shown, whole_rounds}
@@ -86,35 +66,35 @@ published_by nodes w d each shown none = λ i node at.
     let here = shown.node_is i node at in
     subst (IsEnded d) (is_running (AnyPart i) node here.0 (none i node at) here.2) (each i here.0 here.1)
 
-module _ {T : Type 0} (tapes : Tape T) (nodes : List (Node T)) (i : ℕ) (before proposed : Node T) (d : Definition) (said : Vec Message Global)
-    (long : length nodes ≡ 3) (turns : StandInTurn nodes) (fresh : AreFresh nodes) (at : slice_get nodes i ≡ Some before) (step : IsStep tapes before (table.Propose d) (Ok said) proposed) where
+module _ {T : Type 0} (tapes : Tape T) (nodes : List (Node T)) (i : ℕ) (before proposed : Node T) (d : Definition) (outputs : Vec Message Global)
+    (long : length nodes ≡ 3) (turns : StandInTurn nodes) (fresh : AreFresh nodes) (at : slice_get nodes i ≡ Some before) (step : IsStep tapes before (table.Propose d) (Ok outputs) proposed) where
   node_within : i < 3
   node_within = let within : i < length nodes = slice_get_within nodes i before at in omega (arith, within, long)
 
   -- The proposal leads to exactly the world after it.
-  proposed_shown : Shows AnyPart (slice_set nodes i proposed) said.items (began d i node_within)
+  proposed_shown : Refines AnyPart (slice_set nodes i proposed) outputs.items (began d i node_within)
   unfolding happens input_of AreFresh
   proposed_shown =
-      steps_shown AnyPart nodes [] i before proposed (table.Propose d) (table.Propose d) at refl turns (start 3) said.items (fresh i before at).runs (sym step.refused) step.done
-      (subst (λ n. Shows AnyPart nodes [] (start n)) long (fresh_shown AnyPart nodes fresh))
+      steps_shown AnyPart nodes [] i before proposed (table.Propose d) (table.Propose d) at refl turns (start 3) outputs.items (fresh i before at).runs (sym step.refused) step.done
+      (subst (λ n. Refines AnyPart nodes [] (start n)) long (fresh_shown AnyPart nodes fresh))
 
   proposed_turn : KeepTurn nodes (slice_set nodes i proposed)
-  proposed_turn = keeps_turn nodes i before proposed at (step.done.id, step.done.n, row_grown before proposed (row_of before (table.Propose d)) said.items step.done)
+  proposed_turn = keeps_turn nodes i before proposed at (step.done.id, step.done.n, transition_grown before proposed (transition_of before (table.Propose d)) outputs.items step.done)
 
-  module _ (after : List (Node T)) (done : ℕ) (out : AreHandedOut tapes (slice_set nodes i proposed) said.items done 0 false after) (none : NoneHalted after) where
+  module _ (after : List (Node T)) (done : ℕ) (out : AreHandedOut tapes (slice_set nodes i proposed) outputs.items done 0 false after) (none : NoneHalted after) where
     many : length (slice_set nodes i proposed) ≡ 3
     many = proposed_turn.as_many ∙ long
 
     delivered : ArePumped three (began d i node_within) done false after
     delivered =
-        delivered_exactly tapes (slice_set nodes i proposed) after said.items done false (began d i node_within) three (omega (arith, many))
+        delivered_exactly tapes (slice_set nodes i proposed) after outputs.items done false (began d i node_within) three (omega (arith, many))
         (subst (λ n. AreTargets n [] three) (sym many) (up_to_targets 3 three three_up_to)) (proposed_turn.in_turn turns) proposed_shown out none
 
     in_rounds : deliveries three 0 delivered.come.whole delivered.come.some ≡ rounds three 0 delivered.come.whole
     in_rounds = ap (deliveries three 0 delivered.come.whole) delivered.ended.0 ∙ whole_rounds (began d i node_within) three delivered.come.whole
 
-    delivered_shown : Shows AnyPart after delivered.sent (after_rounds d i node_within delivered.come.whole)
-    delivered_shown = subst (λ es. Shows AnyPart after delivered.sent (steps definition_eq (began d i node_within) es)) in_rounds delivered.shows
+    delivered_shown : Refines AnyPart after delivered.sent (after_rounds d i node_within delivered.come.whole)
+    delivered_shown = subst (λ es. Refines AnyPart after delivered.sent (steps definition_eq (began d i node_within) es)) in_rounds delivered.refines
 
     delivered_ends : delivered.come.whole ≡ length (after_rounds d i node_within delivered.come.whole).sent
     delivered_ends = delivered.ended.1 ∙ sym (as_many_sent after delivered.sent (after_rounds d i node_within delivered.come.whole) delivered_shown)
@@ -129,38 +109,38 @@ module _ {T : Type 0} (tapes : Tape T) (nodes : List (Node T)) (i : ℕ) (before
         published_by after (after_rounds d i node_within delivered.come.whole) d (published d i node_within delivered.come.whole delivered_ends) delivered_shown.nodes_are none
 
 pub published_on_all : {T : Type 0} (tapes : Tape T) → PublishedOnAll tapes
-published_on_all tapes = λ nodes after i before proposed d said done long turns fresh at step out none. (
-  all_done tapes nodes i before proposed d said long turns fresh at step after done out none,
-  all_publish tapes nodes i before proposed d said long turns fresh at step after done out none,
+published_on_all tapes = λ nodes after i before proposed d outputs done long turns fresh at step out none. (
+  all_done tapes nodes i before proposed d outputs long turns fresh at step after done out none,
+  all_publish tapes nodes i before proposed d outputs long turns fresh at step after done out none,
 )
 
 -- ---- a farm
 
 -- an entry's node has stored what the world's node has
-stored_in : (place : MemoryPlace) (x : world.Node Definition) → IsNode place x → HasStored (Some place) x.stored
+stored_in : (host : MemoryHost) (x : world.Node Definition) → IsNode host x → HasStored (Some host) x.stored
 stored_in (Running node) x is = ap (λ (y : world.Node Definition). y.stored) is
 stored_in (Stopped tape) x is = is.1
 
-module _ (now : MemoryFarm) (w : World Definition) (d : Definition) (shows : farm.Shows now w) (each : (i : ℕ) (x : world.Node Definition) → slice_get w.nodes i ≡ Some x → IsEnded d x) where
-  published_at : (j : ℕ) (place : MemoryPlace) → slice_get now.places j ≡ Some place → Publishes now j 1 d
+module _ (now : MemoryFarm) (w : World Definition) (d : Definition) (refines : farm.Refines now w) (each : (i : ℕ) (x : world.Node Definition) → slice_get w.nodes i ≡ Some x → IsEnded d x) where
+  published_at : (j : ℕ) (host : MemoryHost) → slice_get now.hosts j ≡ Some host → Publishes now j 1 d
   unfolding definition_at
-  published_at j place at =
-      let here = node_at now.places w.nodes j place shows.nodes at in
+  published_at j host at =
+      let here = node_at now.hosts w.nodes j host refines.nodes at in
       record {
         stored = here.0.stored;
-        has = subst (λ p. HasStored p here.0.stored) (sym at) (stored_in place here.0 here.2);
+        has = subst (λ p. HasStored p here.0.stored) (sym at) (stored_in host here.0 here.2);
         entry = ap (λ ds. slice_get ds 0) (each j here.0 here.1).0;
       }
 
   pub published_in : (j : ℕ) → j < size now → Publishes now j 1 d
-  published_in j within = elim (slice_get_cases now.places j).1 [
+  published_in j within = elim (slice_get_cases now.hosts j).1 [
     | inl there ↦ published_at j there.0 there.2
     | inr past ↦ absurd (omega (arith, within, past.0))
   ]
 
-module _ (before proposed now : MemoryFarm) (i : ℕ) (d : Definition) (new : farm.Shows before (start 3)) (first : before.pumped ≡ 0) (node : i < 3) (runs : Runs (propose i d ∷ []) before proposed) (same : proposed.pumped ≡ before.pumped)
+module _ (before proposed now : MemoryFarm) (i : ℕ) (d : Definition) (new : farm.Refines before (start 3)) (first : before.pumped ≡ 0) (node : i < 3) (runs : Runs (propose i d ∷ []) before proposed) (same : proposed.pumped ≡ before.pumped)
     (pumped : IsPumped [] proposed now false) where
-  farm_began : farm.Shows proposed (began d i node)
+  farm_began : farm.Refines proposed (began d i node)
   unfolding Moves steps
   farm_began = runs (start 3) new
 
@@ -168,10 +148,10 @@ module _ (before proposed now : MemoryFarm) (i : ℕ) (d : Definition) (new : fa
   of_three = are_three pumped.0.targets (subst (λ n. IsUpTo n pumped.0.targets) farm_long (targets_up_to (size proposed) pumped.0.targets pumped.0.are_targets))
     where
       farm_long : size proposed ≡ 3
-      farm_long = sym (as_many proposed.places (began d i node).nodes farm_began.nodes) ∙ began_long d definition_eq i node
+      farm_long = sym (as_many proposed.hosts (began d i node).nodes farm_began.nodes) ∙ began_long d definition_eq i node
 
-  farm_shown : farm.Shows now (after_rounds d i node pumped.0.whole)
-  farm_shown = subst (λ ts. farm.Shows now (steps definition_eq (began d i node) (rounds ts 0 pumped.0.whole))) of_three (pump_shown proposed now (began d i node) farm_began (same ∙ first) pumped)
+  farm_shown : farm.Refines now (after_rounds d i node pumped.0.whole)
+  farm_shown = subst (λ ts. farm.Refines now (steps definition_eq (began d i node) (rounds ts 0 pumped.0.whole))) of_three (pump_shown proposed now (began d i node) farm_began (same ∙ first) pumped)
 
   farm_ends : pumped.0.whole ≡ length (after_rounds d i node pumped.0.whole).sent
   farm_ends =

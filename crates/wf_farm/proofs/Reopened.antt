@@ -1,36 +1,20 @@
 -- Nodes that are opened again from what reached nodes left are reached: each stops and restarts.
 use Rattle.std.proofs.Common.{◌≡◌, ◌∙◌, ℕ, zero, suc, ◌<◌, Bool, true, false, List, [], ◌∷◌, ◌++◌, length, slice_get, slice_set, Option, Some, None, refl, sym, ap, subst, inl, inr, arith, length-set}
-use Rattle.std.proofs.lemmas.Bool.{cases_lt}
-use Rattle.std.proofs.lemmas.Option.{none-some, same_Some, slice_get_within}
-use Rattle.wf_codec.specs.declared.message.Message.{Message}
-use Rattle.wf_def.specs.Definition.{Definition}
-use Rattle.wf_def.specs.Equality.{definition_eq}
-use Rattle.wf_model.specs.StepsLaws.{steps_in_turn}
-use Rattle.wf_model.specs.Stored.{Stored}
-use Rattle.wf_model.specs.Working.{at_start}
+use Rattle.wf_farm.proofs.Common.{cases_lt, none-some, same_Some, slice_get_within, Message, Definition, definition_eq, steps_in_turn, DurableState, at_start, World, Event, Stop, Restart, after_restart, happens, steps, start, after, StandsFor, Node, stored_of, AreReadOneWay, AnyPart, StandFor, IsNodeBy, Refines, AreReachable, AreReopened, HasStoredAgain, ReopenedAreReachable, ReopenedOnTape, node_stopped, node_restarted, volatile_restarted, get_set_other, set_there}
 use Rattle.wf_model.specs.World as world
-use Rattle.wf_model.specs.World.{World, Event, Stop, Restart, after_restart, happens, steps, start, after}
-use Rattle.wf_node.specs.Images.{StandsFor}
-use Rattle.wf_node.specs.Node.{Node, stored_of}
-use Rattle.wf_journal.specs.Records.{AreReadOneWay}
-use Rattle.wf_farm.specs.Delivering.{AnyPart, StandFor, IsNodeBy, Shows}
-use Rattle.wf_farm.specs.Leading.{AreReached}
-use Rattle.wf_farm.specs.Reopening.{AreReopened, HasStoredAgain, ReopenedAreReached, ReopenedOnTape}
-use Rattle.wf_farm.specs.Turn.{node_stopped, node_restarted, working_restarted}
-use Rattle.wf_farm.specs.PlaceLaws.{get_set_other, set_there}
-use Rattle.wf_farm.proofs.Deliveries.{node_eq, running_is}
+use Rattle.wf_farm.proofs.Deliveries.{running_is}
 use Rattle.wf_farm.proofs.Runs.{steps_more}
-use Rattle.wf_farm.proofs.Steps.{node_of, one_stand}
+use Rattle.wf_farm.proofs.Steps.{node_eq, node_of, one_stand}
 use Rattle.wf_farm.proofs.Turns.{restart_sets, stop_sets, world_of}
 
 -- ---- the model's nodes stop and restart
 
--- a node with the stored part of another, and no proposal or leadership
+-- a node with the durable state of another, and no proposal or leadership
 abbrev idle_again : world.Node Definition → world.Node Definition
 idle_again node = node_of node.stored (Some at_start)
 
 restarted_idle : (node : world.Node Definition) → node_restarted (node_stopped node) ≡ idle_again node
-unfolding node_restarted node_stopped working_restarted
+unfolding node_restarted node_stopped volatile_restarted
 restarted_idle node = refl
 
 -- the nodes after node k stopped and restarted
@@ -121,20 +105,20 @@ restart_first (suc k) w =
 
 -- ---- the nodes that are opened again
 
-module _ {T U : Type 0} (stands : Stored Definition → Type 0) (left : List ℕ) (known : (stored others : Stored Definition) → stands stored → StandsFor others left → stored ≡ others) where
+module _ {T U : Type 0} (stands : DurableState Definition → Type 0) (left : List ℕ) (known : (stored others : DurableState Definition) → stands stored → StandsFor others left → stored ≡ others) where
   stored_again : (halted : Bool) (node : Node T) (next : Node U) (x : world.Node Definition) → IsNodeBy halted stands node x → HasStoredAgain halted left node next → x.stored ≡ stored_of next
   stored_again false node next x is again = ap (λ (y : world.Node Definition). y.stored) is ∙ sym again
   stored_again true node next x is again = known x.stored (stored_of next) is.2 again
 
 module _ {T U : Type 0} (one : AreReadOneWay) (left : ℕ → List ℕ) (nodes : List (Node T)) (again : List (Node U)) (opened : AreReopened left nodes again) where
-  again_shown : (stands : ℕ → Stored Definition → Type 0) (w : World Definition) (so : RestartsFirst (length nodes) w) (sent : List Message) → Shows (StandFor left) nodes sent w →
-      Shows stands again sent (steps definition_eq w so.events)
-  again_shown stands w so sent shows = record {
+  again_shown : (stands : ℕ → DurableState Definition → Type 0) (w : World Definition) (so : RestartsFirst (length nodes) w) (sent : List Message) → Refines (StandFor left) nodes sent w →
+      Refines stands again sent (steps definition_eq w so.events)
+  again_shown stands w so sent refines = record {
     nodes_are = record {
-      as_many = so.are.many ∙ shows.nodes_are.as_many ∙ sym opened.as_many;
+      as_many = so.are.many ∙ refines.nodes_are.as_many ∙ sym opened.as_many;
       node_is = λ i next at.
           let was = opened.each i next at in
-          let here = shows.nodes_are.node_is i was.0 was.1 in
+          let here = refines.nodes_are.node_is i was.0 was.1 in
           let stored : here.0.stored ≡ stored_of next =
           stored_again (StandFor left i) (left i) (λ stored others first second. one_stand one (left i) stored others first second) was.0.halted was.0 next here.0 here.2 was.2.stored in (
             idle_again here.0,
@@ -142,10 +126,10 @@ module _ {T U : Type 0} (one : AreReadOneWay) (left : ℕ → List ℕ) (nodes :
             running_is (stands i) next (idle_again here.0) was.2.runs (node_eq _ _ _ _ stored (ap Some (sym was.2.idle))),
           );
     };
-    messages = so.are.sent ∙ shows.messages;
+    messages = so.are.sent ∙ refines.messages;
   }
 
-  again_reached : (stands : ℕ → Stored Definition → Type 0) → AreReached (StandFor left) nodes → AreReached stands again
+  again_reached : (stands : ℕ → DurableState Definition → Type 0) → AreReachable (StandFor left) nodes → AreReachable stands again
   unfolding after
   again_reached stands reached =
       let w = steps definition_eq (start (length nodes)) reached.events in
@@ -153,12 +137,12 @@ module _ {T U : Type 0} (one : AreReadOneWay) (left : ℕ → List ℕ) (nodes :
       record {
         sent = reached.sent;
         events = reached.events ++ so.events;
-        shows = subst (λ k. Shows stands again reached.sent (steps definition_eq (start k) (reached.events ++ so.events))) (sym opened.as_many)
-            (subst (Shows stands again reached.sent) (sym (steps_in_turn Definition definition_eq (start (length nodes)) reached.events so.events)) (again_shown stands w so reached.sent reached.shows));
+        refines = subst (λ k. Refines stands again reached.sent (steps definition_eq (start k) (reached.events ++ so.events))) (sym opened.as_many)
+            (subst (Refines stands again reached.sent) (sym (steps_in_turn Definition definition_eq (start (length nodes)) reached.events so.events)) (again_shown stands w so reached.sent reached.refines));
       }
 
-pub reopened_are_reached : AreReadOneWay → (T U : Type 0) → ReopenedAreReached T U
-reopened_are_reached one T U = λ left nodes again reached opened. again_reached one left nodes again opened AnyPart reached
+pub reopened_are_reachable : AreReadOneWay → (T U : Type 0) → ReopenedAreReachable T U
+reopened_are_reachable one T U = λ left nodes again reached opened. again_reached one left nodes again opened AnyPart reached
 
 pub reopened_on_tape : AreReadOneWay → (T U : Type 0) → ReopenedOnTape T U
 reopened_on_tape one T U = λ left now nodes again reached opened. again_reached one left nodes again opened (StandFor now) reached

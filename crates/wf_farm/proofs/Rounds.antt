@@ -1,8 +1,6 @@
 -- The deliveries of a pump: one more delivery, and a complete round.
 use Rattle.std.proofs.Common.{◌≡◌, ℕ, zero, suc, ◌+◌, ◌<◌, List, [], ◌∷◌, ◌++◌, length, take, drop, get_or, sym, ap, ◌∙◌, arith, refl}
-use Rattle.std.proofs.lemmas.List.{append-nil, drop_all, append_assoc, take_all, take_more}
-use Rattle.wf_model.specs.World.{deliver}
-use Rattle.wf_farm.specs.Pump.{deliveries, rounds, to_each}
+use Rattle.wf_farm.proofs.Common.{append-nil, drop_all, append_assoc, take_all, take_more, deliver, deliveries, rounds, to_each}
 
 -- ---- the deliveries
 
@@ -42,6 +40,6 @@ no_deliveries targets first = refl
 -- ---- the entries lent
 
 -- Entries that were lent are those that came back, if there are as many.
-pub lent_back : {A : Type 0} (places after : List A) (n : ℕ) → n ≡ length places → length after ≡ length places → take n (after ++ drop (length after) places) ≡ after
-lent_back places after n all same =
-    ap (λ rest. take n (after ++ rest)) (drop_all (length after) places (omega (arith, same))) ∙ ap (take n) (append-nil after) ∙ take_all n after (omega (arith, all, same))
+pub lent_back : {A : Type 0} (hosts after : List A) (n : ℕ) → n ≡ length hosts → length after ≡ length hosts → take n (after ++ drop (length after) hosts) ≡ after
+lent_back hosts after n all same =
+    ap (λ rest. take n (after ++ rest)) (drop_all (length after) hosts (omega (arith, same))) ∙ ap (take n) (append-nil after) ∙ take_all n after (omega (arith, all, same))

@@ -1,19 +1,12 @@
 -- A proposal at one of three new nodes, by computing the model's run of 27 deliveries.
 use Rattle.std.proofs.Common.{◌≡◌, ◌≤◌, ◌<◌, ◌+◌, ◌*◌, ℕ, zero, suc, Bool, true, List, Option, Some, None, [], ◌∷◌, length, refl, sym, ap, ◌∙◌, arith, subst, inl, inr}
 use Rattle.std.specs.Prelude.{⊤}
-use Rattle.std.specs.List.{AllByRecursion}
-use Rattle.std.proofs.lemmas.Bool.{cases_eq}
-use Rattle.wf_ballot.specs.Ballot.{below}
+use Rattle.wf_farm.proofs.Common.{AllByRecursion, cases_eq, below, Definition, first_vote, nothing_stored, published, next_sequence, definition_at, put, with_record, VolatileState, at_start, nobody, and_node, better, better_each, carried, proposed, same_ballot, same_phase, is_at, leading_at, store, quiet, only_sends, stores, with_proposal, rounds_full, reject_round, reject_proposal, step_rejection, begin_at, ask_votes, propose_by, on_propose, reports_of, votes_from, promise_to, prepare_open, on_prepare, votes_at, vote_for, accept_open, on_accept, is_new_response, with_promise, asking_votes, leadership_of, promised, on_promise, with_vote, ended, ends, after_publishing, voted, on_accepted, on_chosen, on_message, transition, World, propose, delivered, input_of, stored_after, with_node, after_turn, turn_running, turn_of, turn, happens, steps, start, steps_in_turn, deliveries, rounds, to_each}
 use Rattle.wf_ballot.specs.Majority.{count_nodes, is_majority_of}
-use Rattle.wf_def.specs.Definition.{Definition}
-use Rattle.wf_model.specs.Message.{first_vote}
-use Rattle.wf_model.specs.Stored.{nothing_stored, published, next_sequence, definition_at, put, raised, with_record}
-use Rattle.wf_model.specs.Working.{Working, at_start, nobody, and_node, better, better_each, carried, proposed, same_ballot, same_phase, is_at, leading_at}
-use Rattle.wf_model.specs.Table.{store, quiet, says, stores, with_proposal, rounds_full, refuse_round, refuse_proposal, refusal, begin_at, ask_votes, propose_by, on_propose, told_of, told, votes_from, promise_to, prepare_open, on_prepare, votes_at, vote_for, accept_open, on_accept, hears, with_promise, asking_votes, leadership_of, promised, on_promise, with_vote, ended, ends, after_publishing, voted, on_accepted, on_chosen, on_message, row}
-use Rattle.wf_model.specs.World.{World, Node, propose, delivered, input_of, stored_after, with_node, after_turn, turn_running, turn_of, turn, happens, steps, start}
-use Rattle.wf_model.specs.StepsLaws.{steps_in_turn}
-use Rattle.wf_farm.specs.Publishing.{Rests}
-use Rattle.wf_farm.specs.Pump.{deliveries, rounds, to_each}
+use Rattle.wf_model.specs.DurableState.{raised}
+use Rattle.wf_model.specs.Table.{reports}
+use Rattle.wf_model.specs.World.{Node}
+use Rattle.wf_farm.specs.Publication.{Rests}
 use Rattle.wf_farm.proofs.Rounds.{rounds_more}
 
 -- P of three numbers in turn
@@ -48,9 +41,9 @@ abbrev pub three : List ℕ
 three = 0 ∷ 1 ∷ 2 ∷ []
 
 -- no proposal is running, if the node runs
-abbrev pub RestsIn : Option (Working Definition) → Type 0
+abbrev pub RestsIn : Option (VolatileState Definition) → Type 0
 RestsIn None = ⊤
-RestsIn (Some working) = Rests working.proposing
+RestsIn (Some volatile) = Rests volatile.proposing
 
 -- a test that takes all definitions for equal
 unfoldable pub always : Definition → Definition → Bool
@@ -63,7 +56,7 @@ world_at d i (suc k) = steps always (world_at d i k) (to_each three k)
 
 -- unfolds all definitions that the run computes with
 abbrev computed : ℕ
-unfolding below count_nodes is_majority_of first_vote nothing_stored published next_sequence definition_at put raised with_record at_start nobody and_node better better_each carried proposed same_ballot same_phase is_at leading_at store quiet says stores with_proposal rounds_full refuse_round refuse_proposal refusal begin_at ask_votes propose_by on_propose told_of told votes_from promise_to prepare_open on_prepare votes_at vote_for accept_open on_accept hears with_promise asking_votes leadership_of promised on_promise with_vote ended ends after_publishing voted on_accepted on_chosen on_message row delivered input_of stored_after with_node after_turn turn_running turn_of turn happens steps start rounds to_each deliveries always world_at
+unfolding below count_nodes is_majority_of first_vote nothing_stored published next_sequence definition_at put raised with_record at_start nobody and_node better better_each carried proposed same_ballot same_phase is_at leading_at store quiet only_sends stores with_proposal rounds_full reject_round reject_proposal step_rejection begin_at ask_votes propose_by on_propose reports_of reports votes_from promise_to prepare_open on_prepare votes_at vote_for accept_open on_accept is_new_response with_promise asking_votes leadership_of promised on_promise with_vote ended ends after_publishing voted on_accepted on_chosen on_message transition delivered input_of stored_after with_node after_turn turn_running turn_of turn happens steps start rounds to_each deliveries always world_at
 computed = 0
 
 module _ (d : Definition) where
@@ -117,7 +110,7 @@ module _ (d : Definition) where
 
   -- and each node has published the definition, and runs no proposal
   abbrev pub IsEnded : Node Definition → Type 0
-  IsEnded node = (node.stored.history ≡ d ∷ []) × RestsIn node.working
+  IsEnded node = (node.stored.history ≡ d ∷ []) × RestsIn node.volatile
 
   pub all_ended : (i : ℕ) → i < 3 → AllByRecursion IsEnded (world_at d i 9).nodes
   unfolding computed

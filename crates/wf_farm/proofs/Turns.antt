@@ -1,36 +1,31 @@
 -- Turns of the farm's model: the effect of an event on the world, stated for its node alone.
-use Rattle.std.proofs.Common.{◌≡◌, ℕ, Bool, List, [], ◌++◌, length, slice_get, slice_set, Option, Some, None, refl, sym, ap, ◌∙◌}
-use Rattle.std.proofs.lemmas.List.{append-nil}
+use Rattle.std.proofs.Common.{◌≡◌, ℕ, Bool, List, length, slice_get, slice_set, Option, Some, None, refl, sym, ap, ◌∙◌}
+use Rattle.wf_farm.proofs.Common.{DurableState, VolatileState, Action, Input, StepRejection, step_rejection, transition, World, input_of, step_rejection_running, step_rejection_of, rejected_at, with_node, stop_running, after_stop, restart_stopped, after_restart, turn_running, turn_of, turn, set_same, node_stopped, volatile_restarted, node_restarted}
 use Rattle.wf_model.specs.Message.{Message}
-use Rattle.wf_model.specs.Stored.{Stored}
-use Rattle.wf_model.specs.Working.{Working}
-use Rattle.wf_model.specs.Table.{Action, Input, Refusal, refusal, row}
-use Rattle.wf_model.specs.World.{Node, World, Turn, Kept, input_of, refusal_running, refusal_of, refused_at, with_node, after_turn, after_torn, stop_running, after_stop, restart_stopped, after_restart, turn_running, turn_of, turn}
-use Rattle.wf_farm.specs.PlaceLaws.{set_same}
-use Rattle.wf_farm.specs.Turn.{node_after, messages_of, node_torn, node_stopped, working_restarted, node_restarted}
+use Rattle.wf_model.specs.World.{Node}
 
 abbrev pub world_of : {V : Type 0} → List (Node V) → List (Message V) → World V
 world_of nodes sent = record { nodes = nodes; sent = sent }
 
-world_eq : {V : Type 0} (nodes others : List (Node V)) (sent said : List (Message V)) → nodes ≡ others → sent ≡ said → world_of nodes sent ≡ world_of others said
-world_eq nodes others sent said e h = ap (λ ns. world_of ns sent) e ∙ ap (λ ms. world_of others ms) h
+world_eq : {V : Type 0} (nodes others : List (Node V)) (sent outputs : List (Message V)) → nodes ≡ others → sent ≡ outputs → world_of nodes sent ≡ world_of others outputs
+world_eq nodes others sent outputs e h = ap (λ ns. world_of ns sent) e ∙ ap (λ ms. world_of others ms) h
 
 module _ {V : Type 0} (same : V → V → Bool) where
   -- ---- the turn of one node
 
-  pub turn_goes : (n i : ℕ) (stored : Stored V) (working : Working V) (input : Input V) → refusal stored working input ≡ None →
-      turn_of same n i (Some (record { stored = stored; working = Some working })) (Some input) ≡ Some (record { stored = stored; row = row same n i stored working input })
+  pub turn_goes : (n i : ℕ) (stored : DurableState V) (volatile : VolatileState V) (input : Input V) → step_rejection stored volatile input ≡ None →
+      turn_of same n i (Some (record { stored = stored; volatile = Some volatile })) (Some input) ≡ Some (record { stored = stored; transition = transition same n i stored volatile input })
   unfolding turn_of turn_running
-  turn_goes n i stored working input e = rw e refl
+  turn_goes n i stored volatile input e = rw e refl
 
-  pub turn_refused : (n i : ℕ) (stored : Stored V) (working : Working V) (input : Input V) (why : Refusal) → refusal stored working input ≡ Some why →
-      turn_of same n i (Some (record { stored = stored; working = Some working })) (Some input) ≡ None
+  pub turn_rejected : (n i : ℕ) (stored : DurableState V) (volatile : VolatileState V) (input : Input V) (why : StepRejection) → step_rejection stored volatile input ≡ Some why →
+      turn_of same n i (Some (record { stored = stored; volatile = Some volatile })) (Some input) ≡ None
   unfolding turn_of turn_running
-  turn_refused n i stored working input why e = rw e refl
+  turn_rejected n i stored volatile input why e = rw e refl
 
-  pub turn_stopped : (n i : ℕ) (node : Node V) (input : Input V) → node.working ≡ None → turn_of same n i (Some node) (Some input) ≡ None
+  pub turn_stopped : (n i : ℕ) (node : Node V) (input : Input V) → node.volatile ≡ None → turn_of same n i (Some node) (Some input) ≡ None
   unfolding turn_of turn_running
-  turn_stopped n i node input e = ap (λ working. turn_running same n i node.stored working input) e
+  turn_stopped n i node input e = ap (λ volatile. turn_running same n i node.stored volatile input) e
 
   turn_no_input : (n i : ℕ) (node : Option (Node V)) → turn_of same n i node None ≡ None
   unfolding turn_of
@@ -55,69 +50,74 @@ module _ {V : Type 0} (same : V → V → Bool) where
   turn_unsent w i action none =
       ap (λ x. turn_of same (length w.nodes) i (slice_get w.nodes i) x) none ∙ turn_no_input (length w.nodes) i (slice_get w.nodes i)
 
+  -- a stopped node takes no step
+  pub turn_idle : (w : World V) (i : ℕ) (node : Node V) (action : Action V ℕ) → slice_get w.nodes i ≡ Some node → node.volatile ≡ None → turn same w i action ≡ None
+  unfolding turn
+  turn_idle w i node action there stopped =
+      ap (λ x. turn_of same (length w.nodes) i x (input_of w.sent action)) there ∙ idle_by (input_of w.sent action)
+    where
+      idle_by : (given : Option (Input V)) → turn_of same (length w.nodes) i (Some node) given ≡ None
+      idle_by None = turn_no_input (length w.nodes) i (Some node)
+      idle_by (Some input) = turn_stopped (length w.nodes) i node input stopped
+
 module _ {V : Type 0} where
   -- ---- why a step is rejected
 
-  pub running_refusal : (stored : Stored V) (working : Working V) (input : Input V) →
-      refusal_of (Some (record { stored = stored; working = Some working })) (Some input) ≡ refusal stored working input
-  unfolding refusal_of refusal_running
-  running_refusal stored working input = refl
+  pub running_step_rejection : (stored : DurableState V) (volatile : VolatileState V) (input : Input V) →
+      step_rejection_of (Some (record { stored = stored; volatile = Some volatile })) (Some input) ≡ step_rejection stored volatile input
+  unfolding step_rejection_of step_rejection_running
+  running_step_rejection stored volatile input = refl
 
-  pub stopped_refusal : (node : Node V) (input : Input V) → node.working ≡ None → refusal_of (Some node) (Some input) ≡ None
-  unfolding refusal_of refusal_running
-  stopped_refusal node input e = ap (λ working. refusal_running node.stored working input) e
+  pub stopped_step_rejection : (node : Node V) (input : Input V) → node.volatile ≡ None → step_rejection_of (Some node) (Some input) ≡ None
+  unfolding step_rejection_of step_rejection_running
+  stopped_step_rejection node input e = ap (λ volatile. step_rejection_running node.stored volatile input) e
 
-  refusal_no_input : (node : Option (Node V)) → refusal_of node None ≡ None
-  unfolding refusal_of
-  refusal_no_input None = refl
-  refusal_no_input (Some node) = refl
+  step_rejection_no_input : (node : Option (Node V)) → step_rejection_of node None ≡ None
+  unfolding step_rejection_of
+  step_rejection_no_input None = refl
+  step_rejection_no_input (Some node) = refl
 
-  pub refused_is : (w : World V) (i : ℕ) (node : Node V) (action : Action V ℕ) (input : Input V) → slice_get w.nodes i ≡ Some node →
-      input_of w.sent action ≡ Some input → refused_at w i action ≡ refusal_of (Some node) (Some input)
-  unfolding refused_at
-  refused_is w i node action input there given = ap (λ x. refusal_of x (input_of w.sent action)) there ∙ ap (λ x. refusal_of (Some node) x) given
+  pub rejected_is : (w : World V) (i : ℕ) (node : Node V) (action : Action V ℕ) (input : Input V) → slice_get w.nodes i ≡ Some node →
+      input_of w.sent action ≡ Some input → rejected_at w i action ≡ step_rejection_of (Some node) (Some input)
+  unfolding rejected_at
+  rejected_is w i node action input there given = ap (λ x. step_rejection_of x (input_of w.sent action)) there ∙ ap (λ x. step_rejection_of (Some node) x) given
 
-  pub refused_absent : (w : World V) (i : ℕ) (action : Action V ℕ) → slice_get w.nodes i ≡ None → refused_at w i action ≡ None
-  unfolding refused_at refusal_of
-  refused_absent w i action none = ap (λ x. refusal_of x (input_of w.sent action)) none
+  pub rejected_absent : (w : World V) (i : ℕ) (action : Action V ℕ) → slice_get w.nodes i ≡ None → rejected_at w i action ≡ None
+  unfolding rejected_at step_rejection_of
+  rejected_absent w i action none = ap (λ x. step_rejection_of x (input_of w.sent action)) none
 
-  pub refused_unsent : (w : World V) (i : ℕ) (action : Action V ℕ) → input_of w.sent action ≡ None → refused_at w i action ≡ None
-  unfolding refused_at
-  refused_unsent w i action none = ap (λ x. refusal_of (slice_get w.nodes i) x) none ∙ refusal_no_input (slice_get w.nodes i)
+  pub rejected_unsent : (w : World V) (i : ℕ) (action : Action V ℕ) → input_of w.sent action ≡ None → rejected_at w i action ≡ None
+  unfolding rejected_at
+  rejected_unsent w i action none = ap (λ x. step_rejection_of (slice_get w.nodes i) x) none ∙ step_rejection_no_input (slice_get w.nodes i)
+
+  pub rejected_idle : (w : World V) (i : ℕ) (node : Node V) (action : Action V ℕ) → slice_get w.nodes i ≡ Some node → node.volatile ≡ None → rejected_at w i action ≡ None
+  unfolding rejected_at
+  rejected_idle w i node action there stopped = ap (λ x. step_rejection_of x (input_of w.sent action)) there ∙ idle_by (input_of w.sent action)
+    where
+      idle_by : (given : Option (Input V)) → step_rejection_of (Some node) given ≡ None
+      idle_by None = step_rejection_no_input (Some node)
+      idle_by (Some input) = stopped_step_rejection node input stopped
 
   -- ---- after an event: its node is set, and the messages sent are at the end
 
-  pub turn_sets : (w : World V) (i : ℕ) (node : Node V) (t : Option (Turn V)) → slice_get w.nodes i ≡ Some node →
-      after_turn w i t ≡ record { nodes = slice_set w.nodes i (node_after t node); sent = w.sent ++ messages_of t }
-  unfolding after_turn with_node node_after messages_of
-  turn_sets w i node None e =
-      world_eq w.nodes (slice_set w.nodes i node) w.sent (w.sent ++ []) (sym (set_same w.nodes i node e)) (sym (append-nil w.sent))
-  turn_sets w i node (Some t) e = refl
-
-  pub torn_sets : (w : World V) (i : ℕ) (kept : Kept) (node : Node V) (t : Option (Turn V)) → slice_get w.nodes i ≡ Some node →
-      after_torn w i kept t ≡ record { nodes = slice_set w.nodes i (node_torn kept t node); sent = w.sent }
-  unfolding after_torn with_node node_torn
-  torn_sets w i kept node None e = world_eq w.nodes (slice_set w.nodes i node) w.sent w.sent (sym (set_same w.nodes i node e)) refl
-  torn_sets w i kept node (Some t) e = refl
-
-  stop_sets_parts : (w : World V) (i : ℕ) (stored : Stored V) (working : Option (Working V)) → slice_get w.nodes i ≡ Some (record { stored = stored; working = working }) →
-      stop_running w i stored working ≡ record { nodes = slice_set w.nodes i (record { stored = stored; working = None }); sent = w.sent }
+  stop_sets_parts : (w : World V) (i : ℕ) (stored : DurableState V) (volatile : Option (VolatileState V)) → slice_get w.nodes i ≡ Some (record { stored = stored; volatile = volatile }) →
+      stop_running w i stored volatile ≡ record { nodes = slice_set w.nodes i (record { stored = stored; volatile = None }); sent = w.sent }
   unfolding stop_running with_node
   stop_sets_parts w i stored None e = world_eq w.nodes (slice_set w.nodes i _) w.sent w.sent (sym (set_same w.nodes i _ e)) refl
-  stop_sets_parts w i stored (Some working) e = refl
+  stop_sets_parts w i stored (Some volatile) e = refl
 
   pub stop_sets : (w : World V) (i : ℕ) (node : Node V) → slice_get w.nodes i ≡ Some node →
       after_stop w i (slice_get w.nodes i) ≡ record { nodes = slice_set w.nodes i (node_stopped node); sent = w.sent }
   unfolding after_stop node_stopped
-  stop_sets w i node e = ap (after_stop w i) e ∙ stop_sets_parts w i node.stored node.working e
+  stop_sets w i node e = ap (after_stop w i) e ∙ stop_sets_parts w i node.stored node.volatile e
 
-  restart_sets_parts : (w : World V) (i : ℕ) (stored : Stored V) (working : Option (Working V)) → slice_get w.nodes i ≡ Some (record { stored = stored; working = working }) →
-      restart_stopped w i stored working ≡ record { nodes = slice_set w.nodes i (record { stored = stored; working = working_restarted working }); sent = w.sent }
-  unfolding restart_stopped with_node working_restarted
+  restart_sets_parts : (w : World V) (i : ℕ) (stored : DurableState V) (volatile : Option (VolatileState V)) → slice_get w.nodes i ≡ Some (record { stored = stored; volatile = volatile }) →
+      restart_stopped w i stored volatile ≡ record { nodes = slice_set w.nodes i (record { stored = stored; volatile = volatile_restarted volatile }); sent = w.sent }
+  unfolding restart_stopped with_node volatile_restarted
   restart_sets_parts w i stored None e = refl
-  restart_sets_parts w i stored (Some working) e = world_eq w.nodes (slice_set w.nodes i _) w.sent w.sent (sym (set_same w.nodes i _ e)) refl
+  restart_sets_parts w i stored (Some volatile) e = world_eq w.nodes (slice_set w.nodes i _) w.sent w.sent (sym (set_same w.nodes i _ e)) refl
 
   pub restart_sets : (w : World V) (i : ℕ) (node : Node V) → slice_get w.nodes i ≡ Some node →
       after_restart w i (slice_get w.nodes i) ≡ record { nodes = slice_set w.nodes i (node_restarted node); sent = w.sent }
   unfolding after_restart node_restarted
-  restart_sets w i node e = ap (after_restart w i) e ∙ restart_sets_parts w i node.stored node.working e
+  restart_sets w i node e = ap (after_restart w i) e ∙ restart_sets_parts w i node.stored node.volatile e

@@ -1,36 +1,14 @@
 -- A farm is one world, which is reached from the start: so its nodes agree.
 use Rattle.std.proofs.Common.{◌≡◌, ℕ, zero, suc, ◌+◌, ◌≤◌, Bool, true, List, [], map, ◌∷◌, ◌++◌, length, replicate, slice_get, Option, Some, None, refl, sym, ap, subst, ◌∙◌, arith}
-use Rattle.std.proofs.lemmas.List.{map-append}
-use Rattle.std.proofs.lemmas.Option.{none-some, same_Some}
+use Rattle.wf_farm.proofs.Common.{map-append, none-some, same_Some, Message, Definition, empty_map, definition_eq, Agreement, IsBeginning, sent_before, raised, EarlierMessages, history_of, history, definition, StepsInTurn, DurableState, definition_at, World, Event, start, after, steps, at_start, Node, volatile_of, AreReadOneWay, Running, Stopped, HasStored, HasOneHistory, IsOneWorld, AreMembers, KeepMembers, Moves, TapeValue, IsImageOf, NeverFails, IsFresh, AllRun, node_in, nodes_of, nodes_back, MemoryFarm, IsMemoryFarm, IsReachable, FailsOnly, MemoryHost, IsNode, IsMember, tape_in, fresh_node, IsFreshAt}
 use Rattle.wf_codec.specs.Message as message
-use Rattle.wf_codec.specs.declared.message.Message.{Message}
-use Rattle.wf_def.specs.Definition.{Definition, empty_map}
-use Rattle.wf_def.specs.Equality.{definition_eq}
-use Rattle.wf_law.specs.Laws.{Agreement, IsBeginning}
-use Rattle.wf_law.specs.Earlier.{sent_before, raised, EarlierMessages}
-use Rattle.wf_model.specs.Chosen.{history_of, history, definition}
 use Rattle.wf_model.specs.Message as model
-use Rattle.wf_model.specs.Steps.{StepsInTurn}
-use Rattle.wf_model.specs.Stored.{Stored, definition_at}
 use Rattle.wf_model.specs.World as world
-use Rattle.wf_model.specs.World.{World, Event, start, after, steps}
-use Rattle.wf_model.specs.Working.{at_start}
-use Rattle.wf_node.specs.Node.{Node, working_of}
-use Rattle.wf_journal.specs.Records.{AreReadOneWay}
-use Rattle.wf_farm.specs.declared.place.Place.TheVariants.{Running, Stopped}
-use Rattle.wf_farm.specs.Agreement.{HasStored, HasOneHistory, IsOneWorld}
-use Rattle.wf_farm.specs.Cluster.{AreNodes, AreMembers, KeepMembers, Moves}
+use Rattle.wf_farm.specs.Cluster.{AreNodes}
 use Rattle.wf_farm.specs.Cluster as cluster
-use Rattle.wf_farm.specs.Places as entries
-use Rattle.wf_tape.specs.MemoryTape.{TapeValue, IsImageOf, NeverFails}
-use Rattle.wf_farm.specs.Leading as leading
-use Rattle.wf_farm.specs.Leading.{IsFresh}
-use Rattle.wf_farm.specs.Nodes.{AllRun, node_in, nodes_of}
-use Rattle.wf_farm.specs.NodesLaws.{nodes_back}
-use Rattle.wf_farm.specs.Farm.{MemoryFarm, IsMemoryFarm, IsReached}
-use Rattle.wf_farm.specs.Fused.{FailsOnly}
-use Rattle.wf_farm.specs.Place.{MemoryPlace, IsNode, IsMember, tape_in}
-use Rattle.wf_farm.specs.Start.{fresh_node, AreFresh, IsFreshAt}
+use Rattle.wf_farm.specs.Hosts as entries
+use Rattle.wf_farm.specs.Reachability as leading
+use Rattle.wf_farm.specs.Start.{AreFresh}
 use Rattle.wf_farm.proofs.Events.{node_at}
 use Rattle.wf_farm.proofs.Steps.{content_is_image, node_of, one_stored}
 use Rattle.wf_farm.proofs.Turns.{world_of}
@@ -40,66 +18,66 @@ use Rattle.wf_farm.proofs.Turns.{world_of}
 pub none_fresh : (n : ℕ) → AreFresh n 0 []
 none_fresh n = tt
 
-fresh_more : (n i : ℕ) (places : List MemoryPlace) (place : MemoryPlace) → AreFresh n i places → IsFreshAt n (i + length places) place → AreFresh n i (places ++ place ∷ [])
-fresh_more n i [] place are is = (subst (λ k. IsFreshAt n k place) (omega arith) is, tt)
-fresh_more n i (p ∷ places) place are is = (are.0, fresh_more n (suc i) places place are.1 (subst (λ k. IsFreshAt n k place) (omega arith) is))
+fresh_more : (n i : ℕ) (hosts : List MemoryHost) (host : MemoryHost) → AreFresh n i hosts → IsFreshAt n (i + length hosts) host → AreFresh n i (hosts ++ host ∷ [])
+fresh_more n i [] host are is = (subst (λ k. IsFreshAt n k host) (omega arith) is, tt)
+fresh_more n i (p ∷ hosts) host are is = (are.0, fresh_more n (suc i) hosts host are.1 (subst (λ k. IsFreshAt n k host) (omega arith) is))
 
 -- One more fresh node, appended.
-pub one_more_fresh : (n id : ℕ) (places : List MemoryPlace) (place : MemoryPlace) → AreFresh n 0 places → length places ≡ id → IsNode place fresh_node → IsMember n id place → NeverFails (tape_in place) → AreFresh n 0 (places ++ place ∷ [])
-one_more_fresh n id places place are long is member never = fresh_more n 0 places place are (subst (λ k. IsFreshAt n k place) (omega (arith, long)) (is, member, never))
+pub one_more_fresh : (n id : ℕ) (hosts : List MemoryHost) (host : MemoryHost) → AreFresh n 0 hosts → length hosts ≡ id → IsNode host fresh_node → IsMember n id host → NeverFails (tape_in host) → AreFresh n 0 (hosts ++ host ∷ [])
+one_more_fresh n id hosts host are long is member never = fresh_more n 0 hosts host are (subst (λ k. IsFreshAt n k host) (omega (arith, long)) (is, member, never))
 
-fresh_nodes : (n i : ℕ) (places : List MemoryPlace) → AreFresh n i places → AreNodes places (replicate (length places) fresh_node)
+fresh_nodes : (n i : ℕ) (hosts : List MemoryHost) → AreFresh n i hosts → AreNodes hosts (replicate (length hosts) fresh_node)
 fresh_nodes n i [] are = tt
-fresh_nodes n i (p ∷ places) are = (are.0.0, fresh_nodes n (suc i) places are.1)
+fresh_nodes n i (p ∷ hosts) are = (are.0.0, fresh_nodes n (suc i) hosts are.1)
 
-fresh_at : (n i j : ℕ) (places : List MemoryPlace) (place : MemoryPlace) → AreFresh n i places → slice_get places j ≡ Some place → IsFreshAt n (i + j) place
-fresh_at n i j [] place are e = absurd (none-some place e)
-fresh_at n i zero (p ∷ places) place are e = subst (λ q. IsFreshAt n (i + 0) q) (same_Some p place e) (subst (λ k. IsFreshAt n k p) (omega arith) are.0)
-fresh_at n i (suc j) (p ∷ places) place are e = subst (λ k. IsFreshAt n k place) (omega arith) (fresh_at n (suc i) j places place are.1 e)
+fresh_at : (n i j : ℕ) (hosts : List MemoryHost) (host : MemoryHost) → AreFresh n i hosts → slice_get hosts j ≡ Some host → IsFreshAt n (i + j) host
+fresh_at n i j [] host are e = absurd (none-some host e)
+fresh_at n i zero (p ∷ hosts) host are e = subst (λ q. IsFreshAt n (i + 0) q) (same_Some p host e) (subst (λ k. IsFreshAt n k p) (omega arith) are.0)
+fresh_at n i (suc j) (p ∷ hosts) host are e = subst (λ k. IsFreshAt n k host) (omega arith) (fresh_at n (suc i) j hosts host are.1 e)
 
 -- n fresh nodes and no message are the start.
-pub start_shown : (n : ℕ) (places : List MemoryPlace) → AreFresh n 0 places → length places ≡ n → cluster.Shows places [] (start n)
+pub start_shown : (n : ℕ) (hosts : List MemoryHost) → AreFresh n 0 hosts → length hosts ≡ n → cluster.Refines hosts [] (start n)
 unfolding start
-start_shown n places are long = record { nodes = subst (λ k. AreNodes places (replicate k fresh_node)) long (fresh_nodes n 0 places are); messages = refl }
+start_shown n hosts are long = record { nodes = subst (λ k. AreNodes hosts (replicate k fresh_node)) long (fresh_nodes n 0 hosts are); messages = refl }
 
-pub start_members : (n : ℕ) (places : List MemoryPlace) → AreFresh n 0 places → length places ≡ n → AreMembers places
+pub start_members : (n : ℕ) (hosts : List MemoryHost) → AreFresh n 0 hosts → length hosts ≡ n → AreMembers hosts
 unfolding AreMembers
-start_members n places are long = λ i place e. subst (λ k. IsMember k i place) (sym long) (subst (λ j. IsMember n j place) (omega arith) (fresh_at n 0 i places place are e).1)
+start_members n hosts are long = λ i host e. subst (λ k. IsMember k i host) (sym long) (subst (λ j. IsMember n j host) (omega arith) (fresh_at n 0 i hosts host are e).1)
 
-pub start_sturdy : (n : ℕ) (places : List MemoryPlace) → AreFresh n 0 places → FailsOnly None places
+pub start_sturdy : (n : ℕ) (hosts : List MemoryHost) → AreFresh n 0 hosts → FailsOnly None hosts
 unfolding FailsOnly
-start_sturdy n places are = λ i place e other. (fresh_at n 0 i places place are e).2
+start_sturdy n hosts are = λ i host e other. (fresh_at n 0 i hosts host are e).2
 
 -- Fresh nodes all run.
-fresh_place : (n i : ℕ) (place : MemoryPlace) → IsFreshAt n i place → (node : Node TapeValue) × (place ≡ Running node) × IsFresh node
-fresh_place n i (Running node) is =
-    (node, refl, record { runs = is.1.2; stored = sym (ap (λ x. x.stored) is.0); working = sym (same_Some at_start (working_of node) (ap (λ x. x.working) is.0)) })
-fresh_place n i (Stopped kept) is = absurd (none-some at_start (sym is.0.0))
+fresh_host : (n i : ℕ) (host : MemoryHost) → IsFreshAt n i host → (node : Node TapeValue) × (host ≡ Running node) × IsFresh node
+fresh_host n i (Running node) is =
+    (node, refl, record { runs = is.1.2; stored = sym (ap (λ x. x.stored) is.0); volatile = sym (same_Some at_start (volatile_of node) (ap (λ x. x.volatile) is.0)) })
+fresh_host n i (Stopped kept) is = absurd (none-some at_start (sym is.0.0))
 
-pub fresh_run : (n : ℕ) (places : List MemoryPlace) → AreFresh n 0 places → AllRun places
+pub fresh_run : (n : ℕ) (hosts : List MemoryHost) → AreFresh n 0 hosts → AllRun hosts
 unfolding AllRun
-fresh_run n places are = λ i place at. let is = fresh_place n i place (subst (λ k. IsFreshAt n k place) (omega arith) (fresh_at n 0 i places place are at)) in (is.0, is.1)
+fresh_run n hosts are = λ i host at. let is = fresh_host n i host (subst (λ k. IsFreshAt n k host) (omega arith) (fresh_at n 0 i hosts host are at)) in (is.0, is.1)
 
-pub fresh_are_new : (n : ℕ) (places : List MemoryPlace) → AreFresh n 0 places → leading.AreFresh (nodes_of places)
+pub fresh_are_new : (n : ℕ) (hosts : List MemoryHost) → AreFresh n 0 hosts → leading.AreFresh (nodes_of hosts)
 unfolding leading.AreFresh
-fresh_are_new n places are = λ i node at.
-    let back = nodes_back places i node at in
-    let is = fresh_place n i back.0 (subst (λ k. IsFreshAt n k back.0) (omega arith) (fresh_at n 0 i places back.0 are back.1)) in
-    subst (λ (x : Node TapeValue). IsFresh x) (ap (λ (p : MemoryPlace). node_in (length places) i p) (sym is.1) ∙ back.2) is.2
+fresh_are_new n hosts are = λ i node at.
+    let back = nodes_back hosts i node at in
+    let is = fresh_host n i back.0 (subst (λ k. IsFreshAt n k back.0) (omega arith) (fresh_at n 0 i hosts back.0 are back.1)) in
+    subst (λ (x : Node TapeValue). IsFresh x) (ap (λ (p : MemoryHost). node_in (length hosts) i p) (sym is.1) ∙ back.2) is.2
 
 -- The start is reached by no events.
-pub started : (n : ℕ) (places : List MemoryPlace) → length places ≡ n → cluster.Shows places [] (start n) → IsReached IsImageOf true places []
+pub started : (n : ℕ) (hosts : List MemoryHost) → length hosts ≡ n → cluster.Refines hosts [] (start n) → IsReachable IsImageOf true hosts []
 unfolding after steps
-started n places long shows =
-    let is = subst (λ k. cluster.Shows places [] (start k)) (sym long) shows in
+started n hosts long refines =
+    let is = subst (λ k. cluster.Refines hosts [] (start k)) (sym long) refines in
     record { events = []; earlier = []; nodes = is.nodes; messages = is.messages; all = λ complete. refl }
 
 -- ---- a run goes on from where a farm is
 
-module _ (complete : Bool) (places : List MemoryPlace) (sent : List Message) (reached : IsReached IsImageOf complete places sent) where
+module _ (complete : Bool) (hosts : List MemoryHost) (sent : List Message) (reached : IsReachable IsImageOf complete hosts sent) where
   -- the world reached, and the same with the messages that the farm still has
   abbrev there : World Definition
-  there = after definition_eq (length places) reached.events
+  there = after definition_eq (length hosts) reached.events
 
   abbrev here : World Definition
   here = world_of there.nodes (map message.view sent)
@@ -107,19 +85,19 @@ module _ (complete : Bool) (places : List MemoryPlace) (sent : List Message) (re
   abbrev before : List (model.Message Definition)
   before = map message.view reached.earlier
 
-  is_here : cluster.Shows places sent here
+  is_here : cluster.Refines hosts sent here
   is_here = record { nodes = reached.nodes; messages = refl }
 
   restored : sent_before before here ≡ there
   unfolding sent_before
   restored = ap (world_of there.nodes) (sym (reached.messages ∙ map-append message.view reached.earlier sent))
 
-  module _ (in_turn : StepsInTurn Definition) (shifts : EarlierMessages Definition) (after_places : List MemoryPlace) (after_sent : List Message) (more : List (Event Definition)) where
+  module _ (in_turn : StepsInTurn Definition) (shifts : EarlierMessages Definition) (after_hosts : List MemoryHost) (after_sent : List Message) (more : List (Event Definition)) where
     abbrev all_events : List (Event Definition)
     all_events = reached.events ++ raised (length before) more
 
     -- The run leads there too, with the earlier messages before.
-    run_on : (k : ℕ) → k ≡ length places → after definition_eq k all_events ≡ sent_before before (steps definition_eq here more)
+    run_on : (k : ℕ) → k ≡ length hosts → after definition_eq k all_events ≡ sent_before before (steps definition_eq here more)
     unfolding after
     run_on k long =
         in_turn definition_eq (start k) reached.events (raised (length before) more)
@@ -128,116 +106,116 @@ module _ (complete : Bool) (places : List MemoryPlace) (sent : List Message) (re
         ∙ shifts definition_eq before here more
 
     -- What is reached stays so by any run.
-    pub reached_on : length after_places ≡ length places → Moves more places sent after_places after_sent → IsReached IsImageOf complete after_places after_sent
+    pub reached_on : length after_hosts ≡ length hosts → Moves more hosts sent after_hosts after_sent → IsReachable IsImageOf complete after_hosts after_sent
     unfolding Moves sent_before
     reached_on long moves =
-        let ended = run_on (length after_places) long in
-        let shows = moves here is_here in
+        let ended = run_on (length after_hosts) long in
+        let refines = moves here is_here in
         record {
           events = all_events;
           earlier = reached.earlier;
-          nodes = subst (λ w. AreNodes after_places w.nodes) (sym ended) shows.nodes;
-          messages = ap (λ w. w.sent) ended ∙ ap (λ ms. before ++ ms) shows.messages ∙ sym (map-append message.view reached.earlier after_sent);
+          nodes = subst (λ w. AreNodes after_hosts w.nodes) (sym ended) refines.nodes;
+          messages = ap (λ w. w.sent) ended ∙ ap (λ ms. before ++ ms) refines.messages ∙ sym (map-append message.view reached.earlier after_sent);
           all = reached.all;
         }
 
 -- ---- the members
 
 -- of a farm in memory
-one_member : (n i : ℕ) (place : MemoryPlace) → entries.IsMember (Unit {0}) IsImageOf NeverFails n i place → IsMember n i place
+one_member : (n i : ℕ) (host : MemoryHost) → entries.IsMember (Unit {0}) IsImageOf NeverFails n i host → IsMember n i host
 one_member n i (Running node) is = (is.0, is.1, (is.2 tt).0)
 one_member n i (Stopped kept) is = tt
 
-its_tape : (n i : ℕ) (place : MemoryPlace) → entries.IsMember (Unit {0}) IsImageOf NeverFails n i place → NeverFails (tape_in place)
+its_tape : (n i : ℕ) (host : MemoryHost) → entries.IsMember (Unit {0}) IsImageOf NeverFails n i host → NeverFails (tape_in host)
 its_tape n i (Running node) is = (is.2 tt).1
 its_tape n i (Stopped kept) is = (is tt).0
 
-its_member : (n i : ℕ) (place : MemoryPlace) → IsMember n i place → NeverFails (tape_in place) → entries.IsMember (Unit {0}) IsImageOf NeverFails n i place
-its_member n i (Running node) is never = (is.0, is.1, λ honest. (is.2, never))
-its_member n i (Stopped kept) is never = λ honest. (never, (kept.bytes, content_is_image kept))
+its_member : (n i : ℕ) (host : MemoryHost) → IsMember n i host → NeverFails (tape_in host) → entries.IsMember (Unit {0}) IsImageOf NeverFails n i host
+its_member n i (Running node) is never = (is.0, is.1, λ durable. (is.2, never))
+its_member n i (Stopped kept) is never = λ durable. (never, (kept.bytes, content_is_image kept))
 
-pub members_of : (places : List MemoryPlace) → entries.AreMembers (Unit {0}) IsImageOf NeverFails places → AreMembers places
+pub members_of : (hosts : List MemoryHost) → entries.AreMembers (Unit {0}) IsImageOf NeverFails hosts → AreMembers hosts
 unfolding AreMembers entries.AreMembers
-members_of places are = λ i place at. one_member (length places) i place (are i place at)
+members_of hosts are = λ i host at. one_member (length hosts) i host (are i host at)
 
-pub sturdy_of : (places : List MemoryPlace) → entries.AreMembers (Unit {0}) IsImageOf NeverFails places → FailsOnly None places
+pub sturdy_of : (hosts : List MemoryHost) → entries.AreMembers (Unit {0}) IsImageOf NeverFails hosts → FailsOnly None hosts
 unfolding FailsOnly entries.AreMembers
-sturdy_of places are = λ i place at other. its_tape (length places) i place (are i place at)
+sturdy_of hosts are = λ i host at other. its_tape (length hosts) i host (are i host at)
 
-as_members : (places : List MemoryPlace) → AreMembers places → FailsOnly None places → entries.AreMembers (Unit {0}) IsImageOf NeverFails places
+as_members : (hosts : List MemoryHost) → AreMembers hosts → FailsOnly None hosts → entries.AreMembers (Unit {0}) IsImageOf NeverFails hosts
 unfolding AreMembers FailsOnly entries.AreMembers
-as_members places are sturdy = λ i place at. its_member (length places) i place (are i place at) (sturdy i place at (λ is. none-some i is))
+as_members hosts are sturdy = λ i host at. its_member (length hosts) i host (are i host at) (sturdy i host at (λ is. none-some i is))
 
 -- A farm after a run is a farm, if no tape of it fails.
-pub farm_run : StepsInTurn Definition → EarlierMessages Definition → (places after_places : List MemoryPlace) (sent after_sent : List Message) (pumped now : ℕ) (complete : Bool) (more : List (Event Definition)) →
-    IsMemoryFarm places sent pumped complete → length after_places ≡ length places → AreMembers after_places → FailsOnly None after_places → Moves more places sent after_places after_sent → now ≤ length after_sent →
-    IsMemoryFarm after_places after_sent now complete
-farm_run in_turn shifts places after_places sent after_sent pumped now complete more farm long members sturdy moves within = record {
+pub farm_run : StepsInTurn Definition → EarlierMessages Definition → (hosts after_hosts : List MemoryHost) (sent after_sent : List Message) (pumped now : ℕ) (complete : Bool) (more : List (Event Definition)) →
+    IsMemoryFarm hosts sent pumped complete → length after_hosts ≡ length hosts → AreMembers after_hosts → FailsOnly None after_hosts → Moves more hosts sent after_hosts after_sent → now ≤ length after_sent →
+    IsMemoryFarm after_hosts after_sent now complete
+farm_run in_turn shifts hosts after_hosts sent after_sent pumped now complete more farm long members sturdy moves within = record {
   some = subst (λ k. 1 ≤ k) (sym long) farm.some;
   most = subst (λ k. k ≤ 64) (sym long) farm.most;
-  members = as_members after_places members sturdy;
+  members = as_members after_hosts members sturdy;
   pumped_within = within;
-  reached = λ honest. reached_on complete places sent (farm.reached honest) in_turn shifts after_places after_sent more long moves;
+  reached = λ durable. reached_on complete hosts sent (farm.reached durable) in_turn shifts after_hosts after_sent more long moves;
 }
 
 -- No tape fails that didn't before.
-pub sturdy_on : (watched : Option ℕ) (places after_places : List MemoryPlace) → KeepMembers places after_places → FailsOnly watched places → FailsOnly watched after_places
+pub sturdy_on : (watched : Option ℕ) (hosts after_hosts : List MemoryHost) → KeepMembers hosts after_hosts → FailsOnly watched hosts → FailsOnly watched after_hosts
 unfolding FailsOnly
-sturdy_on watched places after_places keeps sturdy = λ i place at other. let was = keeps.sturdy i place at in was.2 (sturdy i was.0 was.1 other)
+sturdy_on watched hosts after_hosts keeps sturdy = λ i host at other. let was = keeps.sturdy i host at in was.2 (sturdy i was.0 was.1 other)
 
 -- So after a run of a farm whose tapes don't fail.
-pub farm_moved : StepsInTurn Definition → EarlierMessages Definition → (places after_places : List MemoryPlace) (sent after_sent : List Message) (pumped now : ℕ) (complete : Bool) (more : List (Event Definition)) →
-    IsMemoryFarm places sent pumped complete → KeepMembers places after_places → Moves more places sent after_places after_sent → now ≤ length after_sent → IsMemoryFarm after_places after_sent now complete
-farm_moved in_turn shifts places after_places sent after_sent pumped now complete more farm keeps moves within =
-    farm_run in_turn shifts places after_places sent after_sent pumped now complete more farm keeps.as_many (keeps.members (members_of places farm.members))
-    (sturdy_on None places after_places keeps (sturdy_of places farm.members)) moves within
+pub farm_moved : StepsInTurn Definition → EarlierMessages Definition → (hosts after_hosts : List MemoryHost) (sent after_sent : List Message) (pumped now : ℕ) (complete : Bool) (more : List (Event Definition)) →
+    IsMemoryFarm hosts sent pumped complete → KeepMembers hosts after_hosts → Moves more hosts sent after_hosts after_sent → now ≤ length after_sent → IsMemoryFarm after_hosts after_sent now complete
+farm_moved in_turn shifts hosts after_hosts sent after_sent pumped now complete more farm keeps moves within =
+    farm_run in_turn shifts hosts after_hosts sent after_sent pumped now complete more farm keeps.as_many (keeps.members (members_of hosts farm.members))
+    (sturdy_on None hosts after_hosts keeps (sturdy_of hosts farm.members)) moves within
 
 -- A new farm is one.
-pub farm_started : (n : ℕ) (places : List MemoryPlace) → 1 ≤ n → n ≤ 64 → length places ≡ n → AreMembers places → FailsOnly None places → cluster.Shows places [] (start n) → IsMemoryFarm places [] 0 true
-farm_started n places some most long members sturdy shows = record {
+pub farm_started : (n : ℕ) (hosts : List MemoryHost) → 1 ≤ n → n ≤ 64 → length hosts ≡ n → AreMembers hosts → FailsOnly None hosts → cluster.Refines hosts [] (start n) → IsMemoryFarm hosts [] 0 true
+farm_started n hosts some most long members sturdy refines = record {
   some = subst (λ k. 1 ≤ k) (sym long) some;
   most = subst (λ k. k ≤ 64) (sym long) most;
-  members = as_members places members sturdy;
+  members = as_members hosts members sturdy;
   pumped_within = omega arith;
-  reached = λ honest. started n places long shows;
+  reached = λ durable. started n hosts long refines;
 }
 
 -- ---- one world
 
-one_node : AreReadOneWay → (place : MemoryPlace) (node other : world.Node Definition) → IsNode place node → IsNode place other → node ≡ other
+one_node : AreReadOneWay → (host : MemoryHost) (node other : world.Node Definition) → IsNode host node → IsNode host other → node ≡ other
 one_node one (Running held) node other is again = is ∙ sym again
 one_node one (Stopped kept) node other is again =
-    ap (λ s. node_of s node.working) (one_stored one kept node.stored other.stored is.1 again.1) ∙ ap (λ x. node_of other.stored x) (is.0 ∙ sym again.0)
+    ap (λ s. node_of s node.volatile) (one_stored one kept node.stored other.stored is.1 again.1) ∙ ap (λ x. node_of other.stored x) (is.0 ∙ sym again.0)
 
-one_list : AreReadOneWay → (places : List MemoryPlace) (nodes others : List (world.Node Definition)) → AreNodes places nodes → AreNodes places others → nodes ≡ others
+one_list : AreReadOneWay → (hosts : List MemoryHost) (nodes others : List (world.Node Definition)) → AreNodes hosts nodes → AreNodes hosts others → nodes ≡ others
 one_list one [] [] [] are again = refl
 one_list one [] [] (y ∷ others) are again = absurd again
 one_list one [] (x ∷ nodes) others are again = absurd are
-one_list one (p ∷ places) [] others are again = absurd are
-one_list one (p ∷ places) (x ∷ nodes) [] are again = absurd again
-one_list one (p ∷ places) (x ∷ nodes) (y ∷ others) are again =
-    ap (λ z. z ∷ nodes) (one_node one p x y are.0 again.0) ∙ ap (λ zs. y ∷ zs) (one_list one places nodes others are.1 again.1)
+one_list one (p ∷ hosts) [] others are again = absurd are
+one_list one (p ∷ hosts) (x ∷ nodes) [] are again = absurd again
+one_list one (p ∷ hosts) (x ∷ nodes) (y ∷ others) are again =
+    ap (λ z. z ∷ nodes) (one_node one p x y are.0 again.0) ∙ ap (λ zs. y ∷ zs) (one_list one hosts nodes others are.1 again.1)
 
 -- A farm that has all messages is the world that it was led to, and no other.
-pub one_world : AreReadOneWay → (farm : MemoryFarm) → (Unit {0} → IsReached IsImageOf farm.complete farm.places farm.sent) → farm.complete ≡ true → IsOneWorld farm
+pub one_world : AreReadOneWay → (farm : MemoryFarm) → (Unit {0} → IsReachable IsImageOf farm.complete farm.hosts farm.sent) → farm.complete ≡ true → IsOneWorld farm
 one_world one farm known complete =
     let reached = known tt in
-    let w = after definition_eq (length farm.places) reached.events in
+    let w = after definition_eq (length farm.hosts) reached.events in
     let all : w.sent ≡ map message.view farm.sent = reached.messages ∙ ap (λ earlier. map message.view (earlier ++ farm.sent)) (reached.all complete) in
     record {
       the_world = w;
       shown = record { nodes = reached.nodes; messages = all };
       events = reached.events;
       reached = refl;
-      no_other = λ v shows.
-          ap (λ ns. world_of ns v.sent) (one_list one farm.places v.nodes w.nodes shows.nodes reached.nodes)
-          ∙ ap (λ ms. world_of w.nodes ms) (shows.messages ∙ sym all);
+      no_other = λ v refines.
+          ap (λ ns. world_of ns v.sent) (one_list one farm.hosts v.nodes w.nodes refines.nodes reached.nodes)
+          ∙ ap (λ ms. world_of w.nodes ms) (refines.messages ∙ sym all);
     }
 
 -- ---- the headline
 
--- the stored part of an entry is that of its node
-stored_at : AreReadOneWay → (place : MemoryPlace) (node : world.Node Definition) (stored : Stored Definition) → IsNode place node → HasStored (Some place) stored → stored ≡ node.stored
+-- the durable state of an entry is that of its node
+stored_at : AreReadOneWay → (host : MemoryHost) (node : world.Node Definition) (stored : DurableState Definition) → IsNode host node → HasStored (Some host) stored → stored ≡ node.stored
 stored_at one (Running held) node stored is has = has ∙ sym (ap (λ x. x.stored) is)
 stored_at one (Stopped kept) node stored is has = one_stored one kept stored node.stored has is.1
 
@@ -247,49 +225,49 @@ unfolding definition definition_at
 entry_at definitions w i zero d same e = absurd (none-some d e)
 entry_at definitions w i (suc k) d same e = ap (λ ds. slice_get ds k) same ∙ e
 
-published_by : AreReadOneWay → (places : List MemoryPlace) (w : World Definition) (i s : ℕ) (d : Definition) (there : Option MemoryPlace) (stored : Stored Definition) → AreNodes places w.nodes →
-    slice_get places i ≡ there → HasStored there stored → definition_at stored.history s ≡ Some d → definition empty_map w i s ≡ Some d
+published_by : AreReadOneWay → (hosts : List MemoryHost) (w : World Definition) (i s : ℕ) (d : Definition) (there : Option MemoryHost) (stored : DurableState Definition) → AreNodes hosts w.nodes →
+    slice_get hosts i ≡ there → HasStored there stored → definition_at stored.history s ≡ Some d → definition empty_map w i s ≡ Some d
 unfolding history history_of
-published_by one places w i s d None stored are at has e = absurd has
-published_by one places w i s d (Some place) stored are at has e =
-    let here = node_at places w.nodes i place are at in
-    entry_at stored.history w i s d (ap history_of here.1 ∙ ap (λ (x : Stored Definition). x.history) (sym (stored_at one place here.0 stored here.2 has))) e
+published_by one hosts w i s d None stored are at has e = absurd has
+published_by one hosts w i s d (Some host) stored are at has e =
+    let here = node_at hosts w.nodes i host are at in
+    entry_at stored.history w i s d (ap history_of here.1 ∙ ap (λ (x : DurableState Definition). x.history) (sym (stored_at one host here.0 stored here.2 has))) e
 
--- the stored part of an entry has the list of the world's node
-history_at : AreReadOneWay → (places : List MemoryPlace) (w : World Definition) (i : ℕ) (there : Option MemoryPlace) (stored : Stored Definition) → AreNodes places w.nodes → slice_get places i ≡ there →
+-- the durable state of an entry has the list of the world's node
+history_at : AreReadOneWay → (hosts : List MemoryHost) (w : World Definition) (i : ℕ) (there : Option MemoryHost) (stored : DurableState Definition) → AreNodes hosts w.nodes → slice_get hosts i ≡ there →
     HasStored there stored → history w i ≡ stored.history
 unfolding history history_of
-history_at one places w i None stored are at has = absurd has
-history_at one places w i (Some place) stored are at has =
-    let here = node_at places w.nodes i place are at in
-    ap history_of here.1 ∙ ap (λ (x : Stored Definition). x.history) (sym (stored_at one place here.0 stored here.2 has))
+history_at one hosts w i None stored are at has = absurd has
+history_at one hosts w i (Some host) stored are at has =
+    let here = node_at hosts w.nodes i host are at in
+    ap history_of here.1 ∙ ap (λ (x : DurableState Definition). x.history) (sym (stored_at one host here.0 stored here.2 has))
 
 -- What an entry's node has published before a run is a prefix of what it has published after it.
-pub grown : Agreement Definition → AreReadOneWay → StepsInTurn Definition → EarlierMessages Definition → (places after_places : List MemoryPlace) (sent after_sent : List Message) (complete : Bool) (more : List (Event Definition)) →
-    length after_places ≡ length places → (Unit {0} → IsReached IsImageOf complete places sent) → Moves more places sent after_places after_sent →
-    (i : ℕ) (old new : Stored Definition) → HasStored (slice_get places i) old → HasStored (slice_get after_places i) new → IsBeginning old.history new.history
+pub grown : Agreement Definition → AreReadOneWay → StepsInTurn Definition → EarlierMessages Definition → (hosts after_hosts : List MemoryHost) (sent after_sent : List Message) (complete : Bool) (more : List (Event Definition)) →
+    length after_hosts ≡ length hosts → (Unit {0} → IsReachable IsImageOf complete hosts sent) → Moves more hosts sent after_hosts after_sent →
+    (i : ℕ) (old new : DurableState Definition) → HasStored (slice_get hosts i) old → HasStored (slice_get after_hosts i) new → IsBeginning old.history new.history
 unfolding reached_on
-grown law one in_turn shifts places after_places sent after_sent complete more long known moves i old new was is =
+grown theorem one in_turn shifts hosts after_hosts sent after_sent complete more long known moves i old new was is =
     let reached = known tt in
-    let ended = reached_on complete places sent reached in_turn shifts after_places after_sent more long moves in
-    let before = after definition_eq (length places) reached.events in
-    let now = after definition_eq (length after_places) ended.events in
-    subst (λ h. IsBeginning h new.history) (history_at one places before i (slice_get places i) old reached.nodes refl was)
-    (subst (λ h. IsBeginning (history before i) h) (history_at one after_places now i (slice_get after_places i) new ended.nodes refl is)
+    let ended = reached_on complete hosts sent reached in_turn shifts after_hosts after_sent more long moves in
+    let before = after definition_eq (length hosts) reached.events in
+    let now = after definition_eq (length after_hosts) ended.events in
+    subst (λ h. IsBeginning h new.history) (history_at one hosts before i (slice_get hosts i) old reached.nodes refl was)
+    (subst (λ h. IsBeginning (history before i) h) (history_at one after_hosts now i (slice_get after_hosts i) new ended.nodes refl is)
     (subst (λ k. IsBeginning (history before i) (history (after definition_eq k ended.events) i)) (sym long)
-    (law.grows definition_eq (length places) i reached.events (raised (length (map message.view reached.earlier)) more))))
+    (theorem.grows definition_eq (length hosts) i reached.events (raised (length (map message.view reached.earlier)) more))))
 
-pub grown_still : Agreement Definition → AreReadOneWay → StepsInTurn Definition → EarlierMessages Definition → (places : List MemoryPlace) (sent : List Message) (complete : Bool) → (Unit {0} → IsReached IsImageOf complete places sent) →
-    (i : ℕ) (old new : Stored Definition) → HasStored (slice_get places i) old → HasStored (slice_get places i) new → IsBeginning old.history new.history
+pub grown_still : Agreement Definition → AreReadOneWay → StepsInTurn Definition → EarlierMessages Definition → (hosts : List MemoryHost) (sent : List Message) (complete : Bool) → (Unit {0} → IsReachable IsImageOf complete hosts sent) →
+    (i : ℕ) (old new : DurableState Definition) → HasStored (slice_get hosts i) old → HasStored (slice_get hosts i) new → IsBeginning old.history new.history
 unfolding Moves steps
-grown_still law one in_turn shifts places sent complete reached = grown law one in_turn shifts places places sent sent complete [] refl reached (λ w shows. shows)
+grown_still theorem one in_turn shifts hosts sent complete reached = grown theorem one in_turn shifts hosts hosts sent sent complete [] refl reached (λ w refines. refines)
 
 -- Whatever led to the farm, no two of its nodes publish different definitions under one sequence.
-pub agree_reached : Agreement Definition → AreReadOneWay → (farm : MemoryFarm) → (Unit {0} → IsReached IsImageOf farm.complete farm.places farm.sent) → HasOneHistory farm
+pub agree_reached : Agreement Definition → AreReadOneWay → (farm : MemoryFarm) → (Unit {0} → IsReachable IsImageOf farm.complete farm.hosts farm.sent) → HasOneHistory farm
 unfolding HasOneHistory
-agree_reached law one farm known = λ i j s c d first second.
+agree_reached theorem one farm known = λ i j s c d first second.
     let reached = known tt in
-    let w = after definition_eq (length farm.places) reached.events in
-    (law.facts definition_eq (length farm.places) reached.events).same_definition empty_map i j s c d
-    (published_by one farm.places w i s c (slice_get farm.places i) first.stored reached.nodes refl first.has first.entry)
-    (published_by one farm.places w j s d (slice_get farm.places j) second.stored reached.nodes refl second.has second.entry)
+    let w = after definition_eq (length farm.hosts) reached.events in
+    (theorem.facts definition_eq (length farm.hosts) reached.events).same_definition empty_map i j s c d
+    (published_by one farm.hosts w i s c (slice_get farm.hosts i) first.stored reached.nodes refl first.has first.entry)
+    (published_by one farm.hosts w j s d (slice_get farm.hosts j) second.stored reached.nodes refl second.has second.entry)

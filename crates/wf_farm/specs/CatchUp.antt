@@ -1,15 +1,13 @@
 -- The nodes of a farm that are behind catch up: each asks a node that has published the most, and the answer goes to it alone.
 use Rattle.std.specs.Prelude.{◌≡◌, ◌⊎◌, ◌<◌, ◌≤◌, ◌+◌, ◌-◌, ◌||◌, ℕ, zero, suc, Bool, true, false, List, [], ◌∷◌, length, map, slice_get, slice_set, Option, Some, None}
 use Rattle.wf_codec.specs.Message as message
-use Rattle.wf_codec.specs.declared.message.Message.{Message}
+use Rattle.wf_farm.specs.Common.{Message, most_reports, reports_from, Node}
 use Rattle.wf_model.specs.Table as table
-use Rattle.wf_model.specs.Table.{most_told, told_from}
-use Rattle.wf_node.specs.Node.{Node}
-use Rattle.wf_farm.specs.declared.place.Place.{Place}
-use Rattle.wf_farm.specs.declared.place.Place.TheVariants.{Running}
-use Rattle.wf_farm.specs.Delivering.{StandInTurn}
-use Rattle.wf_farm.specs.Giving.{MayBeLost, Takes}
-use Rattle.wf_farm.specs.Leading.{AreLedOn}
+use Rattle.wf_farm.specs.declared.host.NodeHost.{NodeHost}
+use Rattle.wf_farm.specs.declared.host.NodeHost.TheVariants.{Running}
+use Rattle.wf_farm.specs.Delivery.{StandInTurn}
+use Rattle.wf_farm.specs.NodeInput.{MayBeLost, Takes}
+use Rattle.wf_farm.specs.Reachability.{AreReachableFrom}
 use Rattle.wf_tape.specs.declared.tape.Tape.{Ghosts as Tape}
 
 -- ---- who is behind
@@ -44,14 +42,14 @@ StandLevel {T} nodes = (i j : ℕ) (node other : Node T) → slice_get nodes i �
 module _ {T : Type 0} (tapes : Tape T) where
   -- A node took a message that was delivered to it, or an allocation failed and it was lost. What the node sends is delivered to none.
   pub record IsTaken (loses : Bool) (m : Message) (before after : Node T) : Type 0 where
-    pub said : List Message
-    pub takes : Takes tapes loses (table.Deliver (message.view m)) before after said
+    pub outputs : List Message
+    pub takes : Takes tapes loses (table.Deliver (message.view m)) before after outputs
     pub cause : loses ≡ true → MayBeLost m before
 
   -- The messages were delivered to a node, one after the other, until one was lost or none was left.
-  unfoldable pub HasHeard : List Message → Bool → Node T → Node T → Type 0
-  HasHeard [] lost before after = (lost ≡ false) × (after ≡ before)
-  HasHeard (m ∷ rest) lost before after = ((lost ≡ true) × IsTaken true m before after) ⊎ ((middle : Node T) × IsTaken false m before middle × HasHeard rest lost middle after)
+  unfoldable pub HasReceived : List Message → Bool → Node T → Node T → Type 0
+  HasReceived [] lost before after = (lost ≡ false) × (after ≡ before)
+  HasReceived (m ∷ rest) lost before after = ((lost ≡ true) × IsTaken true m before after) ⊎ ((middle : Node T) × IsTaken false m before middle × HasReceived rest lost middle after)
 
   -- One question: a node that is behind asks for the definition after its last one; its message is delivered to the node that it asks,
   -- and to no other; and what that one sends is delivered to the asker alone. The delivery of the question or of one message of the
@@ -70,7 +68,7 @@ module _ {T : Type 0} (tapes : Tape T) where
     pub unanswered : Bool
     pub answers : Takes tapes unanswered (table.Deliver (message.view question)) other other answer
     pub unheard : Bool
-    pub hears : HasHeard answer unheard before after
+    pub receives : HasReceived answer unheard before after
     pub is_lost : lost ≡ (unanswered || unheard)
     pub nodes_are : nodes_after ≡ slice_set nodes asker after
 
@@ -88,8 +86,8 @@ module _ {T : Type 0} (tapes : Tape T) where
   -- ---- the theorems
 
   -- Nodes that catch up are led on.
-  abbrev pub CatchUpLeadsOn : Type 0
-  CatchUpLeadsOn = (nodes after : List (Node T)) (lost : Bool) → StandInTurn nodes → HaveCaughtUp nodes lost after → AreLedOn tapes nodes after
+  abbrev pub CatchUpIsReachable : Type 0
+  CatchUpIsReachable = (nodes after : List (Node T)) (lost : Bool) → StandInTurn nodes → HaveCaughtUp nodes lost after → AreReachableFrom tapes nodes after
 
   -- Nodes that stand level stay as they are.
   abbrev pub LevelRests : Type 0
@@ -103,15 +101,15 @@ pub record IsAnswerTo {T : Type 0} (nodes : List (Node T)) (asked asker : ℕ) (
   pub other : Node T
   pub asker_at : slice_get nodes asker ≡ Some before
   pub asked_at : slice_get nodes asked ≡ Some other
-  pub answer_is : map message.view answer ≡ told_from other.parts.history (length before.parts.history + 1) most_told
+  pub answer_is : map message.view answer ≡ reports_from other.parts.history (length before.parts.history + 1) most_reports
 
 -- The messages were delivered to the node in an entry.
-pub record HearsAt {T : Type 0} (tapes : Tape T) (i : ℕ) (messages : List Message) (lost : Bool) (places places_after : List (Place T)) : Type 0 where
+pub record ReceivesAt {T : Type 0} (tapes : Tape T) (i : ℕ) (messages : List Message) (lost : Bool) (hosts hosts_after : List (NodeHost T)) : Type 0 where
   pub before : Node T
   pub after : Node T
-  pub at : slice_get places i ≡ Some (Running before)
-  pub heard : HasHeard tapes messages lost before after
-  pub places_are : places_after ≡ slice_set places i (Running after)
+  pub at : slice_get hosts i ≡ Some (Running before)
+  pub received : HasReceived tapes messages lost before after
+  pub hosts_are : hosts_after ≡ slice_set hosts i (Running after)
 
 -- No node but the asker is changed, and it hasn't come further than the one that it asks.
 pub record OneChanges {T : Type 0} (asked asker : ℕ) (nodes nodes_after : List (Node T)) : Type 0 where

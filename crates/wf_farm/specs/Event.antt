@@ -1,5 +1,5 @@
 -- Events as the model's events.
-use Rattle.wf_def.specs.Definition.{Definition}
+use Rattle.wf_farm.specs.Common.{Definition}
 use Rattle.wf_model.specs.Action.{numbered}
 use Rattle.wf_model.specs.Kept.{view as view_kept}
 use Rattle.wf_model.specs.World as model

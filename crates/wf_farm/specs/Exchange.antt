@@ -1,32 +1,30 @@
 -- An exchange: a node of a farm is asked to do something, and its messages are delivered, and those sent in reply.
 use Rattle.std.specs.Prelude.{◌≡◌, ℕ, false, List, slice_get, slice_set, Some, Vec}
-use Rattle.std.specs.declared.alloc.Global.{Global}
-use Rattle.wf_codec.specs.declared.message.Message.{Message}
-use Rattle.wf_node.specs.Node.{Node}
-use Rattle.wf_farm.specs.declared.delivering.Pumped.{Pumped}
-use Rattle.wf_farm.specs.declared.place.Place.{Place}
-use Rattle.wf_farm.specs.declared.place.Place.TheVariants.{Running}
-use Rattle.wf_farm.specs.Delivering.{AreHandedOut, IsDelivered, StandInTurn}
-use Rattle.wf_farm.specs.Leading.{AreLedSaying}
+use Rattle.wf_farm.specs.Common.{Global, Message, Node}
+use Rattle.wf_farm.specs.declared.delivery.Pumped.{Pumped}
+use Rattle.wf_farm.specs.declared.host.NodeHost.{NodeHost}
+use Rattle.wf_farm.specs.declared.host.NodeHost.TheVariants.{Running}
+use Rattle.wf_farm.specs.Delivery.{AreHandedOut, IsDelivered, StandInTurn}
+use Rattle.wf_farm.specs.Reachability.{AreReachableSending}
 use Rattle.wf_tape.specs.declared.tape.Tape.{Ghosts as Tape}
 
 -- The client may ask node `number`, if it runs.
-unfoldable pub IsReadyFor : {T C : Type 0} → (C → Node T → Type 0) → C → List (Place T) → ℕ → Type 0
-IsReadyFor {T} ready client places number = (node : Node T) → slice_get places number ≡ Some (Running node) → ready client node
+unfoldable pub IsReadyFor : {T C : Type 0} → (C → Node T → Type 0) → C → List (NodeHost T) → ℕ → Type 0
+IsReadyFor {T} ready client hosts number = (node : Node T) → slice_get hosts number ≡ Some (Running node) → ready client node
 
 -- Node `number` was asked, and sent these messages, which the client's relation tells of.
-pub record IsAsked {T C : Type 0} (asks : C → Node T → Vec Message Global → Node T → C → Type 0) (number : ℕ) (client : C) (nodes : List (Node T)) (said : Vec Message Global) (client_after : C) (nodes_after : List (Node T)) : Type 0 where
+pub record IsAsked {T C : Type 0} (asks : C → Node T → Vec Message Global → Node T → C → Type 0) (number : ℕ) (client : C) (nodes : List (Node T)) (outputs : Vec Message Global) (client_after : C) (nodes_after : List (Node T)) : Type 0 where
   -- the node before and after it was asked
   pub before : Node T
   pub after : Node T
   pub was : slice_get nodes number ≡ Some before
   pub is : nodes_after ≡ slice_set nodes number after
-  pub asked : asks client before said after client_after
+  pub asked : asks client before outputs after client_after
 
 module _ {T : Type 0} (tapes : Tape T) where
   -- What was done to a node leads any nodes on among which it is, and sends exactly these messages.
-  unfoldable pub LeadsOn : Node T → List Message → Node T → Type 0
-  LeadsOn before said after = (nodes : List (Node T)) (i : ℕ) → slice_get nodes i ≡ Some before → StandInTurn nodes → AreLedSaying tapes nodes said (slice_set nodes i after)
+  unfoldable pub ReachabilityGoesOn : Node T → List Message → Node T → Type 0
+  ReachabilityGoesOn before outputs after = (nodes : List (Node T)) (i : ℕ) → slice_get nodes i ≡ Some before → StandInTurn nodes → AreReachableSending tapes nodes outputs (slice_set nodes i after)
 
   -- Where the tape won't fail, a node that isn't halted still isn't, and the tape still won't.
   abbrev pub IsSturdy : Node T → Node T → Type 0
@@ -36,8 +34,8 @@ module _ {T : Type 0} (tapes : Tape T) where
   -- each node, until none was left, or the deliveries stopped early.
   pub record IsExchange {C : Type 0} (asks : C → Node T → Vec Message Global → Node T → C → Type 0) (number : ℕ) (client : C) (nodes : List (Node T)) (pumped : Pumped) (client_after : C) (nodes_after : List (Node T)) : Type 0 where
     -- the node's messages, and the nodes by then
-    pub said : Vec Message Global
+    pub outputs : Vec Message Global
     pub middle : List (Node T)
-    pub asked : IsAsked asks number client nodes said client_after middle
-    pub delivered : IsDelivered tapes middle said.items pumped.deliveries nodes_after
-    pub handed : AreHandedOut tapes middle said.items pumped.deliveries pumped.lost pumped.stopped nodes_after
+    pub asked : IsAsked asks number client nodes outputs client_after middle
+    pub delivered : IsDelivered tapes middle outputs.items pumped.deliveries nodes_after
+    pub handed : AreHandedOut tapes middle outputs.items pumped.deliveries pumped.lost pumped.stopped nodes_after

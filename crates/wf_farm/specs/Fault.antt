@@ -1,20 +1,20 @@
 -- The step table's rejections as a farm reports them, and their numbers.
 use Rattle.std.specs.Prelude.{ℕ, Option, option_map}
 use Rattle.wf_model.specs.Table as table
-use Rattle.wf_model.specs.Table.{Refusal}
+use Rattle.wf_farm.specs.Common.{StepRejection}
 use Rattle.wf_farm.specs.declared.rejection.Rejection.{Rejection}
 use Rattle.wf_farm.specs.declared.rejection.Rejection.TheVariants.{Busy, SequenceFull, RoundsFull, NothingToRetry}
 
 -- the rejection, as the code has it
-abbrev pub rejection_of : Refusal → Rejection
+abbrev pub rejection_of : StepRejection → Rejection
 rejection_of table.Busy = Busy
 rejection_of table.SequenceFull = SequenceFull
 rejection_of table.RoundsFull = RoundsFull
 rejection_of table.NothingToRetry = NothingToRetry
 
 -- what a farm reports of a rejection
-abbrev pub told : Option Refusal → Option Rejection
-told refusal = option_map rejection_of refusal
+abbrev pub reported : Option StepRejection → Option Rejection
+reported step_rejection = option_map rejection_of step_rejection
 
 -- the number of a node's error: N2, N3, N4 or N7
 abbrev pub number_of : Rejection → ℕ

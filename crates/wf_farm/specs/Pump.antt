@@ -1,16 +1,13 @@
 -- The deliveries of a pump: each message not pumped yet, by number, to each of its targets, ascending.
 use Rattle.std.specs.Prelude.{◌≡◌, ◌⊎◌, ◌<◌, ◌≤◌, ◌↔◌, ◌+◌, ℕ, zero, suc, Bool, true, false, List, [], ◌∷◌, ◌++◌, length, take, get_or, Contains}
+use Rattle.wf_farm.specs.Common.{Message, Definition, definition_eq, World, Event, deliver, steps}
 use Rattle.std.specs.List.Sorted.{IsStrictlyIncreasing}
-use Rattle.wf_codec.specs.declared.message.Message.{Message}
-use Rattle.wf_def.specs.Definition.{Definition}
-use Rattle.wf_def.specs.Equality.{definition_eq}
-use Rattle.wf_model.specs.World.{World, Event, deliver, steps}
 use Rattle.wf_farm.specs.declared.fault.FarmFault.{FarmFault}
 use Rattle.wf_farm.specs.declared.fault.FarmFault.TheVariants.{Memory, NoNode, Carried}
-use Rattle.wf_farm.specs.Allocating.{may_allocate}
-use Rattle.wf_farm.specs.Cluster.{Shows}
+use Rattle.wf_farm.specs.Allocation.{may_allocate}
+use Rattle.wf_farm.specs.Cluster.{Refines}
 use Rattle.wf_farm.specs.Farm.{MemoryFarm, Runs, size}
-use Rattle.wf_farm.specs.Place.{MemoryPlace}
+use Rattle.wf_farm.specs.NodeHost.{MemoryHost}
 
 -- the most deliveries of a pump
 abbrev pub most_deliveries : ℕ
@@ -41,8 +38,8 @@ unfoldable pub deliveries : List ℕ → ℕ → ℕ → ℕ → List (Event Def
 deliveries nodes first whole some = rounds nodes first whole ++ to_each (take some nodes) (first + whole)
 
 -- After these deliveries the next one may allocate: its node takes the step.
-unfoldable pub NextMayAllocate : (targets : List ℕ) (first whole some : ℕ) → List MemoryPlace → List Message → Type 0
-NextMayAllocate targets first whole some places sent = (w : World Definition) → Shows places sent w →
+unfoldable pub NextMayAllocate : (targets : List ℕ) (first whole some : ℕ) → List MemoryHost → List Message → Type 0
+NextMayAllocate targets first whole some hosts sent = (w : World Definition) → Refines hosts sent w →
     may_allocate (steps definition_eq w (deliveries targets first whole some)) (deliver (get_or targets some 0) (first + whole)) ≡ true
 
 -- the number of messages that a partial round begins, where `some` of its deliveries are done
@@ -79,7 +76,7 @@ IsPumped names before after stopped = (pumps : Pumps names before after) × IsEn
 -- nothing is changed. Or after this number the next one, which has an effect, wasn't carried.
 abbrev pub IsPumpedPart : List ℕ → MemoryFarm → MemoryFarm → FarmFault → Type 0
 IsPumpedPart names before after (Memory done) = ((done ≡ 0) × (after ≡ before)) ⊎ ((pumps : Pumps names before after) × (count pumps ≡ done) × (done < most_deliveries)
-    × NextMayAllocate pumps.targets before.pumped pumps.whole pumps.some before.places before.sent)
+    × NextMayAllocate pumps.targets before.pumped pumps.whole pumps.some before.hosts before.sent)
 IsPumpedPart names before after NoNode = ⊥
 IsPumpedPart names before after (Carried done) = (pumps : Pumps names before after) × (count pumps ≡ done) × (done < most_deliveries)
-    × NextMayAllocate pumps.targets before.pumped pumps.whole pumps.some before.places before.sent
+    × NextMayAllocate pumps.targets before.pumped pumps.whole pumps.some before.hosts before.sent

@@ -61,7 +61,7 @@ impl Carrier for Copies {
 
 /// What the carrier brings, if that is the message itself. Err: an allocation failed; or the carrier failed, or it brought another
 /// message.
-pub(crate) fn carried<C: Carrier>(
+pub(crate) fn carry_over<C: Carrier>(
     alloc: Global,
     carrier: &mut C,
     message: &Message,

@@ -3,16 +3,16 @@
 ghost use Rattle.std.specs.Prelude.{◌≡◌, ◌⊎◌, ◌<◌, ◌≤◌, ◌+◌, ◌||◌, ℕ, [], false, true, is_err, length, map, IfOk, OnErr, OnOk, Some};
 ghost use Rattle.wf_ballot.specs.Sequence.{last_sequence};
 ghost use Rattle.wf_codec.specs.Message.{view};
-ghost use Rattle.wf_model.specs.Table.{most_told, told_from};
-ghost use Rattle.wf_farm.specs.CatchUp.{BringsOn, CatchUpLeadsOn, EndsUp, FirstEndUp, HasHeard, HasMost, HaveAsked, HaveCaughtUp, HearsAt, IsAnswerTo, IsBehind, IsQuestion, IsTaken, LevelRests, OneChanges, StandLevel, rank, rank_at};
+ghost use Rattle.wf_model.specs.Table.{most_reports, reports_from};
+ghost use Rattle.wf_farm.specs.CatchUp.{BringsOn, CatchUpIsReachable, EndsUp, FirstEndUp, HasReceived, HasMost, HaveAsked, HaveCaughtUp, ReceivesAt, IsAnswerTo, IsBehind, IsQuestion, IsTaken, LevelRests, OneChanges, StandLevel, rank, rank_at};
 ghost use Rattle.wf_farm.specs.Exchange.{IsSturdy};
-ghost use Rattle.wf_farm.specs.Leading.{AreLedOn};
-ghost use Rattle.wf_farm.specs.Nodes.{KeepEntries, KeepPlaces, RunsAt, node_in, nodes_in, nodes_of};
-ghost use Rattle.wf_farm.specs.Places.{AreMembers};
+ghost use Rattle.wf_farm.specs.Reachability.{AreReachableFrom};
+ghost use Rattle.wf_farm.specs.Nodes.{KeepEntries, KeepHosts, RunsAt, node_in, nodes_in, nodes_of};
+ghost use Rattle.wf_farm.specs.Hosts.{AreMembers};
 
-use crate::delivering::{Said, hand, is_halted};
+use crate::delivery::{Outputs, hand, is_halted};
 use crate::farm::Farm;
-use crate::place::Place;
+use crate::host::NodeHost;
 use std::alloc::{AllocError, Global};
 use std::mem::replace;
 use wf_codec::Message;
@@ -21,8 +21,8 @@ use wf_node::Node;
 use wf_tape::Tape;
 
 /// Nodes that catch up are led on, and nodes that stand level stay as they are. A theorem: the call does nothing.
-pub fn a_catch_up_leads_on<T: Tape>()
-    ensures led { CatchUpLeadsOn T.Tape }
+pub fn a_catch_up_is_reachable<T: Tape>()
+    ensures reachable { CatchUpIsReachable T.Tape }
     ensures rests { LevelRests T.Tape }
 {}
 
@@ -39,18 +39,18 @@ impl<T: Tape> Farm<T> {
             (nodes_in self.new) }
         ensures level { OnOk result (StandLevel (nodes_in self.new)) }
         ensures behind { OnErr result (StandLevel (nodes_in self.new) → ⊥) }
-        ensures led { AreLedOn T.Tape (nodes_in self.old) (nodes_in self.new) }
-        ensures kept { KeepPlaces self.old.places self.new.places }
+        ensures reachable { AreReachableFrom T.Tape (nodes_in self.old) (nodes_in self.new) }
+        ensures kept { KeepHosts self.old.hosts self.new.hosts }
         ensures forgets { self.new ≡ record self.old {
-          places = self.new.places;
+          hosts = self.new.hosts;
           sent = [];
           pumped = 0;
           complete = false;
         } }
     {
-        // Theorem of the tape: it stands for exactly one stored part.
+        // Theorem of the tape: it stands for exactly one durable state.
         records_are_read_one_way();
-        let lost = catch_up_in(alloc, &mut self.cluster.places);
+        let lost = catch_up_in(alloc, &mut self.cluster.hosts);
         drop(replace(&mut self.cluster.sent, Vec::new(alloc)));
         self.pumped = 0;
         self.complete = false;
@@ -66,41 +66,41 @@ fn outcome(lost: bool) -> Result<(), AllocError>
 }
 
 /// Lets each node that is behind catch up; returns whether a delivery was lost.
-fn catch_up_in<T: Tape>(alloc: Global, places: &mut [Place<T>]) -> bool
-    requires some { 0 < length places.old }
-    requires members { AreMembers T.honest T.images T.never_fails places.old }
-    ensures caught { HaveCaughtUp T.Tape (nodes_of places.old) result (nodes_of places.new) }
-    ensures level { result ≡ false → StandLevel (nodes_of places.new) }
-    ensures behind { result ≡ true → StandLevel (nodes_of places.new) → ⊥ }
-    ensures led { AreLedOn T.Tape (nodes_of places.old) (nodes_of places.new) }
-    ensures entries { KeepEntries T.Tape places.old places.new }
+fn catch_up_in<T: Tape>(alloc: Global, hosts: &mut [NodeHost<T>]) -> bool
+    requires some { 0 < length hosts.old }
+    requires members { AreMembers T.durable T.images T.never_fails hosts.old }
+    ensures caught { HaveCaughtUp T.Tape (nodes_of hosts.old) result (nodes_of hosts.new) }
+    ensures level { result ≡ false → StandLevel (nodes_of hosts.new) }
+    ensures behind { result ≡ true → StandLevel (nodes_of hosts.new) → ⊥ }
+    ensures reachable { AreReachableFrom T.Tape (nodes_of hosts.old) (nodes_of hosts.new) }
+    ensures entries { KeepEntries T.Tape hosts.old hosts.new }
 {
-    let asked = furthest(places);
-    ask_each(alloc, places, asked)
+    let asked = furthest(hosts);
+    ask_each(alloc, hosts, asked)
 }
 
 /// The index of a node than which none has come further.
-fn furthest<T: Tape>(places: &[Place<T>]) -> usize
-    requires some { 0 < length places.now }
-    ensures within { result < length places.now }
-    ensures most { HasMost (nodes_of places.now) result }
+fn furthest<T: Tape>(hosts: &[NodeHost<T>]) -> usize
+    requires some { 0 < length hosts.now }
+    ensures within { result < length hosts.now }
+    ensures most { HasMost (nodes_of hosts.now) result }
 {
     let mut most = 0;
-    for number in 0..places.len() {
-        most = further(places, most, number);
+    for number in 0..hosts.len() {
+        most = further(hosts, most, number);
     }
     most
 }
 
 /// Which of two nodes has come further.
-fn further<T: Tape>(places: &[Place<T>], first: usize, second: usize) -> usize
-    requires first { first < length places.now }
-    requires second { second < length places.now }
-    ensures within { result < length places.now }
-    ensures first { rank_at (nodes_of places.now) first ≤ rank_at (nodes_of places.now) result }
-    ensures second { rank_at (nodes_of places.now) second ≤ rank_at (nodes_of places.now) result }
+fn further<T: Tape>(hosts: &[NodeHost<T>], first: usize, second: usize) -> usize
+    requires first { first < length hosts.now }
+    requires second { second < length hosts.now }
+    ensures within { result < length hosts.now }
+    ensures first { rank_at (nodes_of hosts.now) first ≤ rank_at (nodes_of hosts.now) result }
+    ensures second { rank_at (nodes_of hosts.now) second ≤ rank_at (nodes_of hosts.now) result }
 {
-    if rank_at(places, second) > rank_at(places, first) {
+    if rank_at(hosts, second) > rank_at(hosts, first) {
         second
     } else {
         first
@@ -108,16 +108,16 @@ fn further<T: Tape>(places: &[Place<T>], first: usize, second: usize) -> usize
 }
 
 /// Lets each node ask the one at an index, as long as it is behind that one; returns whether a delivery was lost.
-fn ask_each<T: Tape>(alloc: Global, places: &mut [Place<T>], asked: usize) -> bool
-    requires most { HasMost (nodes_of places.old) asked }
-    ensures have_asked { HaveAsked T.Tape asked (nodes_of places.old) result
-        (nodes_of places.new) }
-    ensures ends { FirstEndUp asked (length places.old) result (nodes_of places.new) }
-    ensures entries { KeepEntries T.Tape places.old places.new }
+fn ask_each<T: Tape>(alloc: Global, hosts: &mut [NodeHost<T>], asked: usize) -> bool
+    requires most { HasMost (nodes_of hosts.old) asked }
+    ensures have_asked { HaveAsked T.Tape asked (nodes_of hosts.old) result
+        (nodes_of hosts.new) }
+    ensures ends { FirstEndUp asked (length hosts.old) result (nodes_of hosts.new) }
+    ensures entries { KeepEntries T.Tape hosts.old hosts.new }
 {
     let mut lost = false;
-    for asker in 0..places.len() {
-        lost = either(lost, ask_while_behind(alloc, places, asked, asker));
+    for asker in 0..hosts.len() {
+        lost = either(lost, ask_while_behind(alloc, hosts, asked, asker));
     }
     lost
 }
@@ -133,19 +133,19 @@ fn either(a: bool, b: bool) -> bool
 /// no more.
 fn ask_while_behind<T: Tape>(
     alloc: Global,
-    places: &mut [Place<T>],
+    hosts: &mut [NodeHost<T>],
     asked: usize,
     asker: usize,
 ) -> bool
-    requires within { rank_at (nodes_of places.old) asker ≤ rank_at (nodes_of places.old) asked }
-    ensures have_asked { HaveAsked T.Tape asked (nodes_of places.old) result
-        (nodes_of places.new) }
-    ensures one { OneChanges asked asker (nodes_of places.old) (nodes_of places.new) }
-    ensures ends { EndsUp asked asker result (nodes_of places.new) }
-    ensures entries { KeepEntries T.Tape places.old places.new }
+    requires within { rank_at (nodes_of hosts.old) asker ≤ rank_at (nodes_of hosts.old) asked }
+    ensures have_asked { HaveAsked T.Tape asked (nodes_of hosts.old) result
+        (nodes_of hosts.new) }
+    ensures one { OneChanges asked asker (nodes_of hosts.old) (nodes_of hosts.new) }
+    ensures ends { EndsUp asked asker result (nodes_of hosts.new) }
+    ensures entries { KeepEntries T.Tape hosts.old hosts.new }
 {
-    while is_behind(places, asked, asker) {
-        if ask(alloc, places, asked, asker) {
+    while is_behind(hosts, asked, asker) {
+        if ask(alloc, hosts, asked, asker) {
             return true;
         }
     }
@@ -153,33 +153,33 @@ fn ask_while_behind<T: Tape>(
 }
 
 /// Whether a node runs and is behind another.
-fn is_behind<T: Tape>(places: &[Place<T>], asked: usize, asker: usize) -> bool
-    ensures behind { result ≡ true → IsBehind (nodes_of places.now) asked asker }
-    ensures level { result ≡ false → rank_at (nodes_of places.now) asker ≡ 0
-        ⊎ (rank_at (nodes_of places.now) asked ≤ rank_at (nodes_of places.now) asker) }
+fn is_behind<T: Tape>(hosts: &[NodeHost<T>], asked: usize, asker: usize) -> bool
+    ensures behind { result ≡ true → IsBehind (nodes_of hosts.now) asked asker }
+    ensures level { result ≡ false → rank_at (nodes_of hosts.now) asker ≡ 0
+        ⊎ (rank_at (nodes_of hosts.now) asked ≤ rank_at (nodes_of hosts.now) asker) }
 {
-    let rank = rank_at(places, asker);
-    0 < rank && rank < rank_at(places, asked)
+    let rank = rank_at(hosts, asker);
+    0 < rank && rank < rank_at(hosts, asked)
 }
 
 /// How far the node of a number has come: 0 if it doesn't run, or its tape has failed; otherwise one more than the number of maps that
 /// it published.
-fn rank_at<T: Tape>(places: &[Place<T>], number: usize) -> usize
-    ensures { result ≡ rank_at (nodes_of places.now) number }
+fn rank_at<T: Tape>(hosts: &[NodeHost<T>], number: usize) -> usize
+    ensures { result ≡ rank_at (nodes_of hosts.now) number }
 {
-    match places.get(number) {
-        Some(place) => rank_in(place),
+    match hosts.get(number) {
+        Some(host) => rank_in(host),
         None => 0,
     }
 }
 
 /// How far the node in an entry has come.
-fn rank_in<T: Tape>(place: &Place<T>) -> usize
-    ensures { (n : ℕ) (i : ℕ) → result ≡ rank (Some (node_in n i place.now)) }
+fn rank_in<T: Tape>(host: &NodeHost<T>) -> usize
+    ensures { (n : ℕ) (i : ℕ) → result ≡ rank (Some (node_in n i host.now)) }
 {
-    match place {
-        Place::Running(node) => rank_of(node),
-        Place::Stopped(_) => 0,
+    match host {
+        NodeHost::Running(node) => rank_of(node),
+        NodeHost::Stopped(_) => 0,
     }
 }
 
@@ -195,17 +195,17 @@ fn rank_of<T: Tape>(node: &Node<T>) -> usize
 }
 
 /// Lets a node that is behind ask another, and delivers the answer to it; returns whether a delivery was lost.
-fn ask<T: Tape>(alloc: Global, places: &mut [Place<T>], asked: usize, asker: usize) -> bool
-    requires behind { IsBehind (nodes_of places.old) asked asker }
-    ensures question { IsQuestion T.Tape asked asker (nodes_of places.old) result
-        (nodes_of places.new) }
-    ensures one { OneChanges asked asker (nodes_of places.old) (nodes_of places.new) }
-    ensures on { BringsOn asked asker (nodes_of places.old) result (nodes_of places.new) }
-    ensures entries { KeepEntries T.Tape places.old places.new }
+fn ask<T: Tape>(alloc: Global, hosts: &mut [NodeHost<T>], asked: usize, asker: usize) -> bool
+    requires behind { IsBehind (nodes_of hosts.old) asked asker }
+    ensures question { IsQuestion T.Tape asked asker (nodes_of hosts.old) result
+        (nodes_of hosts.new) }
+    ensures one { OneChanges asked asker (nodes_of hosts.old) (nodes_of hosts.new) }
+    ensures on { BringsOn asked asker (nodes_of hosts.old) result (nodes_of hosts.new) }
+    ensures entries { KeepEntries T.Tape hosts.old hosts.new }
 {
-    match answer_at(alloc, places, asked, asker) {
+    match answer_at(alloc, hosts, asked, asker) {
         Ok(answer) => {
-            let lost = hear_at(alloc, places, asker, &answer);
+            let lost = consume_at(alloc, hosts, asker, &answer);
             drop(answer);
             lost
         }
@@ -217,19 +217,19 @@ fn ask<T: Tape>(alloc: Global, places: &mut [Place<T>], asked: usize, asker: usi
 /// one on. The model's steps of both nodes for that change neither of them.
 fn answer_at<T: Tape>(
     alloc: Global,
-    places: &[Place<T>],
+    hosts: &[NodeHost<T>],
     asked: usize,
     asker: usize,
 ) -> Result<Vec<Message>, AllocError>
-    requires behind { IsBehind (nodes_of places.now) asked asker }
+    requires behind { IsBehind (nodes_of hosts.now) asked asker }
     ensures answer { IfOk result (λ answer.
-        IsAnswerTo (nodes_of places.now) asked asker answer.items) }
-    ensures most { rank_at (nodes_of places.now) asked ≤ last_sequence + 1 }
+        IsAnswerTo (nodes_of hosts.now) asked asker answer.items) }
+    ensures most { rank_at (nodes_of hosts.now) asked ≤ last_sequence + 1 }
 {
-    let Place::Running(node) = &places[asker] else {
+    let NodeHost::Running(node) = &hosts[asker] else {
         unreachable!();
     };
-    let Place::Running(other) = &places[asked] else {
+    let NodeHost::Running(other) = &hosts[asked] else {
         unreachable!();
     };
     answer(alloc, node, other)
@@ -243,7 +243,7 @@ fn answer<T: Tape>(
 ) -> Result<Vec<Message>, AllocError>
     requires behind { length node.now.parts.history < length other.now.parts.history }
     ensures answer { IfOk result (λ answer. map view answer.items ≡
-        told_from other.now.parts.history (length node.now.parts.history + 1) most_told) }
+        reports_from other.now.parts.history (length node.now.parts.history + 1) most_reports) }
     ensures most { length other.now.parts.history ≤ last_sequence }
 {
     // No node has published more than the last sequence, so that there is one after the asker's last one.
@@ -255,26 +255,26 @@ fn answer<T: Tape>(
 }
 
 /// Delivers messages to a node that runs, one after the other, until one is lost; returns whether one was.
-fn hear_at<T: Tape>(
+fn consume_at<T: Tape>(
     alloc: Global,
-    places: &mut [Place<T>],
+    hosts: &mut [NodeHost<T>],
     number: usize,
     messages: &[Message],
 ) -> bool
-    requires within { number < length places.old }
-    requires runs { RunsAt places.old number }
-    ensures hears { HearsAt T.Tape number messages.now result places.old places.new }
-    ensures entries { KeepEntries T.Tape places.old places.new }
+    requires within { number < length hosts.old }
+    requires runs { RunsAt hosts.old number }
+    ensures receives { ReceivesAt T.Tape number messages.now result hosts.old hosts.new }
+    ensures entries { KeepEntries T.Tape hosts.old hosts.new }
 {
-    match &mut places[number] {
-        Place::Running(node) => hear(alloc, node, messages),
-        Place::Stopped(_) => unreachable!(),
+    match &mut hosts[number] {
+        NodeHost::Running(node) => consume(alloc, node, messages),
+        NodeHost::Stopped(_) => unreachable!(),
     }
 }
 
 /// Delivers messages to a node, one after the other, until one is lost; returns whether one was.
-fn hear<T: Tape>(alloc: Global, node: &mut Node<T>, messages: &[Message]) -> bool
-    ensures hears { HasHeard T.Tape messages.now result node.old node.new }
+fn consume<T: Tape>(alloc: Global, node: &mut Node<T>, messages: &[Message]) -> bool
+    ensures receives { HasReceived T.Tape messages.now result node.old node.new }
     ensures sturdy { IsSturdy T.Tape node.old node.new }
 {
     match messages {
@@ -283,7 +283,7 @@ fn hear<T: Tape>(alloc: Global, node: &mut Node<T>, messages: &[Message]) -> boo
             if deliver(alloc, node, first) {
                 return true;
             }
-            hear(alloc, node, rest)
+            consume(alloc, node, rest)
         }
     }
 }
@@ -293,7 +293,7 @@ fn deliver<T: Tape>(alloc: Global, node: &mut Node<T>, message: &Message) -> boo
     ensures taken { IsTaken T.Tape result message.now node.old node.new }
     ensures sturdy { IsSturdy T.Tape node.old node.new }
 {
-    let Said { messages, lost } = hand(alloc, node, message);
+    let Outputs { messages, lost } = hand(alloc, node, message);
     drop(messages);
     lost
 }

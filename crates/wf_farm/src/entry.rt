@@ -2,19 +2,19 @@
 
 ghost use Rattle.std.specs.Prelude.{◌≡◌, ◌≤◌, ℕ, true, List, length, slice_get, slice_set, Some, refl};
 ghost use Rattle.wf_codec.specs.Message.{view as view_message};
-ghost use Rattle.wf_model.specs.Table.{most_told, Deliver};
+ghost use Rattle.wf_model.specs.Table.{most_reports, Deliver};
 ghost use Rattle.wf_node.specs.Node.{Node};
-ghost use Rattle.wf_farm.specs.Giving.{MayBeLost, Takes};
+ghost use Rattle.wf_farm.specs.NodeInput.{MayBeLost, Takes};
 
-use crate::delivering::{Said, hand, quiet};
-use crate::place::Place;
+use crate::delivery::{Outputs, hand, quiet};
+use crate::host::NodeHost;
 use std::alloc::Global;
 use wf_codec::Message;
 use wf_node::Node;
 use wf_tape::Tape;
 
 /// What one loop delivers messages to: a node, or a farm's entry, whose node may be stopped.
-pub(crate) trait Entry<T: Tape> {
+pub(crate) trait Recipient<T: Tape> {
     /// The entry as node i of n.
     ghost node: { ℕ → ℕ → Self → Node T };
 
@@ -26,13 +26,13 @@ pub(crate) trait Entry<T: Tape> {
 
     /// Delivers a copy of a message to the node, and returns the messages that it sends. A stopped node takes and sends nothing, and
     /// loses nothing.
-    fn receive(&mut self, alloc: Global, message: &Message) -> Said
+    fn receive(&mut self, alloc: Global, message: &Message) -> Outputs
         ensures takes { (n : ℕ) (i : ℕ) → Takes T.Tape result.lost
             (Deliver (view_message message.now)) (node n i self.old) (node n i self.new)
             result.messages.items }
         ensures cause { (n : ℕ) (i : ℕ) → result.lost ≡ true →
             MayBeLost message.now (node n i self.old) }
-        ensures few { length result.messages.items ≤ most_told }
+        ensures few { length result.messages.items ≤ most_reports }
         ensures keeps { keeps self.old self.new };
 
     ghost as_many: { (entries : List Self) → length (nodes entries) ≡ length entries };
@@ -44,7 +44,7 @@ pub(crate) trait Entry<T: Tape> {
         nodes (slice_set entries i entry) ≡ slice_set (nodes entries) i (node (length entries) i entry) };
 }
 
-impl<T: Tape> Entry<T> for Node<T> {
+impl<T: Tape> Recipient<T> for Node<T> {
     ghost node = { λ _ _ node. node };
 
     ghost nodes = { λ nodes. nodes };
@@ -57,31 +57,31 @@ impl<T: Tape> Entry<T> for Node<T> {
 
     ghost set = { λ _ _ _. refl };
 
-    fn receive(&mut self, alloc: Global, message: &Message) -> Said {
+    fn receive(&mut self, alloc: Global, message: &Message) -> Outputs {
         hand(alloc, self, message)
     }
 }
 
-impl<T: Tape> Entry<T> for Place<T> {
+impl<T: Tape> Recipient<T> for NodeHost<T> {
     ghost use Rattle.wf_farm.specs.Nodes.{KeepsEntry, node_in, nodes_of};
-    ghost use Rattle.wf_farm.specs.NodesLaws.{length-nodes, nodes_get, nodes_set};
+    ghost use Rattle.wf_farm.specs.NodesTheorems.{length-nodes, nodes_get, nodes_set};
 
-    ghost node = { λ n i place. node_in n i place };
+    ghost node = { λ n i host. node_in n i host };
 
-    ghost nodes = { λ places. nodes_of places };
+    ghost nodes = { λ hosts. nodes_of hosts };
 
     ghost keeps = { λ before after. KeepsEntry T.Tape before after };
 
-    ghost as_many = { λ places. length-nodes places };
+    ghost as_many = { λ hosts. length-nodes hosts };
 
-    ghost get = { λ places i place at. nodes_get places i place at };
+    ghost get = { λ hosts i host at. nodes_get hosts i host at };
 
-    ghost set = { λ places i place. nodes_set places i place };
+    ghost set = { λ hosts i host. nodes_set hosts i host };
 
-    fn receive(&mut self, alloc: Global, message: &Message) -> Said {
+    fn receive(&mut self, alloc: Global, message: &Message) -> Outputs {
         match self {
-            Place::Running(node) => hand(alloc, node, message),
-            Place::Stopped(_) => quiet(alloc, false),
+            NodeHost::Running(node) => hand(alloc, node, message),
+            NodeHost::Stopped(_) => quiet(alloc, false),
         }
     }
 }

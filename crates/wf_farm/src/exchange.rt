@@ -4,17 +4,17 @@ ghost use Rattle.std.specs.Prelude.{◌≡◌, ◌<◌, ◌≤◌, false, [], le
 ghost use Rattle.std.specs.declared.alloc.Global.{Global};
 ghost use Rattle.wf_codec.specs.declared.message.Message.{Message};
 ghost use Rattle.wf_node.specs.Node.{Node};
-ghost use Rattle.wf_farm.specs.Delivering.{AnyPart, StandInTurn};
-ghost use Rattle.wf_farm.specs.Exchange.{IsAsked, IsExchange, IsReadyFor, IsSturdy, LeadsOn};
-ghost use Rattle.wf_farm.specs.Leading.{AreLedOn, AreLedSaying, AreReached, HaveOneHistory};
-ghost use Rattle.wf_farm.specs.Nodes.{KeepEntries, KeepPlaces, RunsAt, nodes_in, nodes_of};
-ghost use Rattle.wf_farm.specs.Places.{AreMembers};
+ghost use Rattle.wf_farm.specs.Delivery.{AnyPart, StandInTurn};
+ghost use Rattle.wf_farm.specs.Exchange.{IsAsked, IsExchange, IsReadyFor, IsSturdy, ReachabilityGoesOn};
+ghost use Rattle.wf_farm.specs.Reachability.{AreReachableFrom, AreReachableSending, AreReachable, HaveOneHistory};
+ghost use Rattle.wf_farm.specs.Nodes.{KeepEntries, KeepHosts, RunsAt, nodes_in, nodes_of};
+ghost use Rattle.wf_farm.specs.Hosts.{AreMembers};
 
 use crate::cluster::Cluster;
-use crate::delivering::{Pumped, deliver_each};
+use crate::delivery::{Pumped, deliver_each};
 use crate::farm::Farm;
-use crate::leading::deliveries_lead_on;
-use crate::place::Place;
+use crate::host::NodeHost;
+use crate::reachability::deliveries_are_reachable;
 use std::alloc::Global;
 use std::mem::replace;
 use wf_codec::Message;
@@ -23,7 +23,7 @@ use wf_node::Node;
 use wf_tape::Tape;
 
 /// What asks a node of a farm to do something: a step of the node's own, which isn't a delivery, or nothing.
-pub trait Client<T: Tape> {
+pub trait NodeClient<T: Tape> {
     /// The client may ask this node.
     ghost ready: { Self → Node T → Type 0 };
 
@@ -34,20 +34,20 @@ pub trait Client<T: Tape> {
     fn ask(&mut self, alloc: Global, node: &mut Node<T>) -> Vec<Message>
         requires { ready self.old node.old }
         ensures asks { asks self.old node.old result node.new self.new }
-        ensures leads { LeadsOn T.Tape node.old result.items node.new }
+        ensures reaches { ReachabilityGoesOn T.Tape node.old result.items node.new }
         ensures sturdy { IsSturdy T.Tape node.old node.new };
 }
 
 impl<T: Tape> Farm<T> {
     /// Returns the farm of these nodes, each opened on its tape: node i at index i. The tapes are of a kind that isn't known to be
-    /// honest, as a file isn't; a farm over tapes in memory begins with [`Farm::new`]. Allocates nothing.
-    pub fn open(alloc: Global, places: Vec<Place<T>>) -> Farm<T>
-        requires some { 1 ≤ length places.items }
-        requires most { length places.items ≤ 64 }
-        requires in_turn { StandInTurn (nodes_of places.items) }
-        requires outside { T.honest → ⊥ }
+    /// durable, as a file isn't; a farm over tapes in memory begins with [`Farm::new`]. Allocates nothing.
+    pub fn open(alloc: Global, hosts: Vec<NodeHost<T>>) -> Farm<T>
+        requires some { 1 ≤ length hosts.items }
+        requires most { length hosts.items ≤ 64 }
+        requires in_turn { StandInTurn (nodes_of hosts.items) }
+        requires outside { T.durable → ⊥ }
         ensures { result ≡ record {
-          places = places.items;
+          hosts = hosts.items;
           sent = [];
           pumped = 0;
           refused = None;
@@ -56,7 +56,7 @@ impl<T: Tape> Farm<T> {
     {
         Farm {
             cluster: Cluster {
-                places,
+                hosts,
                 sent: Vec::new(alloc),
             },
             pumped: 0,
@@ -68,23 +68,28 @@ impl<T: Tape> Farm<T> {
     /// Lets the client ask node `number`, and delivers the node's messages to every node, and those sent meanwhile, as
     /// [`deliver_all`](crate::deliver_all) does; stopped nodes receive nothing. Afterwards all messages are forgotten, those sent
     /// before the exchange too. A node that the tape fails under is halted, and keeps what it published.
-    pub fn exchange<C: Client<T>>(&mut self, alloc: Global, number: usize, client: &mut C) -> Pumped
-        requires runs { RunsAt self.old.places number }
-        requires ready { IsReadyFor C.ready client.old self.old.places number }
+    pub fn exchange<C: NodeClient<T>>(
+        &mut self,
+        alloc: Global,
+        number: usize,
+        client: &mut C,
+    ) -> Pumped
+        requires runs { RunsAt self.old.hosts number }
+        requires ready { IsReadyFor C.ready client.old self.old.hosts number }
         ensures exchange { IsExchange T.Tape C.asks number client.old (nodes_in self.old) result
             client.new (nodes_in self.new) }
-        ensures led { AreLedOn T.Tape (nodes_in self.old) (nodes_in self.new) }
-        ensures kept { KeepPlaces self.old.places self.new.places }
+        ensures reachable { AreReachableFrom T.Tape (nodes_in self.old) (nodes_in self.new) }
+        ensures kept { KeepHosts self.old.hosts self.new.hosts }
         ensures forgets { self.new ≡ record self.old {
-          places = self.new.places;
+          hosts = self.new.hosts;
           sent = [];
           pumped = 0;
           complete = false;
         } }
     {
-        // Theorem of the tape: it stands for exactly one stored part.
+        // Theorem of the tape: it stands for exactly one durable state.
         records_are_read_one_way();
-        let pumped = exchange_in(alloc, &mut self.cluster.places, number, client);
+        let pumped = exchange_in(alloc, &mut self.cluster.hosts, number, client);
         drop(replace(&mut self.cluster.sent, Vec::new(alloc)));
         self.pumped = 0;
         self.complete = false;
@@ -92,57 +97,57 @@ impl<T: Tape> Farm<T> {
     }
 
     /// The headline, for a farm over any kind of tape: if some events led to its nodes from the start, no two of them, running or
-    /// halted, have published different definitions under one sequence. Over an honest tape some did. The call does nothing.
+    /// halted, have published different definitions under one sequence. Over a durable tape some did. The call does nothing.
     pub fn nodes_agree(&self)
-        ensures reached { T.honest → AreReached AnyPart (nodes_in self.now) }
-        ensures agree { AreReached AnyPart (nodes_in self.now) →
+        ensures reached { T.durable → AreReachable AnyPart (nodes_in self.now) }
+        ensures agree { AreReachable AnyPart (nodes_in self.now) →
             HaveOneHistory (nodes_in self.now) }
         ensures in_turn { StandInTurn (nodes_in self.now) }
     {
         let _ = &self.cluster;
-        crate::law::agreement();
+        crate::theorem::agreement();
     }
 }
 
 /// Lets the client ask a node that runs, and delivers the messages.
-fn exchange_in<C: Client<T>, T: Tape>(
+fn exchange_in<C: NodeClient<T>, T: Tape>(
     alloc: Global,
-    places: &mut [Place<T>],
+    hosts: &mut [NodeHost<T>],
     number: usize,
     client: &mut C,
 ) -> Pumped
-    requires within { number < length places.old }
-    requires runs { RunsAt places.old number }
-    requires ready { IsReadyFor C.ready client.old places.old number }
-    requires members { AreMembers T.honest T.images T.never_fails places.old }
-    ensures exchange { IsExchange T.Tape C.asks number client.old (nodes_of places.old) result
-        client.new (nodes_of places.new) }
-    ensures led { AreLedOn T.Tape (nodes_of places.old) (nodes_of places.new) }
-    ensures entries { KeepEntries T.Tape places.old places.new }
+    requires within { number < length hosts.old }
+    requires runs { RunsAt hosts.old number }
+    requires ready { IsReadyFor C.ready client.old hosts.old number }
+    requires members { AreMembers T.durable T.images T.never_fails hosts.old }
+    ensures exchange { IsExchange T.Tape C.asks number client.old (nodes_of hosts.old) result
+        client.new (nodes_of hosts.new) }
+    ensures reachable { AreReachableFrom T.Tape (nodes_of hosts.old) (nodes_of hosts.new) }
+    ensures entries { KeepEntries T.Tape hosts.old hosts.new }
 {
-    deliveries_lead_on::<T>();
-    let messages = asked(alloc, places, number, client);
-    deliver_each(alloc, places, messages)
+    deliveries_are_reachable::<T>();
+    let messages = asked(alloc, hosts, number, client);
+    deliver_each(alloc, hosts, messages)
 }
 
 /// Lets the client ask a node that runs, and returns the node's messages.
-fn asked<C: Client<T>, T: Tape>(
+fn asked<C: NodeClient<T>, T: Tape>(
     alloc: Global,
-    places: &mut [Place<T>],
+    hosts: &mut [NodeHost<T>],
     number: usize,
     client: &mut C,
 ) -> Vec<Message>
-    requires within { number < length places.old }
-    requires runs { RunsAt places.old number }
-    requires ready { IsReadyFor C.ready client.old places.old number }
-    requires members { AreMembers T.honest T.images T.never_fails places.old }
-    ensures asked { IsAsked C.asks number client.old (nodes_of places.old) result
-        client.new (nodes_of places.new) }
-    ensures says { AreLedSaying T.Tape (nodes_of places.old) result.items (nodes_of places.new) }
-    ensures entries { KeepEntries T.Tape places.old places.new }
+    requires within { number < length hosts.old }
+    requires runs { RunsAt hosts.old number }
+    requires ready { IsReadyFor C.ready client.old hosts.old number }
+    requires members { AreMembers T.durable T.images T.never_fails hosts.old }
+    ensures asked { IsAsked C.asks number client.old (nodes_of hosts.old) result
+        client.new (nodes_of hosts.new) }
+    ensures only_sends { AreReachableSending T.Tape (nodes_of hosts.old) result.items (nodes_of hosts.new) }
+    ensures entries { KeepEntries T.Tape hosts.old hosts.new }
 {
-    match &mut places[number] {
-        Place::Running(node) => client.ask(alloc, node),
-        Place::Stopped(_) => unreachable!(),
+    match &mut hosts[number] {
+        NodeHost::Running(node) => client.ask(alloc, node),
+        NodeHost::Stopped(_) => unreachable!(),
     }
 }

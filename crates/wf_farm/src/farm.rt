@@ -3,21 +3,19 @@
 use crate::carrier::Copies;
 use crate::cluster::Cluster;
 use crate::event::Event;
-use crate::fate::{Ran, Watch};
+use crate::fate::{CrashWatch, Ran};
 use crate::fault::FarmFault;
 use crate::rejection::Rejection;
+use crate::theorem::theorems;
 use std::alloc::Global;
 use std::marker::Model;
-use wf_canon::Canon;
 use wf_codec::Message;
 use wf_journal::records_are_read_one_way;
-use wf_law::earlier_messages;
-use wf_model::steps_in_turn;
 use wf_node::Node;
 use wf_tape::{MemoryTape, Tape};
 
-/// A farm: its nodes, running or stopped, over any kind of tape, and the messages that they sent. Every farm over an honest tape, as
-/// one in memory is, is reached from the start by some events, so its nodes agree ([`Farm::agree`]).
+/// A farm: its nodes, running or stopped, over any kind of tape, and the messages that they sent. Every farm over a durable tape,
+/// as one in memory is, is reached from the start by some events, so its nodes agree ([`Farm::agree`]).
 #[derive(Drop)]
 pub struct Farm<T: Tape = MemoryTape> {
     pub(crate) cluster: Cluster<T>,
@@ -39,15 +37,15 @@ impl<T: Tape> Model for Farm<T> {
     ghost coded = { Prim.hlevel (codes, map.code) };
 
     ghost view = { λ f. record {
-      places = f.cluster.places.items;
+      hosts = f.cluster.hosts.items;
       sent = f.cluster.sent.items;
       pumped = f.pumped;
       refused = f.refused;
       complete = f.complete;
     } };
 
-    ghost invariant = { λ f. IsFarm T.honest T.images T.never_fails
-        f.cluster.places.items f.cluster.sent.items f.pumped f.complete };
+    ghost invariant = { λ f. IsFarm T.durable T.images T.never_fails
+        f.cluster.hosts.items f.cluster.sent.items f.pumped f.complete };
 }
 
 impl<T: Tape> Farm<T> {
@@ -68,14 +66,14 @@ impl<T: Tape> Farm<T> {
         ensures some { 1 ≤ result }
         ensures most { result ≤ 64 }
     {
-        self.cluster.places.len()
+        self.cluster.hosts.len()
     }
 
     /// The node of that number, if it exists and runs.
     pub fn node(&self, number: usize) -> Option<&Node<T>>
-        ensures { option_copied result ≡ running_in (slice_get self.now.places number) }
+        ensures { option_copied result ≡ running_in (slice_get self.now.hosts number) }
     {
-        self.cluster.places.get(number)?.running()
+        self.cluster.hosts.get(number)?.running()
     }
 
     /// The message of that number, if it was sent and isn't forgotten.
@@ -104,11 +102,11 @@ impl Farm<MemoryTape> {
     ghost use Rattle.std.specs.Prelude.{◌≡◌, ◌≤◌, true, map, None, IfOk, IfErr, OnOk, OnErr};
     ghost use Rattle.wf_model.specs.World.{start};
     ghost use Rattle.wf_farm.specs.Agreement.{HasOneHistory, HistoriesGrow, IsOneWorld};
-    ghost use Rattle.wf_farm.specs.Allocating.{AllocatesAt};
-    ghost use Rattle.wf_farm.specs.Cluster.{TellsWhy, last_refused};
+    ghost use Rattle.wf_farm.specs.Allocation.{AllocatesAt};
+    ghost use Rattle.wf_farm.specs.Cluster.{ReportsWhy, last_rejected};
     ghost use Rattle.wf_farm.specs.Event.{view};
-    ghost use Rattle.wf_farm.specs.Farm.{IsAtOnce, Runs, RunsPart, Shows, size};
-    ghost use Rattle.wf_farm.specs.Leading.{AreFresh};
+    ghost use Rattle.wf_farm.specs.Farm.{IsAtOnce, Runs, RunsPart, Refines, size};
+    ghost use Rattle.wf_farm.specs.Reachability.{AreFresh};
     ghost use Rattle.wf_farm.specs.Nodes.{AllRun, nodes_in};
 
     /// Returns a farm of n nodes, all running, with all parts empty: the model's start. Err: F1 with 0 if an allocation fails.
@@ -116,11 +114,11 @@ impl Farm<MemoryTape> {
     pub fn new(alloc: Global, n: u8) -> Result<Farm<MemoryTape>, FarmFault>
         requires some { 1 ≤ n }
         requires most { n ≤ 64 }
-        ensures start { IfOk result (λ farm. Shows farm (start n)) }
+        ensures start { IfOk result (λ farm. Refines farm (start n)) }
         ensures size { IfOk result (λ farm. size farm ≡ n) }
         ensures fresh { IfOk result (λ farm. (farm.pumped ≡ 0) × (farm.refused ≡ None)) }
         ensures complete { IfOk result (λ farm. farm.complete ≡ true) }
-        ensures running { IfOk result (λ farm. AllRun farm.places) }
+        ensures running { IfOk result (λ farm. AllRun farm.hosts) }
         ensures new { IfOk result (λ farm. AreFresh (nodes_in farm)) }
         ensures memory { IfErr result IsAtOnce }
     {
@@ -142,25 +140,20 @@ impl Farm<MemoryTape> {
     pub fn run(&mut self, alloc: Global, events: &[Event]) -> Result<(), FarmFault>
         ensures done { OnOk result (Runs (map view events.now) self.old self.new) }
         ensures refused { OnOk result
-            (TellsWhy (λ w. last_refused w (map view events.now)) self.new.refused
-            self.old.places self.old.sent) }
+            (ReportsWhy (λ w. last_rejected w (map view events.now)) self.new.refused
+            self.old.hosts self.old.sent) }
         ensures part { IfErr result (λ fault.
             RunsPart fault (map view events.now) self.old self.new) }
         ensures may { IfErr result (λ fault.
-            AllocatesAt fault (map view events.now) self.old.places self.old.sent) }
+            AllocatesAt fault (map view events.now) self.old.hosts self.old.sent) }
         ensures none { OnErr result (self.new.refused ≡ None) }
         ensures grows { HistoriesGrow self.old self.new }
         ensures size { size self.new ≡ size self.old }
         ensures pumped { self.new.pumped ≡ self.old.pumped }
         ensures complete { self.new.complete ≡ self.old.complete }
     {
-        // Theorems of the model and of the tape: applying two lists of events in turn is applying their concatenation, messages sent
-        // earlier only shift message numbers, lists only grow, and a tape stands for exactly one stored part.
-        steps_in_turn::<Canon>();
-        earlier_messages::<Canon>();
-        crate::law::agreement();
-        records_are_read_one_way();
-        let watch = Watch {
+        theorems();
+        let watch = CrashWatch {
             node: None,
             keep: 0,
         };
@@ -185,7 +178,7 @@ impl Farm<MemoryTape> {
         ensures world { self.now.complete ≡ true → IsOneWorld self.now }
     {
         let _ = &self.cluster;
-        crate::law::agreement();
+        crate::theorem::agreement();
         records_are_read_one_way();
     }
 }

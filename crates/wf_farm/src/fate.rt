@@ -2,13 +2,11 @@ use crate::event::Kept;
 use crate::rejection::Rejection;
 use wf_codec::Message;
 
-/// What becomes of a step of a node whose tape may fail.
+/// What becomes of a step that a node takes, and whose tape may fail.
 #[derive(Drop)]
 pub enum Fate {
     /// It is done, and sends these messages.
     Done(Vec<Message>),
-    /// The node rejects it.
-    Rejected(Rejection),
     /// The tape failed: the node crashed within the step, which left this, and was opened again.
     Torn(Kept),
     /// An allocation failed. If the tape doesn't fail, the node is unchanged.
@@ -26,7 +24,7 @@ pub struct Happened {
 
 /// The node whose tape may fail during some events, and the crash within its step.
 #[derive(Clone, Copy)]
-pub struct Watch {
+pub struct CrashWatch {
     /// The node; None if no tape may fail.
     pub node: Option<usize>,
     /// The number of unsynced bytes that the crash keeps.

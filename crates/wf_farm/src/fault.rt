@@ -1,8 +1,8 @@
 //! Errors of a farm, and the rejections of a node that it reports.
 
 ghost use Rattle.std.specs.Prelude.{◌≡◌};
-ghost use Rattle.wf_farm.specs.Carrying.{fault_after};
-ghost use Rattle.wf_farm.specs.Place.{rejection_in};
+ghost use Rattle.wf_farm.specs.Carriage.{fault_after};
+ghost use Rattle.wf_farm.specs.NodeHost.{rejection_in};
 
 use crate::carrier::CarrierFault;
 use crate::rejection::Rejection;

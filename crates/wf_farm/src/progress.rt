@@ -1,5 +1,5 @@
 ghost use Rattle.std.specs.Prelude.{◌≡◌, ◌+◌, ◌<◌, ◌^◌, IfErr, OnOk};
-ghost use Rattle.wf_farm.specs.Progress.{IsMade, counted, last_end, next, outcome};
+ghost use Rattle.wf_farm.specs.PumpProgress.{IsMade, counted, last_end, next, outcome};
 ghost use Rattle.wf_farm.specs.declared.progress.End.TheVariants.{Failed};
 ghost use Rattle.wf_farm.specs.Pump.{begun};
 
@@ -12,7 +12,7 @@ pub(crate) const MOST_DELIVERIES: usize = 100_000;
 
 /// The progress of a pump: whole rounds, deliveries of the next round, and deliveries in total.
 #[derive(Clone, Copy)]
-pub struct Progress {
+pub struct PumpProgress {
     pub whole: usize,
     pub some: usize,
     pub done: usize,
@@ -32,24 +32,24 @@ pub enum End {
 /// How far deliveries have come, and how many of them were lost.
 #[derive(Clone, Copy)]
 pub struct Delivered {
-    pub progress: Progress,
+    pub progress: PumpProgress,
     pub lost: usize,
 }
 
 /// How far a pump has come, which delivery was torn, and how it ended.
 #[derive(Clone, Copy)]
 pub struct Pumping {
-    pub progress: Progress,
+    pub progress: PumpProgress,
     pub torn: Option<(usize, Kept)>,
     pub end: End,
 }
 
-impl Progress {
+impl PumpProgress {
     /// Nothing is delivered yet.
-    pub fn start() -> Progress
+    pub fn start() -> PumpProgress
         ensures { result ≡ record { whole = 0; some = 0; done = 0 } }
     {
-        Progress {
+        PumpProgress {
             whole: 0,
             some: 0,
             done: 0,
@@ -57,7 +57,7 @@ impl Progress {
     }
 
     /// After one more delivery, where a round has `round` deliveries.
-    pub fn next(self, round: usize) -> Progress
+    pub fn next(self, round: usize) -> PumpProgress
         requires part { self.some < round }
         requires whole { self.whole + 1 < 2 ^ 64 }
         requires done { self.done + 1 < 2 ^ 64 }
@@ -65,13 +65,13 @@ impl Progress {
     {
         let done = self.done + 1;
         if self.some + 1 == round {
-            Progress {
+            PumpProgress {
                 whole: self.whole + 1,
                 some: 0,
                 done,
             }
         } else {
-            Progress {
+            PumpProgress {
                 whole: self.whole,
                 some: self.some + 1,
                 done,
@@ -92,7 +92,7 @@ impl Progress {
     }
 
     /// The result of the pump.
-    pub fn told(self, end: End) -> Result<bool, FarmFault>
+    pub fn reported(self, end: End) -> Result<bool, FarmFault>
         ensures { result ≡ outcome self end }
     {
         match end {

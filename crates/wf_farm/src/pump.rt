@@ -4,27 +4,24 @@ ghost use Rattle.std.specs.Prelude.{◌≡◌, ◌<◌, ◌≤◌, [], ◌∷◌
 ghost use Rattle.wf_model.specs.Table as table;
 ghost use Rattle.wf_model.specs.World.{deliver};
 ghost use Rattle.wf_farm.specs.Agreement.{HistoriesGrow};
-ghost use Rattle.wf_farm.specs.Allocating.{TakesStep};
-ghost use Rattle.wf_farm.specs.Carrying.{ChangesByStep, IsMemory, IsUndelivered};
+ghost use Rattle.wf_farm.specs.Allocation.{TakesStep};
+ghost use Rattle.wf_farm.specs.Carriage.{ChangesByStep, IsMemory, IsUndelivered};
 ghost use Rattle.wf_farm.specs.Cluster.{AreMembers, Between, KeepMembers};
 ghost use Rattle.wf_farm.specs.Farm.{IsAtOnce, Runs, size};
 ghost use Rattle.wf_farm.specs.Fused.{FailsOnly, HasFaredTo, IsArmed, Stands};
-ghost use Rattle.wf_farm.specs.Progress.{IsEnd, IsForMemory, MayEnd};
+ghost use Rattle.wf_farm.specs.PumpProgress.{IsEnd, IsForMemory, MayEnd};
 ghost use Rattle.wf_farm.specs.Pump.{IsPumped, IsPumpedPart};
 
 use crate::carrier::{Carrier, Copies};
 use crate::cluster::Cluster;
 use crate::event::{Action, Event};
 use crate::farm::Farm;
-use crate::fate::Watch;
+use crate::fate::CrashWatch;
 use crate::fault::{FarmFault, fault_after};
-use crate::progress::{End, MOST_DELIVERIES, Progress, Pumping, last_end};
+use crate::progress::{End, MOST_DELIVERIES, PumpProgress, Pumping, last_end};
 use crate::targets::targets_of;
+use crate::theorem::theorems;
 use std::alloc::Global;
-use wf_canon::Canon;
-use wf_journal::records_are_read_one_way;
-use wf_law::earlier_messages;
-use wf_model::steps_in_turn;
 use wf_tape::MemoryTape;
 
 impl Farm<MemoryTape> {
@@ -45,8 +42,8 @@ impl Farm<MemoryTape> {
         ensures fault { IfErr result IsUndelivered }
         ensures stays { OnErr result (Runs [] self.old self.new) }
         ensures taken { OnErr result
-            (TakesStep node (table.Deliver number) self.old.places self.old.sent) }
-        ensures idle { ChangesByStep node (table.Deliver number) self.old.places self.old.sent
+            (TakesStep node (table.Deliver number) self.old.hosts self.old.sent) }
+        ensures idle { ChangesByStep node (table.Deliver number) self.old.hosts self.old.sent
             carrier.old carrier.new }
         ensures faithful { C.faithful → IfErr result IsAtOnce }
         ensures refused { self.new.refused ≡ self.old.refused }
@@ -55,12 +52,7 @@ impl Farm<MemoryTape> {
         ensures pumped { self.new.pumped ≡ self.old.pumped }
         ensures complete { self.new.complete ≡ self.old.complete }
     {
-        // Theorems of the model and of the tape: applying two lists of events in turn is applying their concatenation, messages sent
-        // earlier only shift message numbers, lists only grow, and a tape stands for exactly one stored part.
-        steps_in_turn::<Canon>();
-        earlier_messages::<Canon>();
-        crate::law::agreement();
-        records_are_read_one_way();
+        theorems();
         let event = Event::Act(node, Action::Deliver(number));
         let happened = self.cluster.happen(alloc, carrier, &event, 0);
         drop(event);
@@ -106,16 +98,11 @@ impl Farm<MemoryTape> {
         ensures refused { self.new.refused ≡ self.old.refused }
         ensures complete { self.new.complete ≡ self.old.complete }
     {
-        // Theorems of the model and of the tape: applying two lists of events in turn is applying their concatenation, messages sent
-        // earlier only shift message numbers, lists only grow, and a tape stands for exactly one stored part.
-        steps_in_turn::<Canon>();
-        earlier_messages::<Canon>();
-        crate::law::agreement();
-        records_are_read_one_way();
-        let Ok(targets) = targets_of(alloc, nodes, self.cluster.places.len()) else {
+        theorems();
+        let Ok(targets) = targets_of(alloc, nodes, self.cluster.hosts.len()) else {
             return Err(FarmFault::Memory(0));
         };
-        let watch = Watch {
+        let watch = CrashWatch {
             node: None,
             keep: 0,
         };
@@ -127,7 +114,7 @@ impl Farm<MemoryTape> {
             .cluster
             .pump(alloc, carrier, &targets, self.pumped, watch);
         self.pumped = progress.pumped(self.pumped);
-        progress.told(end)
+        progress.reported(end)
     }
 }
 
@@ -141,25 +128,25 @@ impl Cluster<MemoryTape> {
         carrier: &mut C,
         targets: &[usize],
         first: usize,
-        watch: Watch,
+        watch: CrashWatch,
     ) -> Pumping
-        requires members { AreMembers self.old.places.items }
-        requires size { length self.old.places.items ≤ 64 }
+        requires members { AreMembers self.old.hosts.items }
+        requires size { length self.old.hosts.items ≤ 64 }
         requires some { 0 < length targets.now }
         requires within { first ≤ length self.old.sent.items }
-        requires armed { FailsOnly watch.node self.old.places.items }
+        requires armed { FailsOnly watch.node self.old.hosts.items }
         ensures come { Stands watch.node result.end → Between
             (HasFaredTo watch.node targets.now first result.progress result.torn)
             self.old self.new }
         ensures end { IsEnd first (length self.new.sent.items) result.progress result.end }
         ensures may { watch.node ≡ None → MayEnd targets.now first result.progress
-            self.old.places.items self.old.sent.items result.end }
+            self.old.hosts.items self.old.sent.items result.end }
         ensures armed { Stands watch.node result.end →
-            IsArmed watch.node result.torn self.new.places.items }
+            IsArmed watch.node result.torn self.new.hosts.items }
         ensures memory { C.faithful → IsForMemory result.end }
-        ensures members { KeepMembers self.old.places.items self.new.places.items }
+        ensures members { KeepMembers self.old.hosts.items self.new.hosts.items }
     {
-        let mut progress = Progress::start();
+        let mut progress = PumpProgress::start();
         let mut torn = None;
         while progress.done < MOST_DELIVERIES {
             let number = first + progress.whole;

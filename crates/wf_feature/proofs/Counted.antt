@@ -12,6 +12,6 @@ given true x y e = cc
 given false x y e = absurd (let impossible : ⊥ = cc in impossible)
 
 -- a feature's points are those of its parts
-pub feature_counted : (said : FeatureSlots) (f : FeatureDefinition) → feature_of said ≡ Some f → sum_by length said.parts ≡ points_of_feature f
+pub feature_counted : (settings : FeatureSlots) (f : FeatureDefinition) → feature_of settings ≡ Some f → sum_by length settings.parts ≡ points_of_feature f
 unfolding feature_of def.feature_of
-feature_counted said f e = ap points_of_feature (given (nat_lt 0 (length said.parts)) _ f e)
+feature_counted settings f e = ap points_of_feature (given (nat_lt 0 (length settings.parts)) _ f e)

@@ -1,6 +1,6 @@
 pub mod Booleans
-pub mod PointsLaw
+pub mod PointsTheorem
 pub mod Counted
 pub mod Unlike
-pub mod GatheredLaw
+pub mod GatheredTheorem
 pub mod LayerNames

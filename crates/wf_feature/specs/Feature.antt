@@ -29,22 +29,22 @@ points most tokens = points_behind most [] (length tokens) tokens
 
 -- the slots after a keyword that comes at most once
 unfoldable pub feature_once : FeatureOnce → List ℕ → List Token → Option (FeatureOnce × List Token)
-feature_once said = step_by (
-    (codes "ITEMS", once said.items text (λ x. record said { items = Some x })) ∷
-    (codes "TEXT", once said.text text (λ x. record said { text = Some x })) ∷ [])
+feature_once settings = step_by (
+    (codes "ITEMS", once settings.items text (λ x. record settings { items = Some x })) ∷
+    (codes "TEXT", once settings.text text (λ x. record settings { text = Some x })) ∷ [])
 
 -- the slots after a keyword, if at most n points may come in all
 unfoldable pub feature_put : ℕ → FeatureSlots → List ℕ → List Token → Option (FeatureSlots × List Token)
-feature_put most said = step_or (
-    (codes "POINTS", any_times said.parts (points (most - sum_by length said.parts)) (λ more. record said { parts = more })) ∷ [])
-    (λ keyword tokens. put_into (λ x. record said { single = x }) (feature_once said.single keyword tokens))
+feature_put most settings = step_or (
+    (codes "POINTS", any_times settings.parts (points (most - sum_by length settings.parts)) (λ more. record settings { parts = more })) ∷ [])
+    (λ keyword tokens. put_into (λ x. record settings { single = x }) (feature_once settings.single keyword tokens))
 
 abbrev pub no_feature : FeatureSlots
 no_feature = record { parts = []; single = record { items = None; text = None } }
 
 -- the feature of the slots, if there is a part: absent texts are empty
 unfoldable pub feature_of : FeatureSlots → Option FeatureDefinition
-feature_of said = def.feature_of said.parts (unwrap_or said.single.items []) (unwrap_or said.single.text [])
+feature_of settings = def.feature_of settings.parts (unwrap_or settings.single.items []) (unwrap_or settings.single.text [])
 
 -- what follows the word FEATURE, up to its END: a shape of at most n points
 unfoldable pub feature : ℕ → List Token → Option (FeatureDefinition × List Token)

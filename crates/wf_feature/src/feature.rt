@@ -2,7 +2,7 @@
 ghost use Rattle.std.specs.Prelude.{◌≡◌, ◌≤◌, IfOk, None, length, true, if◌then◌else◌};
 ghost use Rattle.wf_def.specs.Limits.{points_of_feature};
 ghost use Rattle.wf_feature.specs.Feature.{feature, feature_of, feature_once, no_feature, point, points};
-ghost use Rattle.wf_block.specs.Reading.{Gives};
+ghost use Rattle.wf_block.specs.ReadContract.{Gives};
 
 use crate::slots::feature::{FeatureOnce, FeatureSlots};
 use std::alloc::Global;
@@ -12,7 +12,7 @@ use wf_block::fault::MapFault;
 use wf_block::keyword::is_name;
 use wf_block::once;
 use wf_block::parser::Parser;
-use wf_def::feature::{Feature, Part, Parts};
+use wf_def::feature::{Feature, Part, ShapeParts};
 use wf_def::point::Point;
 use wf_token::token::Token;
 
@@ -31,9 +31,9 @@ impl Slots for FeatureReading {
     ghost use Rattle.wf_feature.specs.declared.slots.feature.FeatureSlots.{FeatureSlots as Value};
     ghost use Rattle.wf_feature.specs.Feature.{feature_put};
 
-    ghost Said = { Value };
+    ghost Settings = { Value };
 
-    ghost said = { λ f. f.slots };
+    ghost settings = { λ f. f.slots };
 
     ghost Within = { ℕ };
 
@@ -65,13 +65,13 @@ impl FeatureOnce {
             (feature_once self.old keyword.entry.text.now parser.old) }
     {
         let word = keyword.text;
-        let place = keyword.place;
+        let byte_offset = keyword.byte_offset;
         if is_name(word, "ITEMS") {
-            once!(self.items, place, parser.text());
+            once!(self.items, byte_offset, parser.text());
         } else if is_name(word, "TEXT") {
-            once!(self.text, place, parser.text());
+            once!(self.text, byte_offset, parser.text());
         } else {
-            return Err(MapFault::UnexpectedWord(place));
+            return Err(MapFault::UnexpectedWord(byte_offset));
         }
         Ok(())
     }
@@ -82,14 +82,14 @@ impl FeatureSlots {
         ensures { result ≡ no_feature }
     {
         FeatureSlots {
-            parts: Parts::new(alloc),
+            parts: ShapeParts::new(alloc),
             single: FeatureOnce::default(),
         }
     }
 
     /// The feature of the slots; absent texts are empty.
     #[tactic(auto, unfolding(crate::specs::Feature::feature_of))]
-    fn filled(self, alloc: Global) -> Result<Feature, MapFault>
+    fn fill(self, alloc: Global) -> Result<Feature, MapFault>
         ensures { Gives (λ f. f) result (feature_of self) }
     {
         let FeatureSlots { parts, single } = self;
@@ -119,11 +119,11 @@ pub fn read_feature(parser: &mut Parser<'_>, most: usize) -> Result<(Feature, us
         most: _,
         points,
     } = reading;
-    Ok((slots.filled(parser.alloc())?, points))
+    Ok((slots.fill(parser.alloc())?, points))
 }
 
 /// Reads at most n points up to END (MapServer mapfile reference, POINTS).
-#[tactic(auto, unfolding(crate::specs::Feature::points), using(crate::proofs::PointsLaw::points_step, crate::proofs::PointsLaw::points_past))]
+#[tactic(auto, unfolding(crate::specs::Feature::points), using(crate::proofs::PointsTheorem::points_step, crate::proofs::PointsTheorem::points_past))]
 fn read_points(parser: &mut Parser<'_>, most: usize) -> Result<Part, MapFault>
     ensures read { Gives (λ part. (part, parser.new)) result (points most parser.old) }
     ensures fits { IfOk result (λ part. length part ≤ most) }

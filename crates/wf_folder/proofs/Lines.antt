@@ -6,7 +6,7 @@ use Rattle.hex.specs.Hex.{encode_lower}
 use Rattle.wf_folder.specs.FarmFile.{mark_line, nodes_line}
 use Rattle.wf_folder.specs.NodeFile.{farm_and_mark, farm_line, node_line, starts_line}
 use Rattle.wf_folder.specs.Number.{number_digits}
-use Rattle.wf_folder.specs.NumberLaws.{digits_of_mark, eight}
+use Rattle.wf_folder.specs.NumberTheorems.{digits_of_mark, eight}
 use Rattle.wf_folder.proofs.Numbers.{same_ends, same_fronts}
 
 two_digits : (n m : ℕ) → 48 + n / 10 ≡ 48 + m / 10 → 48 + n % 10 ≡ 48 + m % 10 → n ≡ m

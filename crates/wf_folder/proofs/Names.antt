@@ -3,7 +3,7 @@ use Rattle.std.proofs.Common.{◌≡◌, ℕ, zero, suc, ◌+◌, ◌-◌, ◌�
 use Rattle.std.specs.Prelude.{replicate, ◌↔◌}
 use Rattle.std.specs.List.{list_all, prefix_len}
 use Rattle.std.proofs.lemmas.Bool.Decides.{nat_tests}
-use Rattle.wf_folder.specs.Name.{IsFarmName, IsNameText, is_name_byte, isnt_zero, name_text, padded}
+use Rattle.wf_folder.specs.Name.{IsFarmName, IsNameText, is_name_byte, isnt_zero, name_text, pad}
 
 -- no byte of a name is zero
 tested : (b : ℕ) → (b ≡ 0 → ⊥) → isnt_zero b ≡ true
@@ -32,13 +32,13 @@ found (b ∷ text) n each =
     let both = and_both (is_name_byte b) (list_all is_name_byte text) each in
     front_more isnt_zero b (text ++ replicate n 0) text (name_byte b both.0) (found text n both.1)
 
-pub name_again : (text : List ℕ) → IsNameText text → name_text (padded text) ≡ text
+pub name_again : (text : List ℕ) → IsNameText text → name_text (pad text) ≡ text
 name_again text is = found text (32 - length text) is.each
 
-pub padded_is_name : (text : List ℕ) → IsNameText text → IsFarmName (padded text)
+pub padded_is_name : (text : List ℕ) → IsNameText text → IsFarmName (pad text)
 padded_is_name text is =
     let same = name_again text is in
-    record { text = subst IsNameText (sym same) is; whole = ap padded (sym same) }
+    record { text = subst IsNameText (sym same) is; whole = ap pad (sym same) }
 
 -- a text written over the front of 32 zeros
 drop-zeros : (n k : ℕ) → drop {A = ℕ} k (replicate n 0) ≡ replicate (n - k) 0
@@ -47,8 +47,8 @@ drop-zeros zero (suc k) = let same : zero ≡ zero - suc k = omega arith in ap (
 drop-zeros (suc n) zero = let same : suc n ≡ suc n - zero = omega arith in ap (λ (m : ℕ). replicate m 0) same
 drop-zeros (suc n) (suc k) = let same : n - k ≡ suc n - suc k = omega arith in drop-zeros n k ∙ ap (λ (m : ℕ). replicate m 0) same
 
-pub written_over : (text front : List ℕ) → front ≡ text → front ++ drop {A = ℕ} (length text) (replicate 32 0) ≡ padded text
+pub written_over : (text front : List ℕ) → front ≡ text → front ++ drop {A = ℕ} (length text) (replicate 32 0) ≡ pad text
 written_over text front e = ap (λ (f : List ℕ). f ++ drop {A = ℕ} (length text) (replicate 32 0)) e ∙ ap (λ (rest : List ℕ). text ++ rest) (drop-zeros 32 (length text))
 
-pub is_farm_name : (bytes : List ℕ) → IsNameText (name_text bytes) → bytes ≡ padded (name_text bytes) → IsFarmName bytes
+pub is_farm_name : (bytes : List ℕ) → IsNameText (name_text bytes) → bytes ≡ pad (name_text bytes) → IsFarmName bytes
 is_farm_name bytes text whole = record { text = text; whole = whole }

@@ -8,7 +8,7 @@ use Rattle.hex.specs.Hex.{IsBytes, decode_sized, encode_lower, lower_digits}
 use Rattle.hex.proofs.HexLemmas.{length-encode_with, decode_sized-encode_lower}
 use Rattle.hex.specs.declared.error.FromHexError.{FromHexError}
 use Rattle.wf_folder.specs.Number.{number_digits}
-use Rattle.wf_folder.specs.NumberLaws.{digits_of_mark, eight}
+use Rattle.wf_folder.specs.NumberTheorems.{digits_of_mark, eight}
 
 -- each byte of a number is one
 are_bytes : (n : ℕ) → IsBytes (to_be_bytes w32 n)

@@ -1,9 +1,9 @@
 -- Whether the nodes of a farm may start on what is in a folder: its file `farm`, and its tapes, that of node i at index i.
 use Rattle.std.specs.Prelude.{◌≡◌, ◌≢◌, ◌≤◌, ◌<◌, ◌⊎◌, ℕ, Bool, true, false, List, slice_index_or}
-use Rattle.wf_folder.specs.declared.admission.Found.{Found}
-use Rattle.wf_folder.specs.declared.admission.Found.TheVariants as finds
-use Rattle.wf_folder.specs.declared.admission.Rejection.{Rejection}
-use Rattle.wf_folder.specs.declared.admission.Rejection.TheVariants as causes
+use Rattle.wf_folder.specs.declared.admission.FoundFile.{FoundFile}
+use Rattle.wf_folder.specs.declared.admission.FoundFile.TheVariants as finds
+use Rattle.wf_folder.specs.declared.admission.StartRejection.{StartRejection}
+use Rattle.wf_folder.specs.declared.admission.StartRejection.TheVariants as causes
 use Rattle.wf_folder.specs.declared.admission.Start.{Start}
 use Rattle.wf_folder.specs.declared.admission.Start.TheVariants as starts
 use Rattle.wf_folder.specs.declared.farm_file.FarmFile.{FarmFile}
@@ -62,7 +62,7 @@ pub record HasTapes (nodes : ℕ) (tapes : List Presence) : Type 0 where
 
 -- By its file, the folder is that of a farm of n nodes, and their tapes are there; without one it is new, where no tape has a byte and
 -- none is another node's, or taken over, where exactly the nodes' tapes are there and one has a byte.
-abbrev pub IsStart : ℕ → Found → List Presence → Start → Type 0
+abbrev pub IsStart : ℕ → FoundFile → List Presence → Start → Type 0
 IsStart nodes (finds.File file) tapes (starts.Own own) = (own ≡ file) × (file.nodes ≡ nodes) × HasTapes nodes tapes
 IsStart nodes (finds.File file) tapes starts.New = ⊥
 IsStart nodes (finds.File file) tapes starts.TakenOver = ⊥
@@ -74,20 +74,20 @@ IsStart nodes (finds.Bad fault) tapes start = ⊥
 -- ---- why it doesn't start
 
 -- its file is that of a farm of n nodes, if there is one
-abbrev pub IsOwnOrNone : ℕ → Found → Type 0
+abbrev pub IsOwnOrNone : ℕ → FoundFile → Type 0
 IsOwnOrNone nodes finds.Nothing = Unit {0}
 IsOwnOrNone nodes (finds.File file) = file.nodes ≡ nodes
 IsOwnOrNone nodes (finds.Bad fault) = ⊥
 
 -- its file says that it has tapes; or there is none, and a tape has a byte
-abbrev pub HasBegun : Found → List Presence → Type 0
+abbrev pub HasBegun : FoundFile → List Presence → Type 0
 HasBegun finds.Nothing tapes = (i : ℕ) × HasByte tapes i
 HasBegun (finds.File file) tapes = Unit {0}
 HasBegun (finds.Bad fault) tapes = ⊥
 
 -- The cause: the file is bad; it is that of another number of nodes; if neither, a tape of another node is there; if none is, a
 -- tape is missing of a folder that has begun.
-abbrev pub IsRejection : ℕ → Found → List Presence → Rejection → Type 0
+abbrev pub IsRejection : ℕ → FoundFile → List Presence → StartRejection → Type 0
 IsRejection nodes found tapes (causes.BadFile fault) = found ≡ finds.Bad fault
 IsRejection nodes found tapes (causes.OtherNodes other) = (file : FarmFile) × (found ≡ finds.File file) × (file.nodes ≡ other) × (other ≢ nodes)
 IsRejection nodes found tapes (causes.SurplusTape i) = IsOwnOrNone nodes found × IsFirstSurplus nodes tapes i
@@ -95,4 +95,4 @@ IsRejection nodes found tapes (causes.MissingTape i) = IsOwnOrNone nodes found �
 
 -- no start is both
 abbrev pub StartsAreNotRejected : Type 0
-StartsAreNotRejected = (nodes : ℕ) (found : Found) (tapes : List Presence) (start : Start) (why : Rejection) → IsStart nodes found tapes start → ¬ IsRejection nodes found tapes why
+StartsAreNotRejected = (nodes : ℕ) (found : FoundFile) (tapes : List Presence) (start : Start) (why : StartRejection) → IsStart nodes found tapes start → ¬ IsRejection nodes found tapes why

@@ -4,4 +4,4 @@ pub mod Name
 pub mod NodeAdmission
 pub mod NodeFile
 pub mod Number
-pub mod NumberLaws
+pub mod NumberTheorems

@@ -13,8 +13,8 @@ pub record IsNameText (text : List ℕ) : Type 0 where
   pub each : list_all is_name_byte text ≡ true
 
 -- the text, and then zeros up to 32 bytes
-abbrev pub padded : List ℕ → List ℕ
-padded text = text ++ replicate (32 - length text) 0
+abbrev pub pad : List ℕ → List ℕ
+pad text = text ++ replicate (32 - length text) 0
 
 -- the bytes before the first zero
 abbrev pub isnt_zero : ℕ → Bool
@@ -26,4 +26,4 @@ name_text bytes = take (prefix_len isnt_zero bytes) bytes
 -- a farm's name: the bytes of such a text
 pub record IsFarmName (bytes : List ℕ) : Type 0 where
   pub text : IsNameText (name_text bytes)
-  pub whole : bytes ≡ padded (name_text bytes)
+  pub whole : bytes ≡ pad (name_text bytes)

@@ -9,7 +9,7 @@ use thiserror::Error;
 
 /// What was found as the file `farm` of a folder.
 #[derive(Clone, Copy, Debug, PartialEq, Eq)]
-pub enum Found {
+pub enum FoundFile {
     /// There is no such file.
     Nothing,
     /// This one.
@@ -31,7 +31,7 @@ pub enum Start {
 
 /// Why the nodes don't start.
 #[derive(Clone, Copy, Debug, PartialEq, Eq, Error)]
-pub enum Rejection {
+pub enum StartRejection {
     /// The file can't be read as a file `farm`.
     #[error("{0}")]
     BadFile(FileFault),
@@ -49,52 +49,52 @@ pub enum Rejection {
 /// Whether a farm of n nodes may start on a folder, by its file `farm` and its tapes: tape i is the one of node i.
 ///
 /// With the file the farm must have its number of nodes, and exactly these nodes' tapes must be there. Without it the folder is new
-/// where no tape has a byte, and taken over where exactly the nodes' tapes are there. A tape of a node that the farm doesn't have is
-/// rejected in any case, also if it has no byte: it would be one too many at the next start.
-pub fn admit(nodes: u8, found: Found, tapes: &[Presence]) -> Result<Start, Rejection>
+/// where no tape has a byte, and taken over where exactly the nodes' tapes are there. A tape of a node that the farm doesn't have
+/// is rejected in any case, also if it has no byte: it would be one too many at the next start.
+pub fn admit(nodes: u8, found: FoundFile, tapes: &[Presence]) -> Result<Start, StartRejection>
     requires { nodes ≤ length tapes.now }
     ensures start { IfOk result (IsStart nodes found tapes.now) }
     ensures rejection { IfErr result (IsRejection nodes found tapes.now) }
 {
     match found {
-        Found::Nothing => admit_without_file(nodes as usize, tapes),
-        Found::File(file) => admit_with_file(nodes, file, tapes),
-        Found::Bad(fault) => Err(Rejection::BadFile(fault)),
+        FoundFile::Nothing => admit_without_file(nodes as usize, tapes),
+        FoundFile::File(file) => admit_with_file(nodes, file, tapes),
+        FoundFile::Bad(fault) => Err(StartRejection::BadFile(fault)),
     }
 }
 
 /// Whether it may start on a folder with a file `farm`.
-fn admit_with_file(nodes: u8, file: FarmFile, tapes: &[Presence]) -> Result<Start, Rejection>
+fn admit_with_file(nodes: u8, file: FarmFile, tapes: &[Presence]) -> Result<Start, StartRejection>
     requires { nodes ≤ length tapes.now }
-    ensures start { IfOk result (IsStart nodes (Found.File file) tapes.now) }
-    ensures rejection { IfErr result (IsRejection nodes (Found.File file) tapes.now) }
+    ensures start { IfOk result (IsStart nodes (FoundFile.File file) tapes.now) }
+    ensures rejection { IfErr result (IsRejection nodes (FoundFile.File file) tapes.now) }
 {
     if file.nodes != nodes {
-        return Err(Rejection::OtherNodes(file.nodes));
+        return Err(StartRejection::OtherNodes(file.nodes));
     }
     if let Some(tape) = first_surplus(nodes as usize, tapes) {
-        return Err(Rejection::SurplusTape(tape));
+        return Err(StartRejection::SurplusTape(tape));
     }
     match first_missing(nodes as usize, tapes) {
-        Some(tape) => Err(Rejection::MissingTape(tape)),
+        Some(tape) => Err(StartRejection::MissingTape(tape)),
         None => Ok(Start::Own(file)),
     }
 }
 
 /// Whether it may start on a folder without one.
-fn admit_without_file(nodes: usize, tapes: &[Presence]) -> Result<Start, Rejection>
+fn admit_without_file(nodes: usize, tapes: &[Presence]) -> Result<Start, StartRejection>
     requires { nodes ≤ length tapes.now }
-    ensures start { IfOk result (IsStart nodes Found.Nothing tapes.now) }
-    ensures rejection { IfErr result (IsRejection nodes Found.Nothing tapes.now) }
+    ensures start { IfOk result (IsStart nodes FoundFile.Nothing tapes.now) }
+    ensures rejection { IfErr result (IsRejection nodes FoundFile.Nothing tapes.now) }
 {
     if let Some(tape) = first_surplus(nodes, tapes) {
-        return Err(Rejection::SurplusTape(tape));
+        return Err(StartRejection::SurplusTape(tape));
     }
     if !is_any_written(tapes) {
         return Ok(Start::New);
     }
     match first_missing(nodes, tapes) {
-        Some(tape) => Err(Rejection::MissingTape(tape)),
+        Some(tape) => Err(StartRejection::MissingTape(tape)),
         None => Ok(Start::TakenOver),
     }
 }

@@ -16,7 +16,7 @@ pub enum FileFault {
 
 /// Why bytes aren't the text of a node's file `farm` that this program reads.
 #[derive(Clone, Copy, Debug, PartialEq, Eq, Error)]
-pub enum NodeFault {
+pub enum NodeFileFault {
     /// They don't begin with the line of this version.
     #[error("not a farm file of version 1")]
     Version,

@@ -1,15 +1,15 @@
 //! Whose a farm's folder is: the text of its file `farm`, and whether nodes may start on what is there.
 //!
-//! A folder holds the tapes of one farm, `node-0.tape` and so on, and the file `farm`, which says how many nodes the farm has, whether
-//! its tapes began empty, and a mark that no other folder's file has ([`FarmFile`]). [`FarmFile::text`] is its text, [`FarmFile::read`]
+//! A folder holds the tapes of one farm, `node-0.tape` and so on, and the file `farm`, which says how many nodes the farm has,
+//! whether its tapes began empty, and a mark that no other folder's file has ([`FarmFile`]). [`FarmFile::text`] is its text, [`FarmFile::read`]
 //! reads it. [`admit`] decides whether a farm of n nodes may start, by what the file says and which tapes are there.
 //!
-//! A folder that one node uses, apart from the others, has that node's tape and a file `farm` of its own kind ([`NodeFile`]), with the
-//! farm's name ([`FarmName`]), the node, and how often it started there. [`admit_new`] says where such a folder may be made,
+//! A folder that one node uses, apart from the others, has that node's tape and a file `farm` of its own kind ([`NodeFile`]), with
+//! the farm's name ([`FarmName`]), the node, and how often it started there. [`admit_new`] says where such a folder may be made,
 //! [`admit_node`] whether the node may start.
 //!
-//! Promises: each farm has one text, and the texts that are read are exactly those (`specs/FarmFile.antt`). A start is admitted only
-//! where the folder is new, this farm's or taken over, and rejected only for the cause that is returned (`specs/Admission.antt`).
+//! Promises: each farm has one text, and the texts that are read are exactly those (`specs/FarmFile.antt`). A start is admitted
+//! only where the folder is new, this farm's or taken over, and rejected only for the cause that is returned (`specs/Admission.antt`).
 //!
 //! Not here: reading and writing files, and what the tapes hold.
 #![tactic(auto)]
@@ -17,7 +17,6 @@
 mod admission;
 mod farm_file;
 mod fault;
-mod law;
 mod name;
 mod node_admission;
 mod node_file;
@@ -25,14 +24,15 @@ mod node_reader;
 mod number;
 mod presence;
 mod reader;
+mod theorem;
 
-pub use admission::{Found, Rejection, Start, admit};
+pub use admission::{FoundFile, Start, StartRejection, admit};
 pub use farm_file::{Beginning, FarmFile, mark_digits};
-pub use fault::{FileFault, NodeFault};
-pub use law::{no_node_start_is_admitted_and_rejected, no_start_is_admitted_and_rejected};
+pub use fault::{FileFault, NodeFileFault};
 pub use name::{FarmName, NAME_BYTES};
 pub use node_admission::{NodeFound, NodeRejection, NotEmpty, admit_new, admit_node};
 pub use node_file::NodeFile;
 pub use number::{number_digits, push_number, split_number};
 pub use presence::Presence;
 pub use reader::{after, split_mark};
+pub use theorem::{no_node_start_is_admitted_and_rejected, no_start_is_admitted_and_rejected};

@@ -1,7 +1,7 @@
 //! The name of a farm.
 ghost use Rattle.std.specs.Prelude.{◌≡◌, ◌≤◌, ◌↔◌, length, IsTrue, IsSome, IfSome};
 ghost use Rattle.std.specs.List.{list_all, prefix_len};
-ghost use Rattle.wf_folder.specs.Name.{IsFarmName, IsNameText, is_name_byte, isnt_zero, name_text, padded};
+ghost use Rattle.wf_folder.specs.Name.{IsFarmName, IsNameText, is_name_byte, isnt_zero, name_text, pad};
 
 use std::marker::Model;
 
@@ -32,12 +32,10 @@ impl FarmName {
     #[tactic(auto, using(crate::proofs::Names::padded_is_name))]
     pub fn new(text: &[u8]) -> Option<FarmName>
         ensures valid { IsSome result ↔ IsNameText text.now }
-        ensures value { IfSome result (λ name. name ≡ padded text.now) }
+        ensures value { IfSome result (λ name. name ≡ pad text.now) }
     {
         if is_name_text(text) {
-            Some(FarmName {
-                bytes: padded(text),
-            })
+            Some(FarmName { bytes: pad(text) })
         } else {
             None
         }
@@ -101,9 +99,9 @@ fn are_name_bytes(text: &[u8]) -> bool
 }
 
 /// The text, and then zeros up to 32 bytes.
-fn padded(text: &[u8]) -> [u8; 32]
+fn pad(text: &[u8]) -> [u8; 32]
     requires { length text.now ≤ 32 }
-    ensures { result ≡ padded text.now }
+    ensures { result ≡ pad text.now }
 {
     let mut bytes = [0u8; NAME_BYTES];
     bytes[..text.len()].copy_from_slice(text);

@@ -3,7 +3,7 @@ ghost use Rattle.std.specs.Prelude.{◌≡◌, ◌↔◌, IfErr, IfOk, IsOk};
 ghost use Rattle.wf_folder.specs.NodeFile.{IsNodeFile};
 ghost use Rattle.wf_folder.specs.NodeAdmission.{IsNodeRejection, IsNodeStart, IsSoundFind};
 
-use crate::fault::NodeFault;
+use crate::fault::NodeFileFault;
 use crate::node_file::NodeFile;
 use crate::presence::Presence;
 use thiserror::Error;
@@ -16,7 +16,7 @@ pub enum NodeFound {
     /// This one.
     File(NodeFile),
     /// A file that can't be read as one.
-    Bad(NodeFault),
+    Bad(NodeFileFault),
 }
 
 /// Why a node doesn't start.
@@ -27,7 +27,7 @@ pub enum NodeRejection {
     NoFile,
     /// The file can't be read as a node's file `farm`.
     #[error("{0}")]
-    BadFile(NodeFault),
+    BadFile(NodeFileFault),
     /// The file says another number of nodes than there are peers.
     #[error("a folder of a farm of {0} nodes")]
     OtherNodes(u8),
@@ -52,8 +52,8 @@ pub fn admit_new(names: usize) -> Result<(), NotEmpty>
 }
 
 /// Whether a node may start on a folder, by its file `farm` and its tape, in a farm of as many nodes as peers are listed. It starts on
-/// a folder that was made for a node of such a farm and has its tape, never on an empty or an unknown one. Ok is the file of this start,
-/// with one start more, which is to replace the one that was found before the node says anything.
+/// a folder that was made for a node of such a farm and has its tape, never on an empty or an unknown one. Ok is the file of this
+/// start, with one start more, which is to replace the one that was found before the node says anything.
 pub fn admit_node(nodes: u8, found: NodeFound, tape: Presence) -> Result<NodeFile, NodeRejection>
     requires { IsSoundFind found }
     ensures start { IfOk result (IsNodeStart nodes found tape) }

@@ -7,7 +7,7 @@ ghost use Rattle.wf_folder.specs.NodeFile.{IsNodeFile, farm_and_mark, farm_line,
 ghost use Rattle.wf_folder.specs.declared.node_file.NodeFile.{NodeFile};
 
 use crate::farm_file::FIRST_LINE;
-use crate::fault::NodeFault;
+use crate::fault::NodeFileFault;
 use crate::name::FarmName;
 use crate::node_file::{NODE_LINE, NodeFile};
 use crate::number::split_number;
@@ -18,22 +18,22 @@ const MARK_LINE: usize = 38;
 
 impl NodeFile {
     /// The file with this text. Err: the bytes aren't the text of any.
-    pub fn read(bytes: &[u8]) -> Result<NodeFile, NodeFault>
+    pub fn read(bytes: &[u8]) -> Result<NodeFile, NodeFileFault>
         ensures file { IfOk result IsNodeFile }
         ensures text { IfOk result (λ file. bytes.now ≡ node_text file) }
         ensures none { IfErr result (λ _. (file : NodeFile) → IsNodeFile file → bytes.now ≢ node_text file) }
-        ensures version { IsErrOf result NodeFault.Version → (rest : List ℕ) → bytes.now ≢ first_line ++ rest }
-        ensures kind { IsErrOf result NodeFault.Kind → (rest : List ℕ) → bytes.now ≢ first_line ++ (kind_node_line ++ rest) }
+        ensures version { IsErrOf result NodeFileFault.Version → (rest : List ℕ) → bytes.now ≢ first_line ++ rest }
+        ensures kind { IsErrOf result NodeFileFault.Kind → (rest : List ℕ) → bytes.now ≢ first_line ++ (kind_node_line ++ rest) }
     {
         let Some(rest) = after(bytes, FIRST_LINE) else {
-            return Err(NodeFault::Version);
+            return Err(NodeFileFault::Version);
         };
         let Some(rest) = after(rest, NODE_LINE) else {
-            return Err(NodeFault::Kind);
+            return Err(NodeFileFault::Kind);
         };
         match read_fields(rest) {
             Some(file) => Ok(file),
-            None => Err(NodeFault::Malformed),
+            None => Err(NodeFileFault::Malformed),
         }
     }
 }

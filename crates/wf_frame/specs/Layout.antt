@@ -1,7 +1,7 @@
 -- The layout of a body: fields of fixed length, one after the other, and an ending. A kind of message or record has one layout.
 use Rattle.std.specs.Prelude.{ℕ, ◌+◌, ◌&&◌, Bool, List, [], ◌∷◌, ◌++◌, drop, Option, is_some, option_map, option_and_then}
 use Rattle.wf_frame.specs.Field.{Field, Value, IsValue, value_bytes, width, front_value}
-use Rattle.wf_frame.specs.Ending.{Ending, End, IsEnd, end_bytes, ends_at, end_texts, front_end, has_end, texts_in_end}
+use Rattle.wf_frame.specs.BodyEnd.{Ending, End, IsEnd, end_bytes, ends_at, end_texts, front_end, has_end, texts_in_end}
 
 pub record Layout : Type 0 where
   pub fields : List Field
@@ -53,15 +53,15 @@ fits layout n = ends_at layout.ending (widths layout.fields) n
 
 -- ---- how a body is read: each field after the one before it, then the ending
 
--- what `said` makes of the parts that the bytes begin with, None if a part isn't there
+-- what `payload` makes of the parts that the bytes begin with, None if a part isn't there
 abbrev pub read_parts : {B : Type 0} (fields : List Field) (ending : Ending) → List ℕ → (Parts fields ending → B) → Option B
-read_parts [] ending bytes said = option_map said (front_end ending bytes)
-read_parts (field ∷ fields) ending bytes said =
-    option_and_then (λ value. read_parts fields ending value.1 (λ parts. said (value.0, parts))) (front_value field bytes)
+read_parts [] ending bytes payload = option_map payload (front_end ending bytes)
+read_parts (field ∷ fields) ending bytes payload =
+    option_and_then (λ value. read_parts fields ending value.1 (λ parts. payload (value.0, parts))) (front_value field bytes)
 
--- what `said` makes of a body, if a body can have the length of these bytes
+-- what `payload` makes of a body, if a body can have the length of these bytes
 abbrev pub read_body : {B : Type 0} (layout : Layout) → List ℕ → (Body layout → B) → Option B
-read_body layout bytes said = read_parts layout.fields layout.ending bytes said
+read_body layout bytes payload = read_parts layout.fields layout.ending bytes payload
 
 -- ---- by byte offset
 

@@ -1,9 +1,9 @@
 pub mod Field
 pub mod Report
-pub mod Ending
+pub mod BodyEnd
 pub mod Layout
 pub mod Frame
-pub mod Law
-pub mod ReportLaws
-pub mod LayoutLaws
-pub mod FrameLaws
+pub mod Theorem
+pub mod ReportTheorems
+pub mod LayoutTheorems
+pub mod FrameTheorems

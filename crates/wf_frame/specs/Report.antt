@@ -7,7 +7,7 @@ use Rattle.wf_ballot.specs.Sequence.{seq_bytes}
 use Rattle.wf_ballot.specs.Ballot.{Ballot, IsBallot, ballot_bytes}
 use Rattle.wf_ballot.specs.Front.{front_slot, front_ballot}
 use Rattle.wf_model.specs.Message.{Vote}
-use Rattle.wf_model.specs.Working.{window}
+use Rattle.wf_model.specs.VolatileState.{window}
 use Rattle.wf_model.specs.Table.{sequences_from}
 
 pub record Report : Type 0 where

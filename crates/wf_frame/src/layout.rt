@@ -1,5 +1,5 @@
 ghost use Rattle.std.specs.Prelude.{◌≡◌, ◌+◌, ◌^◌, ◌<◌};
-ghost use Rattle.wf_frame.specs.Ending.{has_text_behind};
+ghost use Rattle.wf_frame.specs.BodyEnd.{has_text_behind};
 
 /// Whether a body of `length` bytes can have a text of at most `most` bytes, which isn't empty, after `fields` bytes of other
 /// fields.

@@ -1,8 +1,8 @@
-mod BodyLaw
-mod BreakingLaw
-mod BufferLaw
-mod CheckLaw
-mod FieldLaw
-mod HeadLaw
-mod NumberLaw
+mod BodyTheorem
+mod WriteEndTheorem
+mod BufferTheorem
+mod CheckTheorem
+mod FieldTheorem
+mod HeadTheorem
+mod NumberTheorem
 mod Written

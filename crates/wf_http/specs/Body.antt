@@ -1,6 +1,6 @@
 -- What is read of a request's body, and why there is none.
 use Rattle.std.specs.Prelude.{◌≡◌, ◌≤◌, ◌<◌, ℕ, List, length, take}
-use Rattle.wf_http.specs.declared.refusal.Refusal.TheVariants as refusal
+use Rattle.wf_http.specs.declared.http_error.HttpError.TheVariants as http_error
 use Rattle.wf_http.specs.declared.fault.RequestFault.{RequestFault}
 use Rattle.wf_http.specs.declared.fault.RequestFault.TheVariants as fault
 
@@ -11,7 +11,7 @@ pub record IsBody (rest : List ℕ) (bytes : ℕ) (body : List ℕ) : Type 0 whe
 
 -- why no body is read: it is truncated, or an allocation failed, which needs a body of at least one byte
 abbrev pub IsBodyFault : List ℕ → ℕ → RequestFault → Type 0
-IsBodyFault rest bytes (fault.Refused r) = (r ≡ refusal.BadRequest) × (length rest < bytes)
+IsBodyFault rest bytes (fault.Rejected r) = (r ≡ http_error.BadRequest) × (length rest < bytes)
 IsBodyFault rest bytes fault.NoRequest = ⊥
 IsBodyFault rest bytes fault.ReadFailed = Unit {0}
 IsBodyFault rest bytes fault.Memory = 0 < bytes

@@ -3,30 +3,30 @@ use Rattle.std.specs.Prelude.{ℕ, ◌==◌, Bool, ◌&&◌, nat_lt, List, [], �
 use Rattle.std.specs.List.{list_all}
 use Rattle.wf_text.specs.Number.{number_of_digits}
 use Rattle.wf_http.specs.Fields.{values, first_of, is_digits}
-use Rattle.wf_http.specs.declared.refusal.Refusal.{Refusal}
-use Rattle.wf_http.specs.declared.refusal.Refusal.TheVariants as refusal
+use Rattle.wf_http.specs.declared.http_error.HttpError.{HttpError}
+use Rattle.wf_http.specs.declared.http_error.HttpError.TheVariants as http_error
 
 -- the greatest length of a body, in bytes
 abbrev pub most_body_bytes : ℕ
 most_body_bytes = 131072
 
 -- the rejection by the first check that fails
-abbrev pub first_failing : List (Option Refusal) → Option Refusal
+abbrev pub first_failing : List (Option HttpError) → Option HttpError
 first_failing [] = None
 first_failing (None ∷ checks) = first_failing checks
 first_failing (Some r ∷ checks) = Some r
 
 -- what is asked for, unless a check fails
-abbrev pub unless_refused : {T : Type 0} → Option Refusal → Result T Refusal → Result T Refusal
-unless_refused (Some r) asks = Err r
-unless_refused None asks = asks
+abbrev pub unless_rejected : {T : Type 0} → Option HttpError → Result T HttpError → Result T HttpError
+unless_rejected (Some r) asks = Err r
+unless_rejected None asks = asks
 
 -- ---- the check on the target
 
 -- the target begins with a slash
-unfoldable pub check_target : List ℕ → Option Refusal
-check_target [] = Some refusal.BadRequest
-check_target (byte ∷ _) = if byte == 47 then None else Some refusal.BadRequest
+unfoldable pub check_target : List ℕ → Option HttpError
+check_target [] = Some http_error.BadRequest
+check_target (byte ∷ _) = if byte == 47 then None else Some http_error.BadRequest
 
 -- ---- the checks on a body, by the transfer codings and the lengths in the head
 
@@ -39,31 +39,31 @@ abbrev pub lengths_of : List (List ℕ × List ℕ) → List (List ℕ)
 lengths_of fields = values (codes "Content-Length") fields
 
 -- the body has no transfer coding
-abbrev pub check_coding : Option (List ℕ) → Option Refusal
+abbrev pub check_coding : Option (List ℕ) → Option HttpError
 check_coding None = None
-check_coding (Some coding) = Some refusal.NotImplemented
+check_coding (Some coding) = Some http_error.NotImplemented
 
 -- its length is given
-abbrev pub check_told : Option (List ℕ) → Option Refusal
-check_told None = Some refusal.LengthRequired
-check_told (Some first) = None
+abbrev pub check_reported : Option (List ℕ) → Option HttpError
+check_reported None = Some http_error.LengthRequired
+check_reported (Some first) = None
 
 -- the lengths are written in digits, and are all the same number
 abbrev pub are_one_number : List ℕ → List (List ℕ) → Bool
 are_one_number first lengths = list_all is_digits lengths && list_all (λ length. number_of_digits length == number_of_digits first) lengths
 
-abbrev pub check_number : Option (List ℕ) → List (List ℕ) → Option Refusal
+abbrev pub check_number : Option (List ℕ) → List (List ℕ) → Option HttpError
 check_number None lengths = None
-check_number (Some first) lengths = if are_one_number first lengths then None else Some refusal.BadRequest
+check_number (Some first) lengths = if are_one_number first lengths then None else Some http_error.BadRequest
 
 -- the number is within the limit
-abbrev pub check_size : Option (List ℕ) → Option Refusal
+abbrev pub check_size : Option (List ℕ) → Option HttpError
 check_size None = None
-check_size (Some first) = if nat_lt most_body_bytes (number_of_digits first) then Some refusal.ContentTooLarge else None
+check_size (Some first) = if nat_lt most_body_bytes (number_of_digits first) then Some http_error.ContentTooLarge else None
 
-abbrev pub body_checks : List (List ℕ) → List (List ℕ) → List (Option Refusal)
+abbrev pub body_checks : List (List ℕ) → List (List ℕ) → List (Option HttpError)
 body_checks codings lengths =
-    check_coding (first_of codings) ∷ check_told (first_of lengths) ∷ check_number (first_of lengths) lengths ∷ check_size (first_of lengths) ∷ []
+    check_coding (first_of codings) ∷ check_reported (first_of lengths) ∷ check_number (first_of lengths) lengths ∷ check_size (first_of lengths) ∷ []
 
 -- the number that the first length is
 abbrev pub number_in : Option (List ℕ) → ℕ
@@ -71,6 +71,6 @@ number_in None = 0
 number_in (Some first) = number_of_digits first
 
 -- the length of the body that the fields announce
-unfoldable pub body_length : List (List ℕ × List ℕ) → Result ℕ Refusal
+unfoldable pub body_length : List (List ℕ × List ℕ) → Result ℕ HttpError
 body_length fields =
-    unless_refused (first_failing (body_checks (codings_of fields) (lengths_of fields))) (Ok (number_in (first_of (lengths_of fields))))
+    unless_rejected (first_failing (body_checks (codings_of fields) (lengths_of fields))) (Ok (number_in (first_of (lengths_of fields))))

@@ -5,10 +5,10 @@ use Rattle.httparse.specs.Grammar.{HasNoRequest}
 use Rattle.httparse.specs.Spans.{span_bytes, header_bytes}
 use Rattle.httparse.specs.declared.spans.HeaderSpan.{HeaderSpan}
 use Rattle.httparse.specs.declared.spans.RequestSpans.{RequestSpans}
-use Rattle.wf_stream.specs.Reading.{Rises}
+use Rattle.wf_stream.specs.Effects.{Rises}
 use Rattle.wf_http.specs.Head.{Head, Begins, HasNoSmallRequest, most_head_bytes}
-use Rattle.wf_http.specs.declared.refusal.Refusal.{Refusal}
-use Rattle.wf_http.specs.declared.refusal.Refusal.TheVariants as refusal
+use Rattle.wf_http.specs.declared.http_error.HttpError.{HttpError}
+use Rattle.wf_http.specs.declared.http_error.HttpError.TheVariants as http_error
 use Rattle.wf_http.specs.declared.fault.RequestFault.{RequestFault}
 use Rattle.wf_http.specs.declared.fault.RequestFault.TheVariants as fault
 
@@ -61,19 +61,19 @@ pub record TakesHead (piece : Option ℕ) (old new : Option (List ℕ)) : Type 0
   pub taken : Consumes old new (before ++ last)
 
 -- why a head is rejected: 400 if none is at the front of the input, 431 if none within the limits is
-abbrev pub IsHeadRefusal : List ℕ → Refusal → Type 0
-IsHeadRefusal input refusal.BadRequest = HasNoRequest input
-IsHeadRefusal input refusal.HeadTooLarge = HasNoSmallRequest input
-IsHeadRefusal input refusal.NotFound = ⊥
-IsHeadRefusal input (refusal.MethodNotAllowed method) = ⊥
-IsHeadRefusal input refusal.LengthRequired = ⊥
-IsHeadRefusal input refusal.ContentTooLarge = ⊥
-IsHeadRefusal input refusal.NotImplemented = ⊥
+abbrev pub IsHeadError : List ℕ → HttpError → Type 0
+IsHeadError input http_error.BadRequest = HasNoRequest input
+IsHeadError input http_error.HeadTooLarge = HasNoSmallRequest input
+IsHeadError input http_error.NotFound = ⊥
+IsHeadError input (http_error.MethodNotAllowed method) = ⊥
+IsHeadError input http_error.LengthRequired = ⊥
+IsHeadError input http_error.ContentTooLarge = ⊥
+IsHeadError input http_error.NotImplemented = ⊥
 
 -- why no head is read: the input is empty, or its head is rejected; nothing is allocated
 abbrev pub IsHeadFault : List ℕ → RequestFault → Type 0
 IsHeadFault input fault.NoRequest = input ≡ []
-IsHeadFault input (fault.Refused r) = (input ≢ []) × IsHeadRefusal input r
+IsHeadFault input (fault.Rejected r) = (input ≢ []) × IsHeadError input r
 IsHeadFault input fault.ReadFailed = Unit {0}
 IsHeadFault input fault.Memory = ⊥
 
@@ -83,4 +83,4 @@ CountsReads (Ok x) old new = new ≡ old
 CountsReads (Err fault.ReadFailed) old new = Rises old new
 CountsReads (Err fault.Memory) old new = new ≡ old
 CountsReads (Err fault.NoRequest) old new = new ≡ old
-CountsReads (Err (fault.Refused r)) old new = new ≡ old
+CountsReads (Err (fault.Rejected r)) old new = new ≡ old

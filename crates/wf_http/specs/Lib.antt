@@ -1,5 +1,5 @@
 pub mod Body
-pub mod Breaking
+pub mod WriteEnd
 pub mod Checks
 pub mod Fields
 pub mod Front

@@ -3,7 +3,7 @@ use Rattle.std.specs.Prelude.{◌≡◌, ◌≤◌, ◌-◌, ◌^◌, ℕ, min, 
 use Rattle.std.specs.Io.KnownBytes.{Appends}
 use Rattle.http.specs.StatusCode.{code_digits, reason_phrase}
 use Rattle.wf_http.specs.Method.{method_name}
-use Rattle.wf_http.specs.declared.refusal.Allowed.{Allowed}
+use Rattle.wf_http.specs.declared.http_error.Allowed.{Allowed}
 
 -- a response: the status, the media type of the body, the allowed method if the request's was another, and the body
 pub record Response : Type 0 where

@@ -2,10 +2,10 @@
 ghost use Rattle.std.specs.Prelude.{◌≡◌, ◌<◌, ◌-◌, ◌++◌, IfOk, IfErr, IfSome, IsOk, length};
 ghost use Rattle.wf_http.specs.Body.{IsBody, IsBodyFault};
 ghost use Rattle.wf_http.specs.Front.{CountsReads};
-ghost use Rattle.wf_stream.specs.Reading.{TakesUpTo};
+ghost use Rattle.wf_stream.specs.Effects.{TakesUpTo};
 
 use crate::fault::RequestFault;
-use crate::refusal::Refusal;
+use crate::http_error::HttpError;
 use std::alloc::{AllocError, Global};
 use std::io::ErrorKind;
 use wf_stream::{Source, read_onto};
@@ -20,7 +20,7 @@ fn begin(alloc: Global, front: &[u8], bytes: usize) -> Result<Vec<u8>, AllocErro
 }
 
 // Reads a body of `bytes` bytes, some of which may have been read with the head.
-#[tactic(auto, using(crate::proofs::BodyLaw::body_joined, crate::proofs::BodyLaw::body_cut, crate::proofs::BodyLaw::body_unheld, crate::proofs::BodyLaw::missing_taken))]
+#[tactic(auto, using(crate::proofs::BodyTheorem::body_joined, crate::proofs::BodyTheorem::body_cut, crate::proofs::BodyTheorem::body_unheld, crate::proofs::BodyTheorem::missing_taken))]
 fn read_missing<S: Source>(
     alloc: Global,
     source: &mut S,
@@ -44,7 +44,7 @@ fn read_missing<S: Source>(
     match read_onto(source, &mut body, missing) {
         Ok(count) => {
             if count != missing {
-                return Err(RequestFault::Refused(Refusal::BadRequest));
+                return Err(RequestFault::Rejected(HttpError::BadRequest));
             }
             Ok(body)
         }
@@ -56,7 +56,7 @@ fn read_missing<S: Source>(
 /// Reads a body of `bytes` bytes, of which those in `behind` were read with the head. Bytes after the body may be among them, and
 /// are ignored; no further ones are read: if all of the body came with the head, nothing is read. An empty body allocates nothing
 /// either.
-#[tactic(auto, using(crate::proofs::BodyLaw::nothing_taken))]
+#[tactic(auto, using(crate::proofs::BodyTheorem::nothing_taken))]
 pub fn read_body<S: Source>(
     alloc: Global,
     source: &mut S,

@@ -1,6 +1,6 @@
 //! Why a request can't be read.
 
-use crate::refusal::Refusal;
+use crate::http_error::HttpError;
 
 /// Why there is no request to answer, or only a rejection.
 #[derive(Clone, Copy, PartialEq, Eq)]
@@ -12,5 +12,5 @@ pub enum RequestFault {
     /// An allocation failed.
     Memory,
     /// The input is rejected.
-    Refused(Refusal),
+    Rejected(HttpError),
 }

@@ -4,7 +4,7 @@ ghost use Rattle.std.specs.List.{list_all, prefix_len};
 ghost use Rattle.httparse.specs.Spans.{header_bytes};
 ghost use Rattle.wf_http.specs.Fields.{is_named, is_digits, is_number, is_zero, significant, values, first_of};
 
-use crate::span::covered;
+use crate::span::bytes_in;
 use httparse::spans::HeaderSpan;
 use std::marker::Model;
 use wf_text::digits::are_digits;
@@ -43,7 +43,7 @@ fn significant(digits: &[u8]) -> &[u8]
 fn is_named(bytes: &[u8], span: &HeaderSpan, name: &[u8]) -> bool
     ensures { result ≡ is_named name.now (header_bytes bytes.now span.now) }
 {
-    covered(bytes, span.name).eq_ignore_ascii_case(name)
+    bytes_in(bytes, span.name).eq_ignore_ascii_case(name)
 }
 
 // Whether a value is digits, and the same number as these. Numbers are compared by their digits without leading zeros, so they may
@@ -59,7 +59,7 @@ fn has_other(bytes: &[u8], span: &HeaderSpan, name: &[u8], first: &[u8]) -> bool
     ensures { result ≡ (is_named name.now (header_bytes bytes.now span.now)
         && not (is_number first.now (header_bytes bytes.now span.now).1)) }
 {
-    is_named(bytes, span, name) && !is_number(first, covered(bytes, span.value))
+    is_named(bytes, span, name) && !is_number(first, bytes_in(bytes, span.value))
 }
 
 /// The header fields of a request, as spans of its bytes.
@@ -92,13 +92,13 @@ impl<'b> Fields<'b> {
     {
         for span in self.spans {
             if is_named(self.bytes, span, name) {
-                return Some(covered(self.bytes, span.value));
+                return Some(bytes_in(self.bytes, span.value));
             }
         }
         None
     }
 
-    fn found_other(&self, name: &[u8], first: &[u8]) -> bool
+    fn finds_other(&self, name: &[u8], first: &[u8]) -> bool
         ensures { result ≡ is_some
             (find (λ field. is_named name.now field && not (is_number first.now field.1)) self.now) }
     {
@@ -121,6 +121,6 @@ impl<'b> Fields<'b> {
     pub fn are_number(&self, name: &[u8], first: &[u8]) -> bool
         ensures { result ≡ list_all (is_number first.now) (values name.now self.now) }
     {
-        !self.found_other(name, first)
+        !self.finds_other(name, first)
     }
 }

@@ -3,17 +3,17 @@ ghost use Rattle.std.specs.Prelude.{◌≡◌, ◌≢◌, ◌≤◌, ◌<◌, �
 ghost use Rattle.std.specs.Io.KnownBytes.{Consumes, IsAtEnd};
 ghost use Rattle.httparse.specs.Grammar.{HasNoRequest};
 ghost use Rattle.wf_http.specs.Head.{most_head_bytes, most_fields};
-ghost use Rattle.wf_http.specs.Front.{front_of, IsFront, TakesFront, TakesMore, TakesPiece, TakesHead, IsUnfinished, IsHeadRefusal, IsHeadFault, CountsReads};
+ghost use Rattle.wf_http.specs.Front.{front_of, IsFront, TakesFront, TakesMore, TakesPiece, TakesHead, IsUnfinished, IsHeadError, IsHeadFault, CountsReads};
 ghost use Rattle.wf_http.specs.Checks.{most_body_bytes};
 ghost use Rattle.wf_http.specs.declared.fault.RequestFault.TheVariants.{ReadFailed, Memory};
-ghost use Rattle.wf_stream.specs.Reading.{Counts, ReadsPiece};
+ghost use Rattle.wf_stream.specs.Effects.{Counts, ReadsPiece};
 
 use crate::buffer::append;
 use crate::check::MOST_BODY_BYTES;
 use crate::fault::RequestFault;
 use crate::fields::Fields;
-use crate::refusal::Refusal;
-use crate::span::covered;
+use crate::http_error::HttpError;
+use crate::span::bytes_in;
 use arrayvec::ArrayVec;
 use httparse::spans::{EMPTY_HEADER_SPAN, HeaderSpan, RequestSpans, parse_request};
 use httparse::{Error, Status};
@@ -42,22 +42,22 @@ struct Parts {
 }
 
 // The head at the front of the bytes; none if they may still become one.
-#[tactic(auto, using(crate::proofs::HeadLaw::small, crate::proofs::HeadLaw::overflows))]
-fn parse(bytes: &[u8]) -> Result<Option<Parts>, Refusal>
+#[tactic(auto, using(crate::proofs::HeadTheorem::small, crate::proofs::HeadTheorem::overflows))]
+fn parse(bytes: &[u8]) -> Result<Option<Parts>, HttpError>
     requires { length bytes.now ≤ most_head_bytes }
     ensures found { IfOk result (λ found. IfSome found
         (λ parts. IsFront bytes.now (front_of bytes.now parts.fields parts.spans))) }
     ensures none { result ≡ Ok None → HasNoRequest bytes.now }
     // Whatever bytes follow.
     ensures refused { IfErr result
-        (λ refusal. (more : List ℕ) → IsHeadRefusal (bytes.now ++ more) refusal) }
+        (λ http_error. (more : List ℕ) → IsHeadError (bytes.now ++ more) http_error) }
 {
     let mut fields = [EMPTY_HEADER_SPAN; MOST_FIELDS];
     match parse_request(bytes, &mut fields) {
         Ok(Status::Complete(spans)) => Ok(Some(Parts { fields, spans })),
         Ok(Status::Partial) => Ok(None),
-        Err(Error::TooManyHeaders) => Err(Refusal::HeadTooLarge),
-        Err(_) => Err(Refusal::BadRequest),
+        Err(Error::TooManyHeaders) => Err(HttpError::HeadTooLarge),
+        Err(_) => Err(HttpError::BadRequest),
     }
 }
 
@@ -71,7 +71,7 @@ fn ended(bytes: &[u8]) -> RequestFault
     if bytes.is_empty() {
         RequestFault::NoRequest
     } else {
-        RequestFault::Refused(Refusal::BadRequest)
+        RequestFault::Rejected(HttpError::BadRequest)
     }
 }
 
@@ -79,7 +79,7 @@ fn ended(bytes: &[u8]) -> RequestFault
 type HeadBytes = ArrayVec<u8, MOST_HEAD_BYTES>;
 
 // Reads once, at most as many bytes as there is room for, and appends them.
-#[tactic(auto, using(crate::proofs::HeadLaw::piece_kept, crate::proofs::HeadLaw::piece_taken))]
+#[tactic(auto, using(crate::proofs::HeadTheorem::piece_kept, crate::proofs::HeadTheorem::piece_taken))]
 fn read_on<S: Source>(source: &mut S, bytes: &mut HeadBytes) -> io::Result<usize>
     requires { length bytes.old.items < most_head_bytes }
     ensures read { IfOk result (λ count.
@@ -103,7 +103,7 @@ fn read_on<S: Source>(source: &mut S, bytes: &mut HeadBytes) -> io::Result<usize
 }
 
 // Reads one more piece, and looks for a head in the bytes so far.
-#[tactic(auto, using(crate::proofs::HeadLaw::fault_at_end, crate::proofs::HeadLaw::nothing_more, crate::proofs::HeadLaw::head_looked_for, wf_stream::specs::KnownLaws::piece_length))]
+#[tactic(auto, using(crate::proofs::HeadTheorem::fault_at_end, crate::proofs::HeadTheorem::nothing_more, crate::proofs::HeadTheorem::head_looked_for, wf_stream::specs::KnownTheorems::piece_length))]
 fn read_more<S: Source>(
     source: &mut S,
     bytes: &mut HeadBytes,
@@ -130,7 +130,7 @@ fn read_more<S: Source>(
         Ok(0) => Err(ended(bytes.as_slice())),
         Ok(_) => match parse(bytes.as_slice()) {
             Ok(found) => Ok(found),
-            Err(refusal) => Err(RequestFault::Refused(refusal)),
+            Err(http_error) => Err(RequestFault::Rejected(http_error)),
         },
         Err(_) => Err(RequestFault::ReadFailed),
     }
@@ -154,7 +154,7 @@ impl Model for Front {
 impl Front {
     /// Reads from the front of the input until a head is complete, and no further: at most 8,192 bytes, in at most that many
     /// calls, since each call returns a byte, the end or an error. Allocates nothing.
-    #[tactic(auto, using(crate::proofs::HeadLaw::fault_at_limit, crate::proofs::HeadLaw::taken_at_limit))]
+    #[tactic(auto, using(crate::proofs::HeadTheorem::fault_at_limit, crate::proofs::HeadTheorem::taken_at_limit))]
     pub fn read<S: Source>(source: &mut S) -> Result<Self, RequestFault>
         ensures ok { IfOk result (TakesFront (S.left source.old) (S.left source.new)) }
         ensures err { IfErr result
@@ -171,14 +171,14 @@ impl Front {
                 Err(fault) => return Err(fault),
             }
         }
-        Err(RequestFault::Refused(Refusal::HeadTooLarge))
+        Err(RequestFault::Rejected(HttpError::HeadTooLarge))
     }
 
     /// The target of the request.
     pub fn target(&self) -> &[u8]
         ensures { result.now ≡ self.now.head.target }
     {
-        covered(self.bytes.as_slice(), self.parts.spans.path)
+        bytes_in(self.bytes.as_slice(), self.parts.spans.path)
     }
 
     /// The bytes read after the head.
@@ -193,11 +193,11 @@ impl Front {
     pub fn method(&self) -> &[u8]
         ensures { result.now ≡ self.now.head.method }
     {
-        covered(self.bytes.as_slice(), self.parts.spans.method)
+        bytes_in(self.bytes.as_slice(), self.parts.spans.method)
     }
 
     /// The header fields of the request.
-    #[tactic(auto, using(crate::proofs::HeadLaw::taken_within))]
+    #[tactic(auto, using(crate::proofs::HeadTheorem::taken_within))]
     pub fn fields(&self) -> Fields<'_>
         ensures { result ≡ self.now.head.fields }
     {

@@ -16,7 +16,7 @@
 //!   for an input that has no such head; a failed read is reported iff one has failed.
 //! - [`body::read_body`]: the body is the bytes that follow, and no further ones are read; a rejection is for a truncated body.
 //! - [`response::Response::write`]: exactly the bytes of the response are written, or a prefix of them if the writer failed; the
-//!   failed write is the last call (`specs/Breaking.antt`).
+//!   failed write is the last call (`specs/WriteEnd.antt`).
 //!
 //! Only a body allocates.
 //!
@@ -31,8 +31,8 @@ pub mod fault;
 pub mod fields;
 pub mod front;
 mod gathered;
+pub mod http_error;
 pub mod method;
-pub mod refusal;
 pub mod response;
 mod span;
 pub mod target;

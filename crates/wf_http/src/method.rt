@@ -2,7 +2,7 @@
 ghost use Rattle.std.specs.Prelude.{◌≡◌};
 ghost use Rattle.wf_http.specs.Method.{method_name};
 
-use crate::refusal::Allowed;
+use crate::http_error::Allowed;
 
 /// A method's name (RFC 9110, section 9.1).
 pub fn method_name(method: Allowed) -> &'static [u8]

@@ -1,12 +1,12 @@
 //! Responses, and how they are written.
 ghost use Rattle.std.specs.Prelude.{◌≡◌, ◌≤◌, ◌++◌, ℕ, false, List, [], length, take, IfOk, IfErr, OnOk, OnErr};
 ghost use Rattle.std.specs.Io.KnownBytes.{Appends};
-ghost use Rattle.wf_stream.specs.Reading.{Rises};
-ghost use Rattle.wf_http.specs.Breaking.{BreaksOff, IsWriting};
+ghost use Rattle.wf_stream.specs.Effects.{Rises};
+ghost use Rattle.wf_http.specs.WriteEnd.{BreaksOff, IsWriting};
 ghost use Rattle.wf_http.specs.Response.{reason, allow_line, head_bytes, response_bytes, IsCount, WritesPart};
 
 use crate::gathered::Gathered;
-use crate::refusal::Allowed;
+use crate::http_error::Allowed;
 use http::StatusCode;
 use itoa::Buffer;
 use std::marker::Model;
@@ -20,19 +20,19 @@ pub struct CutShort {
 
 // The progress of writing a response.
 #[derive(Drop)]
-struct Progress {
+struct WriteProgress {
     // the number of bytes written
     written: u64,
     // the writer has failed, and nothing more is written
     failed: bool,
 }
 
-impl Progress {
+impl WriteProgress {
     // Nothing is written yet.
     fn start() -> Self
         ensures { result ≡ record { written = 0; failed = false } }
     {
-        Progress {
+        WriteProgress {
             written: 0,
             failed: false,
         }
@@ -40,7 +40,7 @@ impl Progress {
 }
 
 // Writes one more piece, unless the writer has failed.
-fn put<K: Sink>(sink: &mut K, progress: &mut Progress, piece: &[u8])
+fn put<K: Sink>(sink: &mut K, progress: &mut WriteProgress, piece: &[u8])
     ensures { (first : K) (bytes : List ℕ) →
         IsWriting K.Sink first bytes sink.old progress.old.written progress.old.failed →
         IsWriting K.Sink first (bytes ++ piece.now)
@@ -59,7 +59,7 @@ fn put<K: Sink>(sink: &mut K, progress: &mut Progress, piece: &[u8])
 }
 
 // Writes two more pieces, in one call where the writer takes both, unless it has failed.
-fn put_pair<K: Sink>(sink: &mut K, progress: &mut Progress, one: &[u8], two: &[u8])
+fn put_pair<K: Sink>(sink: &mut K, progress: &mut WriteProgress, one: &[u8], two: &[u8])
     ensures { (first : K) (bytes : List ℕ) →
         IsWriting K.Sink first bytes sink.old progress.old.written progress.old.failed →
         IsWriting K.Sink first (bytes ++ (one.now ++ two.now))
@@ -78,7 +78,13 @@ fn put_pair<K: Sink>(sink: &mut K, progress: &mut Progress, one: &[u8], two: &[u
 }
 
 // Writes what is left of two pieces after so many bytes of them.
-fn put_rest<K: Sink>(sink: &mut K, progress: &mut Progress, one: &[u8], two: &[u8], count: usize)
+fn put_rest<K: Sink>(
+    sink: &mut K,
+    progress: &mut WriteProgress,
+    one: &[u8],
+    two: &[u8],
+    count: usize,
+)
     requires { count ≤ length (one.now ++ two.now) }
     ensures { (first : K) (bytes : List ℕ) →
         IsWriting K.Sink first (bytes ++ take count (one.now ++ two.now))
@@ -156,7 +162,7 @@ impl<'b> Response<'b> {
     }
 
     // Writes the lines before the body.
-    fn put_lines<K: Sink>(&self, sink: &mut K, progress: &mut Progress)
+    fn put_lines<K: Sink>(&self, sink: &mut K, progress: &mut WriteProgress)
         ensures { (first : K) →
             IsWriting K.Sink first [] sink.old progress.old.written progress.old.failed →
             IsWriting K.Sink first (head_bytes self.now)
@@ -177,14 +183,14 @@ impl<'b> Response<'b> {
     }
 
     // Writes the lines before the body, gathered if they fit the buffer, and the body with them.
-    fn put_all<K: Sink>(&self, sink: &mut K, progress: &mut Progress)
+    fn put_all<K: Sink>(&self, sink: &mut K, progress: &mut WriteProgress)
         ensures { (first : K) →
             IsWriting K.Sink first [] sink.old progress.old.written progress.old.failed →
             IsWriting K.Sink first (response_bytes self.now)
             sink.new progress.new.written progress.new.failed }
     {
         let mut head = Gathered::new();
-        let mut gathering = Progress::start();
+        let mut gathering = WriteProgress::start();
         self.put_lines(&mut head, &mut gathering);
         if gathering.failed {
             self.put_lines(sink, progress);
@@ -208,7 +214,7 @@ impl<'b> Response<'b> {
         ensures last { IfErr result (λ cut.
             BreaksOff K.Sink (response_bytes self.now) sink.old sink.new cut.written) }
     {
-        let mut progress = Progress::start();
+        let mut progress = WriteProgress::start();
         self.put_all(sink, &mut progress);
         if progress.failed {
             Err(CutShort {

@@ -5,7 +5,7 @@ ghost use Rattle.httparse.specs.Spans.{span_bytes};
 use httparse::spans::Span;
 
 /// The bytes of a span.
-pub(crate) fn covered(bytes: &[u8], span: Span) -> &[u8]
+pub(crate) fn bytes_in(bytes: &[u8], span: Span) -> &[u8]
     ensures { result.now ≡ span_bytes bytes.now span }
 {
     let behind = bytes.split_at(span.start.min(bytes.len())).1;

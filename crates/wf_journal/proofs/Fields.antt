@@ -6,17 +6,17 @@ use Rattle.wf_def.specs.Definition.{Definition}
 use Rattle.wf_spelling.specs.Canon.{most_canon_bytes}
 use Rattle.wf_frame.specs.Report.{IsText}
 use Rattle.wf_frame.specs.Layout.{Body, IsBody, body_bytes, fits, read_body, widths}
-use Rattle.wf_frame.specs.Law.{Said}
-use Rattle.wf_frame.specs.LayoutLaws as layouts
-use Rattle.wf_model.specs.Stored.{Record, Tried, Promised, Accepted, Published}
-use Rattle.wf_journal.specs.declared.kind.Kind.{Kind}
-use Rattle.wf_journal.specs.declared.kind.Kind.TheVariants as kinds
+use Rattle.wf_frame.specs.Theorem.{Payload}
+use Rattle.wf_frame.specs.LayoutTheorems as layouts
+use Rattle.wf_model.specs.DurableState.{Record, Tried, Promised, Accepted, Published}
+use Rattle.wf_journal.specs.declared.kind.RecordKind.{RecordKind}
+use Rattle.wf_journal.specs.declared.kind.RecordKind.TheVariants as kinds
 use Rattle.wf_journal.specs.declared.version.Version.{Version}
 use Rattle.wf_journal.specs.Version.{most_text}
-use Rattle.wf_journal.specs.Kind.{layout}
+use Rattle.wf_journal.specs.RecordKind.{layout}
 use Rattle.wf_journal.specs.Record.{texts, IsRecordOf, definition_of}
-use Rattle.wf_journal.specs.Spelling.{values_of, record_of, kind_of, header_of, body, format, HasTextWithin}
-use Rattle.wf_journal.specs.Judging.{fields_of}
+use Rattle.wf_journal.specs.Encoding.{values_of, record_of, kind_of, header_of, body, format, HasTextWithin}
+use Rattle.wf_journal.specs.Stages.{fields_of}
 
 -- its fields are in their ranges
 pub values_fit : (most : ℕ) (r : Record (List ℕ)) → IsRecordOf (IsText most) r → IsBody (layout most (kind_of r)) (values_of most r)
@@ -32,21 +32,21 @@ record_again most (Accepted s b text) = refl
 record_again most (Published s text) = refl
 
 -- what the frame of a record says in this version
-abbrev pub said_in : Version → Record (List ℕ) → Said format
-said_in version r = (header_of version r, values_of (most_text version) r)
+abbrev pub payload_in : Version → Record (List ℕ) → Payload format
+payload_in version r = (header_of version r, values_of (most_text version) r)
 
 -- a kind with what its body says
-abbrev Told : ℕ → Type 0
-Told most = (kind : Kind) × Body (layout most kind)
+abbrev Reported : ℕ → Type 0
+Reported most = (kind : RecordKind) × Body (layout most kind)
 
-abbrev told : (most : ℕ) → Record (List ℕ) → Told most
-told most r = (kind_of r, values_of most r)
+abbrev reported : (most : ℕ) → Record (List ℕ) → Reported most
+reported most r = (kind_of r, values_of most r)
 
-told_again : (most : ℕ) (kind : Kind) (x : Body (layout most kind)) → told most (record_of most kind x) ≡ (kind, x)
-told_again most kinds.Tried x = refl
-told_again most kinds.Promised x = refl
-told_again most kinds.Accepted x = refl
-told_again most kinds.Published x = refl
+reported_again : (most : ℕ) (kind : RecordKind) (x : Body (layout most kind)) → reported most (record_of most kind x) ≡ (kind, x)
+reported_again most kinds.Tried x = refl
+reported_again most kinds.Promised x = refl
+reported_again most kinds.Accepted x = refl
+reported_again most kinds.Published x = refl
 
 -- a body is its layout's bytes of what it says
 pub laid_out : (most : ℕ) (r : Record (List ℕ)) → body r ≡ body_bytes (layout most (kind_of r)) (values_of most r)
@@ -57,7 +57,7 @@ laid_out most (Accepted s b text) = simp append_assoc
 laid_out most (Published s text) = refl
 
 -- what is read doesn't depend on how long a text may be
-read_as : (most : ℕ) (kind : Kind) (bytes : List ℕ) → read_body (layout most kind) bytes (record_of most kind) ≡ fields_of kind bytes
+read_as : (most : ℕ) (kind : RecordKind) (bytes : List ℕ) → read_body (layout most kind) bytes (record_of most kind) ≡ fields_of kind bytes
 unfolding fields_of
 read_as most kinds.Tried bytes = refl
 read_as most kinds.Promised bytes = refl
@@ -104,15 +104,15 @@ fields_again most r p =
     ∙ layouts.body_again (layout most (kind_of r)) (values_of most r) (record_of most (kind_of r)) (values_fit most r p) ∙ ap Some (record_again most r)
 
 -- the record is of the kind and has the body
-abbrev pub HasBody : Kind → List ℕ → Record (List ℕ) → Type 0
+abbrev pub HasBody : RecordKind → List ℕ → Record (List ℕ) → Type 0
 HasBody kind bytes r = (kind_of r ≡ kind) × (bytes ≡ body r)
 
 -- the record that is read has this body
-pub fields_stand : (most : ℕ) (kind : Kind) (bytes : List ℕ) (r : Record (List ℕ)) → AreBytes bytes → fits (layout most kind) (length bytes) ≡ true → fields_of kind bytes ≡ Some r →
+pub fields_stand : (most : ℕ) (kind : RecordKind) (bytes : List ℕ) (r : Record (List ℕ)) → AreBytes bytes → fits (layout most kind) (length bytes) ≡ true → fields_of kind bytes ≡ Some r →
     HasBody kind bytes r
 fields_stand most kind bytes r fit has e =
     let stands = layouts.body_stands (layout most kind) bytes (record_of most kind) r fit has (read_as most kind bytes ∙ e) in
-    let same : ◌≡◌ {A = Told most} (told most r) (kind, stands.parts) = ap (told most) (sym stands.makes) ∙ told_again most kind stands.parts in (
-      ap (λ (x : Told most). x.0) same,
-      stands.spelled ∙ sym (ap (λ (x : Told most). body_bytes (layout most x.0) x.1) same) ∙ sym (laid_out most r),
+    let same : ◌≡◌ {A = Reported most} (reported most r) (kind, stands.parts) = ap (reported most) (sym stands.makes) ∙ reported_again most kind stands.parts in (
+      ap (λ (x : Reported most). x.0) same,
+      stands.spelled ∙ sym (ap (λ (x : Reported most). body_bytes (layout most x.0) x.1) same) ∙ sym (laid_out most r),
     )

@@ -1,7 +1,7 @@
 pub mod Fields
-pub mod Judged
+pub mod Validated
 pub mod Lists
 pub mod Moments
-pub mod Settling
+pub mod CrashImages
 pub mod Texts
 pub mod Written

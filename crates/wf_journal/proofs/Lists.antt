@@ -2,15 +2,15 @@
 use Rattle.std.proofs.Common.{◌≡◌, ◌⊎◌, ℕ, ◌+◌, ◌^◌, ◌<◌, ◌≤◌, List, [], ◌∷◌, ◌++◌, ◌-◌, length, map, take, drop, get_or, refl, sym, ap, subst, ◌∙◌, append_assoc, length-append, length-drop, arith, inl, inr}
 use Rattle.std.proofs.lemmas.List.{append-nil, map-append, take_at, drop_at, take_more, take-append-drop}
 use Rattle.wf_def.specs.Definition.{Definition}
-use Rattle.wf_canon.specs.Saying.{OneTextOneMap}
-use Rattle.wf_model.specs.Stored.{Record}
+use Rattle.wf_canon.specs.TextMeaning.{OneTextOneMap}
+use Rattle.wf_model.specs.DurableState.{Record}
 use Rattle.wf_journal.specs.Record.{IsRecord}
-use Rattle.wf_journal.specs.Spelling.{spelling, spellings, Encodes}
+use Rattle.wf_journal.specs.Encoding.{spelling, spellings, Encodes}
 use Rattle.wf_journal.specs.Records.{Splits, BeginsWithNone, ReadsAs, AreRecords, AreWritten, IsCleanOrTorn, IsTapeOf, IsBad, length_of}
 use Rattle.wf_journal.specs.Front.{TakesOne, HasRead}
 use Rattle.wf_journal.specs.Journal.{IsBadAt}
-use Rattle.wf_journal.specs.SpellingLaws.{length_of_encoding, written_encodes}
-use Rattle.wf_journal.proofs.Judged.{spelling_not_empty, none_begins_another}
+use Rattle.wf_journal.specs.EncodingTheorems.{length_of_encoding, written_encodes}
+use Rattle.wf_journal.proofs.Validated.{spelling_not_empty, none_begins_another}
 
 -- one record more, split off the rest
 pub splits_push : (bytes : List ℕ) (records : List (Record Definition)) (rest : List ℕ) (r : Record Definition) (spelled after : List ℕ) →

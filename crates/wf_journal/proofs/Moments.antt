@@ -1,15 +1,15 @@
 -- The moments inside two calls of a tape in turn.
 use Rattle.std.proofs.Common.{◌≡◌, ◌⊎◌, ℕ, List, ◌++◌, Result, Err, IsErrOf, subst, inl, inr}
 use Rattle.wf_def.specs.Definition.{Definition}
-use Rattle.wf_model.specs.Stored.{Record}
-use Rattle.wf_canon.specs.Saying.{OneTextOneMap}
+use Rattle.wf_model.specs.DurableState.{Record}
+use Rattle.wf_canon.specs.TextMeaning.{OneTextOneMap}
 use Rattle.wf_tape.specs.declared.fault.TapeFault.{TapeFault}
 use Rattle.wf_tape.specs.declared.fault.TapeFault.TheVariants.{Device, Memory}
 use Rattle.wf_tape.specs.Tape.{IsBeginning, IsUnchanged, IsExtended, IsNotMemory, LeavesNoOther, LeavesOldOrCut, LeavesOldOrNew, Elapses, IsNow}
-use Rattle.wf_journal.specs.MomentLaws.{inside_two}
-use Rattle.wf_journal.specs.Spelling.{Encodes}
+use Rattle.wf_journal.specs.MomentTheorems.{inside_two}
+use Rattle.wf_journal.specs.Encoding.{Encodes}
 use Rattle.wf_journal.specs.Journal.{IsSettled, Follows, ReadsSameOrOneMore}
-use Rattle.wf_journal.proofs.Settling.{cut_shorter, same_or_more}
+use Rattle.wf_journal.proofs.CrashImages.{cut_shorter, same_or_more}
 
 -- ---- appending
 

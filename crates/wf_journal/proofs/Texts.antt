@@ -3,12 +3,12 @@ use Rattle.std.proofs.Common.{◌≡◌, ℕ, ◌≤◌, length, refl, arith}
 use Rattle.std.specs.Prelude.{IsSomeAnd}
 use Rattle.wf_def.specs.Definition.{Definition}
 use Rattle.wf_spelling.specs.Canon.{canon, line}
-use Rattle.wf_canon.specs.Saying.{OneTextOneMap}
+use Rattle.wf_canon.specs.TextMeaning.{OneTextOneMap}
 use Rattle.wf_frame.specs.Report.{IsText}
-use Rattle.wf_model.specs.Stored.{Record, Tried, Promised, Accepted, Published}
+use Rattle.wf_model.specs.DurableState.{Record, Tried, Promised, Accepted, Published}
 use Rattle.wf_journal.specs.Record.{texts, definition_of, IsRecordOf, IsRecord}
-use Rattle.wf_journal.specs.Spelling.{HasTextWithin}
-use Rattle.wf_journal.specs.Judging.{IsNoText}
+use Rattle.wf_journal.specs.Encoding.{HasTextWithin}
+use Rattle.wf_journal.specs.Stages.{IsNoText}
 
 -- a canonical text begins with MAP
 not_empty : (d : Definition) → 1 ≤ length (canon d)

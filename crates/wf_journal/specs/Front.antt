@@ -1,8 +1,8 @@
 -- A record at the front of bytes. Used only in this crate's contracts.
 use Rattle.std.specs.Prelude.{◌≡◌, ℕ, ◌<◌, ◌≤◌, List, [], ◌∷◌, ◌++◌, length, take, drop}
-use Rattle.wf_model.specs.Stored.{Record}
+use Rattle.wf_model.specs.DurableState.{Record}
 use Rattle.wf_def.specs.Definition.{Definition}
-use Rattle.wf_journal.specs.Spelling.{Encodes}
+use Rattle.wf_journal.specs.Encoding.{Encodes}
 use Rattle.wf_journal.specs.Records.{IsTapeOf}
 
 -- the first k bytes, at least one, encode the record

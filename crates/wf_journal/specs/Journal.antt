@@ -1,13 +1,13 @@
 -- A journal over a tape: whole records, all of them synced, and the effect of each call on them.
 use Rattle.std.specs.Prelude.{◌≡◌, ◌⊎◌, ℕ, Bool, List, [], ◌∷◌, ◌++◌, drop}
-use Rattle.wf_model.specs.Stored.{Record}
+use Rattle.wf_model.specs.DurableState.{Record}
 use Rattle.wf_def.specs.Definition.{Definition}
-use Rattle.wf_journal.specs.declared.opening.OpenFault.{OpenFault}
-use Rattle.wf_journal.specs.declared.opening.OpenFault.TheVariants.{TapeFailed, BadRecord}
+use Rattle.wf_journal.specs.declared.open_error.OpenFault.{OpenFault}
+use Rattle.wf_journal.specs.declared.open_error.OpenFault.TheVariants.{TapeFailed, BadRecord}
 use Rattle.wf_tape.specs.Tape.{IsOnlyImage, HasRisen}
 use Rattle.wf_tape.specs.Change.{inside}
 use Rattle.wf_tape.specs.declared.tape.Tape.{Ghosts as Tape}
-use Rattle.wf_journal.specs.Spelling.{Spells}
+use Rattle.wf_journal.specs.Encoding.{Spells}
 use Rattle.wf_journal.specs.Records.{Splits, ReadsAs, AreRecords, AreWritten, IsBad}
 
 -- the model of a journal: its tape, and whether it is halted

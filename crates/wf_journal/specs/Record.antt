@@ -3,7 +3,7 @@ use Rattle.std.specs.Prelude.{ℕ, ◌≤◌, List, length, Option, Some, None, 
 use Rattle.wf_ballot.specs.Slot.{IsSlot}
 use Rattle.wf_ballot.specs.Round.{IsRound}
 use Rattle.wf_ballot.specs.Ballot.{IsBallot}
-use Rattle.wf_model.specs.Stored as model
+use Rattle.wf_model.specs.DurableState as model
 use Rattle.wf_def.specs.Definition.{Definition}
 use Rattle.wf_def.specs.Limits.{IsWithinLimits}
 use Rattle.wf_spelling.specs.Canon.{canon, most_canon_bytes}

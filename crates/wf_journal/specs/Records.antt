@@ -1,9 +1,9 @@
 -- The records of bytes: the longest list of whole records that the bytes begin with. What follows them is nothing, torn or bad.
 use Rattle.std.specs.Prelude.{◌≡◌, ℕ, ◌+◌, ◌⊎◌, List, [], ◌∷◌, ◌++◌, length}
-use Rattle.wf_model.specs.Stored.{Record}
+use Rattle.wf_model.specs.DurableState.{Record}
 use Rattle.wf_def.specs.Definition.{Definition}
 use Rattle.wf_frame.specs.Frame.{IsUnfinished}
-use Rattle.wf_journal.specs.Spelling.{spelling, spellings, format, Encodes}
+use Rattle.wf_journal.specs.Encoding.{spelling, spellings, format, Encodes}
 
 -- the bytes are the encodings of the records, followed by the rest
 abbrev pub Splits : List ℕ → List (Record Definition) → List ℕ → Type 0

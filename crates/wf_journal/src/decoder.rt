@@ -1,15 +1,15 @@
 ghost use Rattle.std.specs.Prelude.{◌≡◌, ◌≢◌, [], IfOk, IfErr, IsErrOf};
-ghost use Rattle.wf_journal.specs.declared.kind.Kind.TheVariants as kinds;
+ghost use Rattle.wf_journal.specs.declared.kind.RecordKind.TheVariants as kinds;
 ghost use Rattle.wf_journal.specs.Record.{view};
 ghost use Rattle.wf_journal.specs.Records.{IsTorn, IsBad, BeginsWithNone};
 ghost use Rattle.wf_frame.specs.Frame.{frame_front};
-ghost use Rattle.wf_journal.specs.Spelling.{format};
-ghost use Rattle.wf_journal.specs.Judging.{record_fault, fields_of, ReadsBody, ReadsText, IsJudged, IsFaultOfBytes};
+ghost use Rattle.wf_journal.specs.Encoding.{format};
+ghost use Rattle.wf_journal.specs.Stages.{record_fault, fields_of, ReadsBody, ReadsText, IsValidated, IsFaultOfBytes};
 ghost use Rattle.wf_journal.specs.Front.{BeginsWith};
 
 use crate::fault::RecordFault;
 use crate::header::Header;
-use crate::kind::Kind;
+use crate::kind::RecordKind;
 use crate::record::Record;
 use std::alloc::Global;
 use wf_ballot::{split_ballot, split_round, split_slot};
@@ -29,11 +29,11 @@ pub fn decode(alloc: Global, bytes: &[u8]) -> Result<(Record, usize), RecordFaul
     ensures none_yet { IsErrOf result RecordFault.Torn → BeginsWithNone bytes.now }
     ensures bad { IfErr result (λ fault. IsFaultOfBytes fault → bytes.now ≢ [] → IsBad bytes.now) }
 {
-    judge(alloc, bytes)
+    validate(alloc, bytes)
 }
 
-fn judge(alloc: Global, bytes: &[u8]) -> Result<(Record, usize), RecordFault>
-    ensures { IsJudged view result (frame_front format bytes.now) }
+fn validate(alloc: Global, bytes: &[u8]) -> Result<(Record, usize), RecordFault>
+    ensures { IsValidated view result (frame_front format bytes.now) }
 {
     let (header, body) = match split_frame::<Header>(bytes) {
         Ok(frame) => frame,
@@ -57,19 +57,19 @@ fn record_fault(fault: FrameFault) -> RecordFault
     }
 }
 
-fn record_of(alloc: Global, kind: Kind, body: &[u8]) -> Result<Record, RecordFault>
+fn record_of(alloc: Global, kind: RecordKind, body: &[u8]) -> Result<Record, RecordFault>
     ensures { ReadsBody view result (fields_of kind body.now) }
 {
     match kind {
-        Kind::Tried => tried_of(body),
-        Kind::Promised => promised_of(body),
-        Kind::Accepted => accepted_of(alloc, body),
-        Kind::Published => published_of(alloc, body),
+        RecordKind::Tried => parse_tried(body),
+        RecordKind::Promised => parse_promised(body),
+        RecordKind::Accepted => parse_accepted(alloc, body),
+        RecordKind::Published => parse_published(alloc, body),
     }
 }
 
-#[tactic(auto, unfolding(crate::specs::Judging::fields_of))]
-fn tried_of(body: &[u8]) -> Result<Record, RecordFault>
+#[tactic(auto, unfolding(crate::specs::Stages::fields_of))]
+fn parse_tried(body: &[u8]) -> Result<Record, RecordFault>
     ensures { ReadsBody view result (fields_of kinds.Tried body.now) }
 {
     let Some((round, _)) = split_round(body) else {
@@ -78,8 +78,8 @@ fn tried_of(body: &[u8]) -> Result<Record, RecordFault>
     Ok(Record::Tried(round))
 }
 
-#[tactic(auto, unfolding(crate::specs::Judging::fields_of))]
-fn promised_of(body: &[u8]) -> Result<Record, RecordFault>
+#[tactic(auto, unfolding(crate::specs::Stages::fields_of))]
+fn parse_promised(body: &[u8]) -> Result<Record, RecordFault>
     ensures { ReadsBody view result (fields_of kinds.Promised body.now) }
 {
     let Some((slot, rest)) = split_slot(body) else {
@@ -91,8 +91,8 @@ fn promised_of(body: &[u8]) -> Result<Record, RecordFault>
     Ok(Record::Promised(slot, ballot))
 }
 
-#[tactic(auto, unfolding(crate::specs::Judging::fields_of))]
-fn accepted_of(alloc: Global, body: &[u8]) -> Result<Record, RecordFault>
+#[tactic(auto, unfolding(crate::specs::Stages::fields_of))]
+fn parse_accepted(alloc: Global, body: &[u8]) -> Result<Record, RecordFault>
     ensures { ReadsBody view result (fields_of kinds.Accepted body.now) }
 {
     let Some((slot, rest)) = split_slot(body) else {
@@ -105,8 +105,8 @@ fn accepted_of(alloc: Global, body: &[u8]) -> Result<Record, RecordFault>
     Ok(Record::Accepted(slot, ballot, canon))
 }
 
-#[tactic(auto, unfolding(crate::specs::Judging::fields_of))]
-fn published_of(alloc: Global, body: &[u8]) -> Result<Record, RecordFault>
+#[tactic(auto, unfolding(crate::specs::Stages::fields_of))]
+fn parse_published(alloc: Global, body: &[u8]) -> Result<Record, RecordFault>
     ensures { ReadsBody view result (fields_of kinds.Published body.now) }
 {
     let Some((slot, text)) = split_slot(body) else {

@@ -1,14 +1,14 @@
 ghost use Rattle.std.specs.Prelude.{◌≡◌, ◌+◌, ◌≤◌, ◌++◌, length, map, vec_len, vec_capacity, OnOk, IfOk};
 ghost use Rattle.wf_journal.specs.Record.{view, texts, HasText, IsRecord};
 ghost use Rattle.wf_journal.specs.Records.{AreWritten};
-ghost use Rattle.wf_journal.specs.Kind.{most_body_bytes};
+ghost use Rattle.wf_journal.specs.RecordKind.{most_body_bytes};
 ghost use Rattle.wf_journal.specs.Version.{version_written};
-ghost use Rattle.wf_journal.specs.Spelling.{kind_of, body, spelling, Spells};
+ghost use Rattle.wf_journal.specs.Encoding.{kind_of, body, spelling, Spells};
 ghost use Rattle.wf_spelling.specs.Canon.{canon};
 
 use crate::decoder::HEADER_BYTES;
 use crate::header::Header;
-use crate::kind::Kind;
+use crate::kind::RecordKind;
 use crate::record::Record;
 use crate::version::Version;
 use std::alloc::{AllocError, Global};
@@ -50,10 +50,10 @@ fn push(out: &mut Vec<u8>, entry: &Record) -> Result<(), AllocError>
 impl Record {
     ghost use Rattle.std.specs.Prelude.{◌≡◌, length};
     ghost use Rattle.wf_journal.specs.Record.{view};
-    ghost use Rattle.wf_journal.specs.Spelling.{spelling};
+    ghost use Rattle.wf_journal.specs.Encoding.{spelling};
 
     /// The number of bytes of the record on a tape.
-    #[tactic(auto, using(crate::proofs::Judged::header_and_body))]
+    #[tactic(auto, using(crate::proofs::Validated::header_and_body))]
     pub fn length(&self) -> usize
         ensures { result ≡ length (spelling (view self.now)) }
     {
@@ -62,7 +62,7 @@ impl Record {
 }
 
 /// The header of a record of this kind as it is written.
-fn written_header(kind: Kind) -> Header
+fn written_header(kind: RecordKind) -> Header
     ensures { result ≡ record { version = version_written; kind = kind } }
 {
     Header {
@@ -73,7 +73,7 @@ fn written_header(kind: Kind) -> Header
 
 /// The record's kind, and the number of bytes of its body.
 #[tactic(auto, using(crate::proofs::Fields::body_has_length))]
-fn shape_of(entry: &Record) -> (Kind, usize)
+fn shape_of(entry: &Record) -> (RecordKind, usize)
     ensures kind { result.0 ≡ kind_of (texts (view entry.now)) }
     ensures length { result.1 ≡ length (body (texts (view entry.now))) }
     ensures most { result.1 ≤ most_body_bytes }
@@ -82,21 +82,21 @@ fn shape_of(entry: &Record) -> (Kind, usize)
     match entry {
         Record::Tried(round) => {
             round_in_range(*round);
-            (Kind::Tried, 4)
+            (RecordKind::Tried, 4)
         }
         Record::Promised(slot, ballot) => {
             slot_in_range(*slot);
             ballot_in_range(*ballot);
-            (Kind::Promised, 7)
+            (RecordKind::Promised, 7)
         }
         Record::Accepted(slot, ballot, canon) => {
             slot_in_range(*slot);
             ballot_in_range(*ballot);
-            (Kind::Accepted, 7 + text_length(canon))
+            (RecordKind::Accepted, 7 + text_length(canon))
         }
         Record::Published(slot, canon) => {
             slot_in_range(*slot);
-            (Kind::Published, 2 + text_length(canon))
+            (RecordKind::Published, 2 + text_length(canon))
         }
     }
 }
@@ -111,7 +111,7 @@ fn text_length(text: &Canon) -> usize
 }
 
 /// Appends the body, for which there is room.
-#[tactic(auto, using(crate::proofs::Fields::body_has_length), unfolding(crate::specs::Spelling::body))]
+#[tactic(auto, using(crate::proofs::Fields::body_has_length), unfolding(crate::specs::Encoding::body))]
 fn put_body(out: &mut Vec<u8>, entry: &Record)
     requires { vec_len out.old + length (body (texts (view entry.now))) ≤ vec_capacity out.old }
     ensures { out.new.items ≡ out.old.items ++ body (texts (view entry.now)) }

@@ -11,9 +11,9 @@ ghost use Rattle.wf_journal.specs.OpenFault.{open_fault};
 ghost use Rattle.wf_journal.specs.Journal.{TapeHolds, TapeReadsAs, LeavesBy, LeavesInsideBy, ReadsSame, IsWhereBad, IsNotBad, IsWhyFailed};
 
 use crate::journal::Journal;
-use crate::opening::OpenFault;
-use crate::reading::read_records;
+use crate::open_error::OpenFault;
 use crate::record::Record;
+use crate::record_reader::read_records;
 use std::alloc::Global;
 use std::marker::Model;
 use wf_canon::one_text_one_map;
@@ -36,7 +36,7 @@ impl<T: Tape> Model for Found<T> {
 
     ghost view = { λ f. record { tape = f.tape; bytes = f.bytes.items; front = f.front } };
 
-    ghost invariant = { λ f. ((records : _) × HasRead f.bytes.items records f.front) × (T.honest → IsContent f.bytes.items (T.content f.tape) (T.images f.tape)) };
+    ghost invariant = { λ f. ((records : _) × HasRead f.bytes.items records f.front) × (T.durable → IsContent f.bytes.items (T.content f.tape) (T.images f.tape)) };
 }
 
 impl<T: Tape> Found<T> {
@@ -46,14 +46,14 @@ impl<T: Tape> Found<T> {
     pub fn read(alloc: Global, tape: T) -> Result<(Found<T>, Vec<Record>), (T, OpenFault)>
         ensures records { IfOk result (λ x. HasRead x.0.bytes (map view x.1.items) x.0.front) }
         ensures size { IfOk result (λ x. length_of (map view x.1.items) < 2 ^ 64) }
-        ensures content { T.honest → IfOk result (λ x. x.0.bytes ≡ T.content tape) }
-        ensures unchanged { T.honest → IfOk result (λ x. Stays T.Tape tape x.0.tape) }
-        ensures unchanged_err { T.honest → IfErr result (λ e. Stays T.Tape tape e.0) }
-        ensures time { T.honest → IfOk result (λ x. GoesOn T.Tape tape x.0.tape) }
-        ensures time_err { T.honest → IfErr result (λ e. GoesOn T.Tape tape e.0) }
-        ensures inside { T.honest → IfOk result (λ x. StaysInside T.Tape tape x.0.tape) }
-        ensures inside_err { T.honest → IfErr result (λ e. StaysInside T.Tape tape e.0) }
-        ensures bad { T.honest → IfErr result (λ e. IsWhereBad e.1 (T.content tape)) }
+        ensures content { T.durable → IfOk result (λ x. x.0.bytes ≡ T.content tape) }
+        ensures unchanged { T.durable → IfOk result (λ x. Stays T.Tape tape x.0.tape) }
+        ensures unchanged_err { T.durable → IfErr result (λ e. Stays T.Tape tape e.0) }
+        ensures time { T.durable → IfOk result (λ x. GoesOn T.Tape tape x.0.tape) }
+        ensures time_err { T.durable → IfErr result (λ e. GoesOn T.Tape tape e.0) }
+        ensures inside { T.durable → IfOk result (λ x. StaysInside T.Tape tape x.0.tape) }
+        ensures inside_err { T.durable → IfErr result (λ e. StaysInside T.Tape tape e.0) }
+        ensures bad { T.durable → IfErr result (λ e. IsWhereBad e.1 (T.content tape)) }
         ensures later { IfOk result (λ x. T.failed tape ≤ T.failed x.0.tape) }
         ensures failed { IfErr result (λ e. IsWhyFailed e.1 (T.failed tape) (T.failed e.0)) }
         ensures sturdy { T.never_fails tape → IfOk result (λ x. T.never_fails x.0.tape) }
@@ -72,24 +72,25 @@ impl<T: Tape> Found<T> {
     }
 
     /// The journal of the tape. A torn record after the whole ones is removed, and what is kept is synced; a doubtful tape is
-    /// replaced by it, so that no bytes stay unsynced that an earlier failed sync left. One call of the tape. An error returns the tape, unchanged unless the tape itself failed. A tape that won't fail still won't, and doesn't.
+    /// replaced by it, so that no bytes stay unsynced that an earlier failed sync left. One call of the tape. An error returns the
+    /// tape, unchanged unless the tape itself failed. A tape that won't fail still won't, and doesn't.
     pub fn settle(self) -> Result<Journal<T>, (T, OpenFault)>
         ensures running { IfOk result (λ journal. journal.halted ≡ false) }
-        ensures synced { T.honest → (records : _) → HasRead self.bytes records self.front →
+        ensures synced { T.durable → (records : _) → HasRead self.bytes records self.front →
             IfOk result (λ journal. TapeHolds T.Tape journal.tape records) }
-        ensures reads { T.honest → (records : _) → HasRead self.bytes records self.front →
+        ensures reads { T.durable → (records : _) → HasRead self.bytes records self.front →
             IfOk result (λ journal. TapeReadsAs T.Tape journal.tape records) }
-        ensures images { T.honest →
+        ensures images { T.durable →
             IfOk result (λ journal. LeavesBy ReadsSame T.Tape self.tape journal.tape) }
-        ensures images_err { T.honest →
+        ensures images_err { T.durable →
             IfErr result (λ e. LeavesBy ReadsSame T.Tape self.tape e.0) }
-        ensures unchanged { T.honest →
+        ensures unchanged { T.durable →
             IfErr result (λ e. e.1 ≢ OpenFault.TapeFailed → Stays T.Tape self.tape e.0) }
-        ensures time { T.honest → IfOk result (λ journal. GoesOn T.Tape self.tape journal.tape) }
-        ensures time_err { T.honest → IfErr result (λ e. GoesOn T.Tape self.tape e.0) }
-        ensures inside { T.honest →
+        ensures time { T.durable → IfOk result (λ journal. GoesOn T.Tape self.tape journal.tape) }
+        ensures time_err { T.durable → IfErr result (λ e. GoesOn T.Tape self.tape e.0) }
+        ensures inside { T.durable →
             IfOk result (λ journal. LeavesInsideBy ReadsSame T.Tape self.tape journal.tape) }
-        ensures inside_err { T.honest →
+        ensures inside_err { T.durable →
             IfErr result (λ e. LeavesInsideBy ReadsSame T.Tape self.tape e.0) }
         ensures not_bad { IfErr result (λ e. IsNotBad e.1) }
         ensures later { IfErr result (λ e. T.failed self.tape ≤ T.failed e.0) }
@@ -125,14 +126,14 @@ impl<T: Tape> Found<T> {
 /// unsynced.
 fn settle<T: Tape>(tape: &mut T, bytes: &[u8], front: usize) -> Result<(), TapeFault>
     requires within { front ≤ length bytes.now }
-    ensures ok { T.honest →
+    ensures ok { T.durable →
         OnOk result (T.content tape.old ≡ bytes.now → T.content tape.new ≡ take front bytes.now) }
-    ensures only { T.honest → OnOk result (IsOnlyImage (T.content tape.new) (T.images tape.new)) }
-    ensures images { T.honest →
+    ensures only { T.durable → OnOk result (IsOnlyImage (T.content tape.new) (T.images tape.new)) }
+    ensures images { T.durable →
         LeavesOldOr (take front bytes.now) (T.images tape.old) (T.images tape.new) }
-    ensures memory { T.honest → IsErrOf result Memory → Stays T.Tape tape.old tape.new }
-    ensures time { T.honest → GoesOn T.Tape tape.old tape.new }
-    ensures inside { T.honest →
+    ensures memory { T.durable → IsErrOf result Memory → Stays T.Tape tape.old tape.new }
+    ensures time { T.durable → GoesOn T.Tape tape.old tape.new }
+    ensures inside { T.durable →
         LeavesOldOr (take front bytes.now) (T.images tape.old) (inside T.Tape tape.old tape.new) }
     ensures cause { HasCause (T.failed tape.old) (T.failed tape.new) result }
     ensures sturdy { T.never_fails tape.old → T.never_fails tape.new }

@@ -1,5 +1,5 @@
 use crate::decoder::BODY_BYTES;
-use crate::kind::Kind;
+use crate::kind::RecordKind;
 use crate::version::Version;
 use wf_frame::FrameKind;
 
@@ -7,12 +7,12 @@ use wf_frame::FrameKind;
 #[derive(Clone, Copy)]
 pub struct Header {
     pub version: Version,
-    pub kind: Kind,
+    pub kind: RecordKind,
 }
 
 impl FrameKind for Header {
-    ghost use Rattle.wf_journal.specs.Spelling.{format as format_of_records};
-    ghost use Rattle.wf_journal.specs.FormatLaws.{is_format as records_have_a_format};
+    ghost use Rattle.wf_journal.specs.Encoding.{format as format_of_records};
+    ghost use Rattle.wf_journal.specs.FormatTheorems.{is_format as records_have_a_format};
 
     ghost format = { format_of_records };
 
@@ -20,9 +20,9 @@ impl FrameKind for Header {
         Version::of_byte(version).is_some()
     }
 
-    #[tactic(auto, unfolding(crate::specs::Spelling::header_with))]
+    #[tactic(auto, unfolding(crate::specs::Encoding::header_with))]
     fn with(version: u8, byte: u8) -> Option<Self> {
-        match (Version::of_byte(version), Kind::of_byte(byte)) {
+        match (Version::of_byte(version), RecordKind::of_byte(byte)) {
             (Some(version), Some(kind)) => Some(Header { version, kind }),
             _ => None,
         }

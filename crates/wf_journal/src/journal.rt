@@ -4,7 +4,7 @@ ghost use Rattle.std.specs.Prelude.{◌≡◌, ◌≢◌, ◌++◌, ◌∷◌, [
 ghost use Rattle.wf_tape.specs.declared.fault.TapeFault.TheVariants.{Memory};
 ghost use Rattle.wf_journal.specs.Record.{view};
 ghost use Rattle.wf_journal.specs.Records.{IsTapeOf};
-ghost use Rattle.wf_journal.specs.Spelling.{spelling};
+ghost use Rattle.wf_journal.specs.Encoding.{spelling};
 ghost use Rattle.wf_tape.specs.Tape.{IsOnlyImage, IsExtended, LeavesOldOrCut, HasCause, IsNotMemory};
 ghost use Rattle.wf_tape.specs.Change.{inside, Stays, GoesOn, HasFailed};
 ghost use Rattle.wf_tape.specs.MemoryTape.{with_fuse};
@@ -12,14 +12,14 @@ ghost use Rattle.wf_journal.specs.Journal.{TapeHolds, TapeIsSettled, TapeGrows, 
 
 use crate::encoder::encode;
 use crate::found::Found;
-use crate::opening::{AddFault, OpenFault};
+use crate::open_error::{AddFault, OpenFault};
 use crate::record::Record;
 use std::alloc::Global;
 use std::marker::Model;
 use wf_canon::one_text_one_map;
 use wf_tape::{MemoryTape, Tape, TapeFault};
 
-/// The records of a node on its tape. Model: the tape, and whether the journal is halted; if it isn't, an honest tape holds only
+/// The records of a node on its tape. Model: the tape, and whether the journal is halted; if it isn't, a durable tape holds only
 /// whole records, all of them synced, and a sync of the tape can be relied on.
 #[derive(Drop)]
 pub struct Journal<T: Tape> {
@@ -35,31 +35,31 @@ impl<T: Tape> Model for Journal<T> {
 
     ghost view = { λ j. record { tape = j.tape; halted = j.halted } };
 
-    ghost invariant = { λ j. (T.honest → j.halted ≡ false → TapeIsSettled T.Tape j.tape) × (j.halted ≡ false → T.doubtful j.tape ≡ false) };
+    ghost invariant = { λ j. (T.durable → j.halted ≡ false → TapeIsSettled T.Tape j.tape) × (j.halted ≡ false → T.doubtful j.tape ≡ false) };
 }
 
 impl<T: Tape> Journal<T> {
     /// The journal of the tape, and its records, the oldest first. A torn record after the whole ones is removed, and what is
     /// kept is synced. An error returns the tape, unchanged unless the tape itself failed. A crash at each moment inside the call
     /// leaves what reads as something that a crash could have left before it. A tape that won't fail still won't, and doesn't.
-    #[tactic(auto, using(crate::proofs::Settling::followed_on, crate::proofs::Settling::unchanged_on, crate::proofs::Settling::why_failed_on, crate::proofs::Settling::not_bad_anywhere))]
+    #[tactic(auto, using(crate::proofs::CrashImages::followed_on, crate::proofs::CrashImages::unchanged_on, crate::proofs::CrashImages::why_failed_on, crate::proofs::CrashImages::not_bad_anywhere))]
     pub fn open(alloc: Global, tape: T) -> Result<(Journal<T>, Vec<Record>), (T, OpenFault)>
         ensures running { IfOk result (λ x. x.0.halted ≡ false) }
-        ensures records { T.honest →
+        ensures records { T.durable →
             IfOk result (λ x. (rest : _) × IsTapeOf (T.content tape) (map view x.1.items) rest) }
-        ensures synced { T.honest →
+        ensures synced { T.durable →
             IfOk result (λ x. TapeHolds T.Tape x.0.tape (map view x.1.items)) }
-        ensures images { T.honest → IfOk result (λ x. LeavesBy ReadsSame T.Tape tape x.0.tape) }
-        ensures images_err { T.honest → IfErr result (λ e. LeavesBy ReadsSame T.Tape tape e.0) }
-        ensures time { T.honest → IfOk result (λ x. GoesOn T.Tape tape x.0.tape) }
-        ensures time_err { T.honest → IfErr result (λ e. GoesOn T.Tape tape e.0) }
-        ensures inside { T.honest →
+        ensures images { T.durable → IfOk result (λ x. LeavesBy ReadsSame T.Tape tape x.0.tape) }
+        ensures images_err { T.durable → IfErr result (λ e. LeavesBy ReadsSame T.Tape tape e.0) }
+        ensures time { T.durable → IfOk result (λ x. GoesOn T.Tape tape x.0.tape) }
+        ensures time_err { T.durable → IfErr result (λ e. GoesOn T.Tape tape e.0) }
+        ensures inside { T.durable →
             IfOk result (λ x. LeavesInsideBy ReadsSame T.Tape tape x.0.tape) }
-        ensures inside_err { T.honest →
+        ensures inside_err { T.durable →
             IfErr result (λ e. LeavesInsideBy ReadsSame T.Tape tape e.0) }
-        ensures unchanged { T.honest →
+        ensures unchanged { T.durable →
             IfErr result (λ e. e.1 ≢ OpenFault.TapeFailed → Stays T.Tape tape e.0) }
-        ensures bad { T.honest → IfErr result (λ e. IsWhereBad e.1 (T.content tape)) }
+        ensures bad { T.durable → IfErr result (λ e. IsWhereBad e.1 (T.content tape)) }
         ensures failed { IfErr result (λ e. IsWhyFailed e.1 (T.failed tape) (T.failed e.0)) }
         ensures sturdy { T.never_fails tape → IfOk result (λ x. T.never_fails x.0.tape) }
         ensures sturdy_err { T.never_fails tape → IfErr result (λ e. T.never_fails e.0) }
@@ -68,18 +68,18 @@ impl<T: Tape> Journal<T> {
         match Found::read(alloc, tape) {
             Ok((found, records)) => match found.settle() {
                 Ok(journal) => Ok((journal, records)),
-                Err(refusal) => {
+                Err(rejection) => {
                     discard(records);
-                    Err(refusal)
+                    Err(rejection)
                 }
             },
-            Err(refusal) => Err(refusal),
+            Err(rejection) => Err(rejection),
         }
     }
 
     /// The journal of a tape that holds only whole records, all of them synced, and whose syncs can be relied on.
     pub(crate) fn over(tape: T) -> Journal<T>
-        requires settled { T.honest → TapeIsSettled T.Tape tape }
+        requires settled { T.durable → TapeIsSettled T.Tape tape }
         requires sure { T.doubtful tape ≡ false }
         ensures { result ≡ record { tape = tape; halted = false } }
     {
@@ -92,25 +92,25 @@ impl<T: Tape> Journal<T> {
     /// Adds a record: after Ok it is on the tape and synced. After a failure of the tape the journal is halted until it is opened
     /// again, since a prefix of the record's bytes may be on the tape, after what was there. A crash at each moment inside the call
     /// leaves what reads as the records from before, or with the new one. A tape that won't fail still won't, and doesn't.
-    #[tactic(auto, using(crate::proofs::Settling::same_kept, crate::proofs::Settling::now_more, crate::proofs::Settling::settled_more, crate::proofs::Settling::settled_same))]
+    #[tactic(auto, using(crate::proofs::CrashImages::same_kept, crate::proofs::CrashImages::now_more, crate::proofs::CrashImages::settled_more, crate::proofs::CrashImages::settled_same))]
     pub fn add(&mut self, alloc: Global, entry: &Record) -> Result<(), AddFault>
         requires { self.old.halted ≡ false }
-        ensures ok { T.honest →
+        ensures ok { T.durable →
             OnOk result (TapeGrows (view entry.now) T.Tape self.old.tape self.new.tape) }
-        ensures one_more { T.honest → OnOk result
+        ensures one_more { T.durable → OnOk result
             (LeavesBy (ReadsOneMore (view entry.now)) T.Tape self.old.tape self.new.tape) }
-        ensures images { T.honest →
+        ensures images { T.durable →
             LeavesBy (ReadsSameOrOneMore (view entry.now)) T.Tape self.old.tape self.new.tape }
-        ensures time { T.honest → GoesOn T.Tape self.old.tape self.new.tape }
-        ensures inside { T.honest → LeavesInsideBy
+        ensures time { T.durable → GoesOn T.Tape self.old.tape self.new.tape }
+        ensures inside { T.durable → LeavesInsideBy
             (ReadsSameOrOneMore (view entry.now)) T.Tape self.old.tape self.new.tape }
         ensures running { OnOk result (self.new.halted ≡ false) }
         ensures failed { IsErrOf result AddFault.TapeFailed →
             HasFailed T.Tape self.old.tape self.new.tape }
-        ensures part { T.honest → IsErrOf result AddFault.TapeFailed → IsExtended
+        ensures part { T.durable → IsErrOf result AddFault.TapeFailed → IsExtended
             (T.content self.old.tape) (spelling (view entry.now)) (T.content self.new.tape) }
         ensures halted { IsErrOf result AddFault.TapeFailed → self.new.halted ≡ true }
-        ensures memory { T.honest → IsErrOf result AddFault.Memory →
+        ensures memory { T.durable → IsErrOf result AddFault.Memory →
             Stays T.Tape self.old.tape self.new.tape }
         ensures still_running { IsErrOf result AddFault.Memory → self.new.halted ≡ false }
         ensures sturdy { T.never_fails self.old.tape → T.never_fails self.new.tape }
@@ -135,15 +135,15 @@ impl<T: Tape> Journal<T> {
     /// Whether the tape failed. Then no record can be written until the journal is opened again.
     pub fn is_halted(&self) -> bool
         ensures value { result ≡ self.now.halted }
-        ensures settled { T.honest → self.now.halted ≡ false → TapeIsSettled T.Tape self.now.tape }
+        ensures settled { T.durable → self.now.halted ≡ false → TapeIsSettled T.Tape self.now.tape }
     {
         self.halted
     }
 
-    /// The tape. Unless the journal is halted, an honest one holds only whole records, all of them synced.
+    /// The tape. Unless the journal is halted, a durable one holds only whole records, all of them synced.
     pub fn tape(&self) -> &T
         ensures value { result.now ≡ self.now.tape }
-        ensures settled { T.honest → self.now.halted ≡ false → TapeIsSettled T.Tape self.now.tape }
+        ensures settled { T.durable → self.now.halted ≡ false → TapeIsSettled T.Tape self.now.tape }
     {
         &self.tape
     }
@@ -168,18 +168,18 @@ impl Journal<MemoryTape> {
 }
 
 /// Appends the bytes and syncs them.
-#[tactic(auto, using(crate::proofs::Settling::cut_shorter, crate::proofs::Settling::cut_synced, crate::proofs::Settling::extended_whole))]
+#[tactic(auto, using(crate::proofs::CrashImages::cut_shorter, crate::proofs::CrashImages::cut_synced, crate::proofs::CrashImages::extended_whole))]
 fn write<T: Tape>(tape: &mut T, bytes: &[u8]) -> Result<(), TapeFault>
-    ensures ok { T.honest → OnOk result (T.content tape.new ≡ T.content tape.old ++ bytes.now) }
-    ensures only { T.honest → T.doubtful tape.old ≡ false →
+    ensures ok { T.durable → OnOk result (T.content tape.new ≡ T.content tape.old ++ bytes.now) }
+    ensures only { T.durable → T.doubtful tape.old ≡ false →
         OnOk result (IsOnlyImage (T.content tape.new) (T.images tape.new)) }
-    ensures part { T.honest →
+    ensures part { T.durable →
         OnErr result (IsExtended (T.content tape.old) bytes.now (T.content tape.new)) }
-    ensures images { T.honest → IsNotMemory result →
+    ensures images { T.durable → IsNotMemory result →
         LeavesOldOrCut (T.content tape.old ++ bytes.now) (T.images tape.old) (T.images tape.new) }
-    ensures memory { T.honest → IsErrOf result Memory → Stays T.Tape tape.old tape.new }
-    ensures time { T.honest → GoesOn T.Tape tape.old tape.new }
-    ensures inside { T.honest → LeavesOldOrCut
+    ensures memory { T.durable → IsErrOf result Memory → Stays T.Tape tape.old tape.new }
+    ensures time { T.durable → GoesOn T.Tape tape.old tape.new }
+    ensures inside { T.durable → LeavesOldOrCut
         (T.content tape.old ++ bytes.now) (T.images tape.old) (inside T.Tape tape.old tape.new) }
     ensures cause { HasCause (T.failed tape.old) (T.failed tape.new) result }
     ensures sturdy { T.never_fails tape.old → T.never_fails tape.new }

@@ -2,41 +2,41 @@ use wf_frame::has_text_behind;
 
 /// The kinds of record.
 #[derive(Clone, Copy, Debug, PartialEq, Eq)]
-pub enum Kind {
+pub enum RecordKind {
     Tried,
     Promised,
     Accepted,
     Published,
 }
 
-impl Kind {
+impl RecordKind {
     ghost use Rattle.std.specs.Prelude.{◌≡◌, ◌≤◌};
     ghost use Rattle.wf_frame.specs.Layout.{fits};
     ghost use Rattle.wf_spelling.specs.Canon.{most_canon_bytes};
-    ghost use Rattle.wf_journal.specs.Kind.{kind_byte, kind_of_byte, layout};
+    ghost use Rattle.wf_journal.specs.RecordKind.{kind_byte, kind_of_byte, layout};
 
     /// The kind's byte.
     pub fn byte(self) -> u8
         ensures { result ≡ kind_byte self }
     {
         match self {
-            Kind::Tried => 1,
-            Kind::Promised => 2,
-            Kind::Accepted => 3,
-            Kind::Published => 4,
+            RecordKind::Tried => 1,
+            RecordKind::Promised => 2,
+            RecordKind::Accepted => 3,
+            RecordKind::Published => 4,
         }
     }
 
     /// The kind with this byte; None if there is none.
-    #[tactic(auto, unfolding(crate::specs::Kind::kind_of_byte))]
-    pub fn of_byte(byte: u8) -> Option<Kind>
+    #[tactic(auto, unfolding(crate::specs::RecordKind::kind_of_byte))]
+    pub fn of_byte(byte: u8) -> Option<RecordKind>
         ensures { result ≡ kind_of_byte byte }
     {
         match byte {
-            1 => Some(Kind::Tried),
-            2 => Some(Kind::Promised),
-            3 => Some(Kind::Accepted),
-            4 => Some(Kind::Published),
+            1 => Some(RecordKind::Tried),
+            2 => Some(RecordKind::Promised),
+            3 => Some(RecordKind::Accepted),
+            4 => Some(RecordKind::Published),
             _ => None,
         }
     }
@@ -47,10 +47,10 @@ impl Kind {
         ensures { result ≡ fits (layout most self) length }
     {
         match self {
-            Kind::Tried => length == 4,
-            Kind::Promised => length == 7,
-            Kind::Accepted => has_text_behind(most, 7, length),
-            Kind::Published => has_text_behind(most, 2, length),
+            RecordKind::Tried => length == 4,
+            RecordKind::Promised => length == 7,
+            RecordKind::Accepted => has_text_behind(most, 7, length),
+            RecordKind::Published => has_text_behind(most, 2, length),
         }
     }
 }

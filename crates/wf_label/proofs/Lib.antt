@@ -1,13 +1,13 @@
 pub mod AnchorLemmas
 pub mod TextLemmas
 pub mod LabelLemmas
-pub mod PlacingLemmas
+pub mod LayoutLemmas
 pub mod ColoredLemmas
 pub mod BitLemmas
 pub mod InkLemmas
 pub mod TakenLemmas
 pub mod OverlapLemmas
-pub mod SaidLemmas
+pub mod MeaningLemmas
 pub mod SortedLemmas
 pub mod OrderLemmas
 pub mod LetterLemmas

@@ -13,7 +13,7 @@ use Rattle.std.specs.List.{All, list_any}
 use Rattle.wf_paint.specs.Exact.{plus, difference, is_less}
 use Rattle.wf_paint.specs.View.{ViewValue}
 use Rattle.wf_label.specs.Colored.{IsCut, is_between, is_in}
-use Rattle.wf_label.specs.PixelBox.{box_of, is_whole_in, overlap, spans_overlap, widened}
+use Rattle.wf_label.specs.PixelBox.{box_of, is_whole_in, overlap, spans_overlap, widen}
 use Rattle.wf_label.specs.Placed.{PlacedValue, placed_value, placed_values}
 use Rattle.wf_label.specs.declared.placed.Placed.{Placed}
 use Rattle.wf_label.specs.Taken.{IsSolid, IsShown, IsTaken, IsMet, IsMarkedWithin, is_taken, is_marked}
@@ -84,8 +84,8 @@ moved_apart : (n : ℕ) (a b : ℤ) → is_less a b ≡ true → is_less (differ
 unfolding is_less difference plus
 moved_apart n a b less = grind (arith, ints)
 
-pub widened_solid : (by : ℕ) (f : PixelBox) → IsSolid f → IsSolid (widened by f)
-unfolding widened
+pub widened_solid : (by : ℕ) (f : PixelBox) → IsSolid f → IsSolid (widen by f)
+unfolding widen
 widened_solid by f solid = record { wide = moved_apart by f.left f.right solid.wide; high = moved_apart by f.bottom f.top solid.high }
 
 -- ---- a box and those of labels

@@ -4,7 +4,7 @@ pub mod Placed
 pub mod PixelBox
 pub mod Anchor
 pub mod Label
-pub mod Placing
+pub mod LabelLayout
 pub mod Ink
 pub mod Colored
 pub mod Walk

@@ -25,8 +25,8 @@ box_of p = record {
 }
 
 -- the box with `by` pixels more on each side
-unfoldable pub widened : ℕ → PixelBox → PixelBox
-widened by b = record {
+unfoldable pub widen : ℕ → PixelBox → PixelBox
+widen by b = record {
   left = difference b.left (pos by);
   right = plus b.right (pos by);
   bottom = difference b.bottom (pos by);
@@ -48,7 +48,7 @@ is_whole_in view b = not (is_less b.left (pos 0)) && not (is_less (pos view.widt
 
 -- the box widened by the label's buffer has a pixel in common with the other's box
 unfoldable pub meets : PlacedValue → PlacedValue → Bool
-meets label other = overlap (widened label.buffer (box_of label)) (box_of other)
+meets label other = overlap (widen label.buffer (box_of label)) (box_of other)
 
 -- how far from 0 the sides of a box lie, so that no sum of them overflows
 pub record IsPixelBox (b : PixelBox) : Type 0 where

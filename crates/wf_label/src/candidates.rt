@@ -8,8 +8,8 @@ ghost use Rattle.wf_label.specs.Label.{candidates, class_label};
 ghost use Rattle.wf_label.specs.Placed.{placed_values};
 ghost use Rattle.wf_label.specs.Walk.{candidate_of, candidate_value, candidate_values, chosen, layer_candidates, walk};
 
-use crate::anchoring::anchor_of;
 use crate::candidate::Candidate;
+use crate::feature_anchor::anchor_of;
 use crate::placed::Placed;
 use crate::position::at_anchor;
 use crate::text::text_of;

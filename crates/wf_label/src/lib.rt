@@ -4,7 +4,7 @@
 //! feature's first part, as the view shows it. Labels have an order. A label is placed iff its box lies whole in the view and, if
 //! the label isn't forced, its box widened by the label's buffer overlaps no box of a label placed before it. Contracts see a
 //! label as the record of `specs/Placed.antt` and a picture as `wf_paint` does; the placed labels are the one set of
-//! `specs/Placing.antt`.
+//! `specs/LabelLayout.antt`.
 //!
 //! - `candidates` returns all labels in label order, unless allocation fails.
 //! - `place` returns the placed set in that order, unless allocation fails.
@@ -15,21 +15,20 @@
 //! Labels are placed in the whole view, never in a part of it. The crate has one alphabet of capitals, digits and three marks,
 //! draws every other character as a filled cell, and doesn't rotate text.
 //!
-//! Three theorems in `law` say why that is right. Any labels in any view have exactly one placed set. What `candidates` returns has
-//! every label once, sorted by priority, layer and feature, and no other list is so. A label inks exactly the squares of the bits
+//! Three theorems in `theorem` say why that is right. Any labels in any view have exactly one placed set. What `candidates` returns
+//! has every label once, sorted by priority, layer and feature, and no other list is so. A label inks exactly the squares of the bits
 //! that its characters' glyphs set, all of them in its box.
 #![tactic(auto)]
 
 pub mod anchor;
-mod anchoring;
 pub mod bounds;
 mod candidate;
 pub mod candidates;
 pub mod draw;
+mod feature_anchor;
 mod fill;
 pub mod glyph;
 mod ink;
-pub mod law;
 pub mod limits;
 mod overlap;
 pub mod pixel_box;
@@ -39,3 +38,4 @@ mod position;
 mod scale;
 mod taken;
 mod text;
+pub mod theorem;

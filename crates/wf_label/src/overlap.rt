@@ -1,7 +1,7 @@
 //! Boxes of labels: where they are, and whether they lie in the view.
 ghost use Rattle.std.specs.Prelude.{◌≡◌, ◌≤◌, ◌+◌, ◌^◌, ◌<◌, length, pos, nat_abs};
 ghost use Rattle.wf_paint.specs.Exact.{plus, difference, is_less};
-ghost use Rattle.wf_label.specs.PixelBox.{IsPixelBox, box_of, is_whole_in, widened};
+ghost use Rattle.wf_label.specs.PixelBox.{IsPixelBox, box_of, is_whole_in, widen};
 ghost use Rattle.wf_label.specs.Placed.{placed_value};
 ghost use Rattle.wf_label.specs.Taken.{IsSolid};
 
@@ -48,10 +48,10 @@ fn minus(side: i128, by: u8) -> i128
 }
 
 /// The box with `by` pixels more on each side.
-#[tactic(auto, unfolding(crate::specs::PixelBox::widened))]
-pub(crate) fn widened(by: u8, pixel_box: &PixelBox) -> PixelBox
+#[tactic(auto, unfolding(crate::specs::PixelBox::widen))]
+pub(crate) fn widen(by: u8, pixel_box: &PixelBox) -> PixelBox
     requires { IsPixelBox pixel_box.now }
-    ensures { result ≡ widened by pixel_box.now }
+    ensures { result ≡ widen by pixel_box.now }
 {
     PixelBox {
         left: minus(pixel_box.left, by),

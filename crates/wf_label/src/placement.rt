@@ -4,11 +4,11 @@ ghost use Rattle.std.specs.List.{All, list_any};
 ghost use Rattle.wf_label.specs.PixelBox.{overlap, box_of};
 ghost use Rattle.wf_label.specs.Label.{candidates};
 ghost use Rattle.wf_label.specs.Placed.{placed_value, placed_values};
-ghost use Rattle.wf_label.specs.Placing.{IsPlacing, joined, stands};
+ghost use Rattle.wf_label.specs.LabelLayout.{IsLayout, joined, stands};
 ghost use Rattle.wf_label.specs.Taken.{IsShown, IsSolid, IsTaken};
 
 use crate::candidates::candidates;
-use crate::overlap::{box_of, is_whole_in, widened};
+use crate::overlap::{box_of, is_whole_in, widen};
 use crate::pixel_box::PixelBox;
 use crate::placed::Placed;
 use crate::taken::{mark, meets_marked};
@@ -27,45 +27,45 @@ pub fn place<'a>(
 ) -> Result<Vec<Placed<'a>>, AllocError>
     requires { All (λ i. i < length map.now.layers) layers.now }
     ensures { IfOk result (λ placed.
-        IsPlacing view.now (candidates map.now layers.now view.now) (placed_values placed.items)) }
+        IsLayout view.now (candidates map.now layers.now view.now) (placed_values placed.items)) }
 {
     let labels = candidates(alloc, map, layers, view)?;
-    placed_among(alloc, &labels, view)
+    place_among(alloc, &labels, view)
 }
 
 /// The labels placed so far, and which pixels of the view their boxes take.
 #[derive(Drop)]
-struct Placing<'a> {
+struct LabelLayout<'a> {
     placed: Vec<Placed<'a>>,
     marks: Vec<u8>,
 }
 
 /// The placed ones of some labels, which are given in label order.
-fn placed_among<'a>(
+fn place_among<'a>(
     alloc: Global,
     labels: &[Placed<'a>],
     view: &View,
 ) -> Result<Vec<Placed<'a>>, AllocError>
     requires { All (λ label. 0 < length label.text) (placed_values labels.now) }
     ensures { IfOk result
-        (λ placed. IsPlacing view.now (placed_values labels.now) (placed_values placed.items)) }
+        (λ placed. IsLayout view.now (placed_values labels.now) (placed_values placed.items)) }
 {
-    let mut placing = none_placed(alloc, view)?;
+    let mut layout = none_placed(alloc, view)?;
     for label in labels {
-        place_label(&mut placing, view, label)?;
+        place_label(&mut layout, view, label)?;
     }
-    let Placing { placed, marks } = placing;
+    let LabelLayout { placed, marks } = layout;
     drop(marks);
     Ok(placed)
 }
 
 /// No labels, which take no pixel.
-fn none_placed<'a>(alloc: Global, view: &View) -> Result<Placing<'a>, AllocError>
-    ensures none { IfOk result (λ placing. placing.placed.items ≡ []) }
-    ensures taken { IfOk result (λ placing. IsTaken view.now [] placing.marks.items) }
+fn none_placed<'a>(alloc: Global, view: &View) -> Result<LabelLayout<'a>, AllocError>
+    ensures none { IfOk result (λ layout. layout.placed.items ≡ []) }
+    ensures taken { IfOk result (λ layout. IsTaken view.now [] layout.marks.items) }
 {
     let marks = vec![in alloc; 0; (view.width() * view.height()) as usize]?;
-    Ok(Placing {
+    Ok(LabelLayout {
         placed: Vec::new(alloc),
         marks,
     })
@@ -73,61 +73,61 @@ fn none_placed<'a>(alloc: Global, view: &View) -> Result<Placing<'a>, AllocError
 
 /// Places the label, if it may be placed.
 fn place_label<'a>(
-    placing: &mut Placing<'a>,
+    layout: &mut LabelLayout<'a>,
     view: &View,
     label: &Placed<'a>,
 ) -> Result<(), AllocError>
     requires text { 0 < length label.now.text.now }
     requires taken { IsTaken view.now
-        (placed_values placing.old.placed.items) placing.old.marks.items }
-    ensures placed { OnOk result (placed_values placing.new.placed.items
-        ≡ joined view.now (placed_values placing.old.placed.items) (placed_value label.now)) }
+        (placed_values layout.old.placed.items) layout.old.marks.items }
+    ensures placed { OnOk result (placed_values layout.new.placed.items
+        ≡ joined view.now (placed_values layout.old.placed.items) (placed_value label.now)) }
     ensures taken { OnOk result
-        (IsTaken view.now (placed_values placing.new.placed.items) placing.new.marks.items) }
+        (IsTaken view.now (placed_values layout.new.placed.items) layout.new.marks.items) }
 {
-    if stands(placing, view, label) {
-        add(placing, view, label)?;
+    if stands(layout, view, label) {
+        add(layout, view, label)?;
     }
     Ok(())
 }
 
 /// Places the label.
-fn add<'a>(placing: &mut Placing<'a>, view: &View, label: &Placed<'a>) -> Result<(), AllocError>
+fn add<'a>(layout: &mut LabelLayout<'a>, view: &View, label: &Placed<'a>) -> Result<(), AllocError>
     requires shown { IsShown view.now (placed_value label.now) }
     requires taken { IsTaken view.now
-        (placed_values placing.old.placed.items) placing.old.marks.items }
-    ensures placed { OnOk result (placed_values placing.new.placed.items
-        ≡ placed_values placing.old.placed.items ++ placed_value label.now ∷ []) }
+        (placed_values layout.old.placed.items) layout.old.marks.items }
+    ensures placed { OnOk result (placed_values layout.new.placed.items
+        ≡ placed_values layout.old.placed.items ++ placed_value label.now ∷ []) }
     ensures taken { OnOk result
-        (IsTaken view.now (placed_values placing.new.placed.items) placing.new.marks.items) }
+        (IsTaken view.now (placed_values layout.new.placed.items) layout.new.marks.items) }
 {
-    placing.placed.push(*label)?;
-    mark(&mut placing.marks, view, &box_of(label));
+    layout.placed.push(*label)?;
+    mark(&mut layout.marks, view, &box_of(label));
     Ok(())
 }
 
 /// Whether the label may be placed, given the labels placed before it.
-#[tactic(auto, unfolding(crate::specs::Placing::stands, crate::specs::PixelBox::meets))]
-fn stands(placing: &Placing, view: &View, label: &Placed) -> bool
+#[tactic(auto, unfolding(crate::specs::LabelLayout::stands, crate::specs::PixelBox::meets))]
+fn stands(layout: &LabelLayout, view: &View, label: &Placed) -> bool
     requires text { 0 < length label.now.text.now }
     requires taken { IsTaken view.now
-        (placed_values placing.now.placed.items) placing.now.marks.items }
+        (placed_values layout.now.placed.items) layout.now.marks.items }
     ensures value { result
-        ≡ stands view.now (placed_values placing.now.placed.items) (placed_value label.now) }
+        ≡ stands view.now (placed_values layout.now.placed.items) (placed_value label.now) }
     ensures shown { result ≡ true → IsShown view.now (placed_value label.now) }
 {
     let pixel_box = box_of(label);
     is_whole_in(view, &pixel_box)
-        && (label.force || !meets_any(placing, view, &widened(label.buffer, &pixel_box)))
+        && (label.force || !meets_any(layout, view, &widen(label.buffer, &pixel_box)))
 }
 
 /// Whether the box has a pixel in common with the box of one of the labels placed so far.
-fn meets_any(placing: &Placing, view: &View, pixel_box: &PixelBox) -> bool
+fn meets_any(layout: &LabelLayout, view: &View, pixel_box: &PixelBox) -> bool
     requires solid { IsSolid pixel_box.now }
     requires taken { IsTaken view.now
-        (placed_values placing.now.placed.items) placing.now.marks.items }
+        (placed_values layout.now.placed.items) layout.now.marks.items }
     ensures { result ≡ list_any
-        (λ other. overlap pixel_box.now (box_of other)) (placed_values placing.now.placed.items) }
+        (λ other. overlap pixel_box.now (box_of other)) (placed_values layout.now.placed.items) }
 {
-    meets_marked(&placing.marks, view, pixel_box)
+    meets_marked(&layout.marks, view, pixel_box)
 }

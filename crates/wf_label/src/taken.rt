@@ -10,7 +10,7 @@ use wf_paint::view::View;
 
 /// The columns and rows of a view that a box covers: `left` to before `right`, `bottom` to before `top`.
 #[derive(Clone, Copy)]
-struct Block {
+struct CoveredBox {
     left: usize,
     right: usize,
     bottom: usize,
@@ -18,7 +18,7 @@ struct Block {
 }
 
 /// The part of the box that lies in the view.
-fn block_of(view: &View, pixel_box: &PixelBox) -> Block
+fn block_of(view: &View, pixel_box: &PixelBox) -> CoveredBox
     ensures left { IsCut view.now.width result.left pixel_box.now.left }
     ensures right { IsCut view.now.width result.right pixel_box.now.right }
     ensures bottom { IsCut view.now.height result.bottom pixel_box.now.bottom }
@@ -32,7 +32,7 @@ fn block_of(view: &View, pixel_box: &PixelBox) -> Block
     let right = cut(pixel_box.right, view.width());
     let bottom = cut(pixel_box.bottom, view.height());
     let top = cut(pixel_box.top, view.height());
-    Block {
+    CoveredBox {
         left: left as usize,
         right: right as usize,
         bottom: bottom as usize,

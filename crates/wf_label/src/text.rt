@@ -50,7 +50,7 @@ pub(crate) fn text_width(size: LabelSize, text: &str) -> u128
     CELL_WIDTH as u128 * u128::from(scale_of(size)) * character_count(text) as u128
 }
 
-/// The same of a text that a map holds, which is short.
+/// How wide a text that a map holds is in letters of a size, in pixels: such a text is short.
 #[tactic(auto, using(crate::proofs::TextLemmas::short_width))]
 pub(crate) fn short_width(size: LabelSize, text: &str) -> u32
     requires { length text.now ≤ most_text_bytes }

@@ -1,2 +1,2 @@
-pub mod ChosenRow
-pub mod Told
+pub mod ChosenTransition
+pub mod Reported

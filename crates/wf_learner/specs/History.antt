@@ -3,8 +3,8 @@ use Rattle.std.specs.Prelude.{◌≡◌, ℕ, zero, suc, ◌+◌, ◌≤◌, Boo
 use Rattle.wf_ballot.specs.Sequence.{last_sequence}
 use Rattle.wf_def.specs.Definition.{Definition, empty_map}
 use Rattle.wf_model.specs.Message as model
-use Rattle.wf_model.specs.Stored.{Stored, definition_at}
-use Rattle.wf_model.specs.Working.{Working}
+use Rattle.wf_model.specs.DurableState.{DurableState, definition_at}
+use Rattle.wf_model.specs.VolatileState.{VolatileState}
 use Rattle.wf_model.specs.Table.{store, on_chosen}
 use Rattle.wf_learner.specs.declared.learned.Learned.{Learned}
 use Rattle.wf_learner.specs.declared.learned.Learned.TheVariants.{Published, Known, Missing}
@@ -50,8 +50,8 @@ asked (Missing s) = model.Ask s ∷ []
 
 -- The table's transition of a Chosen, at a node with the old history, whatever its other state and the test of equal definitions:
 -- it leaves the new history, and asks for the slot that is missing.
-pub record IsChosenRow (old : List Definition) (s : ℕ) (d : Definition) (new : List Definition) (learned : Learned) : Type 0 where
-  pub history : (same : Definition → Definition → Bool) (stored : Stored Definition) (working : Working Definition) → stored.history ≡ old →
-      (store stored (on_chosen same stored working s d).entry).history ≡ new
-  pub asks : (same : Definition → Definition → Bool) (stored : Stored Definition) (working : Working Definition) → stored.history ≡ old →
-      (on_chosen same stored working s d).messages ≡ asked learned
+pub record IsChosenTransition (old : List Definition) (s : ℕ) (d : Definition) (new : List Definition) (learned : Learned) : Type 0 where
+  pub history : (same : Definition → Definition → Bool) (stored : DurableState Definition) (volatile : VolatileState Definition) → stored.history ≡ old →
+      (store stored (on_chosen same stored volatile s d).entry).history ≡ new
+  pub asks : (same : Definition → Definition → Bool) (stored : DurableState Definition) (volatile : VolatileState Definition) → stored.history ≡ old →
+      (on_chosen same stored volatile s d).messages ≡ asked learned

@@ -9,7 +9,7 @@ use wf_codec::Message;
 use wf_def::map::MapDef;
 
 /// The most definitions that answer one Ask.
-pub const MOST_TOLD: u16 = 8;
+pub const MOST_REPORTS: u16 = 8;
 
 /// The map definitions that a node published, one for each update sequence from 1 on. Sequence 0 is the empty map. Nothing is
 /// ever removed from it or changed in it.
@@ -49,9 +49,9 @@ impl History {
     ghost use Rattle.wf_ballot.specs.Sequence.{IsSequence, last_sequence};
     ghost use Rattle.wf_codec.specs.Message.{view as view_message};
     ghost use Rattle.wf_def.specs.Limits.{IsWithinLimits};
-    ghost use Rattle.wf_learner.specs.History.{HasRoom, map_at, next_of, learned_at, with_chosen, IsChosenRow};
-    ghost use Rattle.wf_model.specs.Stored.{definition_at};
-    ghost use Rattle.wf_model.specs.Table.{most_told, told, told_from};
+    ghost use Rattle.wf_learner.specs.History.{HasRoom, map_at, next_of, learned_at, with_chosen, IsChosenTransition};
+    ghost use Rattle.wf_model.specs.DurableState.{definition_at};
+    ghost use Rattle.wf_model.specs.Table.{most_reports, reports, reports_from};
 
     /// The history of a node that has published nothing yet.
     pub fn new(alloc: Global) -> Result<History, AllocError>
@@ -80,7 +80,7 @@ impl History {
     }
 
     /// The map of a sequence, the empty one for 0; None above the published ones.
-    #[tactic(auto, using(crate::proofs::Told::map_published), unfolding(crate::specs::History::map_at))]
+    #[tactic(auto, using(crate::proofs::Reported::map_published), unfolding(crate::specs::History::map_at))]
     pub fn get(&self, seq: Seq) -> Option<&MapDef>
         ensures value { option_copied result ≡ map_at self.now.definitions seq }
         ensures within { IfSome result (λ map. IsWithinLimits map.now) }
@@ -111,10 +111,10 @@ impl History {
 
     /// Chosen with the definition that is published at the slot, if there is one: the answer to a Prepare or an Accept of a
     /// published slot. Allocation can fail only for a published slot.
-    #[tactic(auto, using(crate::proofs::Told::told_published, crate::proofs::Told::told_unpublished, crate::proofs::Told::is_published))]
+    #[tactic(auto, using(crate::proofs::Reported::reported_published, crate::proofs::Reported::reported_unpublished, crate::proofs::Reported::is_published))]
     pub fn chosen(&self, slot: Slot) -> Result<Option<Message>, AllocError>
-        ensures row { IfOk result (λ message.
-            option_to_list (option_map view_message message) ≡ told self.now.definitions slot) }
+        ensures transition { IfOk result (λ message.
+            option_to_list (option_map view_message message) ≡ reports self.now.definitions slot) }
         ensures memory { OnErr result (slot ≤ length self.now.definitions) }
     {
         match self.canon(slot) {
@@ -126,22 +126,22 @@ impl History {
     /// Answers `Ask(slot)`: Chosen for each published slot from this one on, at most eight. Allocation can fail only if there is
     /// something to send.
     pub fn answer_ask(&self, alloc: Global, slot: Slot) -> Result<Vec<Message>, AllocError>
-        ensures row { IfOk result (λ messages.
-            map view_message messages.items ≡ told_from self.now.definitions slot most_told) }
+        ensures transition { IfOk result (λ messages.
+            map view_message messages.items ≡ reports_from self.now.definitions slot most_reports) }
         ensures memory { OnErr result (slot ≤ length self.now.definitions) }
     {
         let mut messages = Vec::new(alloc);
-        for number in slot.number()..slot.number() + MOST_TOLD {
-            self.tell(number, &mut messages)?;
+        for number in slot.number()..slot.number() + MOST_REPORTS {
+            self.report(number, &mut messages)?;
         }
         Ok(messages)
     }
 
     // Appends Chosen for the sequence of this number, if that is published.
-    #[tactic(auto, using(crate::proofs::Told::told_of_no_slot, crate::proofs::Told::none_more, crate::proofs::Told::one_more, crate::proofs::Told::published_where_told))]
-    fn tell(&self, number: u16, messages: &mut Vec<Message>) -> Result<(), AllocError>
+    #[tactic(auto, using(crate::proofs::Reported::reported_of_no_slot, crate::proofs::Reported::none_more, crate::proofs::Reported::one_more, crate::proofs::Reported::published_where_reported))]
+    fn report(&self, number: u16, messages: &mut Vec<Message>) -> Result<(), AllocError>
         ensures ok { OnOk result (map view_message messages.new.items ≡
-            map view_message messages.old.items ++ told self.now.definitions number) }
+            map view_message messages.old.items ++ reports self.now.definitions number) }
         ensures memory { OnErr result (number ≤ length self.now.definitions) }
     {
         // The list is no longer than there are slots: a number that isn't a slot's has no definition.
@@ -161,8 +161,8 @@ impl History {
         ensures learned { IfOk result (λ learned. learned ≡ learned_at self.old.definitions slot) }
         ensures grown { OnOk result
             (self.new.definitions ≡ with_chosen self.old.definitions slot canon) }
-        ensures row { IfOk result (λ learned.
-            IsChosenRow self.old.definitions slot canon self.new.definitions learned) }
+        ensures transition { IfOk result (λ learned.
+            IsChosenTransition self.old.definitions slot canon self.new.definitions learned) }
         ensures other { slot ≢ next_of self.old.definitions → self.new ≡ self.old }
         ensures err { OnErr result (self.new ≡ self.old) }
         ensures memory { OnErr result (slot ≡ next_of self.old.definitions) }

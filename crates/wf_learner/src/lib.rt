@@ -15,5 +15,5 @@
 mod history;
 mod learned;
 
-pub use history::{History, MOST_TOLD};
+pub use history::{History, MOST_REPORTS};
 pub use learned::Learned;

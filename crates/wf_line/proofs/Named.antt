@@ -24,7 +24,7 @@ use Rattle.wf_ballot.specs.Sequence.{last_sequence}
 use Rattle.wf_line.specs.Line.{IsInRange}
 use Rattle.wf_line.specs.declared.line.Line.{Line}
 use Rattle.wf_service.specs.Service.{IsService}
-use Rattle.wf_service.specs.Service.{most_kept}
+use Rattle.wf_service.specs.Service.{most_cached}
 use Rattle.wf_service.specs.declared.service.Service.{Service}
 use Rattle.wf_line.specs.declared.line.Line.TheVariants as lines
 
@@ -100,9 +100,9 @@ none_listed None None rows has named none = λ l asks. asks
 none_listed None (Some p) rows has named none = tape_asks_of p rows (let is : p.1 ≡ rows = cc in is) (let is : p.0 ≡ codes "tape" = cc in is) none
 
 -- the numbers of the line that is asked for are in range
-cache_in_range : (word : Option Text) (kept : ℕ) → IsCacheBy word kept → (1 ≤ kept) × (kept ≤ most_kept)
-cache_in_range None kept is = (omega (arith, is), omega (arith, is))
-cache_in_range (Some word) kept is = (is.low, is.high)
+cache_in_range : (word : Option Text) (cached : ℕ) → IsCacheBy word cached → (1 ≤ cached) × (cached ≤ most_cached)
+cache_in_range None cached is = (omega (arith, is), omega (arith, is))
+cache_in_range (Some word) cached is = (is.low, is.high)
 
 service_in_range : (rows : List Row) (service : Service) → IsServiceOf rows service → IsService service
 service_in_range rows service is =

@@ -23,7 +23,7 @@ use Rattle.wf_line.specs.declared.node_line.NodeLine.{NodeLine}
 use Rattle.wf_line.specs.declared.process_line.ProcessCommand.{ProcessCommand}
 use Rattle.wf_line.specs.declared.process_line.ProcessCommand.TheVariants as processes
 use Rattle.wf_line.specs.declared.replica_line.ReplicaLine.{ReplicaLine}
-use Rattle.wf_service.specs.Service.{most_kept}
+use Rattle.wf_service.specs.Service.{most_cached}
 
 -- if a command was named and nothing of it has its arguments, they ask for nothing
 init_asks_of : (p : Text × List Row) (rows : List Row) → p.1 ≡ rows → p.0 ≡ codes "init" → ((c : ProcessCommand) → ¬ (IsInitOf rows c)) → (c : ProcessCommand) → ¬ (AsksProcess (Some p) c)
@@ -66,13 +66,13 @@ number_in_range (Some word) most absent number least high is = (is.low, is.high)
 
 node_in_range : (rows : List Row) (line : NodeLine) → IsNodeLineOf rows line → IsNodeInRange line
 node_in_range rows line is =
-    let cache = number_in_range (first_of (codes "cache") rows) most_kept 16 line.cache (omega arith) (omega arith) is.cache in
+    let cache = number_in_range (first_of (codes "cache") rows) most_cached 16 line.cache (omega arith) (omega arith) is.cache in
     let clients = number_in_range (first_of (codes "clients") rows) most_clients 128 line.clients (omega arith) (omega arith) is.clients in
     record { cache = cache.0; cache_most = cache.1; clients = clients.0; clients_most = clients.1 }
 
 replica_in_range : (rows : List Row) (line : ReplicaLine) → IsReplicaLineOf rows line → IsReplicaInRange line
 replica_in_range rows line is =
-    let cache = number_in_range (first_of (codes "cache") rows) most_kept 16 line.cache (omega arith) (omega arith) is.cache in
+    let cache = number_in_range (first_of (codes "cache") rows) most_cached 16 line.cache (omega arith) (omega arith) is.cache in
     record { cache = cache.0; cache_most = cache.1 }
 
 pub command_in_range : (met : Option (Text × List Row)) (command : ProcessCommand) → AsksProcess met command → IsProcessInRange command

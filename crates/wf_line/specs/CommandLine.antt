@@ -20,7 +20,7 @@ use Rattle.wf_line.specs.declared.line.Line.{Line}
 use Rattle.wf_service.specs.Service.{last_port, most_nodes, most_requests}
 use Rattle.wf_service.specs.declared.service.Service.{Service}
 use Rattle.wf_line.specs.declared.line.Line.TheVariants as lines
-use Rattle.wf_service.specs.Service.{most_kept}
+use Rattle.wf_service.specs.Service.{most_cached}
 
 -- ---- the arguments that the program takes
 
@@ -99,7 +99,7 @@ requests_rule = record (new_rule (codes "requests")) {
 
 -- `--cache C`: a number within its range
 abbrev pub cache_rule : Rule
-cache_rule = record (new_rule (codes "cache")) { long = Some (codes "cache"); value_names = 1; parser = Some (Signed (pos 1) (pos most_kept)) }
+cache_rule = record (new_rule (codes "cache")) { long = Some (codes "cache"); value_names = 1; parser = Some (Signed (pos 1) (pos most_cached)) }
 
 -- `--state DIR`: a text
 abbrev pub state_rule : Rule
@@ -210,12 +210,12 @@ default_cache = 16
 
 -- the number of pictures to keep, by an argument if there is one
 abbrev pub IsCacheBy : Option Text → ℕ → Type 0
-IsCacheBy None kept = kept ≡ default_cache
-IsCacheBy (Some word) kept = IsNumber word 1 most_kept kept
+IsCacheBy None cached = cached ≡ default_cache
+IsCacheBy (Some word) cached = IsNumber word 1 most_cached cached
 
 -- the same by the parsed arguments
 abbrev pub IsCacheOf : List Row → ℕ → Type 0
-IsCacheOf rows kept = IsCacheBy (first_of (codes "cache") rows) kept
+IsCacheOf rows cached = IsCacheBy (first_of (codes "cache") rows) cached
 
 -- the argument parsed for a flag says that it was given
 abbrev pub is_set : Option Text → Bool

@@ -8,7 +8,7 @@ use Rattle.wf_line.specs.Line.{IsNumber}
 use Rattle.wf_line.specs.NodeLine.{most_clients}
 use Rattle.wf_line.specs.declared.node_line.InitLine.{InitLine}
 use Rattle.wf_line.specs.declared.node_line.NodeLine.{NodeLine}
-use Rattle.wf_service.specs.Service.{most_kept, most_nodes}
+use Rattle.wf_service.specs.Service.{most_cached, most_nodes}
 
 -- `--NAME VALUE`: a text
 abbrev pub text_rule : Text → Bool → Rule
@@ -74,6 +74,6 @@ pub record IsNodeLineOf (rows : List Row) (line : NodeLine) : Type 0 where
   pub listen : option_map (λ s. s.now) line.listen ≡ first_of (codes "listen") rows
   pub admin : option_map (λ s. s.now) line.admin ≡ first_of (codes "admin") rows
   pub readers : option_map (λ s. s.now) line.readers ≡ first_of (codes "readers") rows
-  pub cache : IsNumberOr rows (codes "cache") most_kept 16 line.cache
+  pub cache : IsNumberOr rows (codes "cache") most_cached 16 line.cache
   pub clients : IsNumberOr rows (codes "clients") most_clients 128 line.clients
   pub log : line.log ≡ is_set (first_of (codes "log") rows)

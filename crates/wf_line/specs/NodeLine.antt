@@ -1,6 +1,6 @@
 -- The ranges of the numbers in a command line about a node in a process of its own.
 use Rattle.std.specs.Prelude.{◌≤◌, ℕ}
-use Rattle.wf_service.specs.Service.{most_kept, most_nodes}
+use Rattle.wf_service.specs.Service.{most_cached, most_nodes}
 use Rattle.wf_line.specs.declared.node_line.InitLine.{InitLine}
 use Rattle.wf_line.specs.declared.node_line.NodeCommand.{NodeCommand}
 use Rattle.wf_line.specs.declared.node_line.NodeCommand.TheVariants as commands
@@ -17,7 +17,7 @@ pub record IsInitInRange (line : InitLine) : Type 0 where
 
 pub record IsNodeInRange (line : NodeLine) : Type 0 where
   pub cache : 1 ≤ line.cache
-  pub cache_most : line.cache ≤ most_kept
+  pub cache_most : line.cache ≤ most_cached
   pub clients : 1 ≤ line.clients
   pub clients_most : line.clients ≤ most_clients
 

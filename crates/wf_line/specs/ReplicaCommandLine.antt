@@ -5,7 +5,7 @@ use Rattle.clap.specs.Simple.{Shape}
 use Rattle.wf_line.specs.CommandLine.{cache_rule, is_set, log_rule}
 use Rattle.wf_line.specs.NodeCommandLine.{IsNumberOr, command_shape, text_rule}
 use Rattle.wf_line.specs.declared.replica_line.ReplicaLine.{ReplicaLine}
-use Rattle.wf_service.specs.Service.{most_kept}
+use Rattle.wf_service.specs.Service.{most_cached}
 
 -- `replica`, with its first three arguments, with all its addresses, and whole
 abbrev pub replica_shape_start : Shape
@@ -29,5 +29,5 @@ pub record IsReplicaLineOf (rows : List Row) (line : ReplicaLine) : Type 0 where
   pub http : first_of (codes "http") rows ≡ Some line.http.now
   pub readers : option_map (λ s. s.now) line.readers ≡ first_of (codes "readers") rows
   pub admin : option_map (λ s. s.now) line.admin ≡ first_of (codes "admin") rows
-  pub cache : IsNumberOr rows (codes "cache") most_kept 16 line.cache
+  pub cache : IsNumberOr rows (codes "cache") most_cached 16 line.cache
   pub log : line.log ≡ is_set (first_of (codes "log") rows)

@@ -475,7 +475,7 @@ pub(crate) fn number_of<'a>(found: &ArgMatches<'a>, id: &str, least: u32, most: 
 #[tactic(auto, using(crate::proofs::Named::word_in_row))]
 fn cache<'a>(found: &ArgMatches<'a>) -> Option<u32>
     ensures some { IfSome result (IsCacheOf (rows_in found.now)) }
-    ensures none { IfNone result ((kept : ℕ) → ¬ (IsCacheOf (rows_in found.now) kept)) }
+    ensures none { IfNone result ((cached : ℕ) → ¬ (IsCacheOf (rows_in found.now) cached)) }
 {
     match found.get_str("cache") {
         Some(word) => number(word, 1, 64),

@@ -2,15 +2,15 @@
 use Rattle.std.proofs.Common.{◌≡◌, ◌∙◌, ◌+◌, ℕ, List, [], ◌∷◌, ◌++◌, length, map, refl, sym, ap, subst, arith}
 use Rattle.std.specs.Prelude.{Option}
 use Rattle.std.proofs.lemmas.List.{append_assoc, append-nil, length-append, map-append}
-use Rattle.wf_codec.specs.Law.{BeginsWithNone, NoneIsEmpty}
+use Rattle.wf_codec.specs.Theorem.{BeginsWithNone, NoneIsEmpty}
 use Rattle.wf_codec.specs.Message.{view}
 use Rattle.wf_codec.specs.declared.message.Message as code
 use Rattle.wf_def.specs.Definition.{Definition}
 use Rattle.wf_model.specs.Message.{Message}
-use Rattle.wf_stream.specs.KnownLaws.{consumes_more, consumes_none}
-use Rattle.wf_stream.specs.Reading.{ReadsPiece}
-use Rattle.wf_wire.specs.Inbox.{InboxState, Open, Failed, IsFed, kept_bytes}
-use Rattle.wf_wire.specs.Law.{JoinedReads}
+use Rattle.wf_stream.specs.KnownTheorems.{consumes_more, consumes_none}
+use Rattle.wf_stream.specs.Effects.{ReadsPiece}
+use Rattle.wf_wire.specs.Inbox.{InboxState, Open, Failed, IsFed, pending_bytes}
+use Rattle.wf_wire.specs.Theorem.{JoinedReads}
 use Rattle.wf_wire.specs.Stream.{IsPart, Reads, Splits}
 use Rattle.wf_link.specs.Arrival.{Arrives, HasReceived, HasTaken, HaveArrived, came_out}
 use Rattle.wf_link.specs.declared.arrival.Arrival.{Arrival}
@@ -95,10 +95,10 @@ empty_list [] short = refl
 empty_list (x ∷ xs) short = absurd (omega (arith, short))
 
 -- an inbox that keeps no byte keeps nothing
-keeps_nothing : (rest : List ℕ) (state : InboxState) → state ≡ Open rest → kept_bytes state ≡ 0 → rest ≡ []
-keeps_nothing rest state is none = empty_list rest (sym (ap kept_bytes is) ∙ none)
+keeps_nothing : (rest : List ℕ) (state : InboxState) → state ≡ Open rest → pending_bytes state ≡ 0 → rest ≡ []
+keeps_nothing rest state is none = empty_list rest (sym (ap pending_bytes is) ∙ none)
 
-pub one_came_out : (bytes : List ℕ) (arrival : Arrival) (message : code.Message) → kept_bytes arrival.inbox ≡ 0 → arrival.messages.items ≡ message ∷ [] → HasReceived bytes arrival → Reads bytes (view message ∷ []) []
+pub one_came_out : (bytes : List ℕ) (arrival : Arrival) (message : code.Message) → pending_bytes arrival.inbox ≡ 0 → arrival.messages.items ≡ message ∷ [] → HasReceived bytes arrival → Reads bytes (view message ∷ []) []
 one_came_out bytes arrival message none is had =
     let first : Reads bytes (map view (message ∷ [])) had.rest = subst (λ (ms : List code.Message). Reads bytes (map view ms) had.rest) is had.reads in
     subst (λ (rest : List ℕ). Reads bytes (view message ∷ []) rest) (keeps_nothing had.rest arrival.inbox had.keeps none) first

@@ -6,10 +6,10 @@ use Rattle.std.specs.Io.KnownBytes.{IsAtEnd}
 use Rattle.wf_codec.specs.Message.{view}
 use Rattle.wf_farm.specs.declared.carrier.CarrierFault.{CarrierFault}
 use Rattle.wf_farm.specs.declared.carrier.CarrierFault.TheVariants as faults
-use Rattle.wf_stream.specs.KnownLaws.{consumes_more}
-use Rattle.wf_stream.specs.Reading.{ReadsPiece, Rises}
-use Rattle.wf_wire.specs.Inbox.{InboxState, IsBroken, kept_bytes}
-use Rattle.wf_wire.specs.Law.{JoinedBreaks, SplitOneWay}
+use Rattle.wf_stream.specs.KnownTheorems.{consumes_more}
+use Rattle.wf_stream.specs.Effects.{ReadsPiece, Rises}
+use Rattle.wf_wire.specs.Inbox.{InboxState, IsBroken, pending_bytes}
+use Rattle.wf_wire.specs.Theorem.{JoinedBreaks, SplitOneWay}
 use Rattle.wf_wire.specs.Stream.{Breaks}
 use Rattle.wf_wire.specs.declared.fault.InboxFault.{InboxFault}
 use Rattle.wf_link.specs.Arrival.{Arrives, HasReceived, HasTaken, came_out}
@@ -142,10 +142,10 @@ lost_more size other is left left_after same (inr (inr (inr (bytes, consumed, in
 lost_more size other is left left_after same (inr (inr (inr (bytes, consumed, inr (long, none))))) = absurd (none tt)
 
 -- of one message one arrived, and nothing is kept behind it
-pub one_received : SplitOneWay → (bytes : List ℕ) (arrival : Arrival) → HasReceived bytes arrival → IsOneMessage bytes → (length arrival.messages.items ≡ 1) × (kept_bytes arrival.inbox ≡ 0)
+pub one_received : SplitOneWay → (bytes : List ℕ) (arrival : Arrival) → HasReceived bytes arrival → IsOneMessage bytes → (length arrival.messages.items ≡ 1) × (pending_bytes arrival.inbox ≡ 0)
 one_received one bytes arrival had (message, reads) =
     let both = one bytes (came_out arrival) (message ∷ []) had.rest [] had.reads reads in
-    (sym (length-map arrival.messages.items view) ∙ ap length both.0, ap kept_bytes had.keeps ∙ ap length both.1)
+    (sym (length-map arrival.messages.items view) ∙ ap length both.0, ap pending_bytes had.keeps ∙ ap length both.1)
 
 pub none_received : SplitOneWay → (bytes : List ℕ) (arrival : Arrival) → HasReceived bytes arrival → BeginsNoMessage bytes → length arrival.messages.items ≡ 0
 none_received one bytes arrival had (rest, reads) =

@@ -3,16 +3,16 @@ use Rattle.std.proofs.Common.{◌≡◌, ◌∙◌, ◌-◌, ℕ, zero, suc, Lis
 use Rattle.std.specs.Prelude.{Option, Some, None, Result, Ok, Err, OnErr, OnOk, min}
 use Rattle.std.specs.Io.KnownBytes.{Appends, Consumes}
 use Rattle.std.proofs.lemmas.List.{append-nil, append_assoc, length-append, take-append-drop}
-use Rattle.wf_codec.specs.Law.{NoneIsEmpty}
-use Rattle.wf_codec.specs.Spelling.{spelling}
+use Rattle.wf_codec.specs.Theorem.{NoneIsEmpty}
+use Rattle.wf_codec.specs.Encoding.{spelling}
 use Rattle.wf_codec.specs.Message.{IsMessage}
 use Rattle.wf_def.specs.Definition.{Definition}
 use Rattle.wf_model.specs.Message.{Message}
-use Rattle.wf_stream.specs.KnownLaws.{appends_more, appends_none}
-use Rattle.wf_wire.specs.Law.{SplitOneWay}
+use Rattle.wf_stream.specs.KnownTheorems.{appends_more, appends_none}
+use Rattle.wf_wire.specs.Theorem.{SplitOneWay}
 use Rattle.wf_wire.specs.Stream.{Reads}
 use Rattle.wf_link.specs.Arrival.{Arrives, HaveArrived}
-use Rattle.wf_link.specs.Crossing.{AppendsPart, ComeOut, IsSentIfLooped, front_of}
+use Rattle.wf_link.specs.MessageCrossing.{AppendsPart, ComeOut, IsSentIfLooped, front_of}
 use Rattle.wf_link.specs.declared.arrival.Arrival.{Arrival}
 use Rattle.wf_link.proofs.Arrived.{arrived_more, arrived_none, nothing_is_part}
 

@@ -4,17 +4,17 @@ use Rattle.std.specs.Prelude.{Option, Result, Ok, Err, IfOk, OnOk}
 use Rattle.std.proofs.lemmas.List.{length-append}
 use Rattle.std.specs.Io.KnownBytes.{Appends, Consumes}
 use Rattle.wf_codec.specs.Message.{view}
-use Rattle.wf_codec.specs.Spelling.{spelling}
+use Rattle.wf_codec.specs.Encoding.{spelling}
 use Rattle.wf_codec.specs.declared.message.Message as code
 use Rattle.wf_def.specs.Definition.{Definition}
 use Rattle.wf_farm.specs.declared.carrier.CarrierFault.{CarrierFault}
 use Rattle.wf_model.specs.Message.{Message}
-use Rattle.wf_stream.specs.KnownLaws.{consumes_more}
+use Rattle.wf_stream.specs.KnownTheorems.{consumes_more}
 use Rattle.wf_stream.specs.declared.stream.Sink.{Ghosts as Sink}
 use Rattle.wf_stream.specs.declared.stream.Source.{Ghosts as Source}
 use Rattle.wf_link.specs.Cause.{IsLost}
 use Rattle.wf_link.specs.Connection.{CameMore, HasCrossed, HasSent, IsNotOver, WasLost}
-use Rattle.wf_link.specs.Crossing.{ComesOut, NoneComesOut}
+use Rattle.wf_link.specs.MessageCrossing.{ComesOut, NoneComesOut}
 
 module _ {K S : Type 0} (sinks : Sink K) (sources : Source S) where
   pub has_crossed : (sent : Message Definition) (r : Result code.Message CarrierFault) (sink sink_after : K) (source source_after : S) → OnOk r (Appends (sinks.written sink) (sinks.written sink_after) (spelling sent))

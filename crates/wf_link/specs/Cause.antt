@@ -5,7 +5,7 @@ use Rattle.wf_def.specs.Definition.{Definition}
 use Rattle.wf_farm.specs.declared.carrier.CarrierFault.{CarrierFault}
 use Rattle.wf_farm.specs.declared.carrier.CarrierFault.TheVariants as faults
 use Rattle.wf_model.specs.Message.{Message}
-use Rattle.wf_stream.specs.Reading.{Rises}
+use Rattle.wf_stream.specs.Effects.{Rises}
 use Rattle.wf_stream.specs.declared.stream.Sink.{Ghosts as Sink}
 use Rattle.wf_stream.specs.declared.stream.Source.{Ghosts as Source}
 use Rattle.wf_wire.specs.Stream.{Breaks, Reads}

@@ -1,14 +1,14 @@
 -- What crossed a connection, or why it was lost, over some writer and some reader.
 use Rattle.std.specs.Prelude.{◌<◌, ◌⊎◌, ℕ, List, Option, length}
 use Rattle.std.specs.Io.KnownBytes.{Appends, Consumes}
-use Rattle.wf_codec.specs.Spelling.{spelling}
+use Rattle.wf_codec.specs.Encoding.{spelling}
 use Rattle.wf_def.specs.Definition.{Definition}
 use Rattle.wf_model.specs.Message.{Message}
-use Rattle.wf_stream.specs.Reading.{Rises}
+use Rattle.wf_stream.specs.Effects.{Rises}
 use Rattle.wf_stream.specs.declared.stream.Sink.{Ghosts as Sink}
 use Rattle.wf_stream.specs.declared.stream.Source.{Ghosts as Source}
 use Rattle.wf_link.specs.Cause.{IsLost}
-use Rattle.wf_link.specs.Crossing.{ComesOut}
+use Rattle.wf_link.specs.MessageCrossing.{ComesOut}
 
 -- These bytes were written, and no other.
 pub record HasSent {K : Type 0} (sinks : Sink K) (bytes : List ℕ) : Type 0 where

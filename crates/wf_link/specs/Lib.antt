@@ -1,4 +1,4 @@
 pub mod Arrival
 pub mod Cause
 pub mod Connection
-pub mod Crossing
+pub mod MessageCrossing

@@ -2,13 +2,13 @@
 
 ghost use Rattle.std.specs.Prelude.{◌≡◌, ◌⊎◌, false, true, Err, IfErr, IfOk, OnErr, OnOk, length};
 ghost use Rattle.wf_codec.specs.Message.{view};
-ghost use Rattle.wf_codec.specs.Spelling.{spelling};
+ghost use Rattle.wf_codec.specs.Encoding.{spelling};
 ghost use Rattle.wf_farm.specs.declared.carrier.CarrierFault.TheVariants as faults;
 ghost use Rattle.wf_link.specs.Cause.{BeginsNoMessage, IsOneMessage};
 ghost use Rattle.wf_link.specs.Connection.{CameMore, HasCrossed, HasSent, IsNotOver, WasLost};
-ghost use Rattle.wf_link.specs.Crossing.{front_of};
+ghost use Rattle.wf_link.specs.MessageCrossing.{front_of};
 
-use crate::crossing::{cross, cut_off};
+use crate::message_crossing::{cross, cut_off};
 use std::alloc::Global;
 use std::io;
 use std::io::ErrorKind;

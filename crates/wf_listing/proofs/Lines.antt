@@ -5,10 +5,10 @@ use Rattle.std.proofs.lemmas.Bool.{ltb-true, ltb-false}
 use Rattle.std.proofs.lemmas.List.{append-nil, map-append, nil_from_length, take_more, take-append-drop}
 use Rattle.std.specs.Prelude.{Result, Ok, Err, OnOk}
 use Rattle.wf_def.specs.Definition.{Definition}
-use Rattle.wf_model.specs.Stored.{Record}
+use Rattle.wf_model.specs.DurableState.{Record}
 use Rattle.wf_journal.specs.Records.{AreReadOneWay, IsCleanOrTorn, IsTorn, Splits, length_of}
-use Rattle.wf_journal.specs.Spelling.{spelling}
-use Rattle.wf_journal.specs.SpellingLaws.{length_of_encoding}
+use Rattle.wf_journal.specs.Encoding.{spelling}
+use Rattle.wf_journal.specs.EncodingTheorems.{length_of_encoding}
 use Rattle.wf_listing.specs.declared.rest.Rest.{Rest}
 use Rattle.wf_listing.specs.declared.rest.Rest.TheVariants as rests
 use Rattle.wf_listing.proofs.Splits.{length_splits}

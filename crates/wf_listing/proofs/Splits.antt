@@ -3,12 +3,12 @@ use Rattle.std.proofs.Common.{◌≡◌, ◌≢◌, ◌∙◌, ◌+◌, ◌<◌,
 use Rattle.std.proofs.lemmas.List.{nil_from_length, take_at}
 use Rattle.wf_ballot.specs.Frame.{frame}
 use Rattle.wf_def.specs.Definition.{Definition}
-use Rattle.wf_model.specs.Stored.{Record}
+use Rattle.wf_model.specs.DurableState.{Record}
 use Rattle.wf_journal.specs.Journal.{IsBadAt}
 use Rattle.wf_journal.specs.Record.{texts}
 use Rattle.wf_journal.specs.Records.{AreReadOneWay, AreRecords, BeginsWithNone, IsTapeOf, ReadsAs, Splits, length_of}
-use Rattle.wf_journal.specs.Spelling.{spelling, text_spelling}
-use Rattle.wf_journal.specs.SpellingLaws.{length_of_encoding}
+use Rattle.wf_journal.specs.Encoding.{spelling, text_spelling}
+use Rattle.wf_journal.specs.EncodingTheorems.{length_of_encoding}
 use Rattle.wf_listing.specs.Listing.{AreFound}
 
 -- the records of bytes are as long as the bytes without the rest
@@ -76,15 +76,15 @@ bad_found one_way bytes offset bad records rest is =
     }
 
 -- and none of the bytes before the bad ones is bad
-pub none_bad_before : AreReadOneWay → (bytes : List ℕ) (offset place : ℕ) → IsBadAt bytes offset → IsBadAt (take offset bytes) place → ⊥
-none_bad_before one_way bytes offset place bad again =
+pub none_bad_before : AreReadOneWay → (bytes : List ℕ) (offset index : ℕ) → IsBadAt bytes offset → IsBadAt (take offset bytes) index → ⊥
+none_bad_before one_way bytes offset index bad again =
     let same : bad.0 ≡ again.0 =
-    one_way (take offset bytes) bad.0 again.0 (read_before bytes offset bad) (drop place (take offset bytes), record { splits = again.1; longest = again.2.longest }) in
-    let none : length (drop place (take offset bytes)) ≡ 0 =
+    one_way (take offset bytes) bad.0 again.0 (read_before bytes offset bad) (drop index (take offset bytes), record { splits = again.1; longest = again.2.longest }) in
+    let none : length (drop index (take offset bytes)) ≡ 0 =
     omega (
       arith,
       length_splits (take offset bytes) bad.0 [] (before_bad bytes offset bad),
-      length_splits (take offset bytes) again.0 (drop place (take offset bytes)) again.1,
+      length_splits (take offset bytes) again.0 (drop index (take offset bytes)) again.1,
       ap length_of same,
     ) in
-    again.2.not_clean (nil_from_length (drop place (take offset bytes)) none)
+    again.2.not_clean (nil_from_length (drop index (take offset bytes)) none)

@@ -1,3 +1,3 @@
 pub mod Listing
-pub mod Reading
+pub mod TapeBytes
 pub mod Map

@@ -5,9 +5,9 @@ use Rattle.std.specs.String.{string_bytes}
 use Rattle.wf_ballot.specs.Ballot.{Ballot, ballot_text}
 use Rattle.wf_spelling.specs.Canon.{canon}
 use Rattle.wf_def.specs.Definition.{Definition}
-use Rattle.wf_model.specs.Stored.{Record, Tried, Promised, Accepted, Published}
+use Rattle.wf_model.specs.DurableState.{Record, Tried, Promised, Accepted, Published}
 use Rattle.wf_journal.specs.Records.{Reads, IsTorn, IsBad, IsCleanOrTorn, length_of}
-use Rattle.wf_journal.specs.Spelling.{spelling}
+use Rattle.wf_journal.specs.Encoding.{spelling}
 use Rattle.wf_listing.specs.declared.rest.Rest.{Rest}
 use Rattle.wf_listing.specs.declared.rest.Rest.TheVariants as rests
 

@@ -3,7 +3,7 @@ use Rattle.std.specs.Prelude.{◌≡◌, ℕ, ◌==◌, List, [], ◌∷◌, Opt
 use Rattle.std.specs.declared.alloc.Global.{Global}
 use Rattle.wf_def.specs.Definition.{Definition}
 use Rattle.wf_journal.specs.Records.{Reads}
-use Rattle.wf_model.specs.Stored.{Record, Tried, Promised, Accepted, Published}
+use Rattle.wf_model.specs.DurableState.{Record, Tried, Promised, Accepted, Published}
 use Rattle.wf_spelling.specs.Canon.{canon}
 
 -- the map of a record that publishes one under this sequence

@@ -13,16 +13,16 @@
 #![tactic(auto)]
 
 mod fault;
-mod finding;
-mod law;
 mod line;
 mod listing;
 mod map;
-mod reading;
+mod record_search;
 mod rest;
+mod tape_bytes;
+mod theorem;
 
 pub use fault::TapeReadFault;
-pub use law::bytes_have_one_listing;
 pub use listing::list;
 pub use map::text_of_map;
-pub use reading::{MOST_TAPE_BYTES, read_tape};
+pub use tape_bytes::{MOST_TAPE_BYTES, read_tape};
+pub use theorem::bytes_have_one_listing;

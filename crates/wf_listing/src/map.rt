@@ -5,7 +5,7 @@ ghost use Rattle.wf_journal.specs.Record.{view};
 ghost use Rattle.wf_spelling.specs.Canon.{canon};
 ghost use Rattle.wf_listing.specs.Map.{IsTextOf, published_by, published_in};
 
-use crate::finding::find;
+use crate::record_search::find;
 use std::alloc::{AllocError, Global};
 use wf_canon::Canon;
 use wf_journal::Record;
@@ -20,13 +20,13 @@ pub fn text_of_map(
     ensures { IfOk result (IsTextOf bytes.now sequence) }
 {
     let (records, _) = find(alloc, bytes)?;
-    let text = copied(alloc, published_in(&records, sequence));
+    let text = copy_definition(alloc, published_in(&records, sequence));
     drop(records);
     text
 }
 
 /// A copy of a map's text.
-fn copied(alloc: Global, map: Option<&Canon>) -> Result<Option<Vec<u8>>, AllocError>
+fn copy_definition(alloc: Global, map: Option<&Canon>) -> Result<Option<Vec<u8>>, AllocError>
     ensures { IfOk result (λ text. option_map (λ t. t.items) text ≡ option_map canon (option_copied map.entry)) }
 {
     match map {

@@ -1,12 +1,12 @@
 -- What a process answers a client.
 use Rattle.std.specs.Prelude.{◌≡◌, ℕ, ⊤, List, [], ◌∷◌, ◌++◌, Some, Vec}
 use Rattle.std.specs.declared.alloc.Global.{Global}
-use Rattle.wf_actor.specs.Process.{IsGoingOn, told_by}
+use Rattle.wf_actor.specs.Process.{IsGoingOn, emitted_by}
 use Rattle.wf_actor.specs.declared.process.Process.{Process}
 use Rattle.wf_client.specs.Client.{Client}
-use Rattle.wf_client.specs.Outgoing.{Outgoing}
+use Rattle.wf_client.specs.ResponseBuffer.{Outgoing}
 use Rattle.wf_codec.specs.declared.message.Message.{Message}
-use Rattle.wf_edge.specs.Serving.{IsOutcome}
+use Rattle.wf_edge.specs.RequestEffect.{IsOutcome}
 use Rattle.wf_edge.specs.declared.outcome.Outcome.{Outcome}
 use Rattle.wf_edge.specs.declared.outcome.Outcome.TheVariants as outcome
 use Rattle.wf_loop.specs.Lived.{HasLived}
@@ -25,9 +25,9 @@ module _ {T : Type 0} (tapes : Tape T) where
   -- beginning of it where memory failed. What the node sent by it, the process logged as returned, nothing was given to the node,
   -- and the process is that of this node in this run.
   pub record IsAnswer (before : Process T tapes) (came response : List ℕ) (outcome : Outcome) (after : Process T tapes) : Type 0 where
-    pub said : Vec Message Global
-    pub is_outcome : IsOutcome tapes (Some came) (Some []) (Some response) before.actor.node said after.actor.node outcome
-    pub told : told_by after ≡ told_by before ++ said.items
+    pub outputs : Vec Message Global
+    pub is_outcome : IsOutcome tapes (Some came) (Some []) (Some response) before.actor.node outputs after.actor.node outcome
+    pub emitted : emitted_by after ≡ emitted_by before ++ outputs.items
     pub given : after.actor.given.items ≡ before.actor.given.items
     pub goes_on : IsGoingOn before after
 

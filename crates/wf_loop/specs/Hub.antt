@@ -6,7 +6,7 @@ use Rattle.wf_loop.specs.Answer.{AreAnswered}
 use Rattle.wf_loop.specs.declared.hub.Hub.{Hub}
 use Rattle.wf_tape.specs.declared.tape.Tape.{Ghosts as Tape}
 use Rattle.wf_timing.specs.declared.alarm.Alarm.{Alarm}
-use Rattle.wf_visitors.specs.Visitors.{said_of}
+use Rattle.wf_visitors.specs.Visitors.{responses_of}
 
 -- the process
 abbrev pub process_of : {T : Type 0} {tapes : Tape T} → Hub T tapes → Process T tapes
@@ -21,7 +21,7 @@ time_of hub = hub.time
 
 -- Each client that was answered was sent the response of a process that had lived, as it was just before, to what had come of the request.
 abbrev pub HasAnswered : {T : Type 0} (tapes : Tape T) → Hub T tapes → Type 0
-HasAnswered tapes hub = ∥ AreAnswered tapes hub.clients.before.items (said_of hub.clients.visitors) hub.clients.after.items ∥₁
+HasAnswered tapes hub = ∥ AreAnswered tapes hub.clients.before.items (responses_of hub.clients.visitors) hub.clients.after.items ∥₁
 
 -- an alarm was set, and is due
 abbrev pub IsDue : Option Alarm → ℕ → Type 0

@@ -1,5 +1,5 @@
 pub mod Answer
-pub mod Going
+pub mod Continuation
 pub mod Hub
 pub mod Lived
-pub mod Starting
+pub mod StartErrors

@@ -1,7 +1,7 @@
 //! What is done to a process: by each of these its run goes on.
 ghost use Rattle.std.specs.Prelude.{◌≡◌, OnErr, OnOk};
 ghost use Rattle.wf_actor.specs.Process.{IsBegun};
-ghost use Rattle.wf_loop.specs.Going.{GoesOn, KeepsEarlier};
+ghost use Rattle.wf_loop.specs.Continuation.{GoesOn, KeepsEarlier};
 
 use std::alloc::Global;
 use std::io;
@@ -19,17 +19,17 @@ pub(crate) fn retry<T: Tape>(alloc: Global, process: &mut Process<T>)
 }
 
 /// Delivers the first of its own messages that wait. Returns whether one waited.
-pub(crate) fn hear_own<T: Tape>(alloc: Global, process: &mut Process<T>) -> bool
+pub(crate) fn handle_own<T: Tape>(alloc: Global, process: &mut Process<T>) -> bool
     ensures { GoesOn T.Tape process.old process.new }
 {
-    process.hear_own(alloc).is_some()
+    process.handle_own(alloc).is_some()
 }
 
 /// Delivers the first message that has arrived from a peer.
-pub(crate) fn hear<T: Tape>(alloc: Global, process: &mut Process<T>, peer: NodeId)
+pub(crate) fn handle<T: Tape>(alloc: Global, process: &mut Process<T>, peer: NodeId)
     ensures { GoesOn T.Tape process.old process.new }
 {
-    let _ = process.hear(alloc, peer);
+    let _ = process.handle(alloc, peer);
 }
 
 /// Takes bytes that came from a peer. Returns how many messages they complete; None if they aren't messages.

@@ -2,8 +2,8 @@
 
 ghost use Rattle.std.specs.Prelude.{◌≡◌};
 ghost use Rattle.wf_loop.specs.Answer.{AreAnswered};
-ghost use Rattle.wf_loop.specs.Going.{GoesOn};
-ghost use Rattle.wf_visitors.specs.Visitors.{said_of};
+ghost use Rattle.wf_loop.specs.Continuation.{GoesOn};
+ghost use Rattle.wf_visitors.specs.Visitors.{responses_of};
 
 use crate::voter::Voter;
 use http_server::Log as Past;
@@ -21,16 +21,16 @@ pub struct Clients<T: Tape> {
     pub(crate) visitors: Visitors,
     pub(crate) before: Past<Voter<T>, usize>,
     pub(crate) after: Past<Voter<T>, usize>,
-    ghost answered: { ∥ AreAnswered T.Tape before.items (said_of visitors) after.items ∥₁ },
+    ghost answered: { ∥ AreAnswered T.Tape before.items (responses_of visitors) after.items ∥₁ },
 }
 
 impl<T: Tape + Drop> Clients<T> {
     ghost use Rattle.std.specs.Prelude.{[]};
 
     /// Nobody was answered yet.
-    #[tactic(auto, using(crate::proofs::Answers::none_answered))]
+    #[tactic(auto, using(crate::proofs::Answered::none_answered))]
     pub(crate) fn new(visitors: Visitors) -> Self
-        requires { said_of visitors ≡ [] }
+        requires { responses_of visitors ≡ [] }
         ensures { result.before.items ≡ [] }
     {
         Clients {
@@ -42,7 +42,7 @@ impl<T: Tape + Drop> Clients<T> {
 
     /// Each client that was answered, always. The call does nothing.
     pub(crate) fn always_answered(&self)
-        ensures { ∥ AreAnswered T.Tape self.now.before.items (said_of self.now.visitors) self.now.after.items ∥₁ }
+        ensures { ∥ AreAnswered T.Tape self.now.before.items (responses_of self.now.visitors) self.now.after.items ∥₁ }
     {
         let _ = &self.before;
     }
@@ -69,7 +69,7 @@ impl<T: Tape + Drop> Clients<T> {
     }
 
     /// Answers requests that are whole, a bounded number of them. Returns whether there are more.
-    #[tactic(auto, using(crate::proofs::Going::still, crate::proofs::Going::twice))]
+    #[tactic(auto, using(crate::proofs::Continuation::still, crate::proofs::Continuation::twice))]
     pub(crate) fn serve<R: Clock + Eprint + AllocGlobal>(
         &mut self,
         context: &Context<'_, '_, R>,
@@ -87,7 +87,7 @@ impl<T: Tape + Drop> Clients<T> {
     }
 
     /// Answers the request in a slot, if it is whole.
-    #[tactic(auto, using(crate::proofs::Going::responded, crate::proofs::Going::stayed))]
+    #[tactic(auto, using(crate::proofs::Continuation::responded, crate::proofs::Continuation::stayed))]
     fn serve_one<R: Clock + Eprint + AllocGlobal>(
         &mut self,
         context: &Context<'_, '_, R>,

@@ -5,7 +5,7 @@ use mio::net::TcpListener;
 use std::alloc::{AllocError, Global};
 use std::time::Clock;
 use wf_reader::Answerer;
-use wf_readers_port::{Published, ReadersPort};
+use wf_readers_port::{PortView, ReadersPort};
 use wf_visitors::{Context, Server, Visitors};
 
 /// The most operators at once.

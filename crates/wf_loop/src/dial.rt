@@ -1,8 +1,8 @@
 //! The connection to a peer, on which this node sends.
-ghost use Rattle.wf_loop.specs.Going.{GoesOn};
+ghost use Rattle.wf_loop.specs.Continuation.{GoesOn};
 
 use crate::acts::write as write_to;
-use crate::event::Why;
+use crate::event::PeerEnd;
 use crate::token::Socket;
 use mio::net::TcpStream;
 use std::alloc::Global;
@@ -10,8 +10,8 @@ use std::io::ErrorKind;
 use std::net::{Net, SocketAddr};
 use wf_actor::Process;
 use wf_ballot::NodeId;
-use wf_client::outgoing::Outgoing;
-use wf_peer::{GREETING_BYTES, GreetingFault, Reply, decode_reply};
+use wf_client::response_buffer::Outgoing;
+use wf_peer::{GREETING_BYTES, GreetingFault, GreetingReply, decode_reply};
 use wf_stream::{Sink, Stream};
 use wf_tape::Tape;
 use wf_timing::{Alarm, Backoff};
@@ -49,13 +49,13 @@ pub(crate) struct Dial {
 
 /// What came of a connection's turn.
 #[derive(Clone, Copy, PartialEq, Eq)]
-pub(crate) enum Turned {
+pub(crate) enum DialTurn {
     /// Nothing new.
     Same,
     /// The peer's reply to the greeting has come.
-    Answered(Reply),
+    Answered(GreetingReply),
     /// It has ended.
-    Ended(Why),
+    Ended(PeerEnd),
 }
 
 impl Dial {
@@ -133,12 +133,16 @@ impl Dial {
     }
 
     /// Writes what waits, and reads what came.
-    #[tactic(auto, using(crate::proofs::Going::still))]
-    pub(crate) fn turn<T: Tape + Drop>(&mut self, process: &mut Process<T>, peer: NodeId) -> Turned
+    #[tactic(auto, using(crate::proofs::Continuation::still))]
+    pub(crate) fn turn<T: Tape + Drop>(
+        &mut self,
+        process: &mut Process<T>,
+        peer: NodeId,
+    ) -> DialTurn
         ensures { GoesOn T.Tape process.old process.new }
     {
         let Some(mut stream) = self.stream.take() else {
-            return Turned::Same;
+            return DialTurn::Same;
         };
         let turned = self.turn_at(process, peer, &mut stream);
         self.stream = Some(stream);
@@ -146,27 +150,27 @@ impl Dial {
     }
 
     /// Writes what waits to its stream, and reads what came.
-    #[tactic(auto, using(crate::proofs::Going::still))]
+    #[tactic(auto, using(crate::proofs::Continuation::still))]
     fn turn_at<T: Tape + Drop>(
         &mut self,
         process: &mut Process<T>,
         peer: NodeId,
         stream: &mut TcpStream,
-    ) -> Turned
+    ) -> DialTurn
         ensures { GoesOn T.Tape process.old process.new }
     {
         if let Some(why) = self.greet(stream) {
-            return Turned::Ended(why);
+            return DialTurn::Ended(why);
         }
-        let turned = self.hear(stream);
-        if turned != Turned::Same || !self.is_open {
+        let turned = self.handle(stream);
+        if turned != DialTurn::Same || !self.is_open {
             return turned;
         }
         send(process, peer, stream, &mut self.written)
     }
 
     /// Writes the rest of the greeting.
-    fn greet(&mut self, stream: &mut TcpStream) -> Option<Why> {
+    fn greet(&mut self, stream: &mut TcpStream) -> Option<PeerEnd> {
         for _ in 0..u64::MAX {
             if self.greeting.is_taken() {
                 return None;
@@ -178,45 +182,45 @@ impl Dial {
                     self.greeting.advance(count);
                 }
                 Done::Blocked => return None,
-                Done::Closed => return Some(Why::Closed),
-                Done::Failed => return Some(Why::Failed),
+                Done::Closed => return Some(PeerEnd::Closed),
+                Done::Failed => return Some(PeerEnd::Failed),
             }
         }
         None
     }
 
     /// Reads the peer's reply; nothing else may come.
-    fn hear(&mut self, stream: &mut TcpStream) -> Turned {
+    fn handle(&mut self, stream: &mut TcpStream) -> DialTurn {
         let mut piece = [0u8; GREETING_BYTES];
         for _ in 0..MOST_READS {
             match read(stream, &mut piece) {
                 Done::Bytes(count) => {
                     let count = count.min(GREETING_BYTES);
                     match self.take_in(&piece[..count]) {
-                        Turned::Same => {}
+                        DialTurn::Same => {}
                         turned => return turned,
                     }
                 }
-                Done::Blocked => return Turned::Same,
-                Done::Closed => return Turned::Ended(Why::Closed),
-                Done::Failed => return Turned::Ended(Why::Failed),
+                Done::Blocked => return DialTurn::Same,
+                Done::Closed => return DialTurn::Ended(PeerEnd::Closed),
+                Done::Failed => return DialTurn::Ended(PeerEnd::Failed),
             }
         }
-        Turned::Same
+        DialTurn::Same
     }
 
     /// Takes in a piece of the reply.
-    fn take_in(&mut self, piece: &[u8]) -> Turned {
+    fn take_in(&mut self, piece: &[u8]) -> DialTurn {
         if self.is_open || GREETING_BYTES < self.reply.len().saturating_add(piece.len()) {
-            return Turned::Ended(Why::Talkative);
+            return DialTurn::Ended(PeerEnd::Talkative);
         }
         if self.reply.extend_from_slice(piece).is_err() {
-            return Turned::Ended(Why::Memory);
+            return DialTurn::Ended(PeerEnd::Memory);
         }
         match decode_reply(self.reply.as_slice()) {
-            Ok(reply) => Turned::Answered(reply),
-            Err(GreetingFault::Short) => Turned::Same,
-            Err(fault) => Turned::Ended(Why::BadGreeting(fault)),
+            Ok(reply) => DialTurn::Answered(reply),
+            Err(GreetingFault::Short) => DialTurn::Same,
+            Err(fault) => DialTurn::Ended(PeerEnd::BadGreeting(fault)),
         }
     }
 }
@@ -236,23 +240,23 @@ fn connected<R: Net>(
 }
 
 /// Writes what waits for a peer, and counts the bytes.
-#[tactic(auto, using(crate::proofs::Going::still, crate::proofs::Going::twice))]
+#[tactic(auto, using(crate::proofs::Continuation::still, crate::proofs::Continuation::twice))]
 fn send<T: Tape + Drop>(
     process: &mut Process<T>,
     peer: NodeId,
     stream: &TcpStream,
     written: &mut u64,
-) -> Turned
+) -> DialTurn
     ensures { GoesOn T.Tape process.old process.new }
 {
     let mut sink = Stream::new(stream);
     for _ in 0..MOST_WRITES {
         match write_to(process, peer, &mut sink) {
-            Ok(0) => return Turned::Same,
+            Ok(0) => return DialTurn::Same,
             Ok(count) => *written = written.saturating_add(count as u64),
-            Err(error) if error.kind() == ErrorKind::WouldBlock => return Turned::Same,
-            Err(_) => return Turned::Ended(Why::Failed),
+            Err(error) if error.kind() == ErrorKind::WouldBlock => return DialTurn::Same,
+            Err(_) => return DialTurn::Ended(PeerEnd::Failed),
         }
     }
-    Turned::Same
+    DialTurn::Same
 }

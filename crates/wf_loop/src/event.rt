@@ -3,12 +3,12 @@
 use std::fmt;
 use std::net::SocketAddr;
 use wf_journal::OpenFault;
-use wf_peer::{GreetingFault, Rejection};
-use wf_visitors::{Entry, Level};
+use wf_peer::{GreetingFault, PeerRejection};
+use wf_visitors::{Level, LogEntry};
 
 /// Why a connection of a peer ended.
 #[derive(Clone, Copy, PartialEq, Eq)]
-pub enum Why {
+pub enum PeerEnd {
     /// The peer closed it.
     Closed,
     /// It failed.
@@ -18,9 +18,9 @@ pub enum Why {
     /// The greeting isn't one, or is one of another version.
     BadGreeting(GreetingFault),
     /// The peer isn't let in.
-    Rejected(Rejection),
+    Rejected(PeerRejection),
     /// The peer doesn't let this node in.
-    RejectedBy(Rejection),
+    RejectedBy(PeerRejection),
     /// Something came after the greeting, on a connection that only this node writes on.
     Talkative,
     /// What came isn't a message.
@@ -37,29 +37,29 @@ pub enum Why {
     Memory,
 }
 
-impl fmt::Display for Why {
+impl fmt::Display for PeerEnd {
     fn fmt<W: fmt::Write>(&self, f: &mut fmt::Formatter<W>) -> fmt::Result {
         match self {
-            Why::Closed => f.write_str("closed"),
-            Why::Failed => f.write_str("failed"),
-            Why::Silent => f.write_str("silent"),
-            Why::BadGreeting(fault) => write!(f, "\"bad greeting: {fault}\""),
-            Why::Rejected(rejection) => write!(f, "\"refused: {rejection}\""),
-            Why::RejectedBy(rejection) => write!(f, "\"refused by it: {rejection}\""),
-            Why::Talkative => f.write_str("talkative"),
-            Why::BadMessage => f.write_str("bad-message"),
-            Why::WrongSender => f.write_str("wrong-sender"),
-            Why::UnknownAddress => f.write_str("unknown-address"),
-            Why::Replaced => f.write_str("replaced"),
-            Why::NoSlot => f.write_str("no-free-slot"),
-            Why::Memory => f.write_str("out-of-memory"),
+            PeerEnd::Closed => f.write_str("closed"),
+            PeerEnd::Failed => f.write_str("failed"),
+            PeerEnd::Silent => f.write_str("silent"),
+            PeerEnd::BadGreeting(fault) => write!(f, "\"bad greeting: {fault}\""),
+            PeerEnd::Rejected(rejection) => write!(f, "\"refused: {rejection}\""),
+            PeerEnd::RejectedBy(rejection) => write!(f, "\"refused by it: {rejection}\""),
+            PeerEnd::Talkative => f.write_str("talkative"),
+            PeerEnd::BadMessage => f.write_str("bad-message"),
+            PeerEnd::WrongSender => f.write_str("wrong-sender"),
+            PeerEnd::UnknownAddress => f.write_str("unknown-address"),
+            PeerEnd::Replaced => f.write_str("replaced"),
+            PeerEnd::NoSlot => f.write_str("no-free-slot"),
+            PeerEnd::Memory => f.write_str("out-of-memory"),
         }
     }
 }
 
 /// An event. Nodes are named by their numbers.
 #[derive(Clone, Copy)]
-pub enum Event {
+pub enum NodeEvent {
     /// Addresses are bound.
     Listening {
         http: SocketAddr,
@@ -78,7 +78,7 @@ pub enum Event {
     /// The connection to a peer has ended.
     Lost {
         peer: usize,
-        why: Why,
+        why: PeerEnd,
     },
     /// A peer's connection was accepted.
     Accepted {
@@ -87,7 +87,7 @@ pub enum Event {
     /// The connection of a peer, or of what isn't one, has ended.
     Dropped {
         peer: Option<usize>,
-        why: Why,
+        why: PeerEnd,
     },
     /// The node's map is published.
     Published {
@@ -105,42 +105,46 @@ pub enum Event {
     NotReopened(OpenFault),
 }
 
-impl Entry for Event {
+impl LogEntry for NodeEvent {
     fn level(&self) -> Level {
         match self {
-            Event::Halted | Event::NotReopened(_) => Level::Error,
-            Event::Lost { .. } | Event::Dropped { .. } | Event::Overtaken { .. } => Level::Warn,
-            Event::Listening { .. }
-            | Event::Opened { .. }
-            | Event::Connected { .. }
-            | Event::Accepted { .. }
-            | Event::Published { .. }
-            | Event::Reopened => Level::Info,
+            NodeEvent::Halted | NodeEvent::NotReopened(_) => Level::Error,
+            NodeEvent::Lost { .. } | NodeEvent::Dropped { .. } | NodeEvent::Overtaken { .. } =>
+                Level::Warn,
+            NodeEvent::Listening { .. }
+            | NodeEvent::Opened { .. }
+            | NodeEvent::Connected { .. }
+            | NodeEvent::Accepted { .. }
+            | NodeEvent::Published { .. }
+            | NodeEvent::Reopened => Level::Info,
         }
     }
 }
 
-impl fmt::Display for Event {
+impl fmt::Display for NodeEvent {
     fn fmt<W: fmt::Write>(&self, f: &mut fmt::Formatter<W>) -> fmt::Result {
         match self {
-            Event::Listening { http, listen } => write!(f, "listening http={http} peers={listen}"),
-            Event::Opened { node, published } => {
+            NodeEvent::Listening { http, listen } => write!(
+                f,
+                "listening http={http} peers={listen}"
+            ),
+            NodeEvent::Opened { node, published } => {
                 write!(f, "opened node={node} published={published}")
             }
-            Event::Connected { peer, address } => {
+            NodeEvent::Connected { peer, address } => {
                 write!(f, "connected peer={peer} address={address}")
             }
-            Event::Lost { peer, why } => write!(f, "lost peer={peer} why={why}"),
-            Event::Accepted { peer } => write!(f, "accepted peer={peer}"),
-            Event::Dropped { peer, why } => match peer {
+            NodeEvent::Lost { peer, why } => write!(f, "lost peer={peer} why={why}"),
+            NodeEvent::Accepted { peer } => write!(f, "accepted peer={peer}"),
+            NodeEvent::Dropped { peer, why } => match peer {
                 Some(peer) => write!(f, "dropped peer={peer} why={why}"),
                 None => write!(f, "dropped peer=unknown why={why}"),
             },
-            Event::Published { sequence } => write!(f, "published sequence={sequence}"),
-            Event::Overtaken { sequence } => write!(f, "overtaken sequence={sequence}"),
-            Event::Halted => f.write_str("tape-failed"),
-            Event::Reopened => f.write_str("tape-reopened"),
-            Event::NotReopened(why) => write!(f, "tape-not-reopened why=\"{why}\""),
+            NodeEvent::Published { sequence } => write!(f, "published sequence={sequence}"),
+            NodeEvent::Overtaken { sequence } => write!(f, "overtaken sequence={sequence}"),
+            NodeEvent::Halted => f.write_str("tape-failed"),
+            NodeEvent::Reopened => f.write_str("tape-reopened"),
+            NodeEvent::NotReopened(why) => write!(f, "tape-not-reopened why=\"{why}\""),
         }
     }
 }

@@ -12,12 +12,12 @@ use std::rt::Files;
 use wf_learner::History;
 use wf_operator::metrics::{counter, gauge, seconds};
 use wf_operator::{Health, Operated, Pictures};
-use wf_proposer::Standing;
+use wf_proposer::ProposalState;
 use wf_visitors::Counts;
 
 /// What a node tells its operator.
 #[derive(Drop)]
-pub(crate) struct Facts<'a, R> {
+pub(crate) struct NodeFacts<'a, R> {
     pub(crate) rt: &'a R,
     pub(crate) history: &'a History,
     pub(crate) notes: &'a Notes,
@@ -29,7 +29,7 @@ pub(crate) struct Facts<'a, R> {
     pub(crate) steps: Steps,
     pub(crate) tape: &'a str,
     pub(crate) is_halted: bool,
-    pub(crate) proposal: Standing,
+    pub(crate) proposal: ProposalState,
     pub(crate) differs: Option<Differing>,
     pub(crate) reader_differs: Option<u16>,
     pub(crate) heard: u16,
@@ -38,7 +38,7 @@ pub(crate) struct Facts<'a, R> {
     pub(crate) readers: usize,
 }
 
-impl<'a, R: Files> Operated for Facts<'a, R> {
+impl<'a, R: Files> Operated for NodeFacts<'a, R> {
     fn history(&self) -> &History {
         self.history
     }
@@ -89,7 +89,7 @@ impl<'a, R: Files> Operated for Facts<'a, R> {
 }
 
 /// Appends what is known of the node and its farm.
-fn push_farm<R>(text: &mut String, facts: &Facts<'_, R>) -> Result<(), AllocError> {
+fn push_farm<R>(text: &mut String, facts: &NodeFacts<'_, R>) -> Result<(), AllocError> {
     let connected = facts.peers.iter().filter(|peer| peer.is_connected).count();
     let nodes = facts.peers.len();
     let is_majority = nodes < connected.saturating_add(1).saturating_mul(2);
@@ -115,12 +115,12 @@ fn tape_bytes<R: Files>(rt: &R, path: &str) -> Option<u64> {
 }
 
 /// Appends the state of the node's proposal.
-fn push_proposal(text: &mut String, proposal: Standing) -> Result<(), AllocError> {
+fn push_proposal(text: &mut String, proposal: ProposalState) -> Result<(), AllocError> {
     text.push_str("# TYPE wfarm_proposal gauge\n")?;
-    let none = matches!(proposal, Standing::None) as u8;
-    let running = matches!(proposal, Standing::Running) as u8;
-    let published = matches!(proposal, Standing::Published(_)) as u8;
-    let overtaken = matches!(proposal, Standing::Overtaken(_)) as u8;
+    let none = matches!(proposal, ProposalState::None) as u8;
+    let running = matches!(proposal, ProposalState::Running) as u8;
+    let published = matches!(proposal, ProposalState::Published(_)) as u8;
+    let overtaken = matches!(proposal, ProposalState::Overtaken(_)) as u8;
     write!(text, "wfarm_proposal{{state=\"none\"}} {none}\n")?;
     write!(text, "wfarm_proposal{{state=\"running\"}} {running}\n")?;
     write!(text, "wfarm_proposal{{state=\"published\"}} {published}\n")?;

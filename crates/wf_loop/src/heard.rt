@@ -1,12 +1,12 @@
 //! A connection from a peer, on which this node hears.
 
-use crate::event::Why;
+use crate::event::PeerEnd;
 use mio::net::TcpStream;
 use std::alloc::Global;
 use wf_ballot::NodeId;
-use wf_client::outgoing::Outgoing;
+use wf_client::response_buffer::Outgoing;
 use wf_peer::{
-    GREETING_BYTES, Greeting, GreetingFault, Rejection, decode, encode, encode_rejection,
+    GREETING_BYTES, Greeting, GreetingFault, PeerRejection, decode, encode, encode_rejection,
 };
 use wf_stream::Sink;
 use wf_timing::is_silent;
@@ -17,7 +17,7 @@ pub(crate) const PIECE_BYTES: usize = 4_096;
 
 /// A connection from a peer.
 #[derive(Drop)]
-pub(crate) struct Heard {
+pub(crate) struct Inbound {
     stream: TcpStream,
     from: Option<NodeId>,
     greeting: Vec<u8>,
@@ -37,13 +37,13 @@ pub(crate) enum Came {
     /// This many bytes of a peer, at the front of the buffer.
     Bytes(NodeId, usize),
     /// It has ended.
-    Ended(Why),
+    Ended(PeerEnd),
 }
 
-impl Heard {
+impl Inbound {
     /// A connection that was accepted now.
     pub(crate) fn new(alloc: Global, stream: TcpStream, now: u64) -> Self {
-        Heard {
+        Inbound {
             stream,
             from: None,
             greeting: Vec::new(alloc),
@@ -68,17 +68,22 @@ impl Heard {
     }
 
     /// Lets the peer in: from now on its messages come.
-    pub(crate) fn let_in(&mut self, alloc: Global, peer: NodeId, own: &Greeting) -> Option<Why> {
+    pub(crate) fn let_in(
+        &mut self,
+        alloc: Global,
+        peer: NodeId,
+        own: &Greeting,
+    ) -> Option<PeerEnd> {
         let mut bytes = Vec::new(alloc);
         if encode(own, &mut bytes).is_err() || self.reply.write(&bytes).is_err() {
-            return Some(Why::Memory);
+            return Some(PeerEnd::Memory);
         }
         self.from = Some(peer);
         self.send()
     }
 
     /// Says why the peer isn't let in.
-    pub(crate) fn reject(&mut self, alloc: Global, why: Rejection) {
+    pub(crate) fn reject(&mut self, alloc: Global, why: PeerRejection) {
         let mut bytes = Vec::new(alloc);
         if encode_rejection(why, &mut bytes).is_ok() && self.reply.write(&bytes).is_ok() {
             let _ = self.send();
@@ -86,7 +91,7 @@ impl Heard {
     }
 
     /// Writes the rest of the answer to the greeting.
-    pub(crate) fn send(&mut self) -> Option<Why> {
+    pub(crate) fn send(&mut self) -> Option<PeerEnd> {
         for _ in 0..u64::MAX {
             if self.reply.is_taken() {
                 return None;
@@ -97,15 +102,15 @@ impl Heard {
                     self.reply.advance(count);
                 }
                 Done::Blocked => return None,
-                Done::Closed => return Some(Why::Closed),
-                Done::Failed => return Some(Why::Failed),
+                Done::Closed => return Some(PeerEnd::Closed),
+                Done::Failed => return Some(PeerEnd::Failed),
             }
         }
         None
     }
 
     /// Reads once, into a buffer.
-    pub(crate) fn hear(&mut self, piece: &mut [u8; PIECE_BYTES], now: u64) -> Came {
+    pub(crate) fn handle(&mut self, piece: &mut [u8; PIECE_BYTES], now: u64) -> Came {
         let room = match self.from {
             None => GREETING_BYTES.saturating_sub(self.greeting.len()),
             Some(_) => PIECE_BYTES,
@@ -121,20 +126,20 @@ impl Heard {
                 }
             }
             Done::Blocked => Came::Nothing,
-            Done::Closed => Came::Ended(Why::Closed),
-            Done::Failed => Came::Ended(Why::Failed),
+            Done::Closed => Came::Ended(PeerEnd::Closed),
+            Done::Failed => Came::Ended(PeerEnd::Failed),
         }
     }
 
     /// Takes in a piece of the greeting.
     fn take_greeting(&mut self, piece: &[u8]) -> Came {
         if self.greeting.extend_from_slice(piece).is_err() {
-            return Came::Ended(Why::Memory);
+            return Came::Ended(PeerEnd::Memory);
         }
         match decode(self.greeting.as_slice()) {
             Ok(greeting) => Came::Greeting(greeting),
             Err(GreetingFault::Short) => Came::Part,
-            Err(fault) => Came::Ended(Why::BadGreeting(fault)),
+            Err(fault) => Came::Ended(PeerEnd::BadGreeting(fault)),
         }
     }
 }

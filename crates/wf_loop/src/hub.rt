@@ -1,6 +1,6 @@
 use crate::clients::Clients;
 use crate::pace::Pace;
-use crate::parts::Parts;
+use crate::parts::HubParts;
 use crate::voter::Voter;
 use std::net::SocketAddr;
 use wf_operator::Behind;
@@ -10,7 +10,7 @@ use wf_tape::Tape;
 /// read: each client that was answered, with the process before and after it.
 #[derive(Drop)]
 pub struct Hub<T: Tape> {
-    pub(crate) parts: Parts,
+    pub(crate) parts: HubParts,
     pub(crate) clients: Clients<T>,
     pub(crate) voter: Voter<T>,
     pub(crate) pace: Pace,

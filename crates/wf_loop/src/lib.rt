@@ -1,20 +1,20 @@
 //! A node in a process of its own: one thread that waits for its sockets and serves them, and never blocks on one.
 //!
 //! - [`Hub`] has the node, the connections to and from its peers, its clients, and its readers and operators, who only read.
-//!   [`Hub::go_on`] is one turn: it waits until a socket is ready or a tick is over, and does what there is to do, a bounded part of it.
-//! - [`Plan`] says which node it is, and where the others are.
-//! - [`Log`] writes each [`Event`] as a line on standard error.
+//!   [`Hub::go_on`] is one turn: it waits until a socket is ready or a tick is over, and does what there is to do, a bounded part
+//! of it.
+//! - [`NodePlan`] says which node it is, and where the others are.
+//! - [`Log`] writes each [`NodeEvent`] as a line on standard error.
 //!
 //! **Promises.** After each turn the node has lived by its acts (`specs/Lived.antt`), and the process has gone on in its run
-//! (`specs/Going.antt`). Each response that a client was sent is the one of `wf_edge` to exactly the bytes that had come from it, by a process
+//! (`specs/Continuation.antt`). Each response that a client was sent is the one of `wf_edge` to exactly the bytes that had come from it, by a process
 //! that had lived (`specs/Answer.antt`). Readers and operators get the node to be read only.
 //!
 //! **Doesn't.** What sockets, clocks and reconnection do has no model: it is tested with the built program.
 #![tactic(auto)]
 
 mod acts;
-mod answering;
-mod calling;
+mod answers;
 mod clients;
 mod desk;
 mod dial;
@@ -27,6 +27,7 @@ mod mesh;
 mod notes;
 mod pace;
 mod parts;
+mod peer_calls;
 mod peer_state;
 mod plan;
 mod service;
@@ -36,10 +37,10 @@ mod token;
 mod turn;
 mod voter;
 
-pub use event::{Event, Why};
+pub use event::{NodeEvent, PeerEnd};
 pub use file::{path_in, replace, write_file};
 pub use hub::Hub;
-pub use plan::{LoopFault, Plan};
+pub use plan::{LoopFault, NodePlan};
 pub use service::Begun;
 pub use wf_actor::Process;
 pub use wf_visitors::{Level, Log};

@@ -1,13 +1,13 @@
 //! The connections to and from the peers of a node.
-ghost use Rattle.wf_loop.specs.Going.{GoesOn};
+ghost use Rattle.wf_loop.specs.Continuation.{GoesOn};
 
-use crate::acts::{hear, open_receiver, receive};
+use crate::acts::{handle, open_receiver, receive};
 use crate::dial::Dial;
-use crate::event::{Event, Why};
-use crate::heard::{Came, Heard, PIECE_BYTES};
+use crate::event::{NodeEvent, PeerEnd};
+use crate::heard::{Came, Inbound, PIECE_BYTES};
 use crate::notes::Notes;
 use crate::peer_state::PeerState;
-use crate::plan::Plan;
+use crate::plan::NodePlan;
 use crate::steps::Steps;
 use crate::token::Socket;
 use mio::net::{TcpListener, TcpStream};
@@ -17,7 +17,7 @@ use std::rt::Files;
 use std::time::Clock;
 use wf_actor::Process;
 use wf_ballot::{NodeId, SEQUENCES};
-use wf_peer::{Greeting, Heard as HeardOf, Progress, Rejection};
+use wf_peer::{Greeting, Heard as HeardOf, PeerRejection, Progress};
 use wf_tape::Tape;
 use wf_timing::CatchUp;
 use wf_visitors::{Context, micros, register, register_again};
@@ -38,10 +38,10 @@ pub(crate) struct Differing {
 /// The connections to and from the peers of a node, and what is known of them.
 #[derive(Drop)]
 pub(crate) struct Mesh {
-    pub(crate) plan: Plan,
+    pub(crate) plan: NodePlan,
     listener: TcpListener,
     pub(crate) dials: Vec<Dial>,
-    heards: Vec<Option<Heard>>,
+    heards: Vec<Option<Inbound>>,
     pub(crate) states: Vec<PeerState>,
     pub(crate) notes: Notes,
     pub(crate) catch_up: CatchUp,
@@ -51,7 +51,7 @@ pub(crate) struct Mesh {
     // the peer whose history differs, and a sequence up to which it does
     pub(crate) differs: Option<Differing>,
     // what a peer said for which the node has to end
-    pub(crate) end: Option<Rejection>,
+    pub(crate) end: Option<PeerRejection>,
     // whether more waits to be read
     pub(crate) is_busy: bool,
 }
@@ -66,7 +66,7 @@ fn dials_of(alloc: Global, peers: &[SocketAddr]) -> Result<Vec<Dial>, AllocError
 }
 
 /// Free slots for the connections from peers.
-fn free_slots(alloc: Global) -> Result<Vec<Option<Heard>>, AllocError> {
+fn free_slots(alloc: Global) -> Result<Vec<Option<Inbound>>, AllocError> {
     let mut slots = Vec::new(alloc);
     for _ in 0..HEARD_SLOTS {
         slots.push(None)?;
@@ -87,7 +87,7 @@ impl Mesh {
     /// No connection yet.
     pub(crate) fn new(
         alloc: Global,
-        plan: Plan,
+        plan: NodePlan,
         listener: TcpListener,
         heard: HeardOf,
         time: u64,
@@ -135,7 +135,7 @@ impl Mesh {
     }
 
     /// Accepts connections from peers.
-    #[tactic(auto, using(crate::proofs::Going::still, crate::proofs::Going::twice))]
+    #[tactic(auto, using(crate::proofs::Continuation::still, crate::proofs::Continuation::twice))]
     pub(crate) fn accept<R: Clock + Eprint + AllocGlobal, T: Tape + Drop>(
         &mut self,
         context: &Context<'_, '_, R>,
@@ -152,7 +152,7 @@ impl Mesh {
     }
 
     /// Puts a connection from a peer's address into a free slot.
-    #[tactic(auto, using(crate::proofs::Going::still))]
+    #[tactic(auto, using(crate::proofs::Continuation::still))]
     fn admit<R: Clock + Eprint + AllocGlobal, T: Tape + Drop>(
         &mut self,
         context: &Context<'_, '_, R>,
@@ -163,29 +163,35 @@ impl Mesh {
         ensures { GoesOn T.Tape process.old process.new }
     {
         if !is_known(self.plan.peers.as_slice(), address) {
-            context.log.write(&Event::Dropped {
+            context.log.write(&NodeEvent::Dropped {
                 peer: None,
-                why: Why::UnknownAddress,
+                why: PeerEnd::UnknownAddress,
             });
             return;
         }
         let Some(index) = first_free(self.heards.as_slice()) else {
-            context.log.write(&Event::Dropped {
+            context.log.write(&NodeEvent::Dropped {
                 peer: None,
-                why: Why::NoSlot,
+                why: PeerEnd::NoSlot,
             });
             return;
         };
         let _ = stream.set_nodelay(true);
-        if register(context.registry, &mut stream, Socket::Heard(index).token()).is_ok() {
-            let heard = Heard::new(context.alloc(), stream, context.time);
-            self.hear_out(context, process, index, heard);
+        if register(
+            context.registry,
+            &mut stream,
+            Socket::Inbound(index).token(),
+        )
+        .is_ok()
+        {
+            let heard = Inbound::new(context.alloc(), stream, context.time);
+            self.receive_out(context, process, index, heard);
         }
     }
 
     /// Reads what came from a peer, a bounded part of it, and delivers it.
-    #[tactic(auto, using(crate::proofs::Going::still))]
-    pub(crate) fn hear<R: Clock + Eprint + AllocGlobal, T: Tape + Drop>(
+    #[tactic(auto, using(crate::proofs::Continuation::still))]
+    pub(crate) fn handle<R: Clock + Eprint + AllocGlobal, T: Tape + Drop>(
         &mut self,
         context: &Context<'_, '_, R>,
         process: &mut Process<T>,
@@ -199,16 +205,16 @@ impl Mesh {
         let Some(heard) = slot.take() else {
             return;
         };
-        self.hear_out(context, process, index, heard);
+        self.receive_out(context, process, index, heard);
     }
 
     /// Reads what came on a connection from a peer, and keeps it in its slot unless it has ended.
-    fn hear_out<R: Clock + Eprint + AllocGlobal, T: Tape + Drop>(
+    fn receive_out<R: Clock + Eprint + AllocGlobal, T: Tape + Drop>(
         &mut self,
         context: &Context<'_, '_, R>,
         process: &mut Process<T>,
         index: usize,
-        mut heard: Heard,
+        mut heard: Inbound,
     )
         ensures { GoesOn T.Tape process.old process.new }
     {
@@ -218,7 +224,7 @@ impl Mesh {
                     register_again(
                         context.registry,
                         heard.stream(),
-                        Socket::Heard(index).token(),
+                        Socket::Inbound(index).token(),
                     );
                 }
                 if let Some(slot) = self.heards.get_mut(index) {
@@ -228,24 +234,24 @@ impl Mesh {
             Some(why) => {
                 let peer = number_of(heard.from());
                 drop(heard);
-                context.log.write(&Event::Dropped { peer, why });
+                context.log.write(&NodeEvent::Dropped { peer, why });
             }
         }
     }
 
     /// Reads what came on a connection, a bounded part of it. Some: it has ended.
-    #[tactic(auto, using(crate::proofs::Going::still, crate::proofs::Going::twice))]
+    #[tactic(auto, using(crate::proofs::Continuation::still, crate::proofs::Continuation::twice))]
     fn read<R: Clock + Eprint + AllocGlobal, T: Tape + Drop>(
         &mut self,
         context: &Context<'_, '_, R>,
         process: &mut Process<T>,
-        heard: &mut Heard,
-    ) -> Option<Why>
+        heard: &mut Inbound,
+    ) -> Option<PeerEnd>
         ensures { GoesOn T.Tape process.old process.new }
     {
         let mut piece = [0u8; PIECE_BYTES];
         for _ in 0..MOST_PIECES {
-            let came = heard.hear(&mut piece, context.time);
+            let came = heard.handle(&mut piece, context.time);
             match self.heed(context, process, heard, came, &piece) {
                 Ok(()) => {}
                 Err(ended) => return ended,
@@ -256,15 +262,15 @@ impl Mesh {
     }
 
     /// Takes in what came in one piece. Err: nothing more is to be read now, and why the connection has ended if it has.
-    #[tactic(auto, using(crate::proofs::Going::still))]
+    #[tactic(auto, using(crate::proofs::Continuation::still))]
     fn heed<R: Clock + Eprint + AllocGlobal, T: Tape + Drop>(
         &mut self,
         context: &Context<'_, '_, R>,
         process: &mut Process<T>,
-        heard: &mut Heard,
+        heard: &mut Inbound,
         came: Came,
         piece: &[u8],
-    ) -> Result<(), Option<Why>>
+    ) -> Result<(), Option<PeerEnd>>
         ensures { GoesOn T.Tape process.old process.new }
     {
         match came {
@@ -288,30 +294,30 @@ impl Mesh {
     }
 
     /// Lets a peer in that has greeted, in the place of an older connection from it. Some: it isn't let in.
-    #[tactic(auto, using(crate::proofs::Going::still))]
+    #[tactic(auto, using(crate::proofs::Continuation::still))]
     fn let_in<R: Clock + Eprint + AllocGlobal, T: Tape + Drop>(
         &mut self,
         context: &Context<'_, '_, R>,
         process: &mut Process<T>,
-        heard: &mut Heard,
+        heard: &mut Inbound,
         greeting: &Greeting,
-    ) -> Option<Why>
+    ) -> Option<PeerEnd>
         ensures { GoesOn T.Tape process.old process.new }
     {
         if let Err(why) = self.admit_peer(None, greeting) {
             heard.reject(context.alloc(), why);
-            return Some(Why::Rejected(why));
+            return Some(PeerEnd::Rejected(why));
         }
         let peer = greeting.node;
         self.close_older(context, peer);
         let Some(own) = self.greeting(process) else {
-            return Some(Why::Memory);
+            return Some(PeerEnd::Memory);
         };
         open_receiver(context.alloc(), process, peer);
         // its answers can come from now on
         let number = peer.number() as usize;
         self.catch_up.connect(number, context.time);
-        context.log.write(&Event::Accepted { peer: number });
+        context.log.write(&NodeEvent::Accepted { peer: number });
         heard.let_in(context.alloc(), peer, &own)
     }
 
@@ -320,9 +326,9 @@ impl Mesh {
         &mut self,
         place: Option<NodeId>,
         greeting: &Greeting,
-    ) -> Result<(), Rejection> {
+    ) -> Result<(), PeerRejection> {
         let admitted = self.notes.admit(place, greeting);
-        if admitted == Err(Rejection::OtherHistory) {
+        if admitted == Err(PeerRejection::OtherHistory) {
             self.note_difference(greeting.node, greeting.progress.published.number());
         } else if admitted == Ok(()) && self.differs_from(greeting.node) {
             self.differs = None;
@@ -351,27 +357,27 @@ impl Mesh {
         for slot in &mut self.heards {
             if is_of(slot, peer) {
                 *slot = None;
-                context.log.write(&Event::Dropped {
+                context.log.write(&NodeEvent::Dropped {
                     peer: Some(peer.number() as usize),
-                    why: Why::Replaced,
+                    why: PeerEnd::Replaced,
                 });
             }
         }
     }
 
     /// Judges what came from a peer, and delivers it. Some: the connection has ended.
-    #[tactic(auto, using(crate::proofs::Going::still, crate::proofs::Going::twice))]
+    #[tactic(auto, using(crate::proofs::Continuation::still, crate::proofs::Continuation::twice))]
     fn deliver<R: Clock + AllocGlobal, T: Tape + Drop>(
         &mut self,
         context: &Context<'_, '_, R>,
         process: &mut Process<T>,
         peer: NodeId,
         piece: &[u8],
-    ) -> Option<Why>
+    ) -> Option<PeerEnd>
         ensures { GoesOn T.Tape process.old process.new }
     {
         let Some(count) = receive(process, peer, piece) else {
-            return Some(Why::BadMessage);
+            return Some(PeerEnd::BadMessage);
         };
         if let Some(state) = self.states.get_mut(peer.number() as usize) {
             state.heard = state.heard.saturating_add(count as u64);
@@ -379,10 +385,10 @@ impl Mesh {
         for _ in 0..count {
             if !self.notes.admits(process, peer) {
                 open_receiver(context.alloc(), process, peer);
-                return Some(Why::WrongSender);
+                return Some(PeerEnd::WrongSender);
             }
             let from = micros(context.rt);
-            hear(context.alloc(), process, peer);
+            handle(context.alloc(), process, peer);
             self.steps.add(from, micros(context.rt));
         }
         None
@@ -402,9 +408,9 @@ impl Mesh {
             if is_silent_at(slot, context.time) {
                 let peer = peer_in(slot);
                 *slot = None;
-                context.log.write(&Event::Dropped {
+                context.log.write(&NodeEvent::Dropped {
                     peer,
-                    why: Why::Silent,
+                    why: PeerEnd::Silent,
                 });
             }
         }
@@ -436,7 +442,7 @@ impl Mesh {
 }
 
 /// Whether nothing came for too long on the connection in a slot.
-fn is_silent_at(slot: &Option<Heard>, time: u64) -> bool {
+fn is_silent_at(slot: &Option<Inbound>, time: u64) -> bool {
     match slot {
         Some(heard) => heard.is_silent(time),
         None => false,
@@ -444,7 +450,7 @@ fn is_silent_at(slot: &Option<Heard>, time: u64) -> bool {
 }
 
 /// The number of the peer in a slot, if it is known.
-fn peer_in(slot: &Option<Heard>) -> Option<usize> {
+fn peer_in(slot: &Option<Inbound>) -> Option<usize> {
     match slot {
         Some(heard) => number_of(heard.from()),
         None => None,
@@ -452,7 +458,7 @@ fn peer_in(slot: &Option<Heard>) -> Option<usize> {
 }
 
 /// Whether a connection is one of this peer.
-fn is_of(slot: &Option<Heard>, peer: NodeId) -> bool {
+fn is_of(slot: &Option<Inbound>, peer: NodeId) -> bool {
     match slot {
         Some(heard) => heard.from() == Some(peer),
         None => false,
@@ -486,7 +492,7 @@ fn is_known(peers: &[SocketAddr], address: SocketAddr) -> bool {
 }
 
 /// The first free slot.
-fn first_free(slots: &[Option<Heard>]) -> Option<usize> {
+fn first_free(slots: &[Option<Inbound>]) -> Option<usize> {
     for (index, slot) in slots.iter().enumerate() {
         if slot.is_none() {
             return Some(index);

@@ -8,7 +8,7 @@ use wf_actor::Process;
 use wf_ballot::NodeId;
 use wf_digest::Digests;
 use wf_learner::History;
-use wf_peer::{Greeting, Heard, Own, Progress, Rejection, admit, is_from};
+use wf_peer::{Greeting, Heard, Own, PeerRejection, Progress, admit, is_from};
 use wf_tape::Tape;
 
 /// What was heard of the peers, and the digests of this node's history.
@@ -86,7 +86,7 @@ impl Notes {
         &mut self,
         place: Option<NodeId>,
         greeting: &Greeting,
-    ) -> Result<(), Rejection> {
+    ) -> Result<(), PeerRejection> {
         let node = greeting.node;
         let digest = self.digests.at(greeting.progress.published);
         admit(&self.own, place, self.heard.of(node), digest, greeting)?;

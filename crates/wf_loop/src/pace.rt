@@ -1,12 +1,12 @@
 //! What a node does by the clock.
 ghost use Rattle.std.specs.Prelude.{◌≡◌, ◌↔◌, IsTrue};
 ghost use Rattle.wf_loop.specs.Hub.{IsDue};
-ghost use Rattle.wf_loop.specs.Going.{GoesOn};
+ghost use Rattle.wf_loop.specs.Continuation.{GoesOn};
 
 use crate::acts::retry;
 use crate::clients::Clients;
 use crate::desk::Desk;
-use crate::event::Event;
+use crate::event::NodeEvent;
 use crate::mesh::Mesh;
 use std::alloc::Global;
 use std::net::Net;
@@ -14,7 +14,7 @@ use std::rt::Files;
 use std::time::Clock;
 use wf_actor::Process;
 use wf_ballot::NodeId;
-use wf_proposer::Standing;
+use wf_proposer::ProposalState;
 use wf_tape::Tape;
 use wf_timing::{Alarm, Backoff, SECOND, Ticker, retry_of};
 use wf_visitors::Context;
@@ -40,7 +40,7 @@ pub(crate) struct Pace {
     reopening: Option<Alarm>,
     // since when the tape hasn't failed
     stands_since: u64,
-    last: Standing,
+    last: ProposalState,
 }
 
 impl Pace {
@@ -55,7 +55,7 @@ impl Pace {
             reopenings: Backoff::new(LEAST_REOPENING, MOST_REOPENING),
             reopening: None,
             stands_since: time,
-            last: Standing::None,
+            last: ProposalState::None,
         }
     }
 
@@ -111,7 +111,7 @@ impl Pace {
     }
 
     /// Does what is to be done at a tick, if one is over.
-    #[tactic(auto, using(crate::proofs::Going::still))]
+    #[tactic(auto, using(crate::proofs::Continuation::still))]
     fn tick<R: Net + Files + Clock + Eprint + AllocGlobal, T: Tape + Drop>(
         &mut self,
         context: &Context<'_, '_, R>,
@@ -132,7 +132,7 @@ impl Pace {
     }
 
     /// What the node does at a tick: nothing while it is halted.
-    #[tactic(auto, using(crate::proofs::Going::still))]
+    #[tactic(auto, using(crate::proofs::Continuation::still))]
     fn go_on<R: Net + Files + Clock + Eprint + AllocGlobal, T: Tape + Drop>(
         &mut self,
         context: &Context<'_, '_, R>,
@@ -147,12 +147,12 @@ impl Pace {
         mesh.accept(context, process);
         mesh.close_silent(context, process.node().published().number());
         mesh.connect(context, process);
-        self.say_on(context, process, mesh);
+        self.respond_on(context, process, mesh);
     }
 
     /// What the node says by the clock, and what it saves of what it heard.
-    #[tactic(auto, using(crate::proofs::Going::twice))]
-    fn say_on<R: Files + AllocGlobal, T: Tape + Drop>(
+    #[tactic(auto, using(crate::proofs::Continuation::twice))]
+    fn respond_on<R: Files + AllocGlobal, T: Tape + Drop>(
         &mut self,
         context: &Context<'_, '_, R>,
         process: &mut Process<T>,
@@ -168,11 +168,11 @@ impl Pace {
     }
 
     /// Begins a running proposal again, if it is time to.
-    #[tactic(auto, using(crate::proofs::Going::still))]
+    #[tactic(auto, using(crate::proofs::Continuation::still))]
     fn retry<T: Tape + Drop>(&mut self, alloc: Global, process: &mut Process<T>, time: u64)
         ensures { GoesOn T.Tape process.old process.new }
     {
-        if !matches!(process.node().proposal(), Standing::Running) {
+        if !matches!(process.node().proposal(), ProposalState::Running) {
             self.retry = None;
             self.retries = retry_of(self.node);
             return;
@@ -197,7 +197,7 @@ impl Pace {
         mesh: &mut Mesh,
     ) {
         if process.is_halted() && self.reopening.is_none() {
-            context.log.write(&Event::Halted);
+            context.log.write(&NodeEvent::Halted);
             mesh.close_all(context.time);
             self.begin_waits(context.time);
             self.postpone_reopening(context.time);
@@ -216,13 +216,13 @@ impl Pace {
         }
         self.last = proposal;
         match proposal {
-            Standing::Published(slot) => context.log.write(&Event::Published {
+            ProposalState::Published(slot) => context.log.write(&NodeEvent::Published {
                 sequence: slot.number(),
             }),
-            Standing::Overtaken(slot) => context.log.write(&Event::Overtaken {
+            ProposalState::Overtaken(slot) => context.log.write(&NodeEvent::Overtaken {
                 sequence: slot.number(),
             }),
-            Standing::None | Standing::Running => {}
+            ProposalState::None | ProposalState::Running => {}
         }
     }
 }

@@ -1,12 +1,12 @@
 //! All of a hub but its node: sockets, peers, and who only reads.
 ghost use Rattle.std.specs.Prelude.{◌≡◌, [], None, IfErr, IfOk, IsOk};
-ghost use Rattle.wf_loop.specs.Starting.{IsCause};
-ghost use Rattle.wf_visitors.specs.Visitors.{said_of};
+ghost use Rattle.wf_loop.specs.StartErrors.{IsCause};
+ghost use Rattle.wf_visitors.specs.Visitors.{responses_of};
 
 use crate::desk::Desk;
 use crate::mesh::Mesh;
 use crate::pace::Pace;
-use crate::plan::{LoopFault, Plan};
+use crate::plan::{LoopFault, NodePlan};
 use crate::token::{CLIENT, Socket};
 use mio::net::TcpListener;
 use mio::{Events, Poll, Registry};
@@ -31,14 +31,14 @@ struct Doors {
 
 /// All of a hub but its node and its clients.
 #[derive(Drop)]
-pub(crate) struct Parts {
+pub(crate) struct HubParts {
     pub(crate) poll: Poll,
     pub(crate) events: Events,
     pub(crate) mesh: Mesh,
     pub(crate) desk: Desk,
 }
 
-impl Parts {
+impl HubParts {
     /// What the node does by the clock, from now on.
     pub(crate) fn pace(&self, time: u64) -> Pace {
         Pace::new(self.mesh.plan.own.node, time)
@@ -47,8 +47,8 @@ impl Parts {
 
 /// All of a hub but its node.
 #[derive(Drop)]
-pub(crate) struct Begin {
-    pub(crate) parts: Parts,
+pub(crate) struct HubStart {
+    pub(crate) parts: HubParts,
     pub(crate) visitors: Visitors,
 }
 
@@ -89,7 +89,7 @@ fn listen_if<R: Net>(
 }
 
 /// Binds the addresses of a node.
-fn doors_of<R: Net>(rt: &R, plan: &Plan) -> Result<Doors, LoopFault>
+fn doors_of<R: Net>(rt: &R, plan: &NodePlan) -> Result<Doors, LoopFault>
     ensures { IfErr result (IsCause plan.now) }
 {
     match Poll::new(rt) {
@@ -99,7 +99,7 @@ fn doors_of<R: Net>(rt: &R, plan: &Plan) -> Result<Doors, LoopFault>
 }
 
 /// Binds the addresses of a node, registered at a poll.
-fn doors_at<R: Net>(rt: &R, plan: &Plan, poll: Poll) -> Result<Doors, LoopFault>
+fn doors_at<R: Net>(rt: &R, plan: &NodePlan, poll: Poll) -> Result<Doors, LoopFault>
     ensures { IfErr result (IsCause plan.now) }
 {
     let registry = poll.registry();
@@ -123,7 +123,7 @@ fn doors_at<R: Net>(rt: &R, plan: &Plan, poll: Poll) -> Result<Doors, LoopFault>
 }
 
 /// Who answers readers: a voter of the farm.
-fn answerer_of(plan: &Plan) -> Answerer {
+fn answerer_of(plan: &NodePlan) -> Answerer {
     Answerer {
         farm: plan.own.farm,
         distance: 0,
@@ -133,12 +133,12 @@ fn answerer_of(plan: &Plan) -> Answerer {
 /// All of a hub but its node, with these listeners. The only error is allocation failure.
 fn begin_at(
     alloc: Global,
-    plan: Plan,
+    plan: NodePlan,
     doors: Doors,
     heard: Heard,
     time: u64,
-) -> Result<Begin, LoopFault>
-    ensures begun { IfOk result (λ begun. said_of begun.visitors ≡ []) }
+) -> Result<HubStart, LoopFault>
+    ensures begun { IfOk result (λ begun. responses_of begun.visitors ≡ []) }
     ensures memory { IfErr result (λ why. why ≡ LoopFault.Memory) }
 {
     let Doors {
@@ -153,8 +153,8 @@ fn begin_at(
     let visitors = Visitors::new(alloc, plan.clients, Some(http), CLIENT)?;
     let desk = Desk::new(alloc, answerer, admin, readers)?;
     let mesh = Mesh::new(alloc, plan, listener, heard, time)?;
-    Ok(Begin {
-        parts: Parts {
+    Ok(HubStart {
+        parts: HubParts {
             poll,
             events,
             mesh,
@@ -167,11 +167,11 @@ fn begin_at(
 /// Binds the addresses of a node, and makes all of its hub but the node.
 pub(crate) fn bind<R: Net + AllocGlobal>(
     rt: &R,
-    plan: Plan,
+    plan: NodePlan,
     heard: Heard,
     time: u64,
-) -> Result<Begin, LoopFault>
-    ensures begun { IfOk result (λ begun. said_of begun.visitors ≡ []) }
+) -> Result<HubStart, LoopFault>
+    ensures begun { IfOk result (λ begun. responses_of begun.visitors ≡ []) }
     ensures cause { IfErr result (IsCause plan) }
 {
     match doors_of(rt, &plan) {

@@ -7,7 +7,7 @@ use wf_peer::{Own, Progress};
 
 /// Which node of a farm it is, and where the others are.
 #[derive(Drop)]
-pub struct Plan {
+pub struct NodePlan {
     /// The farm and the node.
     pub own: Own,
     /// How far the node was at this start.

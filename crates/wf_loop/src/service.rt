@@ -3,17 +3,17 @@ ghost use Rattle.std.specs.Prelude.{◌≡◌, ◌≤◌, ◌↔◌, [], Err, If
 ghost use Rattle.wf_actor.specs.Process.{IsBegun};
 ghost use Rattle.wf_loop.specs.Hub.{HasAnswered, IsReopeningDue, address_of, process_of, time_of};
 ghost use Rattle.wf_loop.specs.Lived.{HasLived};
-ghost use Rattle.wf_loop.specs.Going.{GoesOn, KeepsEarlier};
-ghost use Rattle.wf_loop.specs.Starting.{IsCause};
-ghost use Rattle.wf_visitors.specs.Visitors.{said_of};
+ghost use Rattle.wf_loop.specs.Continuation.{GoesOn, KeepsEarlier};
+ghost use Rattle.wf_loop.specs.StartErrors.{IsCause};
+ghost use Rattle.wf_visitors.specs.Visitors.{responses_of};
 
 use crate::acts::reopen;
 use crate::clients::Clients;
-use crate::event::Event;
+use crate::event::NodeEvent;
 use crate::hub::Hub;
 use crate::pace::{Pace, TICK_MILLIS};
-use crate::parts::{Begin, MOST_EVENTS, Parts, bind};
-use crate::plan::{LoopFault, Plan};
+use crate::parts::{HubParts, HubStart, MOST_EVENTS, bind};
+use crate::plan::{LoopFault, NodePlan};
 use crate::tally::Tally;
 use crate::turn::{answer_operators, serve_all};
 use crate::voter::Voter;
@@ -23,7 +23,7 @@ use std::rt::Files;
 use std::time::{Clock, Duration};
 use wf_actor::Process;
 use wf_operator::{Behind, Pictures};
-use wf_peer::{Heard, Rejection};
+use wf_peer::{Heard, PeerRejection};
 use wf_tape::Tape;
 use wf_visitors::{Context, Log, Visitors, now};
 
@@ -33,23 +33,23 @@ pub enum Begun {
     /// The node goes on.
     On,
     /// A peer told it that it has to end.
-    Ended(Rejection),
+    Ended(PeerRejection),
 }
 
 /// A hub of these parts. Err: that of the parts; the process is dropped.
 fn hub_of<T: Tape + Drop>(
     alloc: Global,
-    begun: Result<Begin, LoopFault>,
+    begun: Result<HubStart, LoopFault>,
     process: Process<T>,
     time: u64,
 ) -> Result<Hub<T>, LoopFault>
-    requires { IfOk begun (λ begun. said_of begun.visitors ≡ []) }
+    requires { IfOk begun (λ begun. responses_of begun.visitors ≡ []) }
     ensures hub { IfOk result (λ hub. process_of hub ≡ process) }
     ensures time { IfOk result (λ hub. time_of hub ≡ time) }
     ensures fault { IfErr result (λ fault. begun ≡ Err fault) }
 {
     match begun {
-        Ok(Begin { parts, visitors }) => Ok(assemble(alloc, parts, visitors, process, time)),
+        Ok(HubStart { parts, visitors }) => Ok(assemble(alloc, parts, visitors, process, time)),
         Err(fault) => {
             drop(process);
             Err(fault)
@@ -71,12 +71,12 @@ fn voter_of<T: Tape>(alloc: Global, process: Process<T>) -> Voter<T>
 /// A hub of these parts.
 fn assemble<T: Tape + Drop>(
     alloc: Global,
-    parts: Parts,
+    parts: HubParts,
     visitors: Visitors,
     process: Process<T>,
     time: u64,
 ) -> Hub<T>
-    requires { said_of visitors ≡ [] }
+    requires { responses_of visitors ≡ [] }
     ensures hub { process_of result ≡ process }
     ensures time { time_of result ≡ time }
 {
@@ -89,7 +89,7 @@ fn assemble<T: Tape + Drop>(
 
 /// A hub with these clients, of whom nobody was answered yet.
 fn hub_with<T: Tape>(
-    parts: Parts,
+    parts: HubParts,
     clients: Clients<T>,
     voter: Voter<T>,
     pace: Pace,
@@ -116,7 +116,7 @@ impl<T: Tape + Drop> Hub<T> {
     /// taken or not permitted, the first one in this order; `Memory` if an allocation fails. The process is dropped then.
     pub fn new<R: Net + Clock + AllocGlobal>(
         rt: &R,
-        plan: Plan,
+        plan: NodePlan,
         process: Process<T>,
         heard: Heard,
     ) -> Result<Self, LoopFault>
@@ -154,7 +154,7 @@ impl<T: Tape + Drop> Hub<T> {
         ensures answered { HasAnswered T.Tape self.now }
     {
         self.voter.process.always_lived();
-        self.voter.process.always_heard();
+        self.voter.process.always_received();
         self.clients.always_answered();
     }
 
@@ -189,12 +189,12 @@ impl<T: Tape + Drop> Hub<T> {
             Ok(()) => {
                 self.parts.mesh.close_all(self.time);
                 self.pace.reopened(self.time);
-                log.write(&Event::Reopened);
+                log.write(&NodeEvent::Reopened);
                 Ok(())
             }
             Err((tape, why)) => {
                 self.pace.postpone_reopening(self.time);
-                log.write(&Event::NotReopened(why));
+                log.write(&NodeEvent::NotReopened(why));
                 Err(tape)
             }
         }
@@ -237,7 +237,7 @@ impl<T: Tape + Drop> Hub<T> {
         } else {
             self.pace.rest(now(rt)).min(TICK_MILLIS)
         };
-        let Parts { poll, events, .. } = &mut self.parts;
+        let HubParts { poll, events, .. } = &mut self.parts;
         let _ = poll.poll(events, Some(Duration::from_millis(millis)));
     }
 
@@ -272,7 +272,7 @@ impl<T: Tape + Drop> Hub<T> {
             time,
             ..
         } = self;
-        let Parts {
+        let HubParts {
             poll,
             mesh,
             desk,

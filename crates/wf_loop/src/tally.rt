@@ -5,7 +5,7 @@ use std::fmt::Write;
 
 /// How many maps were rejected for one error, named by its number.
 #[derive(Drop)]
-struct Count {
+struct ErrorCount {
     error: String,
     number: u64,
 }
@@ -13,7 +13,7 @@ struct Count {
 /// How many maps were rejected, by error.
 #[derive(Drop)]
 pub struct Tally {
-    counts: Vec<Count>,
+    counts: Vec<ErrorCount>,
 }
 
 /// The statuses of a publish that was rejected for its map.
@@ -47,7 +47,7 @@ impl Tally {
             }
         }
         let error = String::from_str(alloc, error)?;
-        self.counts.push(Count { error, number: 1 })?;
+        self.counts.push(ErrorCount { error, number: 1 })?;
         Ok(())
     }
 

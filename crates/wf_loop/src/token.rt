@@ -29,7 +29,7 @@ pub(crate) enum Socket {
     /// The connection to the node of this number.
     Dial(usize),
     /// The connection in this slot, from a peer.
-    Heard(usize),
+    Inbound(usize),
     /// The operator's connection in this slot.
     Asker(usize),
     /// The reader in this slot.
@@ -47,7 +47,7 @@ impl Socket {
             Socket::Admin => 2,
             Socket::Readers => 3,
             Socket::Dial(index) => DIAL.saturating_add(index),
-            Socket::Heard(index) => HEARD.saturating_add(index),
+            Socket::Inbound(index) => HEARD.saturating_add(index),
             Socket::Asker(index) => ASKER.saturating_add(index),
             Socket::Reader(index) => READER.saturating_add(index),
             Socket::Client(index) => CLIENT.saturating_add(index),
@@ -70,7 +70,7 @@ impl Socket {
         if token < HEARD {
             Socket::Dial(token.saturating_sub(DIAL))
         } else if token < ASKER {
-            Socket::Heard(token - HEARD)
+            Socket::Inbound(token - HEARD)
         } else if token < READER {
             Socket::Asker(token - ASKER)
         } else if token < CLIENT {

@@ -1,11 +1,11 @@
 //! What a turn does once it has waited.
 ghost use Rattle.std.specs.Prelude.{◌≡◌};
-ghost use Rattle.wf_loop.specs.Going.{GoesOn};
+ghost use Rattle.wf_loop.specs.Continuation.{GoesOn};
 
-use crate::acts::hear_own;
+use crate::acts::handle_own;
 use crate::clients::Clients;
 use crate::desk::{Desk, serve_operators};
-use crate::facts::Facts;
+use crate::facts::NodeFacts;
 use crate::mesh::Mesh;
 use crate::pace::Pace;
 use crate::steps::Steps;
@@ -16,7 +16,7 @@ use std::rt::Files;
 use std::time::Clock;
 use wf_actor::Process;
 use wf_operator::{Behind, Operator};
-use wf_readers_port::Published;
+use wf_readers_port::PortView;
 use wf_tape::Tape;
 use wf_visitors::{Context, micros};
 
@@ -35,12 +35,12 @@ pub(crate) fn serve_all<R: Net + Clock + Eprint + AllocGlobal, T: Tape + Drop>(
     ensures { GoesOn T.Tape voter.old.process voter.new.process }
 {
     act_on_all(context, &mut voter.process, mesh, desk, clients, tokens);
-    hear_all_own(context, &mut voter.process, &mut mesh.steps);
+    handle_all_own(context, &mut voter.process, &mut mesh.steps);
     clients.serve(context, voter)
 }
 
 /// Does what the sockets with these tokens ask for.
-#[tactic(auto, using(crate::proofs::Going::still, crate::proofs::Going::twice))]
+#[tactic(auto, using(crate::proofs::Continuation::still, crate::proofs::Continuation::twice))]
 fn act_on_all<R: Net + Clock + Eprint + AllocGlobal, T: Tape + Drop>(
     context: &Context<'_, '_, R>,
     process: &mut Process<T>,
@@ -59,7 +59,7 @@ fn act_on_all<R: Net + Clock + Eprint + AllocGlobal, T: Tape + Drop>(
 }
 
 /// Does what a ready socket asks for.
-#[tactic(auto, using(crate::proofs::Going::still))]
+#[tactic(auto, using(crate::proofs::Continuation::still))]
 fn act_on<R: Net + Clock + Eprint + AllocGlobal, T: Tape + Drop>(
     context: &Context<'_, '_, R>,
     process: &mut Process<T>,
@@ -76,7 +76,7 @@ fn act_on<R: Net + Clock + Eprint + AllocGlobal, T: Tape + Drop>(
         Socket::Client(index) => clients.turn(context, index),
         Socket::Listen => mesh.accept(context, process),
         Socket::Dial(index) => mesh.turn(context, process, index),
-        Socket::Heard(index) => mesh.hear(context, process, index),
+        Socket::Inbound(index) => mesh.handle(context, process, index),
         Socket::Admin => desk.operators.accept(context),
         Socket::Asker(index) => desk.operators.turn(context, index),
         Socket::Readers => desk.readers.accept(context),
@@ -99,7 +99,7 @@ fn answer_reader<R: Clock + Eprint + AllocGlobal, T: Tape + Drop>(
         answerer,
         ..
     } = desk;
-    let published = Published {
+    let published = PortView {
         own: answerer,
         history: process.node().history(),
         digests: mesh.notes.digests(),
@@ -108,8 +108,8 @@ fn answer_reader<R: Clock + Eprint + AllocGlobal, T: Tape + Drop>(
 }
 
 /// Delivers messages of the node to itself, a bounded number of them.
-#[tactic(auto, using(crate::proofs::Going::still, crate::proofs::Going::twice))]
-fn hear_all_own<R: Clock + AllocGlobal, T: Tape + Drop>(
+#[tactic(auto, using(crate::proofs::Continuation::still, crate::proofs::Continuation::twice))]
+fn handle_all_own<R: Clock + AllocGlobal, T: Tape + Drop>(
     context: &Context<'_, '_, R>,
     process: &mut Process<T>,
     steps: &mut Steps,
@@ -118,7 +118,7 @@ fn hear_all_own<R: Clock + AllocGlobal, T: Tape + Drop>(
 {
     for _ in 0..MOST_OWN {
         let from = micros(context.rt);
-        if !hear_own(context.alloc(), process) {
+        if !handle_own(context.alloc(), process) {
             return;
         }
         steps.add(from, micros(context.rt));
@@ -143,7 +143,7 @@ pub(crate) fn answer_operators<R: Files + Clock + Eprint + AllocGlobal, T: Tape 
         readers,
         ..
     } = desk;
-    let facts = Facts {
+    let facts = NodeFacts {
         rt: context.rt,
         history,
         notes: &mesh.notes,

@@ -2,7 +2,7 @@
 use Rattle.std.proofs.Common.{◌≡◌, ℕ, ◌+◌, ◌-◌, ◌≤◌, List, [], ◌∷◌, ◌++◌, length, take, drop, refl, sym, ap, subst, ◌∙◌, append_assoc, length-append, length-drop, length-take, arith}
 use Rattle.std.proofs.lemmas.List.{map-append, take-append-drop}
 use Rattle.wf_codec.specs.Message.{view, IsMessage}
-use Rattle.wf_codec.specs.Spelling.{spelling}
+use Rattle.wf_codec.specs.Encoding.{spelling}
 use Rattle.wf_codec.specs.declared.message.Message as code
 use Rattle.wf_mail.specs.Mail.{spelled, AreMessages}
 use Rattle.wf_mail.specs.Outbox.{OutboxState, logged, waiting_in, before_end, state_of, IsOutbox, IsPut, IsAdvanced}

@@ -2,7 +2,7 @@
 use Rattle.std.proofs.Common.{◌≡◌, ◌≢◌, ℕ, Bool, true, false, List, [], ◌∷◌, ◌++◌, map, Vec, Result, Ok, Err, refl, sym, ap, subst, ◌∙◌, append_assoc, append-nil}
 use Rattle.std.specs.declared.alloc.Global.{Global}
 use mathlib.Core.Bool.{true≢false}
-use Rattle.wf_codec.specs.Law.{NoneIsEmpty}
+use Rattle.wf_codec.specs.Theorem.{NoneIsEmpty}
 use Rattle.wf_codec.specs.Message.{view}
 use Rattle.wf_codec.specs.declared.message.Message as code
 use Rattle.wf_def.specs.Definition.{Definition}

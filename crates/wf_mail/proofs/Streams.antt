@@ -1,14 +1,14 @@
 -- What comes of a connection.
 use Rattle.std.proofs.Common.{◌≡◌, ℕ, List, [], ◌∷◌, ◌++◌, length, refl, sym, ap, subst, ◌∙◌, append_assoc, append-nil, length-append, arith}
-use Rattle.wf_codec.specs.Law.{NoneBeginsAnother, NoneIsEmpty}
-use Rattle.wf_codec.specs.Spelling.{spelling}
+use Rattle.wf_codec.specs.Theorem.{NoneBeginsAnother, NoneIsEmpty}
+use Rattle.wf_codec.specs.Encoding.{spelling}
 use Rattle.wf_def.specs.Definition.{Definition}
 use Rattle.wf_model.specs.Message.{Message}
-use Rattle.wf_wire.specs.Law.{SplitOneWay, BreaksOrReads, StaysBroken}
+use Rattle.wf_wire.specs.Theorem.{SplitOneWay, BreaksOrReads, StaysBroken}
 use Rattle.wf_wire.specs.Stream.{Splits, IsPart, Reads, Breaks}
 use Rattle.wf_wire.specs.declared.fault.InboxFault.{InboxFault}
 use Rattle.wf_mail.specs.Mail.{spelled, AreMessages, IsBeginning}
-use Rattle.wf_mail.specs.Law.{OnlySentCome, AllSentCome, NeverBreaks}
+use Rattle.wf_mail.specs.Theorem.{OnlySentCome, AllSentCome, NeverBreaks}
 
 -- ---- a stream that splits
 

@@ -1,4 +1,4 @@
 pub mod Mail
 pub mod Outbox
 pub mod Receiver
-pub mod Law
+pub mod Theorem

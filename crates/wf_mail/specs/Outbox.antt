@@ -1,7 +1,7 @@
 -- The model of an outbox, and what its calls do.
 use Rattle.std.specs.Prelude.{◌≡◌, ℕ, ◌+◌, ◌-◌, ◌≤◌, List, [], ◌∷◌, ◌++◌, length, map, take, drop}
 use Rattle.wf_codec.specs.Message.{view}
-use Rattle.wf_codec.specs.Spelling.{spelling}
+use Rattle.wf_codec.specs.Encoding.{spelling}
 use Rattle.wf_codec.specs.declared.message.Message as code
 use Rattle.wf_def.specs.Definition.{Definition}
 use Rattle.wf_model.specs.Message.{Message}
@@ -55,7 +55,7 @@ pub record IsPut (before : OutboxState) (m : Message Definition) (after : Outbox
   pub limit : after.limit ≡ before.limit
   pub room : length before.waiting + length (spelling m) ≤ before.limit
 
--- The same messages were put in, and the same bytes written out; only the room without an allocation may differ.
+-- As many messages were put in and bytes written out, the very same; only the room without an allocation may differ.
 pub record IsUnchanged (before after : OutboxState) : Type 0 where
   pub put : after.put ≡ before.put
   pub written : after.written ≡ before.written

@@ -1,13 +1,14 @@
 //! The two ends of a connection that carries messages, neither of which ever blocks.
 //!
 //! **Model.** An [`Outbox`] is the messages that were put in, the bytes of their encodings that were written out, and those that
-//! wait (`specs/Outbox.antt`). A [`Receiver`] is the messages that came and the bytes after the last of them, or, once it is closed,
-//! the messages that came and the error (`specs/Receiver.antt`). Both keep their messages in a log that only proofs read. What a
+//! wait (`specs/Outbox.antt`). A [`Receiver`] is the messages that came and the bytes after the last of them, or, once it is
+//! closed, the messages that came and the error (`specs/Receiver.antt`). Both keep their messages in a log that only proofs read. What a
 //! connection carries is a beginning of the encodings of what was put in (`IsCarried` of `specs/Mail.antt`).
 //!
 //! **Promises.**
 //! - [`Outbox::put`] takes a whole message or drops it, and says why: it is dropped only if there is no room for it, or if it needs
-//!   an allocation and that fails. What is written out, and then what waits, is always the encodings of what was put in; and no more
+//!   an allocation and that fails. What is written out, and then what waits, is always the encodings of what was put in; and no
+//! more
 //!   waits than the limit ([`Outbox::always_spells`]).
 //! - The bytes are written by [`Outbox::write_to`], once a call, or by the caller, who takes them from [`Outbox::chunk`] and says by
 //!   [`Outbox::advance`] how many it has written.
@@ -22,12 +23,12 @@
 #![tactic(auto)]
 
 mod dropped;
-mod law;
 mod outbox;
 mod queue;
 mod receiver;
+mod theorem;
 
 pub use dropped::Dropped;
-pub use law::{came_of_what_was_put, carry_over, cross_by_bytes, only_sent_messages_come};
 pub use outbox::Outbox;
 pub use receiver::Receiver;
+pub use theorem::{came_of_what_was_put, carry_over, cross_by_bytes, only_sent_messages_come};

@@ -1,10 +1,10 @@
 ghost use Rattle.std.specs.Prelude.{◌≡◌, ◌+◌, ◌<◌, ◌≤◌, ◌++◌, ℕ, List, [], length, take, IfOk, OnErr, OnOk, IsErrOf};
 ghost use Rattle.std.specs.Io.KnownBytes.{Appends, Keeps};
 ghost use Rattle.wf_codec.specs.Message.{view};
-ghost use Rattle.wf_codec.specs.Spelling.{spelling};
+ghost use Rattle.wf_codec.specs.Encoding.{spelling};
 ghost use Rattle.wf_mail.specs.Mail.{spelled, AreMessages};
 ghost use Rattle.wf_mail.specs.Outbox.{IsAdvanced, IsPut, IsUnchanged};
-ghost use Rattle.wf_stream.specs.Reading.{Counts};
+ghost use Rattle.wf_stream.specs.Effects.{Counts};
 
 use crate::dropped::Dropped;
 use crate::queue::{append, skip, take_turn};

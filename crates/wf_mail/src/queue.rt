@@ -2,7 +2,7 @@
 
 ghost use Rattle.std.specs.Prelude.{◌≡◌, ◌+◌, ◌<◌, ◌≤◌, ◌++◌, [], drop, length, IfOk, OnErr, IsErrOf, vec_capacity, vec_len};
 ghost use Rattle.wf_codec.specs.Message.{view, IsMessage};
-ghost use Rattle.wf_codec.specs.Spelling.{spelling};
+ghost use Rattle.wf_codec.specs.Encoding.{spelling};
 ghost use Rattle.wf_mail.specs.Outbox.{waiting_in};
 
 use crate::dropped::Dropped;

@@ -18,21 +18,21 @@ built true name x l e =
 built false name x l e = absurd (let impossible : ⊥ = cc in impossible)
 
 -- a layer has the name and the features of its slots
-pub record AsSaid (said : LayerSlots) (l : Entry) : Type 0 where
-  pub name : said.single.name ≡ Some l.0
-  pub features : said.features ≡ l.1.features
+pub record AsSet (settings : LayerSlots) (l : Entry) : Type 0 where
+  pub name : settings.single.name ≡ Some l.0
+  pub features : settings.features ≡ l.1.features
 
-as_said : (name : Option (List ℕ)) (kind : Option LayerKind) (features : List FeatureDefinition) (so : List ℕ → LayerKind → Bool) (x : List ℕ → LayerKind → LayerDefinition) (l : Entry) →
+as_set : (name : Option (List ℕ)) (kind : Option LayerKind) (features : List FeatureDefinition) (so : List ℕ → LayerKind → Bool) (x : List ℕ → LayerKind → LayerDefinition) (l : Entry) →
     ((n : List ℕ) (k : LayerKind) → (x n k).features ≡ features) →
     (name >>= λ n. kind >>= λ k. (if so n k then Some (x n k) else None) >>= λ d. Some (n, d)) ≡ Some l → (name ≡ Some l.0) × (features ≡ l.1.features)
-as_said None kind features so x l same e = absurd (let impossible : ⊥ = cc in impossible)
-as_said (Some n) None features so x l same e = absurd (let impossible : ⊥ = cc in impossible)
-as_said (Some n) (Some k) features so x l same e =
+as_set None kind features so x l same e = absurd (let impossible : ⊥ = cc in impossible)
+as_set (Some n) None features so x l same e = absurd (let impossible : ⊥ = cc in impossible)
+as_set (Some n) (Some k) features so x l same e =
     let parts = built (so n k) n (x n k) l e in
     (ap (λ (n : List ℕ). Some n) parts.0, sym (same n k) ∙ ap (λ (d : LayerDefinition). d.features) parts.1)
 
-pub layer_counted : (said : LayerSlots) (l : Entry) → layer_of said ≡ Some l → AsSaid said l
+pub layer_counted : (settings : LayerSlots) (l : Entry) → layer_of settings ≡ Some l → AsSet settings l
 unfolding layer_of def.layer_of
-layer_counted said l e =
-    let parts = as_said said.single.name said.single.kind said.features _ _ l (λ n k. refl) e in
+layer_counted settings l e =
+    let parts = as_set settings.single.name settings.single.kind settings.features _ _ l (λ n k. refl) e in
     record { name = parts.0; features = parts.1 }

@@ -1,3 +1,3 @@
 pub mod Texts
 pub mod Counted
-pub mod RejectionLaw
+pub mod RejectionTheorem

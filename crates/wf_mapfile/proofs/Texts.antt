@@ -16,7 +16,7 @@ use Rattle.wf_block.specs.declared.fault.MapFault.{MapFault}
 use Rattle.wf_token.specs.Token.{Token}
 use Rattle.wf_block.specs.Grammar.{text}
 use Rattle.wf_mapfile.specs.Layer.{processing}
-use Rattle.wf_block.specs.Reading.{Gives}
+use Rattle.wf_block.specs.ReadContract.{Gives}
 use Rattle.std.proofs.lemmas.Bool.{and_from, or_right}
 
 -- what fails for the whole fails for a part
@@ -106,9 +106,9 @@ some_same x y e = cc
 
 -- PROCESSING's text with `ITEMS=` at its front, and without
 module _ (tokens rest : List Token) (bs : List ℕ) (read : text tokens ≡ Some (bs, rest)) where
-  pub names_refused : str_eq_ignore_ascii_case (take 6 bs) (codes "ITEMS=") ≡ false → processing tokens ≡ None
+  pub names_rejected : str_eq_ignore_ascii_case (take 6 bs) (codes "ITEMS=") ≡ false → processing tokens ≡ None
   unfolding processing
-  names_refused other = rw (read, other)
+  names_rejected other = rw (read, other)
 
   pub names_read : (names : List ℕ) (r : Result (List ℕ) MapFault) → is_text bs ≡ true → str_eq_ignore_ascii_case (take 6 bs) (codes "ITEMS=") ≡ true → names ≡ drop 6 bs →
       Gives (λ t. t) r (if is_text names then Some names else None) → Gives (λ t. (t, rest)) r (processing tokens)

@@ -53,28 +53,28 @@ new_name others tokens = do
 
 -- the slots after a dropped keyword: each comes at most once
 unfoldable pub layer_dropped : LayerDropped → List ℕ → List Token → Option (LayerDropped × List Token)
-layer_dropped said = step_by (
-    (codes "STATUS", once said.status text (λ x. record said { status = Some tt })) ∷
-    (codes "UNITS", once said.units text (λ x. record said { units = Some tt })) ∷
-    (codes "TEMPLATE", once said.template text (λ x. record said { template = Some tt })) ∷ [])
+layer_dropped settings = step_by (
+    (codes "STATUS", once settings.status text (λ x. record settings { status = Some tt })) ∷
+    (codes "UNITS", once settings.units text (λ x. record settings { units = Some tt })) ∷
+    (codes "TEMPLATE", once settings.template text (λ x. record settings { template = Some tt })) ∷ [])
 
 -- the slots after a keyword that comes at most once, given the layers before: a name differs from theirs
 unfoldable pub layer_once : List (List ℕ × LayerDefinition) → LayerOnce → List ℕ → List Token → Option (LayerOnce × List Token)
-layer_once others said = step_or (
-    (codes "NAME", once said.name (new_name others) (λ x. record said { name = Some x })) ∷
-    (codes "TYPE", once said.kind layer_kind (λ x. record said { kind = Some x })) ∷
-    (codes "CLASSITEM", once said.class_item text (λ x. record said { class_item = Some x })) ∷
-    (codes "LABELITEM", once said.label_item text (λ x. record said { label_item = Some x })) ∷
-    (codes "PROCESSING", once said.items processing (λ x. record said { items = Some x })) ∷
-    (codes "METADATA", once said.metadata metadata (λ x. record said { metadata = Some x })) ∷ [])
-    (λ keyword tokens. put_into (λ x. record said { dropped = x }) (layer_dropped said.dropped keyword tokens))
+layer_once others settings = step_or (
+    (codes "NAME", once settings.name (new_name others) (λ x. record settings { name = Some x })) ∷
+    (codes "TYPE", once settings.kind layer_kind (λ x. record settings { kind = Some x })) ∷
+    (codes "CLASSITEM", once settings.class_item text (λ x. record settings { class_item = Some x })) ∷
+    (codes "LABELITEM", once settings.label_item text (λ x. record settings { label_item = Some x })) ∷
+    (codes "PROCESSING", once settings.items processing (λ x. record settings { items = Some x })) ∷
+    (codes "METADATA", once settings.metadata metadata (λ x. record settings { metadata = Some x })) ∷ [])
+    (λ keyword tokens. put_into (λ x. record settings { dropped = x }) (layer_dropped settings.dropped keyword tokens))
 
 -- the slots after a keyword, given the layers before: at most as many features and points as are left for the map
 unfoldable pub layer_put : List (List ℕ × LayerDefinition) → LayerSlots → List ℕ → List Token → Option (LayerSlots × List Token)
-layer_put others said = step_or (
-    (codes "CLASS", again most_classes said.classes class (λ more. record said { classes = more })) ∷
-    (codes "FEATURE", again (features_left others) said.features (feature (points_left others - sum_by points_of_feature said.features)) (λ more. record said { features = more })) ∷ [])
-    (λ keyword tokens. put_into (λ x. record said { single = x }) (layer_once others said.single keyword tokens))
+layer_put others settings = step_or (
+    (codes "CLASS", again most_classes settings.classes class (λ more. record settings { classes = more })) ∷
+    (codes "FEATURE", again (features_left others) settings.features (feature (points_left others - sum_by points_of_feature settings.features)) (λ more. record settings { features = more })) ∷ [])
+    (λ keyword tokens. put_into (λ x. record settings { single = x }) (layer_once others settings.single keyword tokens))
 
 abbrev pub no_layer_dropped : LayerDropped
 no_layer_dropped = record { status = None; units = None; template = None }
@@ -87,11 +87,11 @@ no_layer = record { classes = []; features = []; single = no_layer_once }
 
 -- the layer of the slots, with its name: NAME and TYPE are required, the title defaults to the name, other texts to empty
 unfoldable pub layer_of : LayerSlots → Option (List ℕ × LayerDefinition)
-layer_of said = do
-  name ← said.single.name
-  kind ← said.single.kind
-  let title = unwrap_or (unwrap_or said.single.metadata no_metadata).title name
-  l ← def.layer_of kind title (unwrap_or said.single.class_item []) (unwrap_or said.single.label_item []) (unwrap_or said.single.items []) said.classes said.features
+layer_of settings = do
+  name ← settings.single.name
+  kind ← settings.single.kind
+  let title = unwrap_or (unwrap_or settings.single.metadata no_metadata).title name
+  l ← def.layer_of kind title (unwrap_or settings.single.class_item []) (unwrap_or settings.single.label_item []) (unwrap_or settings.single.items []) settings.classes settings.features
   Some (name, l)
 
 -- what follows the word LAYER, up to its END, given the layers before

@@ -2,7 +2,7 @@ pub use Rattle.wf_token.specs.Lexeme
 pub use Rattle.wf_token.specs.Token
 pub use Rattle.wf_block.specs.Grammar
 pub use Rattle.wf_block.specs.Steps
-pub use Rattle.wf_block.specs.Reading
+pub use Rattle.wf_block.specs.ReadContract
 pub use Rattle.wf_block.specs.Distinct
 pub use Rattle.wf_metadata.specs.Metadata
 pub use Rattle.wf_metadata.specs.Web

@@ -48,28 +48,28 @@ projection tokens = do
 
 -- the slots after a keyword that is checked and dropped: each comes at most once
 unfoldable pub map_dropped : MapDropped → List ℕ → List Token → Option (MapDropped × List Token)
-map_dropped said = step_by (
-    (codes "SIZE", once said.size two_numbers (λ x. record said { size = Some tt })) ∷
-    (codes "IMAGECOLOR", once said.image_color color (λ x. record said { image_color = Some tt })) ∷
-    (codes "UNITS", once said.units text (λ x. record said { units = Some tt })) ∷
-    (codes "STATUS", once said.status text (λ x. record said { status = Some tt })) ∷
-    (codes "IMAGETYPE", once said.image_type text (λ x. record said { image_type = Some tt })) ∷
-    (codes "SHAPEPATH", once said.shape_path text (λ x. record said { shape_path = Some tt })) ∷ [])
+map_dropped settings = step_by (
+    (codes "SIZE", once settings.size two_numbers (λ x. record settings { size = Some tt })) ∷
+    (codes "IMAGECOLOR", once settings.image_color color (λ x. record settings { image_color = Some tt })) ∷
+    (codes "UNITS", once settings.units text (λ x. record settings { units = Some tt })) ∷
+    (codes "STATUS", once settings.status text (λ x. record settings { status = Some tt })) ∷
+    (codes "IMAGETYPE", once settings.image_type text (λ x. record settings { image_type = Some tt })) ∷
+    (codes "SHAPEPATH", once settings.shape_path text (λ x. record settings { shape_path = Some tt })) ∷ [])
 
 -- the slots after a keyword that comes at most once
 unfoldable pub map_once : MapOnce → List ℕ → List Token → Option (MapOnce × List Token)
-map_once said = step_or (
-    (codes "NAME", once said.name text (λ x. record said { name = Some x })) ∷
-    (codes "EXTENT", once said.extent extent (λ x. record said { extent = Some x })) ∷
-    (codes "PROJECTION", once said.projection projection (λ x. record said { projection = Some x })) ∷
-    (codes "WEB", once said.web web (λ x. record said { web = Some x })) ∷ [])
-    (λ keyword tokens. put_into (λ x. record said { dropped = x }) (map_dropped said.dropped keyword tokens))
+map_once settings = step_or (
+    (codes "NAME", once settings.name text (λ x. record settings { name = Some x })) ∷
+    (codes "EXTENT", once settings.extent extent (λ x. record settings { extent = Some x })) ∷
+    (codes "PROJECTION", once settings.projection projection (λ x. record settings { projection = Some x })) ∷
+    (codes "WEB", once settings.web web (λ x. record settings { web = Some x })) ∷ [])
+    (λ keyword tokens. put_into (λ x. record settings { dropped = x }) (map_dropped settings.dropped keyword tokens))
 
 -- the slots after a keyword: a layer is appended to those before it
 unfoldable pub map_put : MapSlots → List ℕ → List Token → Option (MapSlots × List Token)
-map_put said = step_or (
-    (codes "LAYER", again most_layers said.layers (layer said.layers) (λ more. record said { layers = more })) ∷ [])
-    (λ keyword tokens. put_into (λ x. record said { single = x }) (map_once said.single keyword tokens))
+map_put settings = step_or (
+    (codes "LAYER", again most_layers settings.layers (layer settings.layers) (λ more. record settings { layers = more })) ∷ [])
+    (λ keyword tokens. put_into (λ x. record settings { single = x }) (map_once settings.single keyword tokens))
 
 abbrev pub no_map_dropped : MapDropped
 no_map_dropped = record { size = None; image_color = None; units = None; status = None; image_type = None; shape_path = None }
@@ -94,10 +94,10 @@ definition name extent projection web layers = let name = unwrap_or name (codes 
 
 -- the map of the slots: EXTENT and PROJECTION are required
 unfoldable pub map_of : MapSlots → Option Definition
-map_of said = do
-  extent ← said.single.extent
-  projection ← said.single.projection
-  Some (definition said.single.name extent projection (unwrap_or said.single.web no_metadata) said.layers)
+map_of settings = do
+  extent ← settings.single.extent
+  projection ← settings.single.projection
+  Some (definition settings.single.name extent projection (unwrap_or settings.single.web no_metadata) settings.layers)
 
 -- what follows the word MAP, up to its END
 unfoldable pub map : List Token → Option (Definition × List Token)

@@ -18,12 +18,12 @@ begins_map (Braced inside) = false
 
 -- M5: it isn't what is expected there
 abbrev pub IsUnexpected : MapFault → Type 0
-IsUnexpected (faults.UnexpectedWord place) = ⊤
+IsUnexpected (faults.UnexpectedWord byte_offset) = ⊤
 IsUnexpected _ = ⊥
 
 -- M12: it follows MAP's END
 abbrev pub IsTrailing : MapFault → Type 0
-IsTrailing (faults.Trailing place) = ⊤
+IsTrailing (faults.Trailing byte_offset) = ⊤
 IsTrailing _ = ⊥
 
 -- The error of a file with these tokens. It has none: M9, MAP itself is missing. It begins with another token than MAP: M5. It is a

@@ -3,7 +3,7 @@ ghost use Rattle.std.specs.Prelude.{◌≡◌, ◌≤◌, ◌+◌, [], None, Som
 ghost use Rattle.wf_def.specs.Layer as def;
 ghost use Rattle.wf_def.specs.Limits.{has_layer, points_of_feature};
 ghost use Rattle.wf_mapfile.specs.Layer.{begins_items, features_left, layer, layer_dropped, layer_kind, layer_name, layer_of, layer_once, new_name, no_layer, points_left, processing};
-ghost use Rattle.wf_block.specs.Reading.{Gives, Passes};
+ghost use Rattle.wf_block.specs.ReadContract.{Gives, Passes};
 ghost use Rattle.wf_block.specs.Steps.{again};
 ghost use Rattle.wf_class.specs.Class.{class};
 ghost use Rattle.wf_feature.specs.Feature.{feature};
@@ -45,9 +45,9 @@ impl Slots for LayerReading<'_> {
     ghost use Rattle.wf_mapfile.specs.declared.slots.layer.LayerSlots.{LayerSlots as Value};
     ghost use Rattle.wf_mapfile.specs.Layer.{features_left, layer_put, points_left};
 
-    ghost Said = { Value };
+    ghost Settings = { Value };
 
-    ghost said = { λ l. l.slots };
+    ghost settings = { λ l. l.slots };
 
     ghost Within = { List (List ℕ × LayerDefinition) };
 
@@ -148,19 +148,19 @@ impl LayerOnce {
             (IfSome self.new.name (λ name. has_layer others.now name ≡ false)) }
     {
         let word = keyword.text;
-        let place = keyword.place;
+        let byte_offset = keyword.byte_offset;
         if is_name(word, "NAME") {
-            once!(self.name, place, read_new_name(parser, others));
+            once!(self.name, byte_offset, read_new_name(parser, others));
         } else if is_name(word, "TYPE") {
-            once!(self.kind, place, read_layer_kind(parser));
+            once!(self.kind, byte_offset, read_layer_kind(parser));
         } else if is_name(word, "CLASSITEM") {
-            once!(self.class_item, place, parser.text());
+            once!(self.class_item, byte_offset, parser.text());
         } else if is_name(word, "LABELITEM") {
-            once!(self.label_item, place, parser.text());
+            once!(self.label_item, byte_offset, parser.text());
         } else if is_name(word, "PROCESSING") {
-            once!(self.items, place, read_attribute_names(parser));
+            once!(self.items, byte_offset, read_attribute_names(parser));
         } else if is_name(word, "METADATA") {
-            once!(self.metadata, place, read_metadata(parser));
+            once!(self.metadata, byte_offset, read_metadata(parser));
         } else {
             self.dropped.take(keyword, parser)?;
         }
@@ -176,15 +176,15 @@ impl LayerDropped {
             (layer_dropped self.old keyword.entry.text.now parser.old) }
     {
         let word = keyword.text;
-        let place = keyword.place;
+        let byte_offset = keyword.byte_offset;
         if is_name(word, "STATUS") {
-            once!(self.status, place, parser.text_there(), _ => ());
+            once!(self.status, byte_offset, parser.text_there(), _ => ());
         } else if is_name(word, "UNITS") {
-            once!(self.units, place, parser.text_there(), _ => ());
+            once!(self.units, byte_offset, parser.text_there(), _ => ());
         } else if is_name(word, "TEMPLATE") {
-            once!(self.template, place, parser.text_there(), _ => ());
+            once!(self.template, byte_offset, parser.text_there(), _ => ());
         } else {
-            return Err(MapFault::UnexpectedWord(place));
+            return Err(MapFault::UnexpectedWord(byte_offset));
         }
         Ok(())
     }
@@ -203,7 +203,7 @@ impl LayerSlots {
 
     /// The layer of the slots, with defaults for absent ones.
     #[tactic(auto, unfolding(crate::specs::Layer::layer_of))]
-    fn filled(self, alloc: Global) -> Result<(LayerName, Layer), MapFault>
+    fn fill(self, alloc: Global) -> Result<(LayerName, Layer), MapFault>
         ensures { Gives (λ l. l) result (layer_of self) }
     {
         if self.single.name.is_none() {
@@ -219,7 +219,7 @@ impl LayerSlots {
             features,
             single,
         } = self;
-        match single.filled(alloc) {
+        match single.fill(alloc) {
             Ok(head) => head.with(classes, features),
             Err(_) => {
                 drop(classes);
@@ -232,7 +232,7 @@ impl LayerSlots {
 
 impl LayerOnce {
     /// The values of the slots, with defaults for absent ones.
-    fn filled(self, alloc: Global) -> Result<LayerHead, AllocError>
+    fn fill(self, alloc: Global) -> Result<LayerHead, AllocError>
         requires name { is_some self.name ≡ true }
         requires kind { is_some self.kind ≡ true }
         ensures name { IfOk result (λ head. self.name ≡ Some head.name) }
@@ -359,7 +359,7 @@ impl LayerHead {
 impl LayerReading<'_> {
     /// The layer that was read, with its name and the number of its points.
     #[tactic(auto, using(crate::proofs::Counted::layer_counted))]
-    fn filled(self, alloc: Global) -> Result<LayerRead, MapFault>
+    fn fill(self, alloc: Global) -> Result<LayerRead, MapFault>
         requires name { IfSome self.slots.single.name
             (λ name. has_layer self.others.now name ≡ false) }
         requires features { length self.slots.features ≤ features_left self.others.now }
@@ -377,7 +377,7 @@ impl LayerReading<'_> {
             others: _,
             points,
         } = self;
-        match slots.filled(alloc) {
+        match slots.fill(alloc) {
             Ok((name, layer)) => Ok(LayerRead {
                 name,
                 layer,
@@ -423,7 +423,7 @@ pub fn read_layer(parser: &mut Parser<'_>, others: &Layers) -> Result<LayerRead,
         points: 0,
     };
     match fill_block(parser, &mut reading) {
-        Ok(()) => reading.filled(parser.alloc()),
+        Ok(()) => reading.fill(parser.alloc()),
         Err(fault) => {
             drop(reading);
             Err(fault)
@@ -437,10 +437,10 @@ fn read_new_name(parser: &mut Parser<'_>, others: &Layers) -> Result<LayerName, 
     ensures read { Gives (λ name. (name, parser.new)) result (new_name others.now parser.old) }
     ensures new { IfOk result (λ name. has_layer others.now name ≡ false) }
 {
-    let place = parser.place();
+    let byte_offset = parser.byte_offset();
     let name = read_layer_name(parser)?;
     if others.has_layer(&name) {
-        return Err(MapFault::Repeated(place));
+        return Err(MapFault::Repeated(byte_offset));
     }
     Ok(name)
 }
@@ -450,9 +450,9 @@ fn read_new_name(parser: &mut Parser<'_>, others: &Layers) -> Result<LayerName, 
 fn read_layer_name(parser: &mut Parser<'_>) -> Result<LayerName, MapFault>
     ensures { Gives (λ name. (name, parser.new)) result (layer_name parser.old) }
 {
-    let place = parser.place();
+    let byte_offset = parser.byte_offset();
     let text = parser.text()?;
-    LayerName::new(text).ok_or(MapFault::OutOfRange(place))
+    LayerName::new(text).ok_or(MapFault::OutOfRange(byte_offset))
 }
 
 /// Reads the kind of features (MapServer mapfile reference, LAYER TYPE).
@@ -472,11 +472,11 @@ fn read_layer_kind(parser: &mut Parser<'_>) -> Result<LayerKind, MapFault>
 fn read_attribute_names(parser: &mut Parser<'_>) -> Result<Text, MapFault>
     ensures { Gives (λ t. (t, parser.new)) result (processing parser.old) }
 {
-    let place = parser.place();
+    let byte_offset = parser.byte_offset();
     let text = parser.text_there()?;
     match names_of(text.as_bytes()) {
-        Some(names) => parser.text_at(names, place),
-        None => Err(MapFault::UnexpectedWord(place)),
+        Some(names) => parser.text_at(names, byte_offset),
+        None => Err(MapFault::UnexpectedWord(byte_offset)),
     }
 }
 

@@ -6,8 +6,8 @@
 //!
 //! Promises, of [`read`]: if it returns a map, that map is what the bytes mean; if it returns an error other than allocation
 //! failure, the bytes mean no map, and the error is theirs as far as `specs/Rejection.antt` says which. It looks at each byte a
-//! bounded number of times. Which of the other errors is returned, and each other offset, is tested and not proved. Not here: files,
-//! and how a definition is written (wf_canon).
+//! bounded number of times. Which of the other errors is returned, and each other offset, is tested and not proved. Not here:
+//! files, and how a definition is written (wf_canon).
 //!
 //! Modules: `map` and `layer`, the blocks that hold all others, whose keywords fill their slots in `slots`, and `reader`, the
 //! whole file. The readers of tokens and of any block are in wf_block, METADATA and WEB in wf_metadata, CLASS with STYLE and LABEL

@@ -1,7 +1,7 @@
 //! MAP: a map's definition.
 ghost use Rattle.std.specs.Prelude.{◌≡◌, [], None, IfOk, codes, length, nat_lt, unwrap_or};
 ghost use Rattle.wf_mapfile.specs.Map.{definition, extent, map, map_dropped, map_of, map_once, no_map, projection, projection_named, two_numbers};
-ghost use Rattle.wf_block.specs.Reading.{Gives, Passes};
+ghost use Rattle.wf_block.specs.ReadContract.{Gives, Passes};
 ghost use Rattle.wf_metadata.specs.Web.{no_metadata};
 ghost use Rattle.wf_def.specs.Limit.{most_layers};
 
@@ -35,9 +35,9 @@ impl Slots for MapSlots {
     ghost use Rattle.wf_mapfile.specs.declared.slots.map.MapSlots.{MapSlots as Value};
     ghost use Rattle.wf_mapfile.specs.Map.{map_put};
 
-    ghost Said = { Value };
+    ghost Settings = { Value };
 
-    ghost said = { λ slots. slots };
+    ghost settings = { λ slots. slots };
 
     ghost Within = { Unit {0} };
 
@@ -66,15 +66,15 @@ impl MapOnce {
             (map_once self.old keyword.entry.text.now parser.old) }
     {
         let word = keyword.text;
-        let place = keyword.place;
+        let byte_offset = keyword.byte_offset;
         if is_name(word, "NAME") {
-            once!(self.name, place, parser.text());
+            once!(self.name, byte_offset, parser.text());
         } else if is_name(word, "EXTENT") {
-            once!(self.extent, place, read_extent(parser, place));
+            once!(self.extent, byte_offset, read_extent(parser, byte_offset));
         } else if is_name(word, "PROJECTION") {
-            once!(self.projection, place, read_projection(parser));
+            once!(self.projection, byte_offset, read_projection(parser));
         } else if is_name(word, "WEB") {
-            once!(self.web, place, read_web(parser));
+            once!(self.web, byte_offset, read_web(parser));
         } else {
             self.dropped.take(keyword, parser)?;
         }
@@ -90,21 +90,21 @@ impl MapDropped {
             (map_dropped self.old keyword.entry.text.now parser.old) }
     {
         let word = keyword.text;
-        let place = keyword.place;
+        let byte_offset = keyword.byte_offset;
         if is_name(word, "SIZE") {
-            once!(self.size, place, read_two_numbers(parser));
+            once!(self.size, byte_offset, read_two_numbers(parser));
         } else if is_name(word, "IMAGECOLOR") {
-            once!(self.image_color, place, read_color(parser), _ => ());
+            once!(self.image_color, byte_offset, read_color(parser), _ => ());
         } else if is_name(word, "UNITS") {
-            once!(self.units, place, parser.text_there(), _ => ());
+            once!(self.units, byte_offset, parser.text_there(), _ => ());
         } else if is_name(word, "STATUS") {
-            once!(self.status, place, parser.text_there(), _ => ());
+            once!(self.status, byte_offset, parser.text_there(), _ => ());
         } else if is_name(word, "IMAGETYPE") {
-            once!(self.image_type, place, parser.text_there(), _ => ());
+            once!(self.image_type, byte_offset, parser.text_there(), _ => ());
         } else if is_name(word, "SHAPEPATH") {
-            once!(self.shape_path, place, parser.text_there(), _ => ());
+            once!(self.shape_path, byte_offset, parser.text_there(), _ => ());
         } else {
-            return Err(MapFault::UnexpectedWord(place));
+            return Err(MapFault::UnexpectedWord(byte_offset));
         }
         Ok(())
     }
@@ -132,7 +132,7 @@ impl MapSlots {
 
     /// The map of the slots, with defaults for absent ones.
     #[tactic(auto, unfolding(crate::specs::Map::map_of, crate::specs::Map::definition))]
-    fn filled(self, alloc: Global) -> Result<MapDef, MapFault>
+    fn fill(self, alloc: Global) -> Result<MapDef, MapFault>
         ensures { Gives (λ d. d) result (map_of self) }
     {
         let Some(extent) = self.single.extent else {
@@ -159,11 +159,11 @@ impl MapSlots {
                 return Err(MapFault::Memory);
             }
         };
-        let Service {
+        let ServiceTexts {
             title,
             abstract_text,
             address,
-        } = match Service::new(alloc, &name, web) {
+        } = match ServiceTexts::new(alloc, &name, web) {
             Ok(service) => service,
             Err(_) => {
                 drop(layers);
@@ -189,19 +189,19 @@ impl MapSlots {
 
 /// The texts of a map's service.
 #[derive(Drop)]
-struct Service {
+struct ServiceTexts {
     title: Text,
     abstract_text: Text,
     address: Text,
 }
 
-impl Service {
+impl ServiceTexts {
     /// The texts of the service of a map of this name, with defaults for absent ones.
     fn new(alloc: Global, name: &Text, web: Option<Metadata>) -> Result<Self, AllocError>
-        ensures { let said = unwrap_or web no_metadata in IfOk result (λ s. s ≡ record {
-          title = unwrap_or said.title name.now;
-          abstract_text = unwrap_or said.abstract_text [];
-          address = unwrap_or said.address (codes "http://localhost/wms?");
+        ensures { let settings = unwrap_or web no_metadata in IfOk result (λ s. s ≡ record {
+          title = unwrap_or settings.title name.now;
+          abstract_text = unwrap_or settings.abstract_text [];
+          address = unwrap_or settings.address (codes "http://localhost/wms?");
         }) }
     {
         let Metadata {
@@ -218,7 +218,7 @@ impl Service {
         };
         let abstract_text = text_or_empty(alloc, abstract_text)?;
         let address = text_or(alloc, address, DEFAULT_ADDRESS)?;
-        Ok(Service {
+        Ok(ServiceTexts {
             title,
             abstract_text,
             address,
@@ -233,7 +233,7 @@ pub fn read_map(parser: &mut Parser<'_>) -> Result<MapDef, MapFault>
 {
     let mut slots = MapSlots::new(parser.alloc());
     fill_block(parser, &mut slots)?;
-    slots.filled(parser.alloc())
+    slots.fill(parser.alloc())
 }
 
 /// Reads a width and a height, which may be any numbers.
@@ -264,9 +264,11 @@ fn read_extent(parser: &mut Parser<'_>, keyword: usize) -> Result<Extent, MapFau
 fn read_projection(parser: &mut Parser<'_>) -> Result<Projection, MapFault>
     ensures { Gives (λ p. (p, parser.new)) result (projection parser.old) }
 {
-    let place = parser.place();
+    let byte_offset = parser.byte_offset();
     let text = parser.text_there()?;
-    let projection = projection_named(text.as_bytes()).ok_or(MapFault::UnexpectedWord(place))?;
+    let projection = projection_named(text.as_bytes()).ok_or(MapFault::UnexpectedWord(
+        byte_offset,
+    ))?;
     parser.end()?;
     Ok(projection)
 }

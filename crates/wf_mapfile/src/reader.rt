@@ -3,7 +3,7 @@ ghost use Rattle.std.specs.Prelude.{◌≡◌, ◌<◌, ◌≤◌, false, true, 
 ghost use Rattle.std.specs.Str.{is_utf8};
 ghost use Rattle.std.specs.Str.Lossy.{utf8_valid_len};
 ghost use Rattle.wf_mapfile.specs.Meaning.{Means, MeansNothing, file, meaning, longest_mapfile};
-ghost use Rattle.wf_block.specs.Reading.{Gives, IsNotUtf8, is_memory};
+ghost use Rattle.wf_block.specs.ReadContract.{Gives, IsNotUtf8, is_memory};
 ghost use Rattle.wf_mapfile.specs.Rejection.{HasError, IsErrorOf, begins_map};
 ghost use Rattle.wf_token.specs.Token.{Token as TokenValue, token_value, tokens};
 
@@ -28,7 +28,7 @@ pub fn limit_of_mapfiles()
 ///
 /// `TooLong` is checked first and `NotUtf8` second, both without allocating; then tokens are checked in order, and a missing
 /// keyword at the END of its block. `Memory` says nothing about the file. Each byte is looked at a bounded number of times.
-#[tactic(auto, using(crate::proofs::RejectionLaw::has_error, crate::proofs::RejectionLaw::not_utf8))]
+#[tactic(auto, using(crate::proofs::RejectionTheorem::has_error, crate::proofs::RejectionTheorem::not_utf8))]
 pub fn read(alloc: Global, bytes: &[u8]) -> Result<MapDef, MapFault>
     // Over that length nothing else is checked.
     ensures too_long { longest_mapfile < length bytes.now → result ≡ Err MapFault.TooLong }
@@ -41,7 +41,7 @@ pub fn read(alloc: Global, bytes: &[u8]) -> Result<MapDef, MapFault>
     ensures refused { IfErr result (λ fault. is_memory fault ≡ false → MeansNothing bytes.now) }
     // It is that of the bytes, as far as the definition says which: so M3 with its offset, M9 for a text without a token, M5 for one
     // that begins with another token than MAP, and M12 for a map with a token after it.
-    ensures told { IfErr result (λ fault. is_memory fault ≡ false → HasError bytes.now fault) }
+    ensures reported { IfErr result (λ fault. is_memory fault ≡ false → HasError bytes.now fault) }
 {
     read_meaning(alloc, bytes)
 }
@@ -53,7 +53,7 @@ fn read_meaning(alloc: Global, bytes: &[u8]) -> Result<MapDef, MapFault>
     ensures not_utf8 { length bytes.now ≤ longest_mapfile → is_utf8 bytes.now ≡ false →
         result ≡ Err (MapFault.NotUtf8 (utf8_valid_len bytes.now)) }
     ensures meaning { Gives (λ map. map) result (meaning bytes.now) }
-    ensures told { IfErr result (λ fault. is_memory fault ≡ false →
+    ensures reported { IfErr result (λ fault. is_memory fault ≡ false →
         length bytes.now ≤ longest_mapfile → is_utf8 bytes.now ≡ true → (file : List TokenValue) →
         tokens bytes.now ≡ Some file → IsErrorOf file fault) }
 {
@@ -106,7 +106,7 @@ fn begins_map(token: &Token<'_>) -> bool
 }
 
 /// Reads a whole file: MAP up to its END, and nothing else.
-#[tactic(auto, using(crate::proofs::RejectionLaw::nothing_there, crate::proofs::RejectionLaw::other_first, crate::proofs::RejectionLaw::no_map_follows, crate::proofs::RejectionLaw::error_missing, crate::proofs::RejectionLaw::error_unexpected, crate::proofs::RejectionLaw::error_within, crate::proofs::RejectionLaw::error_trailing))]
+#[tactic(auto, using(crate::proofs::RejectionTheorem::nothing_there, crate::proofs::RejectionTheorem::other_first, crate::proofs::RejectionTheorem::no_map_follows, crate::proofs::RejectionTheorem::error_missing, crate::proofs::RejectionTheorem::error_unexpected, crate::proofs::RejectionTheorem::error_within, crate::proofs::RejectionTheorem::error_trailing))]
 fn read_file(parser: &mut Parser<'_>) -> Result<MapDef, MapFault>
     ensures meaning { Gives (λ map. map) result (file parser.old) }
     ensures error { IfErr result (λ fault. is_memory fault ≡ false → IsErrorOf parser.old fault) }
@@ -116,11 +116,11 @@ fn read_file(parser: &mut Parser<'_>) -> Result<MapDef, MapFault>
     }
     let first = parser.next()?;
     if !begins_map(&first) {
-        return Err(MapFault::UnexpectedWord(first.place));
+        return Err(MapFault::UnexpectedWord(first.byte_offset));
     }
     let map = read_map(parser)?;
     match parser.peek() {
         None => Ok(map),
-        Some(token) => Err(MapFault::Trailing(token.place)),
+        Some(token) => Err(MapFault::Trailing(token.byte_offset)),
     }
 }

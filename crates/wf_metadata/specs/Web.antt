@@ -9,13 +9,13 @@ use Rattle.wf_metadata.specs.Metadata.{metadata}
 
 -- the slots after a keyword: each comes at most once
 unfoldable pub web_put : WebSlots → List ℕ → List Token → Option (WebSlots × List Token)
-web_put said = step_by (
-    (codes "METADATA", once said.metadata metadata (λ x. record said { metadata = Some x })) ∷
-    (codes "IMAGEPATH", once said.image_path text (λ x. record said { image_path = Some tt })) ∷
-    (codes "IMAGEURL", once said.image_url text (λ x. record said { image_url = Some tt })) ∷ [])
+web_put settings = step_by (
+    (codes "METADATA", once settings.metadata metadata (λ x. record settings { metadata = Some x })) ∷
+    (codes "IMAGEPATH", once settings.image_path text (λ x. record settings { image_path = Some tt })) ∷
+    (codes "IMAGEURL", once settings.image_url text (λ x. record settings { image_url = Some tt })) ∷ [])
 
-abbrev pub nothing_said : WebSlots
-nothing_said = record { metadata = None; image_path = None; image_url = None }
+abbrev pub no_settings : WebSlots
+no_settings = record { metadata = None; image_path = None; image_url = None }
 
 -- without METADATA nothing is kept
 abbrev pub no_metadata : kept.Metadata
@@ -24,5 +24,5 @@ no_metadata = record { title = None; abstract_text = None; address = None }
 -- what follows the word WEB, up to its END
 unfoldable pub web : List Token → Option (kept.Metadata × List Token)
 web tokens = do
-  x ← block web_put nothing_said tokens
+  x ← block web_put no_settings tokens
   Some (unwrap_or x.0.metadata no_metadata, x.1)

@@ -2,7 +2,7 @@
 ghost use Rattle.std.specs.Prelude.{◌≡◌, None, length, string_bytes};
 ghost use Rattle.std.specs.HashSet.{contains_text};
 ghost use Rattle.wf_metadata.specs.Metadata.{metadata};
-ghost use Rattle.wf_block.specs.Reading.{Gives};
+ghost use Rattle.wf_block.specs.ReadContract.{Gives};
 ghost use Rattle.wf_metadata.specs.Pairs.{collect, keep, new_pair};
 ghost use Rattle.wf_metadata.specs.Web.{no_metadata};
 
@@ -91,12 +91,12 @@ fn read_new_pair(
     ensures { Gives (λ pair. ((string_bytes pair.0, pair.1), parser.new)) result
         (new_pair (λ key. contains_text keys.now key) parser.old) }
 {
-    let place = parser.place();
+    let byte_offset = parser.byte_offset();
     let text = parser.text_there()?;
     let key = text.to_ascii_lowercase(parser.alloc())?;
     if keys.contains(key.as_str()) {
         drop(key);
-        return Err(MapFault::Repeated(place));
+        return Err(MapFault::Repeated(byte_offset));
     }
     match parser.text() {
         Ok(value) => Ok((key, value)),

@@ -1,6 +1,6 @@
 //! WEB: at most one METADATA, and dropped keywords.
 ghost use Rattle.std.specs.Prelude.{◌≡◌, Some, None, is_some, false, MatchResult, true, unwrap_or};
-ghost use Rattle.wf_block.specs.Reading.{Gives, is_memory};
+ghost use Rattle.wf_block.specs.ReadContract.{Gives, is_memory};
 ghost use Rattle.wf_metadata.specs.Web.{no_metadata, web};
 
 use crate::metadata::read_metadata;
@@ -16,9 +16,9 @@ impl Slots for WebSlots {
     ghost use Rattle.wf_metadata.specs.declared.slots.WebSlots.{WebSlots as Value};
     ghost use Rattle.wf_metadata.specs.Web.{web_put};
 
-    ghost Said = { Value };
+    ghost Settings = { Value };
 
-    ghost said = { λ slots. slots };
+    ghost settings = { λ slots. slots };
 
     ghost Within = { Unit {0} };
 
@@ -29,15 +29,15 @@ impl Slots for WebSlots {
     #[tactic(auto, unfolding(crate::specs::Web::web_put))]
     fn take(&mut self, keyword: Token<'_>, parser: &mut Parser<'_>) -> Result<(), MapFault> {
         let word = keyword.text;
-        let place = keyword.place;
+        let byte_offset = keyword.byte_offset;
         if is_name(word, "METADATA") {
-            once!(self.metadata, place, read_metadata(parser));
+            once!(self.metadata, byte_offset, read_metadata(parser));
         } else if is_name(word, "IMAGEPATH") {
-            once!(self.image_path, place, parser.text_there(), _ => ());
+            once!(self.image_path, byte_offset, parser.text_there(), _ => ());
         } else if is_name(word, "IMAGEURL") {
-            once!(self.image_url, place, parser.text_there(), _ => ());
+            once!(self.image_url, byte_offset, parser.text_there(), _ => ());
         } else {
-            return Err(MapFault::UnexpectedWord(place));
+            return Err(MapFault::UnexpectedWord(byte_offset));
         }
         Ok(())
     }
@@ -45,7 +45,7 @@ impl Slots for WebSlots {
 
 impl WebSlots {
     /// The metadata of the slots; empty if there is none.
-    fn filled(self) -> Metadata
+    fn fill(self) -> Metadata
         ensures { result ≡ unwrap_or self.metadata no_metadata }
     {
         let WebSlots {
@@ -67,5 +67,5 @@ pub fn read_web(parser: &mut Parser<'_>) -> Result<Metadata, MapFault>
 {
     let mut slots = WebSlots::default();
     fill_block(parser, &mut slots)?;
-    Ok(slots.filled())
+    Ok(slots.fill())
 }

@@ -3,22 +3,22 @@ use Rattle.std.proofs.Common.{◌≡◌, ℕ, ◌+◌, ◌<◌, nat_lt, Bool, tr
 use Rattle.std.proofs.lemmas.Option.{none-some, same_Some}
 use Rattle.wf_ballot.specs.Ballot.{Ballot}
 use Rattle.wf_model.specs.Message.{Vote}
-use Rattle.wf_model.specs.Stored.{Stored, Record, Tried, Promised, Accepted, Published, nothing_stored, published, next_sequence, raised, with_record, fits, fold_from, fold}
+use Rattle.wf_model.specs.DurableState.{DurableState, Record, Tried, Promised, Accepted, Published, nothing_stored, published, next_sequence, raised, with_record, fits, fold_from, fold}
 use Rattle.wf_model.specs.Fits.{IsOpenAlone, FoldsAreOpen, NotBelow, VotesArePromised}
-use Rattle.wf_model.specs.PutLaws.{at_put}
-use Rattle.wf_model.specs.RaisedLaws.{raised-kept, raised-reached}
+use Rattle.wf_model.specs.PutTheorems.{at_put}
+use Rattle.wf_model.specs.RaisedTheorems.{raised-kept, raised-reached}
 
 -- ---- what each record preserves, the fold preserves
 
 -- A list of records is folded by its first, if that fits, and the rest.
-fold_next : {V : Type 0} (r : Record V) (rest : List (Record V)) (stored folded : Stored V) (fit : Bool) → fits stored r ≡ fit →
+fold_next : {V : Type 0} (r : Record V) (rest : List (Record V)) (stored folded : DurableState V) (fit : Bool) → fits stored r ≡ fit →
     fold_from stored (r ∷ rest) ≡ Some folded → (fits stored r ≡ true) × (fold_from (with_record stored r) rest ≡ Some folded)
 unfolding fold_from
 fold_next r rest stored folded true is_fit e = (is_fit, rw is_fit at e)
 fold_next r rest stored folded false is_fit e = absurd (none-some folded (rw is_fit at e))
 
-fold_keeps : {V : Type 0} (P : Stored V → Type 0) → ((stored : Stored V) → P stored → (r : Record V) → fits stored r ≡ true → P (with_record stored r)) →
-    (records : List (Record V)) (stored folded : Stored V) → P stored → fold_from stored records ≡ Some folded → P folded
+fold_keeps : {V : Type 0} (P : DurableState V → Type 0) → ((stored : DurableState V) → P stored → (r : Record V) → fits stored r ≡ true → P (with_record stored r)) →
+    (records : List (Record V)) (stored folded : DurableState V) → P stored → fold_from stored records ≡ Some folded → P folded
 unfolding fold_from
 fold_keeps P step [] stored folded known e = subst P (same_Some stored folded e) known
 fold_keeps P step (r ∷ rest) stored folded known e =
@@ -27,7 +27,7 @@ fold_keeps P step (r ∷ rest) stored folded known e =
 
 -- ---- votes are of open sequences only
 
-module _ {V : Type 0} (stored : Stored V) (known : IsOpenAlone stored) where
+module _ {V : Type 0} (stored : DurableState V) (known : IsOpenAlone stored) where
   accepted_open : (s : ℕ) (b : Ballot) (d : V) (is_open : Bool) → nat_lt (published stored) s ≡ is_open → IsOpenAlone (with_record stored (Accepted s b d))
   unfolding with_record published
   accepted_open s b d true e =
@@ -59,10 +59,10 @@ folds_are_open V = λ records stored e. fold_keeps IsOpenAlone record_open recor
 
 -- ---- no vote is above the promise
 
-abbrev ArePromised : {V : Type 0} → Stored V → Type 0
+abbrev ArePromised : {V : Type 0} → DurableState V → Type 0
 ArePromised {V} stored = (t : ℕ) (vote : Vote V) → stored.votes t ≡ Some vote → NotBelow stored.promise vote.ballot
 
-module _ {V : Type 0} (stored : Stored V) (known : ArePromised stored) where
+module _ {V : Type 0} (stored : DurableState V) (known : ArePromised stored) where
   -- The vote comes with a promise that reaches its ballot; what the promise wasn't below, a raised one isn't below either.
   accepted_kept : (s : ℕ) (b : Ballot) (d : V) (is_open : Bool) → nat_lt (published stored) s ≡ is_open → ArePromised (with_record stored (Accepted s b d))
   unfolding with_record

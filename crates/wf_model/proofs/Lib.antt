@@ -1,4 +1,4 @@
 mod Folds
-mod Rows
+mod Transitions
 mod Runs
 mod Short

@@ -3,23 +3,23 @@ use Rattle.std.proofs.Common.{◌≡◌, ℕ, [], ◌∷◌, refl, Some, None}
 use Rattle.wf_ballot.specs.Ballot.{below}
 use Rattle.wf_ballot.specs.Majority.{count_nodes, is_majority_of}
 use Rattle.wf_model.specs.Message.{Prepare, Promise, Accept, Accepted, Nack, Chosen, Ask, first_vote, from_sequence}
-use Rattle.wf_model.specs.Stored.{nothing_stored, published, next_sequence, definition_at, put, raised, with_record}
-use Rattle.wf_model.specs.Working.{at_start, nobody, and_node, better, better_each, carried, proposed, same_ballot, same_phase, is_at, is_in_window, leading_at}
-use Rattle.wf_model.specs.Table.{Busy, SequenceFull, RoundsFull, NothingToRetry, store, quiet, says, stores, with_proposal, rounds_full, round_known, refuse_round, refuse_proposal, refuse_retry, refusal, begin_at, ask_votes, lead, propose_by, on_propose, on_retry, on_catch_up, told_of, told, told_from, on_ask, votes_from, promise_to, prepare_open, on_prepare, votes_at, vote_for, accept_open, on_accept, hears, with_promise, asking_votes, leadership_of, promised, on_promise, with_vote, on_nack, ended, ends, after_publishing, voted, on_accepted, on_chosen, on_message, row}
-use Rattle.wf_model.specs.World.{refusal_running, refusal_of, refused_at, refused, propose, retry, catch_up, Before, After, delivered, input_of, stored_after, kept_part, with_node, after_turn, after_torn, stop_running, after_stop, restart_stopped, after_restart, turn_running, turn_of, turn, happens, steps, start, after}
+use Rattle.wf_model.specs.DurableState.{nothing_stored, published, next_sequence, definition_at, put, raised, with_record}
+use Rattle.wf_model.specs.VolatileState.{at_start, nobody, and_node, better, better_each, carried, proposed, same_ballot, same_phase, is_at, is_in_window, leading_at}
+use Rattle.wf_model.specs.Table.{Busy, SequenceFull, RoundsFull, NothingToRetry, store, quiet, only_sends, stores, with_proposal, rounds_full, round_known, reject_round, reject_proposal, reject_retry, step_rejection, begin_at, ask_votes, lead, propose_by, on_propose, on_retry, on_catch_up, reports_of, reports, reports_from, on_ask, votes_from, promise_to, prepare_open, on_prepare, votes_at, vote_for, accept_open, on_accept, is_new_response, with_promise, asking_votes, leadership_of, promised, on_promise, with_vote, on_nack, ended, ends, after_publishing, voted, on_accepted, on_chosen, on_message, transition}
+use Rattle.wf_model.specs.World.{step_rejection_running, step_rejection_of, rejected_at, refused, propose, retry, catch_up, Before, After, delivered, input_of, stored_after, kept_part, with_node, after_turn, after_torn, stop_running, after_stop, restart_stopped, after_restart, turn_running, turn_of, turn, happens, steps, start, after}
 use Rattle.wf_model.specs.Chosen.{history_of, history, definition}
-use Rattle.wf_model.specs.Examples.{full_history, full_rounds, only, a, b, empty, same_map, last_leader, histories, Runs, PublishedAt, OvertakenAt, standing_by, standing_of, standing, run, Leaves, LeavesEach, none, just, to_each, pump, thrice_back, alone, three_pumped, two_of_four, three_of_four, half_accepted, comes_back, taken_over, voted_once, late_accept, two_told, old_accept, outrun, behind, catches_up, new_round, repeated, torn, torn_then, two_led, four_led, fifth_prepared, led_too_low, led_again, told_ahead, leader_restarts, sent_from, ballot, vote, no_votes}
+use Rattle.wf_model.specs.Examples.{full_history, full_rounds, only, a, b, empty, same_map, last_leader, histories, Runs, PublishedAt, OvertakenAt, proposal_state_by, proposal_state_of, proposal_state, run, Leaves, LeavesEach, none, just, to_each, pump, thrice_back, alone, three_pumped, two_of_four, three_of_four, half_accepted, comes_back, taken_over, voted_once, late_accept, two_reported, old_accept, outrun, behind, catches_up, new_round, repeated, torn, torn_then, two_led, four_led, fifth_prepared, led_too_low, led_again, reported_ahead, leader_restarts, sent_from, ballot, vote, no_votes}
 
 -- unfolds all definitions that a run computes with
 abbrev computed : ℕ
-unfolding below count_nodes is_majority_of nothing_stored published next_sequence definition_at put raised with_record at_start nobody and_node better better_each carried proposed same_ballot same_phase is_at is_in_window leading_at first_vote from_sequence store quiet says stores with_proposal rounds_full round_known refuse_round refuse_proposal refuse_retry refusal begin_at ask_votes lead propose_by on_propose on_retry on_catch_up told_of told told_from on_ask votes_from promise_to prepare_open on_prepare votes_at vote_for accept_open on_accept hears with_promise asking_votes leadership_of promised on_promise with_vote on_nack ended ends after_publishing voted on_accepted on_chosen on_message row delivered input_of stored_after kept_part with_node after_turn after_torn stop_running after_stop restart_stopped after_restart turn_running turn_of turn happens steps start after history_of history definition same_map histories standing_by standing_of standing to_each pump thrice_back alone three_pumped two_of_four three_of_four half_accepted comes_back taken_over voted_once late_accept two_told old_accept outrun behind catches_up new_round repeated torn torn_then two_led four_led fifth_prepared led_too_low led_again told_ahead leader_restarts last_leader sent_from refusal_running refusal_of refused_at refused full_history full_rounds only
+unfolding below count_nodes is_majority_of nothing_stored published next_sequence definition_at put raised with_record at_start nobody and_node better better_each carried proposed same_ballot same_phase is_at is_in_window leading_at first_vote from_sequence store quiet only_sends stores with_proposal rounds_full round_known reject_round reject_proposal reject_retry step_rejection begin_at ask_votes lead propose_by on_propose on_retry on_catch_up reports_of reports reports_from on_ask votes_from promise_to prepare_open on_prepare votes_at vote_for accept_open on_accept is_new_response with_promise asking_votes leadership_of promised on_promise with_vote on_nack ended ends after_publishing voted on_accepted on_chosen on_message transition delivered input_of stored_after kept_part with_node after_turn after_torn stop_running after_stop restart_stopped after_restart turn_running turn_of turn happens steps start after history_of history definition same_map histories proposal_state_by proposal_state_of proposal_state to_each pump thrice_back alone three_pumped two_of_four three_of_four half_accepted comes_back taken_over voted_once late_accept two_reported old_accept outrun behind catches_up new_round repeated torn torn_then two_led four_led fifth_prepared led_too_low led_again reported_ahead leader_restarts last_leader sent_from step_rejection_running step_rejection_of rejected_at refused full_history full_rounds only
 computed = 0
 
 pub alone_leaves : Leaves 1 alone (just a ∷ []) 5
 unfolding computed
 alone_leaves = (refl, refl)
 
-pub alone_stands : standing (run 1 alone) 0 ≡ PublishedAt 1
+pub alone_stands : proposal_state (run 1 alone) 0 ≡ PublishedAt 1
 unfolding computed
 alone_stands = refl
 
@@ -63,9 +63,9 @@ pub late_accept_answers : sent_from (run 3 late_accept) 11 ≡ Accepted 0 1 (bal
 unfolding computed
 late_accept_answers = refl
 
-pub two_told_asks : sent_from (run 3 two_told) 14 ≡ Promise 2 1 (ballot 2 0) (Some (vote 1 1 b) ∷ None ∷ None ∷ None ∷ []) ∷ Promise 0 1 (ballot 2 0) (Some (vote 1 0 a) ∷ None ∷ None ∷ None ∷ []) ∷ Accept 1 (ballot 2 0) b ∷ []
+pub two_reported_asks : sent_from (run 3 two_reported) 14 ≡ Promise 2 1 (ballot 2 0) (Some (vote 1 1 b) ∷ None ∷ None ∷ None ∷ []) ∷ Promise 0 1 (ballot 2 0) (Some (vote 1 0 a) ∷ None ∷ None ∷ None ∷ []) ∷ Accept 1 (ballot 2 0) b ∷ []
 unfolding computed
-two_told_asks = refl
+two_reported_asks = refl
 
 pub old_accept_answers : sent_from (run 3 old_accept) 16 ≡ Accept 1 (ballot 2 0) b ∷ Nack 0 1 (ballot 1 0) (ballot 2 0) ∷ []
 unfolding computed
@@ -111,7 +111,7 @@ pub torn_after : LeavesEach 3 (torn_then After 2) (just a) 11
 unfolding computed
 torn_after = (refl, refl)
 
-pub comes_back_stands : standing (run 3 comes_back) 0 ≡ OvertakenAt 1
+pub comes_back_stands : proposal_state (run 3 comes_back) 0 ≡ OvertakenAt 1
 unfolding computed
 comes_back_stands = refl
 
@@ -119,11 +119,11 @@ pub comes_back_definition : definition empty (run 3 comes_back) 0 1 ≡ Some b
 unfolding computed
 comes_back_definition = refl
 
-pub taken_over_stands : standing (run 3 taken_over) 2 ≡ OvertakenAt 1
+pub taken_over_stands : proposal_state (run 3 taken_over) 2 ≡ OvertakenAt 1
 unfolding computed
 taken_over_stands = refl
 
-pub taken_over_other : standing (run 3 taken_over) 0 ≡ Runs
+pub taken_over_other : proposal_state (run 3 taken_over) 0 ≡ Runs
 unfolding computed
 taken_over_other = refl
 
@@ -139,37 +139,37 @@ pub torn_after_sent : LeavesEach 3 (torn After) none 2
 unfolding computed
 torn_after_sent = (refl, refl)
 
-pub refused_busy : refused (run 1 (propose 0 a ∷ [])) (propose 0 b) ≡ Some Busy
+pub rejected_busy : refused (run 1 (propose 0 a ∷ [])) (propose 0 b) ≡ Some Busy
 unfolding computed
-refused_busy = refl
+rejected_busy = refl
 
-pub refused_busy_unchanged : run 1 (propose 0 a ∷ propose 0 b ∷ []) ≡ run 1 (propose 0 a ∷ [])
+pub rejected_busy_unchanged : run 1 (propose 0 a ∷ propose 0 b ∷ []) ≡ run 1 (propose 0 a ∷ [])
 unfolding computed
-refused_busy_unchanged = refl
+rejected_busy_unchanged = refl
 
-pub refused_nothing : refused (run 1 []) (retry 0) ≡ Some NothingToRetry
+pub rejected_nothing : refused (run 1 []) (retry 0) ≡ Some NothingToRetry
 unfolding computed
-refused_nothing = refl
+rejected_nothing = refl
 
-pub refused_nothing_unchanged : run 1 (retry 0 ∷ []) ≡ run 1 []
+pub rejected_nothing_unchanged : run 1 (retry 0 ∷ []) ≡ run 1 []
 unfolding computed
-refused_nothing_unchanged = refl
+rejected_nothing_unchanged = refl
 
-pub refused_sequences : refused (only full_history) (propose 0 a) ≡ Some SequenceFull
+pub rejected_sequences : refused (only full_history) (propose 0 a) ≡ Some SequenceFull
 unfolding computed
-refused_sequences = refl
+rejected_sequences = refl
 
-pub refused_sequences_unchanged : happens same_map (only full_history) (propose 0 a) ≡ only full_history
+pub rejected_sequences_unchanged : happens same_map (only full_history) (propose 0 a) ≡ only full_history
 unfolding computed
-refused_sequences_unchanged = refl
+rejected_sequences_unchanged = refl
 
-pub refused_rounds : refused (only full_rounds) (propose 0 a) ≡ Some RoundsFull
+pub rejected_rounds : refused (only full_rounds) (propose 0 a) ≡ Some RoundsFull
 unfolding computed
-refused_rounds = refl
+rejected_rounds = refl
 
-pub refused_rounds_unchanged : happens same_map (only full_rounds) (propose 0 a) ≡ only full_rounds
+pub rejected_rounds_unchanged : happens same_map (only full_rounds) (propose 0 a) ≡ only full_rounds
 unfolding computed
-refused_rounds_unchanged = refl
+rejected_rounds_unchanged = refl
 
 pub two_led_asks : sent_from (run 3 two_led) 9 ≡ Accept 2 (ballot 1 0) a ∷ Accepted 0 2 (ballot 1 0) ∷ Accepted 1 2 (ballot 1 0) ∷ Accepted 2 2 (ballot 1 0) ∷ Chosen 2 a ∷ []
 unfolding computed
@@ -187,7 +187,7 @@ pub led_too_low_leaves : LeavesEach 3 led_too_low (a ∷ b ∷ []) 22
 unfolding computed
 led_too_low_leaves = (refl, refl)
 
-pub led_too_low_stands : standing (run 3 led_too_low) 0 ≡ Runs
+pub led_too_low_stands : proposal_state (run 3 led_too_low) 0 ≡ Runs
 unfolding computed
 led_too_low_stands = refl
 
@@ -195,16 +195,16 @@ pub led_again_leaves : LeavesEach 3 led_again (a ∷ b ∷ a ∷ []) 31
 unfolding computed
 led_again_leaves = (refl, refl)
 
-pub told_ahead_asks : sent_from (run 3 told_ahead) 9 ≡
+pub reported_ahead_asks : sent_from (run 3 reported_ahead) 9 ≡
     Prepare 1 (ballot 1 2) ∷ Promise 2 1 (ballot 1 2) no_votes ∷ Promise 1 1 (ballot 1 2) (Some (vote 1 0 a) ∷ Some (vote 1 0 b) ∷ None ∷ None ∷ []) ∷
     Accept 1 (ballot 1 2) a ∷ Accepted 1 1 (ballot 1 2) ∷ Accepted 2 1 (ballot 1 2) ∷ Chosen 1 a ∷
     Accept 2 (ballot 1 2) b ∷ Accepted 1 2 (ballot 1 2) ∷ Accepted 2 2 (ballot 1 2) ∷ Chosen 2 b ∷ []
 unfolding computed
-told_ahead_asks = refl
+reported_ahead_asks = refl
 
-pub told_ahead_stands : standing (run 3 told_ahead) 2 ≡ OvertakenAt 2
+pub reported_ahead_stands : proposal_state (run 3 reported_ahead) 2 ≡ OvertakenAt 2
 unfolding computed
-told_ahead_stands = refl
+reported_ahead_stands = refl
 
 pub leader_restarts_asks : sent_from (run 3 leader_restarts) 9 ≡ Prepare 2 (ballot 2 0) ∷ []
 unfolding computed

@@ -12,7 +12,7 @@ IsIn x (y ∷ ys) = (x ≡ y) ⊎ IsIn x ys
 
 -- Node i voted for d at the sequence and ballot: it sent Accepted, and an Accept for d was sent.
 pub record Voted {V : Type 0} (sent : List (Message V)) (s : ℕ) (b : Ballot) (d : V) (i : ℕ) : Type 0 where
-  pub said : IsIn (Accepted i s b) sent
+  pub stated : IsIn (Accepted i s b) sent
   pub asked : IsIn (Accept s b d) sent
 
 -- A list of votes, that at `base` first, reports this for the sequence: a vote there, or that there is none.
@@ -21,9 +21,9 @@ Reports base [] s vote = ⊥
 Reports base (first ∷ rest) s vote = ((s ≡ base) × (first ≡ vote)) ⊎ Reports (suc base) rest s vote
 
 -- Node i promised at the ballot from `base` on, and reported this for the sequence: its vote there, or that it has none.
-pub record Told {V : Type 0} (sent : List (Message V)) (base s : ℕ) (b : Ballot) (vote : Option (Vote V)) (i : ℕ) : Type 0 where
+pub record Reported {V : Type 0} (sent : List (Message V)) (base s : ℕ) (b : Ballot) (vote : Option (Vote V)) (i : ℕ) : Type 0 where
   pub votes : List (Option (Vote V))
-  pub said : IsIn (Promise i base b votes) sent
+  pub stated : IsIn (Promise i base b votes) sent
   pub reported : Reports base votes s vote
 
 -- d is chosen for the sequence: at some ballot a majority of the n nodes voted for it.

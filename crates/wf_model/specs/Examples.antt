@@ -3,8 +3,8 @@ use Rattle.std.specs.Prelude.{◌≡◌, ℕ, zero, suc, Bool, true, false, List
 use Rattle.wf_ballot.specs.Ballot.{Ballot, last_round}
 use Rattle.wf_ballot.specs.Sequence.{last_sequence}
 use Rattle.wf_model.specs.Message.{Vote, Message}
-use Rattle.wf_model.specs.Stored.{Stored}
-use Rattle.wf_model.specs.Working.{Proposing, Idle, Running, Won, Overtaken, Working, at_start}
+use Rattle.wf_model.specs.DurableState.{DurableState}
+use Rattle.wf_model.specs.VolatileState.{Proposing, Idle, Running, Won, Overtaken, VolatileState, at_start}
 use Rattle.wf_model.specs.World.{World, Node, Event, Stop, Restart, Torn, Kept, propose, retry, catch_up, deliver, after}
 use Rattle.wf_model.specs.Table as table
 
@@ -25,22 +25,22 @@ unfoldable pub histories : List (Node Map) → List (List Map)
 histories nodes = map (λ node. node.stored.history) nodes
 
 -- the state of a node's proposal
-pub data Standing : Type 0 where
-  Stopped NoProposal Runs : Standing
-  PublishedAt OvertakenAt : (sequence : ℕ) → Standing
+pub data ProposalState : Type 0 where
+  Stopped NoProposal Runs : ProposalState
+  PublishedAt OvertakenAt : (sequence : ℕ) → ProposalState
 
-unfoldable pub standing_by : Proposing Map → Standing
-standing_by Idle = NoProposal
-standing_by (Running proposal) = Runs
-standing_by (Won s) = PublishedAt s
-standing_by (Overtaken s) = OvertakenAt s
+unfoldable pub proposal_state_by : Proposing Map → ProposalState
+proposal_state_by Idle = NoProposal
+proposal_state_by (Running proposal) = Runs
+proposal_state_by (Won s) = PublishedAt s
+proposal_state_by (Overtaken s) = OvertakenAt s
 
-unfoldable pub standing_of : Option (Working Map) → Standing
-standing_of None = Stopped
-standing_of (Some working) = standing_by working.proposing
+unfoldable pub proposal_state_of : Option (VolatileState Map) → ProposalState
+proposal_state_of None = Stopped
+proposal_state_of (Some volatile) = proposal_state_by volatile.proposing
 
-unfoldable pub standing : World Map → ℕ → Standing
-standing w i = standing_of (option_and_then (λ (node : Node Map). node.working) (slice_get w.nodes i))
+unfoldable pub proposal_state : World Map → ℕ → ProposalState
+proposal_state w i = proposal_state_of (option_and_then (λ (node : Node Map). node.volatile) (slice_get w.nodes i))
 
 -- the world after these events, from a start with n nodes
 abbrev pub run : ℕ → List (Event Map) → World Map
@@ -139,12 +139,12 @@ late_accept =
     deliver 0 3 ∷ deliver 2 3 ∷ deliver 0 11 ∷ deliver 0 12 ∷ []
 
 -- node 0 retries; it is sent its own vote for a and node 2's for b, which is at the higher ballot
-unfoldable pub two_told : List (Event Map)
-two_told = late_accept ++ (retry 0 ∷ deliver 2 13 ∷ deliver 0 13 ∷ deliver 0 14 ∷ deliver 0 15 ∷ [])
+unfoldable pub two_reported : List (Event Map)
+two_reported = late_accept ++ (retry 0 ∷ deliver 2 13 ∷ deliver 0 13 ∷ deliver 0 14 ∷ deliver 0 15 ∷ [])
 
 -- it receives its first Accept again: it voted at that ballot, and has promised a higher one since
 unfoldable pub old_accept : List (Event Map)
-old_accept = two_told ++ (deliver 0 3 ∷ [])
+old_accept = two_reported ++ (deliver 0 3 ∷ [])
 
 -- node 1 tries three rounds, and node 2 receives only the third; node 0 comes with its first, is rejected, and retries
 unfoldable pub outrun : List (Event Map)
@@ -200,8 +200,8 @@ led_again = led_too_low ++ (retry 0 ∷ pump (0 ∷ 1 ∷ 2 ∷ []) 22 9)
 
 -- Node 0 leads and stops while its second proposal runs; node 1 voted for both, and learned nothing. Node 2 becomes the leader
 -- and makes two proposals: it is told both votes of node 1, and must adopt each at its sequence.
-unfoldable pub told_ahead : List (Event Map)
-told_ahead =
+unfoldable pub reported_ahead : List (Event Map)
+reported_ahead =
     propose 0 a ∷ deliver 0 0 ∷ deliver 1 0 ∷ deliver 0 1 ∷ deliver 0 2 ∷ deliver 0 3 ∷ deliver 1 3 ∷ deliver 0 4 ∷ deliver 0 5 ∷
     propose 0 b ∷ deliver 1 7 ∷ Stop 0 ∷
     propose 2 b ∷ deliver 2 9 ∷ deliver 1 9 ∷ deliver 2 10 ∷ deliver 2 11 ∷ deliver 1 12 ∷ deliver 2 12 ∷ deliver 2 13 ∷ deliver 2 14 ∷
@@ -212,15 +212,15 @@ unfoldable pub leader_restarts : List (Event Map)
 leader_restarts = three_pumped ++ (Stop 0 ∷ Restart 0 ∷ propose 0 b ∷ [])
 
 -- a node at the last sequence, and one that tried the last round
-unfoldable pub full_history : Stored Map
+unfoldable pub full_history : DurableState Map
 full_history = record { tried = 1; promise = None; votes = λ s. None; history = replicate last_sequence a }
 
-unfoldable pub full_rounds : Stored Map
+unfoldable pub full_rounds : DurableState Map
 full_rounds = record { tried = last_round; promise = None; votes = λ s. None; history = [] }
 
 -- a farm of one node, with this stored state and no proposal
-unfoldable pub only : Stored Map → World Map
-only stored = record { nodes = record { stored = stored; working = Some at_start } ∷ []; sent = [] }
+unfoldable pub only : DurableState Map → World Map
+only stored = record { nodes = record { stored = stored; volatile = Some at_start } ∷ []; sent = [] }
 
 -- it leads from sequence 1 on, at the last round
 unfoldable pub last_leader : World Map
@@ -228,7 +228,7 @@ last_leader =
     record {
       nodes = record {
         stored = full_rounds;
-        working = Some (record { proposing = Idle; leadership = Some (record { base = 1; ballot = ballot last_round 0; best = no_votes }) });
+        volatile = Some (record { proposing = Idle; leadership = Some (record { base = 1; ballot = ballot last_round 0; best = no_votes }) });
       } ∷ [];
       sent = [];
     }

@@ -1,6 +1,6 @@
 pub mod Message
-pub mod Stored
-pub mod Working
+pub mod DurableState
+pub mod VolatileState
 pub mod Table
 pub mod World
 pub mod Action
@@ -9,7 +9,7 @@ pub mod Chosen
 pub mod Examples
 pub mod Fits
 pub mod Steps
-pub mod PutLaws
-pub mod RaisedLaws
-pub mod VotesLaws
-pub mod StepsLaws
+pub mod PutTheorems
+pub mod RaisedTheorems
+pub mod VotesTheorems
+pub mod StepsTheorems

@@ -2,8 +2,8 @@
 //! and published. All contracts about consensus in other crates use these definitions.
 //!
 //! **Model.** A node is the state that its tape records (the last round it tried, its one promise, its vote at each sequence, the
-//! published definitions) and a working part that a stop loses (at most one proposal, and a leadership). `Table` has a transition
-//! for each input: the record to store, the messages to send after that, and the next working part. A world is the nodes and the
+//! published definitions) and a volatile state that a stop loses (at most one proposal, and a leadership). `Table` has a transition
+//! for each input: the record to store, the messages to send after that, and the next volatile state. A world is the nodes and the
 //! list of all messages ever sent. An event names a message by its number, so messages may be lost, repeated and reordered, but
 //! never invented. All of it is generic in the type of what is agreed on, with a test `same` that distinguishes a proposal's own
 //! definition from another's.
@@ -17,7 +17,7 @@
 //! leave the expected worlds.
 //!
 //! **Not here.** Code, except two types that the crates above share, [`Action`] and [`Kept`]; the theorem of agreement, which is
-//! `wf_law`'s.
+//! `wf_safety`'s.
 #![tactic(auto)]
 
 pub mod action;
@@ -25,10 +25,10 @@ pub mod kept;
 
 ghost use Rattle.std.specs.Prelude.{◌≡◌, [], ◌∷◌, None, Some};
 ghost use Rattle.wf_model.specs.Chosen.{definition};
-ghost use Rattle.wf_model.specs.Examples.{a, alone, b, ballot, behind, catches_up, comes_back, empty, fifth_prepared, four_led, full_history, full_rounds, just, last_leader, late_accept, leader_restarts, led_again, led_too_low, new_round, no_votes, none, old_accept, only, outrun, repeated, run, same_map, sent_from, standing, taken_over, three_of_four, three_pumped, told_ahead, torn, torn_then, two_led, two_of_four, two_told, vote, voted_once, Leaves, LeavesEach, OvertakenAt, PublishedAt, Runs};
-ghost use Rattle.wf_model.specs.Fits.{FoldsAreOpen, RecordsFit, RowsAreShort, VotesArePromised};
+ghost use Rattle.wf_model.specs.Examples.{a, alone, b, ballot, behind, catches_up, comes_back, empty, fifth_prepared, four_led, full_history, full_rounds, just, last_leader, late_accept, leader_restarts, led_again, led_too_low, new_round, no_votes, none, old_accept, only, outrun, repeated, run, same_map, sent_from, proposal_state, taken_over, three_of_four, three_pumped, reported_ahead, torn, torn_then, two_led, two_of_four, two_reported, vote, voted_once, Leaves, LeavesEach, OvertakenAt, PublishedAt, Runs};
+ghost use Rattle.wf_model.specs.Fits.{FoldsAreOpen, RecordsFit, TransitionsAreShort, VotesArePromised};
 ghost use Rattle.wf_model.specs.Message.{Accept, Accepted, Ask, Chosen, Nack, Prepare, Promise};
-ghost use Rattle.wf_model.specs.Steps.{RefusedChangesNothing, StepsInTurn};
+ghost use Rattle.wf_model.specs.Steps.{RejectedChangesNothing, StepsInTurn};
 ghost use Rattle.wf_model.specs.Table.{Busy, NothingToRetry, RoundsFull, SequenceFull};
 ghost use Rattle.wf_model.specs.World.{happens, refused, After, Before, catch_up, propose, retry};
 
@@ -42,8 +42,8 @@ pub fn records_fit<V>()
 {}
 
 /// No transition sends more than eight messages, so the sender can reserve room before the step.
-pub fn rows_are_short<V>()
-    ensures { RowsAreShort V }
+pub fn transitions_are_short<V>()
+    ensures { TransitionsAreShort V }
 {}
 
 /// A fold of records leaves no vote of a published sequence.
@@ -62,15 +62,15 @@ pub fn steps_in_turn<V>()
 {}
 
 /// A rejected event leaves the world unchanged, and so does a rejected event with a crash within its step.
-pub fn refused_changes_nothing<V>()
-    ensures { RefusedChangesNothing V }
+pub fn rejected_changes_nothing<V>()
+    ensures { RejectedChangesNothing V }
 {}
 
 /// One node is its own majority: five messages, from Prepare to Chosen. With three nodes, each receives each message. Two of four
 /// nodes receiving a proposal is no majority and publishes nothing; a third makes it one.
 pub fn majorities()
     ensures one { Leaves 1 alone (just a ∷ []) 5 }
-    ensures proposal { standing (run 1 alone) 0 ≡ PublishedAt 1 }
+    ensures proposal { proposal_state (run 1 alone) 0 ≡ PublishedAt 1 }
     ensures three { LeavesEach 3 three_pumped (just a) 9 }
     ensures two_of_four { LeavesEach 4 two_of_four none 3 }
     ensures three_of_four { LeavesEach 4 three_of_four (just a) 10 }
@@ -80,7 +80,7 @@ pub fn majorities()
 /// stop loses a proposal but not its round, which isn't used again.
 pub fn stopped_proposer()
     ensures leaves { Leaves 3 comes_back (just b ∷ none ∷ just b ∷ []) 14 }
-    ensures proposal { standing (run 3 comes_back) 0 ≡ OvertakenAt 1 }
+    ensures proposal { proposal_state (run 3 comes_back) 0 ≡ OvertakenAt 1 }
     ensures definition { definition empty (run 3 comes_back) 0 1 ≡ Some b }
     ensures new_round { LeavesEach 2 new_round none 6 }
     ensures asked { sent_from (run 2 new_round) 3 ≡
@@ -91,10 +91,10 @@ pub fn stopped_proposer()
 /// two reported votes the one at the higher ballot is adopted, even if the other is the proposer's own and is reported last.
 pub fn reported_vote()
     ensures leaves { Leaves 3 taken_over (none ∷ none ∷ just a ∷ []) 12 }
-    ensures taken { standing (run 3 taken_over) 2 ≡ OvertakenAt 1 }
-    ensures other { standing (run 3 taken_over) 0 ≡ Runs }
+    ensures taken { proposal_state (run 3 taken_over) 2 ≡ OvertakenAt 1 }
+    ensures other { proposal_state (run 3 taken_over) 0 ≡ Runs }
     ensures definition { definition empty (run 3 taken_over) 2 1 ≡ Some a }
-    ensures two { sent_from (run 3 two_told) 14 ≡
+    ensures two { sent_from (run 3 two_reported) 14 ≡
         Promise 2 1 (ballot 2 0) (Some (vote 1 1 b) ∷ None ∷ None ∷ None ∷ []) ∷
         Promise 0 1 (ballot 2 0) (Some (vote 1 0 a) ∷ None ∷ None ∷ None ∷ []) ∷
         Accept 1 (ballot 2 0) b ∷ [] }
@@ -116,7 +116,7 @@ pub fn four_sequences_led()
 /// proposal runs until a retry takes a higher round. A leader that stops loses its leadership.
 pub fn leadership_ends()
     ensures rejected { LeavesEach 3 led_too_low (a ∷ b ∷ []) 22 }
-    ensures runs { standing (run 3 led_too_low) 0 ≡ Runs }
+    ensures runs { proposal_state (run 3 led_too_low) 0 ≡ Runs }
     ensures retried { LeavesEach 3 led_again (a ∷ b ∷ a ∷ []) 31 }
     ensures stopped { sent_from (run 3 leader_restarts) 9 ≡ Prepare 2 (ballot 2 0) ∷ [] }
 {}
@@ -124,20 +124,20 @@ pub fn leadership_ends()
 /// A node reports its votes at two sequences in one Promise. The new leader adopts each at its sequence, though it proposes
 /// another definition there.
 pub fn reported_votes_ahead()
-    ensures asked { sent_from (run 3 told_ahead) 9 ≡
+    ensures asked { sent_from (run 3 reported_ahead) 9 ≡
         Prepare 1 (ballot 1 2) ∷ Promise 2 1 (ballot 1 2) no_votes ∷
         Promise 1 1 (ballot 1 2) (Some (vote 1 0 a) ∷ Some (vote 1 0 b) ∷ None ∷ None ∷ []) ∷
         Accept 1 (ballot 1 2) a ∷
         Accepted 1 1 (ballot 1 2) ∷ Accepted 2 1 (ballot 1 2) ∷ Chosen 1 a ∷
         Accept 2 (ballot 1 2) b ∷
         Accepted 1 2 (ballot 1 2) ∷ Accepted 2 2 (ballot 1 2) ∷ Chosen 2 b ∷ [] }
-    ensures proposal { standing (run 3 told_ahead) 2 ≡ OvertakenAt 2 }
+    ensures proposal { proposal_state (run 3 reported_ahead) 2 ≡ OvertakenAt 2 }
 {}
 
 /// A late Accept reaches a node that has promised a higher ballot: it is rejected, with the promise. A vote there would publish
 /// both a and b. So is one at whose ballot the node voted before it promised the higher one. A Prepare below the promise is
 /// rejected likewise; its proposer's next attempt is above the promise's round.
-pub fn refused_ballots()
+pub fn rejected_ballots()
     ensures leaves { Leaves 3 late_accept (none ∷ just b ∷ none ∷ []) 13 }
     ensures accept { sent_from (run 3 late_accept) 11 ≡
         Accepted 0 1 (ballot 1 0) ∷ Nack 2 1 (ballot 1 0) (ballot 1 1) ∷ [] }
@@ -177,7 +177,7 @@ pub fn torn_step()
 
 /// A running node rejects another proposal, a node without one has nothing to retry, and no proposal begins past sequence 4,096
 /// or round 4,294,967,295. A rejected step changes nothing.
-pub fn refused_steps()
+pub fn rejected_steps()
     ensures busy { refused (run 1 (propose 0 a ∷ [])) (propose 0 b) ≡ Some Busy }
     ensures busy_unchanged { run 1 (propose 0 a ∷ propose 0 b ∷ []) ≡ run 1 (propose 0 a ∷ []) }
     ensures nothing { refused (run 1 []) (retry 0) ≡ Some NothingToRetry }

@@ -3,23 +3,23 @@ use Rattle.std.proofs.Common.{◌≡◌, ℕ, ◌+◌, ◌<◌, ◌^◌, true, f
 use Rattle.std.proofs.lemmas.List.{append-nil, map-append}
 use Rattle.std.proofs.lemmas.Option.{none-some, same_Some}
 use Rattle.wf_def.specs.Definition.{Definition}
-use Rattle.wf_model.specs.Stored.{Stored, Record, fits, with_record, fold_from, fold, nothing_stored}
+use Rattle.wf_model.specs.DurableState.{DurableState, Record, fits, with_record, fold_from, fold, nothing_stored}
 use Rattle.wf_journal.specs.Record.{view}
-use Rattle.wf_journal.specs.Spelling.{spelling}
+use Rattle.wf_journal.specs.Encoding.{spelling}
 use Rattle.wf_journal.specs.Records.{length_of}
 use Rattle.wf_journal.specs.declared.record.Record as code
-use Rattle.wf_journal.specs.declared.opening.OpenFault.{OpenFault}
-use Rattle.wf_journal.specs.declared.opening.OpenFault.TheVariants.{TapeFailed, BadRecord, Memory}
-use Rattle.wf_node.specs.Opening.{IsUnfitAt, IsTaken, IsWhyRefused, IsWhyUnfolded}
-use Rattle.wf_node.proofs.Folding.{fold_more}
+use Rattle.wf_journal.specs.declared.open_error.OpenFault.{OpenFault}
+use Rattle.wf_journal.specs.declared.open_error.OpenFault.TheVariants.{TapeFailed, BadRecord, Memory}
+use Rattle.wf_node.specs.OpenedNode.{IsUnfitAt, IsTaken, IsWhyRejected, IsWhyUnfolded}
+use Rattle.wf_node.proofs.Fold.{fold_more}
 
 -- The fold of the records applied so far, the byte offset of the next one, and those that remain.
-pub record HasTaken (stored : Stored Definition) (place : ℕ) (taken left all : List code.Record) : Type 0 where
+pub record HasTaken (stored : DurableState Definition) (index : ℕ) (taken left all : List code.Record) : Type 0 where
   pub folds : fold (map view taken) ≡ Some stored
-  pub stands : length_of (map view taken) ≡ place
+  pub stands : length_of (map view taken) ≡ index
   pub parts : taken ++ left ≡ all
 
-pub none_taken : (stored : Stored Definition) (left all : List code.Record) → stored ≡ nothing_stored → left ≡ all → HasTaken stored 0 [] left all
+pub none_taken : (stored : DurableState Definition) (left all : List code.Record) → stored ≡ nothing_stored → left ≡ all → HasTaken stored 0 [] left all
 unfolding fold fold_from length_of
 none_taken stored left all nothing whole = record { folds = ap Some (sym nothing); stands = refl; parts = whole }
 
@@ -37,9 +37,9 @@ unfolding length_of
 length_of-first r rest = refl
 
 -- One more record is applied.
-pub taken_more : (old new : Stored Definition) (place next : ℕ) (taken left rest all : List code.Record) (entry : code.Record) → HasTaken old place taken left all → left ≡ entry ∷ rest →
-    IsTaken old (view entry) place new next → HasTaken new next (taken ++ entry ∷ []) rest all
-taken_more old new place next taken left rest all entry has is one =
+pub taken_more : (old new : DurableState Definition) (index next : ℕ) (taken left rest all : List code.Record) (entry : code.Record) → HasTaken old index taken left all → left ≡ entry ∷ rest →
+    IsTaken old (view entry) index new next → HasTaken new next (taken ++ entry ∷ []) rest all
+taken_more old new index next taken left rest all entry has is one =
     let records : map view (taken ++ entry ∷ []) ≡ map view taken ++ view entry ∷ [] = map-append view taken (entry ∷ []) in
     record {
       folds = ap fold records ∙ fold_more old (map view taken) (view entry) has.folds one.fit ∙ ap Some (sym one.applied);
@@ -48,52 +48,52 @@ taken_more old new place next taken left rest all entry has is one =
     }
 
 -- All are applied.
-pub all_taken : (stored : Stored Definition) (place : ℕ) (taken left all : List code.Record) → HasTaken stored place taken left all → left ≡ [] → fold (map view all) ≡ Some stored
-all_taken stored place taken left all has none =
+pub all_taken : (stored : DurableState Definition) (index : ℕ) (taken left all : List code.Record) → HasTaken stored index taken left all → left ≡ [] → fold (map view all) ≡ Some stored
+all_taken stored index taken left all has none =
     let whole : taken ≡ all = sym (append-nil taken) ∙ ap (λ (t : List code.Record). taken ++ t) (sym none) ∙ has.parts in
     ap (λ (t : List code.Record). fold (map view t)) (sym whole) ∙ has.folds
 
 -- the records, split before the next one
-parted : (stored : Stored Definition) (place : ℕ) (taken left rest all : List code.Record) (entry : code.Record) → HasTaken stored place taken left all → left ≡ entry ∷ rest →
+parted : (stored : DurableState Definition) (index : ℕ) (taken left rest all : List code.Record) (entry : code.Record) → HasTaken stored index taken left all → left ≡ entry ∷ rest →
     map view all ≡ map view taken ++ view entry ∷ map view rest
-parted stored place taken left rest all entry has is =
+parted stored index taken left rest all entry has is =
     ap (map view) (sym has.parts ∙ ap (λ (t : List code.Record). taken ++ t) is) ∙ map-append view taken (entry ∷ rest)
 
 -- The byte offset after the next record is below 2 ^ 64 if the length of all is.
-pub room_there : (stored : Stored Definition) (place : ℕ) (taken left rest all : List code.Record) (entry : code.Record) → HasTaken stored place taken left all → left ≡ entry ∷ rest →
-    length_of (map view all) < 2 ^ 64 → place + length (spelling (view entry)) < 2 ^ 64
-room_there stored place taken left rest all entry has is short =
+pub room_there : (stored : DurableState Definition) (index : ℕ) (taken left rest all : List code.Record) (entry : code.Record) → HasTaken stored index taken left all → left ≡ entry ∷ rest →
+    length_of (map view all) < 2 ^ 64 → index + length (spelling (view entry)) < 2 ^ 64
+room_there stored index taken left rest all entry has is short =
     omega (
       arith,
       has.stands,
-      ap length_of (parted stored place taken left rest all entry has is),
+      ap length_of (parted stored index taken left rest all entry has is),
       length_of-append (map view taken) (view entry ∷ map view rest),
       length_of-first (view entry) (map view rest),
     )
 
 -- If one isn't applied, the records aren't folded.
-pub why_unfolded : (stored : Stored Definition) (place : ℕ) (taken left rest all : List code.Record) (entry : code.Record) (fault : OpenFault) → HasTaken stored place taken left all →
-    left ≡ entry ∷ rest → IsWhyRefused stored (view entry) place fault → IsWhyUnfolded (map view all) fault
-why_unfolded stored place taken left rest all entry TapeFailed has is why = why
-why_unfolded stored place taken left rest all entry (BadRecord there) has is why = record {
+pub why_unfolded : (stored : DurableState Definition) (index : ℕ) (taken left rest all : List code.Record) (entry : code.Record) (fault : OpenFault) → HasTaken stored index taken left all →
+    left ≡ entry ∷ rest → IsWhyRejected stored (view entry) index fault → IsWhyUnfolded (map view all) fault
+why_unfolded stored index taken left rest all entry TapeFailed has is why = why
+why_unfolded stored index taken left rest all entry (BadRecord there) has is why = record {
   before = map view taken;
   unfit = view entry;
   after = map view rest;
-  parts = parted stored place taken left rest all entry has is;
+  parts = parted stored index taken left rest all entry has is;
   stands = has.stands ∙ sym why.0;
   stored = stored;
   folds = has.folds;
   no_fit = why.1;
 }
-why_unfolded stored place taken left rest all entry Memory has is why = tt
+why_unfolded stored index taken left rest all entry Memory has is why = tt
 
 -- ---- no fold
 
-stops_from : (start stored : Stored Definition) (before after : List (Record Definition)) (r : Record Definition) →
+stops_from : (start stored : DurableState Definition) (before after : List (Record Definition)) (r : Record Definition) →
     fold_from start before ≡ Some stored → fits stored r ≡ false → fold_from start (before ++ r ∷ after) ≡ None
 unfolding fold_from
 stops_from start stored [] after r folds no_fit =
-    let same : fits start r ≡ false = ap (λ (s : Stored Definition). fits s r) (same_Some start stored folds) ∙ no_fit in
+    let same : fits start r ≡ false = ap (λ (s : DurableState Definition). fits s r) (same_Some start stored folds) ∙ no_fit in
     rw same refl
 stops_from start stored (x ∷ before) after r folds no_fit =
     elim (fits start x) as (λ b. (if b then fold_from (with_record start x) before else None) ≡ Some stored →
@@ -103,6 +103,6 @@ stops_from start stored (x ∷ before) after r folds no_fit =
     ] folds
 
 -- If a record doesn't fit, there is no fold.
-pub none_where_unfit : (records : List (Record Definition)) (place : ℕ) → IsUnfitAt records place → fold records ≡ None
+pub none_where_unfit : (records : List (Record Definition)) (index : ℕ) → IsUnfitAt records index → fold records ≡ None
 unfolding fold
-none_where_unfit records place unfit = ap (fold_from nothing_stored) unfit.parts ∙ stops_from nothing_stored unfit.stored unfit.before unfit.after unfit.unfit unfit.folds unfit.no_fit
+none_where_unfit records index unfit = ap (fold_from nothing_stored) unfit.parts ∙ stops_from nothing_stored unfit.stored unfit.before unfit.after unfit.unfit unfit.folds unfit.no_fit

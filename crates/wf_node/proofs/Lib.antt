@@ -1,12 +1,12 @@
 mod Acts
 mod Folded
-mod Folding
-mod Keeping
+mod Fold
+mod PersistentPart
 mod Opened
 mod Pushed
 mod Replies
-mod Rewriting
-mod Rows
+mod Rewrite
+mod Transitions
 mod Shortened
 mod Shown
 mod Steps

@@ -7,10 +7,10 @@ use Rattle.wf_ballot.specs.Round.{IsRound}
 use Rattle.wf_ballot.specs.Sequence.{last_sequence}
 use Rattle.wf_def.specs.Definition.{Definition}
 use Rattle.wf_model.specs.Message.{Vote}
-use Rattle.wf_model.specs.Stored.{Stored, Record, Tried, Promised, Accepted, Published, published, next_sequence, definition_at}
+use Rattle.wf_model.specs.DurableState.{DurableState, Record, Tried, Promised, Accepted, Published, published, next_sequence, definition_at}
 use Rattle.wf_journal.specs.Record.{view}
 use Rattle.wf_journal.specs.declared.record.Record as code
-use Rattle.wf_node.specs.Shortening.{tried_records, vote_records, is_voted, promised_sequence, promise_record, promise_records, records_by, records_at, records_from}
+use Rattle.wf_node.specs.Compaction.{tried_records, vote_records, is_voted, promised_sequence, promise_record, promise_records, records_by, records_at, records_from}
 
 pub one_more : (before after : List code.Record) (r : code.Record) → after ≡ before ++ r ∷ [] → map view after ≡ map view before ++ view r ∷ []
 one_more before after r is = ap (map view) is ∙ map-append view before (r ∷ [])
@@ -40,7 +40,7 @@ none_tried (suc r) short none = absurd (none (record { from_one = omega arith; t
 
 -- ---- a sequence
 
-module _ (stored : Stored Definition) (s : ℕ) where
+module _ (stored : DurableState Definition) (s : ℕ) where
   pub published_here : (d : Definition) → definition_at stored.history s ≡ Some d → Published s d ∷ [] ≡ records_at stored s
   unfolding records_at
   published_here d is = sym (ap (λ here. records_by s here (stored.votes s)) is)
@@ -57,7 +57,7 @@ none_voted s vote none = sym (ap (vote_records s) none)
 
 -- ---- the promise
 
-module _ (stored : Stored Definition) (promise : Option Ballot) where
+module _ (stored : DurableState Definition) (promise : Option Ballot) where
   pub promised_here : (b : Ballot) (s : ℕ) → promise ≡ Some b → is_voted stored.votes b last_sequence ≡ false → s ≡ promised_sequence stored →
       Promised s b ∷ [] ≡ promise_records stored promise
   promised_here b s is none here = sym (ap (promise_records stored) is ∙ ap (promise_record (promised_sequence stored) b) none ∙ ap (λ (t : ℕ). Promised t b ∷ []) (sym here))
@@ -70,27 +70,27 @@ module _ (stored : Stored Definition) (promise : Option Ballot) where
   none_promised none = ap (promise_records stored) none
 
 -- the sequence of its record
-pub promised_next : (stored : Stored Definition) (s : ℕ) → length stored.history < last_sequence → s ≡ length stored.history + 1 → s ≡ promised_sequence stored
+pub promised_next : (stored : DurableState Definition) (s : ℕ) → length stored.history < last_sequence → s ≡ length stored.history + 1 → s ≡ promised_sequence stored
 unfolding promised_sequence next_sequence published
 promised_next stored s more is = is ∙ sym (min-eq_left (omega (arith, more)))
 
-pub promised_last : (stored : Stored Definition) → (length stored.history < last_sequence → ⊥) → last_sequence ≡ promised_sequence stored
+pub promised_last : (stored : DurableState Definition) → (length stored.history < last_sequence → ⊥) → last_sequence ≡ promised_sequence stored
 unfolding promised_sequence next_sequence published
 promised_last stored full = sym (min-eq_right (omega (arith, full)))
 
 -- ---- sequence by sequence: the records so far, and those still to come
 
-pub none_yet : (stored : Stored Definition) (records : List (Record Definition)) (number left last : ℕ) → number ≡ 1 → number + left ≡ 1 + last →
+pub none_yet : (stored : DurableState Definition) (records : List (Record Definition)) (number left last : ℕ) → number ≡ 1 → number + left ≡ 1 + last →
     records ++ records_from stored number left ≡ records ++ records_from stored 1 last
 none_yet stored records number left last first sum =
     let all_left : left ≡ last = omega arith in ap (λ (k : ℕ). records ++ records_from stored k left) first ∙ ap (λ (k : ℕ). records ++ records_from stored 1 k) all_left
 
-pub next_one : (stored : Stored Definition) (before after : List (Record Definition)) (s slot left : ℕ) (whole : List (Record Definition)) → after ≡ before ++ records_at stored slot → slot ≡ s →
+pub next_one : (stored : DurableState Definition) (before after : List (Record Definition)) (s slot left : ℕ) (whole : List (Record Definition)) → after ≡ before ++ records_at stored slot → slot ≡ s →
     before ++ records_from stored s (suc left) ≡ whole → after ++ records_from stored (s + 1) left ≡ whole
 unfolding records_from
 next_one stored before after s slot left whole more same so_far =
     rw (more, same, add-one) (append_assoc before (records_at stored s) (records_from stored (suc s) left) ∙ so_far)
 
-pub all_there : (stored : Stored Definition) (records : List (Record Definition)) (s : ℕ) (whole : List (Record Definition)) → records ++ records_from stored s 0 ≡ whole → records ≡ whole
+pub all_there : (stored : DurableState Definition) (records : List (Record Definition)) (s : ℕ) (whole : List (Record Definition)) → records ++ records_from stored s 0 ≡ whole → records ≡ whole
 unfolding records_from
 all_there stored records s whole so_far = sym (append-nil records) ∙ so_far

@@ -4,24 +4,24 @@ use Rattle.std.proofs.lemmas.Option.{none-some}
 use Rattle.wf_codec.specs.Message as message
 use Rattle.wf_codec.specs.declared.message.Message.{Message}
 use Rattle.wf_def.specs.Definition.{Definition}
-use Rattle.wf_model.specs.Stored.{Record}
+use Rattle.wf_model.specs.DurableState.{Record}
 use Rattle.wf_model.specs.Message as model
-use Rattle.wf_model.specs.Table.{Row, says, store}
+use Rattle.wf_model.specs.Table.{Transition, only_sends, store}
 use Rattle.wf_proposer.specs.Next.{Next}
-use Rattle.wf_proposer.specs.Proposer.{Proposer, row_of, working_of}
+use Rattle.wf_proposer.specs.Proposer.{Proposer, transition_of, volatile_of}
 use Rattle.wf_journal.specs.Journal.{Journal, Follows, IsAdded, ReadsOneMore, ReadsSameOrOneMore}
 use Rattle.wf_journal.specs.Record.{view}
 use Rattle.wf_journal.specs.declared.record.Record as tape
-use Rattle.wf_journal.specs.Spelling.{spelling}
+use Rattle.wf_journal.specs.Encoding.{spelling}
 use Rattle.wf_tape.specs.Tape.{IsUnchanged, IsExtended, HasRisen}
 use Rattle.wf_node.specs.declared.fault.NodeFault.{NodeFault}
 use Rattle.wf_node.specs.declared.fault.NodeFault.TheVariants.{Memory, Busy, SequenceFull, RoundsFull, Halted, TapeFailed, Nothing}
 use Rattle.wf_node.specs.Act.{IsChange, IsReply}
 use Rattle.wf_node.specs.Memory.{TakesMemory, ByEntry, ByMessages}
 use Rattle.wf_node.specs.Parts.{Parts, stored_of}
-use Rattle.wf_node.specs.Storing.{bytes_of, IsTornAt, IsWritten, IsSpared, IsBroken, IsStoredBy, IsWrite}
+use Rattle.wf_node.specs.TapeWrites.{bytes_of, IsTornAt, IsWritten, IsSpared, IsBroken, IsStoredBy, IsWrite}
 use Rattle.wf_tape.specs.Change.{inside}
-use Rattle.wf_node.proofs.Folding.{stored_none, stored_by, torn_at, cut_at}
+use Rattle.wf_node.proofs.Fold.{stored_none, stored_by, torn_at, cut_at}
 use Rattle.wf_tape.specs.declared.tape.Tape.{Ghosts as Tape}
 
 -- No call was made: what could have been left at a moment from now on is what could be left now.
@@ -45,49 +45,49 @@ module _ {T : Type 0} (tapes : Tape T) where
   pub spared : (journal : Journal T) → journal.halted ≡ false → IsSpared tapes journal journal
   spared journal running = record { running = running; same = λ h. unchanged (tapes.content journal.tape) (tapes.images journal.tape); still = λ sound. sound }
 
-  -- The transition stores nothing and leaves the working part unchanged: it only sends messages.
-  pub reply_changes : {A : Type 0} (the_row : Row Definition) (journal : Journal T) (parts : Parts) (proposer : Proposer) (result : Result (Vec Message A) NodeFault) →
-      journal.halted ≡ false → the_row.entry ≡ None → the_row.working ≡ working_of proposer → IsReply the_row.messages result →
-      IsChange tapes the_row journal parts proposer result journal parts proposer
+  -- The transition stores nothing and leaves the volatile state unchanged: it only sends messages.
+  pub reply_changes : {A : Type 0} (the_transition : Transition Definition) (journal : Journal T) (parts : Parts) (proposer : Proposer) (result : Result (Vec Message A) NodeFault) →
+      journal.halted ≡ false → the_transition.entry ≡ None → the_transition.volatile ≡ volatile_of proposer → IsReply the_transition.messages result →
+      IsChange tapes the_transition journal parts proposer result journal parts proposer
   unfolding store
-  reply_changes the_row journal parts proposer (Ok given) running entry working reply = (
-    written_none the_row.entry journal entry running,
+  reply_changes the_transition journal parts proposer (Ok given) running entry volatile reply = (
+    written_none the_transition.entry journal entry running,
     record {
       stored = ap (store (stored_of parts)) (sym entry);
       node = refl;
       nodes = refl;
-      working = sym working;
+      volatile = sym volatile;
       messages = reply;
     },
   )
-  reply_changes the_row journal parts proposer (Err Memory) running entry working reply =
-      (spared journal running, record { parts = refl; proposer = refl }, ByMessages reply, λ h. torn_stays the_row.entry (inside tapes journal.tape journal.tape))
-  reply_changes the_row journal parts proposer (Err TapeFailed) running entry working reply = absurd reply
-  reply_changes the_row journal parts proposer (Err Busy) running entry working reply = absurd reply
-  reply_changes the_row journal parts proposer (Err SequenceFull) running entry working reply = absurd reply
-  reply_changes the_row journal parts proposer (Err RoundsFull) running entry working reply = absurd reply
-  reply_changes the_row journal parts proposer (Err Nothing) running entry working reply = absurd reply
-  reply_changes the_row journal parts proposer (Err Halted) running entry working reply = absurd reply
+  reply_changes the_transition journal parts proposer (Err Memory) running entry volatile reply =
+      (spared journal running, record { parts = refl; proposer = refl }, ByMessages reply, λ h. torn_stays the_transition.entry (inside tapes journal.tape journal.tape))
+  reply_changes the_transition journal parts proposer (Err TapeFailed) running entry volatile reply = absurd reply
+  reply_changes the_transition journal parts proposer (Err Busy) running entry volatile reply = absurd reply
+  reply_changes the_transition journal parts proposer (Err SequenceFull) running entry volatile reply = absurd reply
+  reply_changes the_transition journal parts proposer (Err RoundsFull) running entry volatile reply = absurd reply
+  reply_changes the_transition journal parts proposer (Err Nothing) running entry volatile reply = absurd reply
+  reply_changes the_transition journal parts proposer (Err Halted) running entry volatile reply = absurd reply
 
   -- a transition that sends these messages
-  pub says_changes : {A : Type 0} (the_row : Row Definition) (messages : List (model.Message Definition)) (journal : Journal T) (parts : Parts) (proposer : Proposer) (result : Result (Vec Message A) NodeFault) →
-      journal.halted ≡ false → the_row ≡ says (working_of proposer) messages → IsReply messages result →
-      IsChange tapes the_row journal parts proposer result journal parts proposer
-  unfolding says
-  says_changes the_row messages journal parts proposer result running is reply =
+  pub sends_changes : {A : Type 0} (the_transition : Transition Definition) (messages : List (model.Message Definition)) (journal : Journal T) (parts : Parts) (proposer : Proposer) (result : Result (Vec Message A) NodeFault) →
+      journal.halted ≡ false → the_transition ≡ only_sends (volatile_of proposer) messages → IsReply messages result →
+      IsChange tapes the_transition journal parts proposer result journal parts proposer
+  unfolding only_sends
+  sends_changes the_transition messages journal parts proposer result running is reply =
       subst (λ r. IsChange tapes r journal parts proposer result journal parts proposer) (sym is)
-      (reply_changes (says (working_of proposer) messages) journal parts proposer result running refl refl reply)
+      (reply_changes (only_sends (volatile_of proposer) messages) journal parts proposer result running refl refl reply)
 
   -- Allocation failure leaves the parts unchanged.
-  pub memory_changes : {A : Type 0} (the_row : Row Definition) (journal : Journal T) (parts parts_after : Parts) (proposer : Proposer) (result : Result (Vec Message A) NodeFault) →
-      result ≡ Err Memory → journal.halted ≡ false → parts_after ≡ parts → TakesMemory the_row →
-      IsChange tapes the_row journal parts proposer result journal parts_after proposer
-  memory_changes the_row journal parts parts_after proposer result short running same takes =
-      subst (λ r. IsChange tapes the_row journal parts proposer r journal parts_after proposer) (sym short)
-      (spared journal running, record { parts = same; proposer = refl }, takes, λ h. torn_stays the_row.entry (inside tapes journal.tape journal.tape))
+  pub memory_changes : {A : Type 0} (the_transition : Transition Definition) (journal : Journal T) (parts parts_after : Parts) (proposer : Proposer) (result : Result (Vec Message A) NodeFault) →
+      result ≡ Err Memory → journal.halted ≡ false → parts_after ≡ parts → TakesMemory the_transition →
+      IsChange tapes the_transition journal parts proposer result journal parts_after proposer
+  memory_changes the_transition journal parts parts_after proposer result short running same takes =
+      subst (λ r. IsChange tapes the_transition journal parts proposer r journal parts_after proposer) (sym short)
+      (spared journal running, record { parts = same; proposer = refl }, takes, λ h. torn_stays the_transition.entry (inside tapes journal.tape journal.tape))
 
   -- A change by one transition is a change by an equal one.
-  pub change_as : {A : Type 0} (given wanted : Row Definition) (journal journal_after : Journal T) (parts parts_after : Parts) (proposer proposer_after : Proposer)
+  pub change_as : {A : Type 0} (given wanted : Transition Definition) (journal journal_after : Journal T) (parts parts_after : Parts) (proposer proposer_after : Proposer)
       (result : Result (Vec Message A) NodeFault) → given ≡ wanted →
       IsChange tapes given journal parts proposer result journal_after parts_after proposer_after →
       IsChange tapes wanted journal parts proposer result journal_after parts_after proposer_after
@@ -95,35 +95,35 @@ module _ {T : Type 0} (tapes : Tape T) where
       subst (λ r. IsChange tapes r journal parts proposer result journal_after parts_after proposer_after) is change
 
   -- A change from parts that are equal.
-  pub change_from : {A : Type 0} (the_row : Row Definition) (journal journal_after : Journal T) (parts same parts_after : Parts) (proposer proposer_after : Proposer)
+  pub change_from : {A : Type 0} (the_transition : Transition Definition) (journal journal_after : Journal T) (parts same parts_after : Parts) (proposer proposer_after : Proposer)
       (result : Result (Vec Message A) NodeFault) → same ≡ parts →
-      IsChange tapes the_row journal same proposer result journal_after parts_after proposer_after →
-      IsChange tapes the_row journal parts proposer result journal_after parts_after proposer_after
-  change_from the_row journal journal_after parts same parts_after proposer proposer_after result is change =
-      subst (λ p. IsChange tapes the_row journal p proposer result journal_after parts_after proposer_after) is change
+      IsChange tapes the_transition journal same proposer result journal_after parts_after proposer_after →
+      IsChange tapes the_transition journal parts proposer result journal_after parts_after proposer_after
+  change_from the_transition journal journal_after parts same parts_after proposer proposer_after result is change =
+      subst (λ p. IsChange tapes the_transition journal p proposer result journal_after parts_after proposer_after) is change
 
   entry_taken : (entry : Option (Record Definition)) → (entry ≡ None → ⊥) → IsSome entry
   entry_taken None some = absurd (some refl)
   entry_taken (Some r) some = refl
 
   -- If writing the record fails, the parts are unchanged.
-  pub write_fails : (A B : Type 0) (the_row : Row Definition) (journal journal_after : Journal T) (parts parts_after : Parts) (proposer : Proposer)
-      (fault : NodeFault) → parts_after ≡ parts → IsWrite tapes {A = B} the_row.entry journal (Err fault) journal_after →
-      IsChange tapes {A = A} the_row journal parts proposer (Err fault) journal_after parts_after proposer
-  write_fails A B the_row journal journal_after parts parts_after proposer Memory same write =
-      (write.0, record { parts = same; proposer = refl }, ByEntry (entry_taken the_row.entry write.1), write.2)
-  write_fails A B the_row journal journal_after parts parts_after proposer TapeFailed same write = (write, record { parts = same; proposer = refl })
-  write_fails A B the_row journal journal_after parts parts_after proposer Busy same write = absurd write
-  write_fails A B the_row journal journal_after parts parts_after proposer SequenceFull same write = absurd write
-  write_fails A B the_row journal journal_after parts parts_after proposer RoundsFull same write = absurd write
-  write_fails A B the_row journal journal_after parts parts_after proposer Nothing same write = absurd write
-  write_fails A B the_row journal journal_after parts parts_after proposer Halted same write = absurd write
+  pub write_fails : (A B : Type 0) (the_transition : Transition Definition) (journal journal_after : Journal T) (parts parts_after : Parts) (proposer : Proposer)
+      (fault : NodeFault) → parts_after ≡ parts → IsWrite tapes {A = B} the_transition.entry journal (Err fault) journal_after →
+      IsChange tapes {A = A} the_transition journal parts proposer (Err fault) journal_after parts_after proposer
+  write_fails A B the_transition journal journal_after parts parts_after proposer Memory same write =
+      (write.0, record { parts = same; proposer = refl }, ByEntry (entry_taken the_transition.entry write.1), write.2)
+  write_fails A B the_transition journal journal_after parts parts_after proposer TapeFailed same write = (write, record { parts = same; proposer = refl })
+  write_fails A B the_transition journal journal_after parts parts_after proposer Busy same write = absurd write
+  write_fails A B the_transition journal journal_after parts parts_after proposer SequenceFull same write = absurd write
+  write_fails A B the_transition journal journal_after parts parts_after proposer RoundsFull same write = absurd write
+  write_fails A B the_transition journal journal_after parts parts_after proposer Nothing same write = absurd write
+  write_fails A B the_transition journal journal_after parts parts_after proposer Halted same write = absurd write
 
   -- One more record is on the tape, or it is there or not.
   pub written : (r : Record Definition) (journal journal_after : Journal T) → journal_after.halted ≡ false →
-      (tapes.honest → IsAdded r (tapes.content journal.tape) (tapes.content journal_after.tape) (tapes.images journal_after.tape)) →
-      (tapes.honest → Follows (ReadsOneMore r) (tapes.images journal.tape) (tapes.images journal_after.tape)) →
-      (tapes.honest → Follows (ReadsSameOrOneMore r) (inside tapes journal.tape journal.tape) (inside tapes journal.tape journal_after.tape)) → (tapes.never_fails journal.tape → tapes.never_fails journal_after.tape) →
+      (tapes.durable → IsAdded r (tapes.content journal.tape) (tapes.content journal_after.tape) (tapes.images journal_after.tape)) →
+      (tapes.durable → Follows (ReadsOneMore r) (tapes.images journal.tape) (tapes.images journal_after.tape)) →
+      (tapes.durable → Follows (ReadsSameOrOneMore r) (inside tapes journal.tape journal.tape) (inside tapes journal.tape journal_after.tape)) → (tapes.never_fails journal.tape → tapes.never_fails journal_after.tape) →
       IsWritten tapes (Some r) journal journal_after
   written r journal journal_after running added more each still = record {
     running = running;
@@ -134,9 +134,9 @@ module _ {T : Type 0} (tapes : Tape T) where
   }
 
   pub broken : (r : Record Definition) (journal journal_after : Journal T) → journal_after.halted ≡ true → HasRisen (tapes.failed journal.tape) (tapes.failed journal_after.tape) →
-      (tapes.honest → IsExtended (tapes.content journal.tape) (spelling r) (tapes.content journal_after.tape)) →
-      (tapes.honest → Follows (ReadsSameOrOneMore r) (tapes.images journal.tape) (tapes.images journal_after.tape)) →
-      (tapes.honest → Follows (ReadsSameOrOneMore r) (inside tapes journal.tape journal.tape) (inside tapes journal.tape journal_after.tape)) → (tapes.never_fails journal.tape → ⊥) →
+      (tapes.durable → IsExtended (tapes.content journal.tape) (spelling r) (tapes.content journal_after.tape)) →
+      (tapes.durable → Follows (ReadsSameOrOneMore r) (tapes.images journal.tape) (tapes.images journal_after.tape)) →
+      (tapes.durable → Follows (ReadsSameOrOneMore r) (inside tapes journal.tape journal.tape) (inside tapes journal.tape journal_after.tape)) → (tapes.never_fails journal.tape → ⊥) →
       IsBroken tapes (Some r) journal journal_after
   broken r journal journal_after halted risen part either each weak = record {
     entry_is = refl;
@@ -150,9 +150,9 @@ module _ {T : Type 0} (tapes : Tape T) where
   }
 
   pub spared_some : (r : Record Definition) (journal journal_after : Journal T) → journal_after.halted ≡ false →
-      (tapes.honest → IsUnchanged (tapes.content journal.tape) (tapes.content journal_after.tape) (tapes.images journal.tape) (tapes.images journal_after.tape)) →
-      (tapes.honest → Follows (ReadsSameOrOneMore r) (inside tapes journal.tape journal.tape) (inside tapes journal.tape journal_after.tape)) → (tapes.never_fails journal.tape → tapes.never_fails journal_after.tape) →
-      IsSpared tapes journal journal_after × (Some r ≡ None → ⊥) × (tapes.honest → IsTornAt (Some r) (inside tapes journal.tape journal.tape) (inside tapes journal.tape journal_after.tape))
+      (tapes.durable → IsUnchanged (tapes.content journal.tape) (tapes.content journal_after.tape) (tapes.images journal.tape) (tapes.images journal_after.tape)) →
+      (tapes.durable → Follows (ReadsSameOrOneMore r) (inside tapes journal.tape journal.tape) (inside tapes journal.tape journal_after.tape)) → (tapes.never_fails journal.tape → tapes.never_fails journal_after.tape) →
+      IsSpared tapes journal journal_after × (Some r ≡ None → ⊥) × (tapes.durable → IsTornAt (Some r) (inside tapes journal.tape journal.tape) (inside tapes journal.tape journal_after.tape))
   spared_some r journal journal_after running same each still =
       (record { running = running; same = same; still = still }, λ e. none-some r (sym e), λ h. torn_at r (inside tapes journal.tape journal.tape) (inside tapes journal.tape journal_after.tape) (each h))
 
@@ -160,15 +160,15 @@ module _ {T : Type 0} (tapes : Tape T) where
   pub performed : {A : Type 0} (next : Next) (journal journal_after : Journal T) (parts made parts_after : Parts) (proposer proposer_after : Proposer) (entry : Option tape.Record) (messages : Vec Message A) →
       IsWritten tapes (option_map view next.entry) journal journal_after → made ≡ parts → entry ≡ next.entry →
       stored_of parts_after ≡ store (stored_of made) (option_map view entry) →
-      working_of proposer_after ≡ (row_of proposer next).working → proposer_after.node ≡ proposer.node → proposer_after.nodes ≡ proposer.nodes → messages.items ≡ next.messages →
-      IsChange tapes (row_of proposer next) journal parts proposer (Ok messages) journal_after parts_after proposer_after
-  performed next journal journal_after parts made parts_after proposer proposer_after entry messages on_tape same given applied working node nodes sent = (
+      volatile_of proposer_after ≡ (transition_of proposer next).volatile → proposer_after.node ≡ proposer.node → proposer_after.nodes ≡ proposer.nodes → messages.items ≡ next.messages →
+      IsChange tapes (transition_of proposer next) journal parts proposer (Ok messages) journal_after parts_after proposer_after
+  performed next journal journal_after parts made parts_after proposer proposer_after entry messages on_tape same given applied volatile node nodes sent = (
     on_tape,
     record {
       stored = applied ∙ (ap (λ p. store (stored_of p) (option_map view entry)) same ∙ ap (λ e. store (stored_of parts) (option_map view e)) given);
       node = node;
       nodes = nodes;
-      working = working;
+      volatile = volatile;
       messages = ap (map message.view) sent;
     },
   )

@@ -1,4 +1,4 @@
--- The records of a shortened tape fold to the stored part from which they were written.
+-- The records of a shortened tape fold to the durable state from which they were written.
 use Rattle.std.proofs.Common.{◌≡◌, ℕ, zero, suc, ◌+◌, ◌<◌, ◌≤◌, nat_lt, ◌==◌, Bool, true, false, List, [], ◌∷◌, ◌++◌, length, take, slice_get, Option, Some, None, refl, sym, ap, subst, ◌∙◌, inl, inr, arith, length-append, length-take-le}
 use Rattle.std.specs.Prelude.{⊤}
 use Rattle.std.proofs.Math.Path.{fun_ext}
@@ -6,41 +6,41 @@ use Rattle.std.proofs.lemmas.Bool.{cases_eq, cases_lt, and_parts, eqb-true, lt-l
 use Rattle.std.proofs.lemmas.List.{take_all, take_more}
 use Rattle.std.proofs.lemmas.Option.{none-some, same_Some, slice_get_within, slice_get_cases, get_or_from_slice_get}
 use Rattle.wf_ballot.specs.Ballot.{Ballot, below}
-use Rattle.wf_ballot.specs.OrderLaws as order
+use Rattle.wf_ballot.specs.OrderTheorems as order
 use Rattle.wf_ballot.specs.Sequence.{last_sequence}
 use Rattle.wf_ballot.specs.Slot.{IsSlot}
 use Rattle.wf_def.specs.Definition.{Definition}
 use Rattle.wf_model.specs.Fits.{IsOpenAlone, NotBelow, FoldsAreOpen, VotesArePromised}
 use Rattle.wf_model.specs.Message.{Vote}
-use Rattle.wf_model.specs.PutLaws.{put-same, put-other, at_put}
-use Rattle.wf_model.specs.Stored.{Stored, Record, Tried, Promised, Accepted, Published, nothing_stored, published, next_sequence, definition_at, put, raised, with_record, fits, fold_from, fold}
+use Rattle.wf_model.specs.PutTheorems.{put-same, put-other, at_put}
+use Rattle.wf_model.specs.DurableState.{DurableState, Record, Tried, Promised, Accepted, Published, nothing_stored, published, next_sequence, definition_at, put, raised, with_record, fits, fold_from, fold}
 use Rattle.wf_model.specs.Table.{votes_at}
-use Rattle.wf_model.specs.Working.{same_ballot}
+use Rattle.wf_model.specs.VolatileState.{same_ballot}
 use Rattle.wf_journal.specs.Journal.{Follows, IsSameOrReads}
 use Rattle.wf_journal.specs.Record.{IsRecord}
 use Rattle.wf_journal.specs.Records.{Splits}
 use Rattle.wf_node.specs.Images.{StandsFor, AllStandFor}
-use Rattle.wf_node.specs.Shortening.{tried_records, vote_records, is_voted, promised_sequence, promise_record, promise_records, records_by, records_at, records_from, shortened}
+use Rattle.wf_node.specs.Compaction.{tried_records, vote_records, is_voted, promised_sequence, promise_record, promise_records, records_by, records_at, records_from, short_records}
 
 -- ---- lists of records are folded in turn
 
-fold_next : (r : Record Definition) (rest : List (Record Definition)) (start folded : Stored Definition) (fit : Bool) → fits start r ≡ fit →
+fold_next : (r : Record Definition) (rest : List (Record Definition)) (start folded : DurableState Definition) (fit : Bool) → fits start r ≡ fit →
     fold_from start (r ∷ rest) ≡ Some folded → (fits start r ≡ true) × (fold_from (with_record start r) rest ≡ Some folded)
 unfolding fold_from
 fold_next r rest start folded true is_fit e = (is_fit, rw is_fit at e)
 fold_next r rest start folded false is_fit e = absurd (none-some folded (rw is_fit at e))
 
-fold_first : (start : Stored Definition) (r : Record Definition) (rest : List (Record Definition)) → fits start r ≡ true → fold_from start (r ∷ rest) ≡ fold_from (with_record start r) rest
+fold_first : (start : DurableState Definition) (r : Record Definition) (rest : List (Record Definition)) → fits start r ≡ true → fold_from start (r ∷ rest) ≡ fold_from (with_record start r) rest
 unfolding fold_from
 fold_first start r rest fit = rw fit refl
 
-fold_none : (start : Stored Definition) → fold_from start [] ≡ Some start
+fold_none : (start : DurableState Definition) → fold_from start [] ≡ Some start
 unfolding fold_from
 fold_none start = refl
 
-fold_from-append : (start mid : Stored Definition) (xs ys : List (Record Definition)) → fold_from start xs ≡ Some mid → fold_from start (xs ++ ys) ≡ fold_from mid ys
+fold_from-append : (start mid : DurableState Definition) (xs ys : List (Record Definition)) → fold_from start xs ≡ Some mid → fold_from start (xs ++ ys) ≡ fold_from mid ys
 unfolding fold_from
-fold_from-append start mid [] ys folds = ap (λ (s : Stored Definition). fold_from s ys) (same_Some start mid folds)
+fold_from-append start mid [] ys folds = ap (λ (s : DurableState Definition). fold_from s ys) (same_Some start mid folds)
 fold_from-append start mid (x ∷ xs) ys folds =
     let (fit, rest) = fold_next x xs start mid (fits start x) refl folds in
     fold_first start x (xs ++ ys) fit ∙ fold_from-append (with_record start x) mid xs ys rest
@@ -177,13 +177,13 @@ none_by_none votes (suc n) no_votes = not_raised (raised_by votes n) (votes (suc
 
 -- ---- the records of a sequence that isn't published
 
-accept_here : (stored : Stored Definition) (s : ℕ) (vote : Vote Definition) → nat_lt (published stored) s ≡ true →
+accept_here : (stored : DurableState Definition) (s : ℕ) (vote : Vote Definition) → nat_lt (published stored) s ≡ true →
     with_record stored (Accepted s vote.ballot vote.definition) ≡ record stored { promise = raised stored.promise vote.ballot; votes = put stored.votes s (Some vote) }
 unfolding with_record
 accept_here stored s vote is_open = rw is_open refl
 
 -- They raise the promise, and set the vote, if there was none.
-open_fold : (stored : Stored Definition) (s : ℕ) (vote : Option (Vote Definition)) → nat_lt (published stored) s ≡ true → stored.votes s ≡ None →
+open_fold : (stored : DurableState Definition) (s : ℕ) (vote : Option (Vote Definition)) → nat_lt (published stored) s ≡ true → stored.votes s ≡ None →
     fold_from stored (vote_records s vote) ≡ Some (record stored { promise = raised_to stored.promise vote; votes = put stored.votes s vote })
 unfolding fits
 open_fold stored s None is_open no_vote =
@@ -196,7 +196,7 @@ open_fold stored s (Some vote) is_open no_vote =
 -- ---- sequence by sequence
 
 -- the state with the first n sequences alone, and the promise that their votes leave
-abbrev so_far : Stored Definition → ℕ → Stored Definition
+abbrev so_far : DurableState Definition → ℕ → DurableState Definition
 so_far stored n =
     record {
       tried = stored.tried;
@@ -207,7 +207,7 @@ so_far stored n =
 
 -- A state that records fold to, up to this last sequence: a published sequence has no vote, no vote is above the promise, and there
 -- is nothing past the last sequence.
-record IsFolded (stored : Stored Definition) (last : ℕ) : Type 0 where
+record IsFolded (stored : DurableState Definition) (last : ℕ) : Type 0 where
   is_open : IsOpenAlone stored
   promised : (s : ℕ) (vote : Vote Definition) → stored.votes s ≡ Some vote → NotBelow stored.promise vote.ballot
   no_vote : (s : ℕ) → last < s → stored.votes s ≡ None
@@ -226,7 +226,7 @@ past_end xs n none =
     ]
 
 -- Of a published sequence.
-published_step : (stored : Stored Definition) (n : ℕ) (d : Definition) → IsOpenAlone stored → slice_get stored.history n ≡ Some d →
+published_step : (stored : DurableState Definition) (n : ℕ) (d : Definition) → IsOpenAlone stored → slice_get stored.history n ≡ Some d →
     fold_from (so_far stored n) (Published (suc n) d ∷ []) ≡ Some (so_far stored (suc n))
 unfolding fits next_sequence published with_record up_to raised_by
 published_step stored n d known here =
@@ -244,7 +244,7 @@ published_step stored n d known here =
     ∙ fold_none (with_record (so_far stored n) (Published (suc n) d)) ∙ ap Some same
 
 -- Of one that isn't.
-open_step : (stored : Stored Definition) (n : ℕ) → slice_get stored.history n ≡ None →
+open_step : (stored : DurableState Definition) (n : ℕ) → slice_get stored.history n ≡ None →
     fold_from (so_far stored n) (vote_records (suc n) (stored.votes (suc n))) ≡ Some (so_far stored (suc n))
 unfolding published up_to raised_by
 open_step stored n none =
@@ -263,16 +263,16 @@ open_step stored n none =
     } in
     open_fold (so_far stored n) (suc n) (stored.votes (suc n)) is_open (up_to-past stored.votes n (suc n) (omega arith)) ∙ ap Some same
 
-step_by : (stored : Stored Definition) (n last : ℕ) (here : Option Definition) → IsFolded stored last → slice_get stored.history n ≡ here →
+step_by : (stored : DurableState Definition) (n last : ℕ) (here : Option Definition) → IsFolded stored last → slice_get stored.history n ≡ here →
     fold_from (so_far stored n) (records_by (suc n) here (stored.votes (suc n))) ≡ Some (so_far stored (suc n))
 step_by stored n last (Some d) known is = published_step stored n d known.is_open is
 step_by stored n last None known is = open_step stored n is
 
-step : (stored : Stored Definition) (n last : ℕ) → IsFolded stored last → fold_from (so_far stored n) (records_at stored (suc n)) ≡ Some (so_far stored (suc n))
+step : (stored : DurableState Definition) (n last : ℕ) → IsFolded stored last → fold_from (so_far stored n) (records_at stored (suc n)) ≡ Some (so_far stored (suc n))
 unfolding records_at definition_at
 step stored n last known = step_by stored n last (slice_get stored.history n) known refl
 
-steps_from : (stored : Stored Definition) (n count last : ℕ) → IsFolded stored last → fold_from (so_far stored n) (records_from stored (suc n) count) ≡ Some (so_far stored (n + count))
+steps_from : (stored : DurableState Definition) (n count last : ℕ) → IsFolded stored last → fold_from (so_far stored n) (records_from stored (suc n) count) ≡ Some (so_far stored (n + count))
 unfolding records_from
 steps_from stored n zero last known = let same : n ≡ n + 0 = omega arith in fold_none (so_far stored n) ∙ ap (λ (k : ℕ). Some (so_far stored k)) same
 steps_from stored n (suc count) last known =
@@ -282,16 +282,16 @@ steps_from stored n (suc count) last known =
 
 -- ---- the promise
 
-promise_here : (stored : Stored Definition) (s : ℕ) (b : Ballot) → fold_from stored (Promised s b ∷ []) ≡ Some (record stored { promise = raised stored.promise b })
+promise_here : (stored : DurableState Definition) (s : ℕ) (b : Ballot) → fold_from stored (Promised s b ∷ []) ≡ Some (record stored { promise = raised stored.promise b })
 unfolding fits with_record
 promise_here stored s b = fold_first stored (Promised s b) [] refl ∙ fold_none (with_record stored (Promised s b))
 
 -- the state with another promise
-abbrev with_promise : Stored Definition → Option Ballot → Stored Definition
+abbrev with_promise : DurableState Definition → Option Ballot → DurableState Definition
 with_promise stored promise = record stored { promise = promise }
 
 -- Its record raises the promise that the votes left, unless one of them is at its ballot.
-promise_by : (stored : Stored Definition) (s : ℕ) (b : Ballot) (last : ℕ) (voted : Bool) → ((t : ℕ) → IsVoteWithin b (stored.votes t)) → is_voted stored.votes b last ≡ voted →
+promise_by : (stored : DurableState Definition) (s : ℕ) (b : Ballot) (last : ℕ) (voted : Bool) → ((t : ℕ) → IsVoteWithin b (stored.votes t)) → is_voted stored.votes b last ≡ voted →
     fold_from (with_promise stored (raised_by stored.votes last)) (promise_record s b voted) ≡ Some (with_promise stored (Some b))
 promise_by stored s b last true all_within voted =
     fold_none (with_promise stored (raised_by stored.votes last)) ∙ ap (λ (promise : Option Ballot). Some (with_promise stored promise)) (reached_by_votes stored.votes b all_within last voted)
@@ -299,7 +299,7 @@ promise_by stored s b last false all_within voted =
     promise_here (with_promise stored (raised_by stored.votes last)) s b
     ∙ ap (λ (promise : Option Ballot). Some (with_promise stored promise)) (reached (raised_by stored.votes last) b (by_within stored.votes b all_within last))
 
-promise_folds : (stored : Stored Definition) (promise : Option Ballot) → ((s : ℕ) (vote : Vote Definition) → stored.votes s ≡ Some vote → NotBelow promise vote.ballot) →
+promise_folds : (stored : DurableState Definition) (promise : Option Ballot) → ((s : ℕ) (vote : Vote Definition) → stored.votes s ≡ Some vote → NotBelow promise vote.ballot) →
     fold_from (with_promise stored (raised_by stored.votes last_sequence)) (promise_records stored promise) ≡ Some (with_promise stored promise)
 promise_folds stored None promised =
     fold_none (with_promise stored (raised_by stored.votes last_sequence))
@@ -310,7 +310,7 @@ promise_folds stored (Some b) promised =
 -- ---- the whole list
 
 -- the state that has tried this round, and has nothing else
-abbrev begun : ℕ → Stored Definition
+abbrev begun : ℕ → DurableState Definition
 begun round = record { tried = round; promise = None; votes = λ s. None; history = [] }
 
 tried_fold : (tried : ℕ) → fold_from nothing_stored (tried_records tried) ≡ Some (begun tried)
@@ -318,25 +318,25 @@ unfolding fold_from nothing_stored fits with_record
 tried_fold zero = refl
 tried_fold (suc r) = refl
 
-none_so_far : (stored : Stored Definition) → so_far stored 0 ≡ begun stored.tried
+none_so_far : (stored : DurableState Definition) → so_far stored 0 ≡ begun stored.tried
 unfolding up_to raised_by
 none_so_far stored = refl
 
-all_so_far : (stored : Stored Definition) (last : ℕ) → IsFolded stored last → so_far stored last ≡ with_promise stored (raised_by stored.votes last)
+all_so_far : (stored : DurableState Definition) (last : ℕ) → IsFolded stored last → so_far stored last ≡ with_promise stored (raised_by stored.votes last)
 all_so_far stored last known =
     let votes = up_to-all stored.votes last (known.is_open 0 (omega arith)) known.no_vote in
     let history = take_all last stored.history known.short in
     λ i. record { tried = stored.tried; promise = raised_by stored.votes last; votes = votes i; history = history i }
 
 -- the sequences' records, and those that follow
-sequences_fold : (stored : Stored Definition) (last : ℕ) (rest : List (Record Definition)) → IsFolded stored last →
+sequences_fold : (stored : DurableState Definition) (last : ℕ) (rest : List (Record Definition)) → IsFolded stored last →
     fold_from (so_far stored 0) (records_from stored 1 last ++ rest) ≡ fold_from (with_promise stored (raised_by stored.votes last)) rest
 sequences_fold stored last rest known =
     let none_yet : 0 + last ≡ last = omega arith in
     fold_from-append (so_far stored 0) (so_far stored last) (records_from stored 1 last) rest (steps_from stored 0 last last known ∙ ap (λ (k : ℕ). Some (so_far stored k)) none_yet)
-    ∙ ap (λ (s : Stored Definition). fold_from s rest) (all_so_far stored last known)
+    ∙ ap (λ (s : DurableState Definition). fold_from s rest) (all_so_far stored last known)
 
-folds_back : (stored : Stored Definition) → IsFolded stored last_sequence →
+folds_back : (stored : DurableState Definition) → IsFolded stored last_sequence →
     fold_from nothing_stored (tried_records stored.tried ++ (records_from stored 1 last_sequence ++ promise_records stored stored.promise)) ≡ Some stored
 folds_back stored known =
     let promise = promise_records stored stored.promise in
@@ -345,11 +345,11 @@ folds_back stored known =
 
 -- ---- records on a tape are of slots, so there is nothing past the last sequence
 
-record IsToLast (stored : Stored Definition) : Type 0 where
+record IsToLast (stored : DurableState Definition) : Type 0 where
   votes : (s : ℕ) → last_sequence < s → stored.votes s ≡ None
   short : length stored.history ≤ last_sequence
 
-module _ (stored : Stored Definition) (known : IsToLast stored) where
+module _ (stored : DurableState Definition) (known : IsToLast stored) where
   accepted_to_last : (s : ℕ) (b : Ballot) (d : Definition) (is_open : Bool) → IsSlot s → nat_lt (published stored) s ≡ is_open → IsToLast (with_record stored (Accepted s b d))
   unfolding with_record
   accepted_to_last s b d true slot e = rw e (record {
@@ -372,7 +372,7 @@ module _ (stored : Stored Definition) (known : IsToLast stored) where
   record_to_last (Accepted s b d) is fit = accepted_to_last s b d (nat_lt (length stored.history) s) is.0 refl
   record_to_last (Published s d) is fit = published_to_last s d is.0 (eqb-true s (length stored.history + 1) fit)
 
-all_to_last : (bytes : List ℕ) (records : List (Record Definition)) (rest : List ℕ) (start stored : Stored Definition) → Splits bytes records rest → IsToLast start →
+all_to_last : (bytes : List ℕ) (records : List (Record Definition)) (rest : List ℕ) (start stored : DurableState Definition) → Splits bytes records rest → IsToLast start →
     fold_from start records ≡ Some stored → IsToLast stored
 unfolding fold_from
 all_to_last bytes [] rest start stored splits known folds = subst IsToLast (same_Some start stored folds) known
@@ -387,8 +387,8 @@ nothing_to_last = record { votes = λ s past. refl; short = omega arith }
 -- ---- a tape
 
 -- The records of a shortened tape fold to what the tape stands for.
-pub shortened_folds : FoldsAreOpen Definition → VotesArePromised Definition → (stored : Stored Definition) (bytes : List ℕ) → StandsFor stored bytes → fold (shortened stored) ≡ Some stored
-unfolding fold shortened
+pub shortened_folds : FoldsAreOpen Definition → VotesArePromised Definition → (stored : DurableState Definition) (bytes : List ℕ) → StandsFor stored bytes → fold (short_records stored) ≡ Some stored
+unfolding fold short_records
 shortened_folds are_open are_promised stored bytes stands =
     let to_last = all_to_last bytes stands.records stands.reads.0 nothing_stored stored stands.reads.1.splits nothing_to_last stands.folds in
     folds_back stored (record {
@@ -399,12 +399,12 @@ shortened_folds are_open are_promised stored bytes stands =
     })
 
 -- So each image after it is rewritten stands for what each stood for before.
-pub stands_on : FoldsAreOpen Definition → VotesArePromised Definition → (stored : Stored Definition) (old new : List ℕ → Type 0) → Follows (IsSameOrReads (shortened stored)) old new →
+pub stands_on : FoldsAreOpen Definition → VotesArePromised Definition → (stored : DurableState Definition) (old new : List ℕ → Type 0) → Follows (IsSameOrReads (short_records stored)) old new →
     AllStandFor stored old → AllStandFor stored new
 stands_on are_open are_promised stored old new follows stands image left =
     let earlier = follows image left in
     let stood = stands earlier.0 earlier.1 in
     elim earlier.2 [
       | inl same ↦ subst (λ (t : List ℕ). StandsFor stored t) (sym same) stood
-      | inr reads ↦ record { records = shortened stored; reads = reads; folds = shortened_folds are_open are_promised stored earlier.0 stood }
+      | inr reads ↦ record { records = short_records stored; reads = reads; folds = shortened_folds are_open are_promised stored earlier.0 stood }
     ]

@@ -5,7 +5,7 @@ use Rattle.wf_ballot.specs.Ballot.{Ballot}
 use Rattle.wf_def.specs.Definition.{Definition}
 use Rattle.wf_model.specs.Message.{Vote}
 use Rattle.wf_model.specs.Table.{votes_at}
-use Rattle.wf_node.specs.Shortening.{is_voted}
+use Rattle.wf_node.specs.Compaction.{is_voted}
 
 second_true : (first second : Bool) → second ≡ true → (first || second) ≡ true
 second_true true second is = refl

@@ -6,31 +6,31 @@ use Rattle.wf_def.specs.Definition.{Definition}
 use Rattle.wf_def.specs.Equality.{definition_eq}
 use Rattle.wf_model.specs.Fits.{IsForNext, RecordsFit}
 use Rattle.wf_model.specs.Message as model
-use Rattle.wf_model.specs.Stored as model_stored
-use Rattle.wf_model.specs.Stored.{Record}
-use Rattle.wf_model.specs.Table.{Row, Input, Refusal, row, refusal, store, after_publishing}
-use Rattle.wf_model.specs.Working as model_working
-use Rattle.wf_proposer.specs.Proposer.{Proposer, runs_for, working_of}
+use Rattle.wf_model.specs.DurableState as model_stored
+use Rattle.wf_model.specs.DurableState.{Record}
+use Rattle.wf_model.specs.Table.{Transition, Input, StepRejection, transition, step_rejection, store, after_publishing}
+use Rattle.wf_model.specs.VolatileState as model_volatile
+use Rattle.wf_proposer.specs.Proposer.{Proposer, runs_for, volatile_of}
 use Rattle.wf_journal.specs.Journal.{Journal}
 use Rattle.wf_journal.specs.declared.record.Record as tape
 use Rattle.wf_journal.specs.declared.record.Record.TheVariants as tape_case
 use Rattle.wf_node.specs.declared.machine.Machine.{Machine}
 use Rattle.wf_node.specs.declared.fault.NodeFault.{NodeFault}
 use Rattle.wf_node.specs.declared.fault.NodeFault.TheVariants.{Memory, Busy, SequenceFull, RoundsFull, Halted, TapeFailed, Nothing}
-use Rattle.wf_node.specs.Fault.{refused_by}
-use Rattle.wf_node.specs.StoredPart as keeping
+use Rattle.wf_node.specs.Fault.{rejected_by}
+use Rattle.wf_node.specs.DurablePart as keeping
 use Rattle.wf_node.specs.Parts.{Parts, stored_of}
 use Rattle.wf_node.specs.Memory.{TakesMemory}
-use Rattle.wf_node.specs.Storing.{IsTornAt, IsWritten, IsSpared, IsBroken}
+use Rattle.wf_node.specs.TapeWrites.{IsTornAt, IsWritten, IsSpared, IsBroken}
 use Rattle.wf_tape.specs.Change.{inside}
 use Rattle.wf_tape.specs.declared.tape.Tape.{Ghosts as Tape}
 
--- The parts of a node that may act: its journal runs, its stored part and its proposer are of the same node, a running proposal
+-- The parts of a node that may act: its journal runs, its durable state and its proposer are of the same node, a running proposal
 -- is for the next sequence, and, as wf_model's theorem says, each transition's record fits then.
 pub record IsReady {T : Type 0} (machine : Machine T) : Type 0 where
   pub running : machine.journal.halted ≡ false
-  pub same_node : machine.kept.id ≡ machine.proposer.node
-  pub for_next : IsForNext (keeping.stored_of machine.kept) (working_of machine.proposer).proposing
+  pub same_node : machine.persistent.id ≡ machine.proposer.node
+  pub for_next : IsForNext (keeping.stored_of machine.persistent) (volatile_of machine.proposer).proposing
   pub fits : RecordsFit Definition
 
 -- The messages, or allocation failure, which is possible only if there are some.
@@ -45,11 +45,11 @@ IsReply messages (Err Halted) = ⊥
 IsReply messages (Err Nothing) = ⊥
 
 -- whether a proposal runs
-abbrev pub runs : model_working.Proposing Definition → Bool
-runs model_working.Idle = false
-runs (model_working.Running proposal) = true
-runs (model_working.Won s) = false
-runs (model_working.Overtaken s) = false
+abbrev pub runs : model_volatile.Proposing Definition → Bool
+runs model_volatile.Idle = false
+runs (model_volatile.Running proposal) = true
+runs (model_volatile.Won s) = false
+runs (model_volatile.Overtaken s) = false
 
 -- a record that a proposer may store, or none
 abbrev pub IsOwn : Option (Record Definition) → Type 0
@@ -63,7 +63,7 @@ IsOwn (Some (model_stored.Published s d)) = ⊤
 pub record IsEndedAt (s : ℕ) (d : Definition) (before after : Proposer) : Type 0 where
   pub node : after.node ≡ before.node
   pub nodes : after.nodes ≡ before.nodes
-  pub working : working_of after ≡ (if runs_for s (working_of before).proposing then after_publishing definition_eq (working_of before) d else working_of before)
+  pub volatile : volatile_of after ≡ (if runs_for s (volatile_of before).proposing then after_publishing definition_eq (volatile_of before) d else volatile_of before)
 
 -- the effect of a published definition's record on a proposer
 abbrev pub IsEnded : tape.Record → Proposer → Proposer → Type 0
@@ -72,53 +72,53 @@ IsEnded (tape_case.Promised s b) before after = after ≡ before
 IsEnded (tape_case.Accepted s b d) before after = after ≡ before
 IsEnded (tape_case.Published s d) before after = IsEndedAt s d before after
 
--- the stored part, the proposer and the messages are those of the transition
-pub record IsRowOf (the_row : Row Definition) (old new : Parts) (before after : Proposer) (sent : List Message) : Type 0 where
-  pub stored : stored_of new ≡ store (stored_of old) the_row.entry
+-- the durable state, the proposer and the messages are those of the transition
+pub record IsTransitionOf (the_transition : Transition Definition) (old new : Parts) (before after : Proposer) (sent : List Message) : Type 0 where
+  pub stored : stored_of new ≡ store (stored_of old) the_transition.entry
   pub node : after.node ≡ before.node
   pub nodes : after.nodes ≡ before.nodes
-  pub working : working_of after ≡ the_row.working
-  pub messages : map message.view sent ≡ the_row.messages
+  pub volatile : volatile_of after ≡ the_transition.volatile
+  pub messages : map message.view sent ≡ the_transition.messages
 
--- the stored part and the proposer are unchanged
+-- the durable state and the proposer are unchanged
 pub record IsSame (old new : Parts) (before after : Proposer) : Type 0 where
   pub parts : new ≡ old
   pub proposer : after ≡ before
 
 module _ {T : Type 0} (tapes : Tape T) where
   -- the transition is made, or an error leaves the parts unchanged
-  abbrev pub IsChange : {A : Type 0} → Row Definition → Journal T → Parts → Proposer → Result (Vec Message A) NodeFault → Journal T → Parts → Proposer → Type 0
-  IsChange the_row journal parts proposer (Ok messages) journal_after parts_after proposer_after =
-      IsWritten tapes the_row.entry journal journal_after × IsRowOf the_row parts parts_after proposer proposer_after messages.items
-  IsChange the_row journal parts proposer (Err Memory) journal_after parts_after proposer_after =
-      IsSpared tapes journal journal_after × IsSame parts parts_after proposer proposer_after × TakesMemory the_row ×
-      (tapes.honest → IsTornAt the_row.entry (inside tapes journal.tape journal.tape) (inside tapes journal.tape journal_after.tape))
-  IsChange the_row journal parts proposer (Err TapeFailed) journal_after parts_after proposer_after =
-      IsBroken tapes the_row.entry journal journal_after × IsSame parts parts_after proposer proposer_after
-  IsChange the_row journal parts proposer (Err Busy) journal_after parts_after proposer_after = ⊥
-  IsChange the_row journal parts proposer (Err SequenceFull) journal_after parts_after proposer_after = ⊥
-  IsChange the_row journal parts proposer (Err RoundsFull) journal_after parts_after proposer_after = ⊥
-  IsChange the_row journal parts proposer (Err Nothing) journal_after parts_after proposer_after = ⊥
-  IsChange the_row journal parts proposer (Err Halted) journal_after parts_after proposer_after = ⊥
+  abbrev pub IsChange : {A : Type 0} → Transition Definition → Journal T → Parts → Proposer → Result (Vec Message A) NodeFault → Journal T → Parts → Proposer → Type 0
+  IsChange the_transition journal parts proposer (Ok messages) journal_after parts_after proposer_after =
+      IsWritten tapes the_transition.entry journal journal_after × IsTransitionOf the_transition parts parts_after proposer proposer_after messages.items
+  IsChange the_transition journal parts proposer (Err Memory) journal_after parts_after proposer_after =
+      IsSpared tapes journal journal_after × IsSame parts parts_after proposer proposer_after × TakesMemory the_transition ×
+      (tapes.durable → IsTornAt the_transition.entry (inside tapes journal.tape journal.tape) (inside tapes journal.tape journal_after.tape))
+  IsChange the_transition journal parts proposer (Err TapeFailed) journal_after parts_after proposer_after =
+      IsBroken tapes the_transition.entry journal journal_after × IsSame parts parts_after proposer proposer_after
+  IsChange the_transition journal parts proposer (Err Busy) journal_after parts_after proposer_after = ⊥
+  IsChange the_transition journal parts proposer (Err SequenceFull) journal_after parts_after proposer_after = ⊥
+  IsChange the_transition journal parts proposer (Err RoundsFull) journal_after parts_after proposer_after = ⊥
+  IsChange the_transition journal parts proposer (Err Nothing) journal_after parts_after proposer_after = ⊥
+  IsChange the_transition journal parts proposer (Err Halted) journal_after parts_after proposer_after = ⊥
 
   -- If the table rejects the input, that rejection is returned and the parts are unchanged; else the transition is made or fails.
-  abbrev pub IsRefusedOr : {A : Type 0} → Option Refusal → Row Definition → Journal T → Parts → Proposer → Result (Vec Message A) NodeFault → Journal T → Parts → Proposer → Type 0
-  IsRefusedOr None the_row journal parts proposer result journal_after parts_after proposer_after =
-      IsChange the_row journal parts proposer result journal_after parts_after proposer_after
-  IsRefusedOr (Some why) the_row journal parts proposer result journal_after parts_after proposer_after =
-      (refused_by result ≡ Some why) × (journal_after ≡ journal) × IsSame parts parts_after proposer proposer_after
+  abbrev pub IsRejectedOr : {A : Type 0} → Option StepRejection → Transition Definition → Journal T → Parts → Proposer → Result (Vec Message A) NodeFault → Journal T → Parts → Proposer → Type 0
+  IsRejectedOr None the_transition journal parts proposer result journal_after parts_after proposer_after =
+      IsChange the_transition journal parts proposer result journal_after parts_after proposer_after
+  IsRejectedOr (Some why) the_transition journal parts proposer result journal_after parts_after proposer_after =
+      (rejected_by result ≡ Some why) × (journal_after ≡ journal) × IsSame parts parts_after proposer proposer_after
 
   -- the input's step at these parts
   abbrev pub IsAct : {A : Type 0} → Input Definition → Journal T → Parts → Proposer → Result (Vec Message A) NodeFault → Journal T → Parts → Proposer → Type 0
   IsAct input journal parts proposer result journal_after parts_after proposer_after =
-      IsRefusedOr (refusal (stored_of parts) (working_of proposer) input)
-      (row definition_eq proposer.nodes proposer.node (stored_of parts) (working_of proposer) input) journal parts proposer result journal_after parts_after proposer_after
+      IsRejectedOr (step_rejection (stored_of parts) (volatile_of proposer) input)
+      (transition definition_eq proposer.nodes proposer.node (stored_of parts) (volatile_of proposer) input) journal parts proposer result journal_after parts_after proposer_after
 
   -- The parts of a node made the transition, or an error left them unchanged; and they made the input's step.
-  abbrev pub Changes : {A : Type 0} → Row Definition → Machine T → Result (Vec Message A) NodeFault → Machine T → Type 0
-  Changes the_row before result after =
-      IsChange the_row before.journal before.kept.parts before.proposer result after.journal after.kept.parts after.proposer
+  abbrev pub Changes : {A : Type 0} → Transition Definition → Machine T → Result (Vec Message A) NodeFault → Machine T → Type 0
+  Changes the_transition before result after =
+      IsChange the_transition before.journal before.persistent.parts before.proposer result after.journal after.persistent.parts after.proposer
 
   abbrev pub Acts : {A : Type 0} → Input Definition → Machine T → Result (Vec Message A) NodeFault → Machine T → Type 0
   Acts input before result after =
-      IsAct input before.journal before.kept.parts before.proposer result after.journal after.kept.parts after.proposer
+      IsAct input before.journal before.persistent.parts before.proposer result after.journal after.persistent.parts after.proposer

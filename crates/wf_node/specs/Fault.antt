@@ -5,25 +5,25 @@ use Rattle.wf_node.specs.declared.fault.NodeFault.{NodeFault}
 use Rattle.wf_node.specs.declared.fault.NodeFault.TheVariants.{Memory, Busy, SequenceFull, RoundsFull, Halted, TapeFailed, Nothing}
 
 -- the table's rejection; allocation failure, a halted node and a failed tape aren't
-abbrev pub refusal_of : NodeFault → Option table.Refusal
-refusal_of Memory = None
-refusal_of Busy = Some table.Busy
-refusal_of SequenceFull = Some table.SequenceFull
-refusal_of RoundsFull = Some table.RoundsFull
-refusal_of Halted = None
-refusal_of TapeFailed = None
-refusal_of Nothing = Some table.NothingToRetry
+abbrev pub step_rejection_of : NodeFault → Option table.StepRejection
+step_rejection_of Memory = None
+step_rejection_of Busy = Some table.Busy
+step_rejection_of SequenceFull = Some table.SequenceFull
+step_rejection_of RoundsFull = Some table.RoundsFull
+step_rejection_of Halted = None
+step_rejection_of TapeFailed = None
+step_rejection_of Nothing = Some table.NothingToRetry
 
 -- the table's rejection that was returned, None for anything else
-abbrev pub refused_by : {A : Type 0} → Result A NodeFault → Option table.Refusal
-refused_by (Ok x) = None
-refused_by (Err fault) = refusal_of fault
+abbrev pub rejected_by : {A : Type 0} → Result A NodeFault → Option table.StepRejection
+rejected_by (Ok x) = None
+rejected_by (Err fault) = step_rejection_of fault
 
 -- the table rejected the input
-abbrev pub IsRefused : {A : Type 0} → Result A NodeFault → Type 0
-IsRefused result = IsSome (refused_by result)
+abbrev pub IsRejected : {A : Type 0} → Result A NodeFault → Type 0
+IsRejected result = IsSome (rejected_by result)
 
 -- this is the error of the table's rejection, or there is none
-abbrev pub IsWhyNot : Option table.Refusal → Option NodeFault → Type 0
+abbrev pub IsWhyNot : Option table.StepRejection → Option NodeFault → Type 0
 IsWhyNot why None = why ≡ None
-IsWhyNot why (Some fault) = (refusal_of fault ≡ why) × (why ≡ None → ⊥)
+IsWhyNot why (Some fault) = (step_rejection_of fault ≡ why) × (why ≡ None → ⊥)

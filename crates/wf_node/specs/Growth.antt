@@ -4,10 +4,10 @@ use Rattle.std.specs.Prelude.{Result, Ok, Err}
 use Rattle.wf_ballot.specs.Ballot.{Ballot}
 use Rattle.wf_codec.specs.declared.message.Message.{Message}
 use Rattle.wf_def.specs.Definition.{Definition}
-use Rattle.wf_model.specs.Stored.{Stored, Record, Tried, Promised, Accepted, Published, published, with_record}
-use Rattle.wf_model.specs.Table.{Input, Row, store}
+use Rattle.wf_model.specs.DurableState.{DurableState, Record, Tried, Promised, Accepted, Published, published, with_record}
+use Rattle.wf_model.specs.Table.{Input, Transition, store}
 use Rattle.wf_node.specs.Node.{Node, stored_of}
-use Rattle.wf_node.specs.Step.{IsRow, IsSameNode, IsStep}
+use Rattle.wf_node.specs.Step.{IsTransition, IsSameNode, IsStep}
 use Rattle.wf_node.specs.declared.fault.NodeFault.{NodeFault}
 use Rattle.wf_tape.specs.declared.tape.Tape.{Ghosts as Tape}
 
@@ -27,7 +27,7 @@ grown_twice xs ys zs first second = record {
 
 -- ---- a record
 
-module _ (stored : Stored Definition) where
+module _ (stored : DurableState Definition) where
   accepted_grown : (s : ℕ) (b : Ballot) (d : Definition) (is_open : Bool) → nat_lt (published stored) s ≡ is_open → IsGrown stored.history (with_record stored (Accepted s b d)).history
   unfolding with_record
   accepted_grown s b d true e = rw e (grown_itself stored.history)
@@ -48,8 +48,8 @@ module _ (stored : Stored Definition) where
 -- ---- a node
 
 module _ {T : Type 0} (before after : Node T) where
-  pub row_grown : (row : Row Definition) (sent : List Message) → IsRow before row sent after → IsGrown before.parts.history after.parts.history
-  row_grown row sent is = subst (λ (s : Stored Definition). IsGrown before.parts.history s.history) (sym is.stored) (store_grown (stored_of before) row.entry)
+  pub transition_grown : (transition : Transition Definition) (sent : List Message) → IsTransition before transition sent after → IsGrown before.parts.history after.parts.history
+  transition_grown transition sent is = subst (λ (s : DurableState Definition). IsGrown before.parts.history s.history) (sym is.stored) (store_grown (stored_of before) transition.entry)
 
   -- a node that is unchanged except for its tape
   pub same_grown : IsSameNode before after → IsGrown before.parts.history after.parts.history
@@ -57,5 +57,5 @@ module _ {T : Type 0} (before after : Node T) where
 
   module _ {A : Type 0} (tapes : Tape T) (input : Input Definition) where
     pub step_grown : (result : Result (Vec Message A) NodeFault) → IsStep tapes before input result after → IsGrown before.parts.history after.parts.history
-    step_grown (Ok said) step = row_grown _ said.items step.done
+    step_grown (Ok outputs) step = transition_grown _ outputs.items step.done
     step_grown (Err why) step = same_grown step.same

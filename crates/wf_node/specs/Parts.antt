@@ -1,4 +1,4 @@
--- The stored part of a node as data: a model can't contain a function, so the votes are a map.
+-- The durable state of a node as data: a model can't contain a function, so the votes are a map.
 use Rattle.std.specs.Prelude.{ℕ, List, Option}
 use Rattle.std.specs.Ordering.{nat_cmp}
 use Rattle.std.specs.FinMap as map
@@ -6,7 +6,7 @@ use Rattle.std.specs.FinMap.{FinMap}
 use Rattle.wf_ballot.specs.Ballot.{Ballot}
 use Rattle.wf_codec.specs.Message.{view_vote}
 use Rattle.wf_def.specs.Definition.{Definition}
-use Rattle.wf_model.specs.Stored.{Stored}
+use Rattle.wf_model.specs.DurableState.{DurableState}
 
 -- the round tried, the promise, which is one for all sequences, the vote at each sequence, and the published definitions
 pub record Parts : Type 0 where
@@ -16,7 +16,7 @@ pub record Parts : Type 0 where
   pub history : List Definition
 
 -- the same as in wf_model
-abbrev pub stored_of : Parts → Stored Definition
+abbrev pub stored_of : Parts → DurableState Definition
 stored_of parts =
     record {
       tried = parts.tried;

@@ -2,11 +2,11 @@ ghost use Rattle.std.specs.Prelude.{◌≡◌, Option};
 ghost use Rattle.wf_model.specs.Table as table;
 ghost use Rattle.wf_node.specs.Fault.{IsWhyNot};
 ghost use Rattle.wf_node.specs.Proposed.{fault_of};
-ghost use Rattle.wf_proposer.specs.Refusal as proposer;
+ghost use Rattle.wf_proposer.specs.StepRejection as proposer;
 
 use std::alloc::{AllocError, AllocFailed};
 use thiserror::Error;
-use wf_proposer::Refusal;
+use wf_proposer::StepRejection;
 
 /// Why a step failed.
 #[derive(Clone, Copy, Debug, PartialEq, Eq, Error)]
@@ -57,23 +57,23 @@ impl<T: Drop> From<AllocFailed<T>> for NodeFault {
 }
 
 /// The node's error for its proposer's rejection.
-pub(crate) fn fault_of(refusal: Refusal) -> NodeFault
-    ensures { result ≡ fault_of refusal }
+pub(crate) fn fault_of(step_rejection: StepRejection) -> NodeFault
+    ensures { result ≡ fault_of step_rejection }
 {
-    match refusal {
-        Refusal::Busy => NodeFault::Busy,
-        Refusal::Nothing => NodeFault::Nothing,
-        Refusal::RoundsFull => NodeFault::RoundsFull,
-        Refusal::Memory => NodeFault::Memory,
+    match step_rejection {
+        StepRejection::Busy => NodeFault::Busy,
+        StepRejection::Nothing => NodeFault::Nothing,
+        StepRejection::RoundsFull => NodeFault::RoundsFull,
+        StepRejection::Memory => NodeFault::Memory,
     }
 }
 
 /// The node's error for its proposer's rejection, if there is one.
-pub(crate) fn fault_for(refusal: Option<Refusal>) -> Option<NodeFault>
-    ensures { (why : Option table.Refusal) → proposer.IsWhyNot why refusal → IsWhyNot why result }
+pub(crate) fn fault_for(step_rejection: Option<StepRejection>) -> Option<NodeFault>
+    ensures { (why : Option table.StepRejection) → proposer.IsWhyNot why step_rejection → IsWhyNot why result }
 {
-    match refusal {
-        Some(refusal) => Some(fault_of(refusal)),
+    match step_rejection {
+        Some(step_rejection) => Some(fault_of(step_rejection)),
         None => None,
     }
 }

@@ -9,18 +9,18 @@ ghost use Rattle.wf_node.specs.Input.{view};
 
 use crate::fault::NodeFault;
 use crate::input::Input;
-use crate::stored_part::StoredPart;
+use crate::stored_part::DurablePart;
 use std::alloc::Global;
 use wf_codec::Message;
 use wf_journal::Journal;
 use wf_proposer::Proposer;
 use wf_tape::Tape;
 
-/// The journal of a node, its stored part in memory, and its proposer.
+/// The journal of a node, its durable state in memory, and its proposer.
 #[derive(Drop)]
 pub struct Machine<T: Tape> {
     pub journal: Journal<T>,
-    pub kept: StoredPart,
+    pub persistent: DurablePart,
     pub proposer: Proposer,
 }
 
@@ -29,7 +29,7 @@ impl<T: Tape> Machine<T> {
     pub(crate) fn act(&mut self, alloc: Global, input: Input) -> Result<Vec<Message>, NodeFault>
         requires { IsReady self.old }
         ensures act { Acts T.Tape (view input) self.old result self.new }
-        ensures id { self.new.kept.id ≡ self.old.kept.id }
+        ensures id { self.new.persistent.id ≡ self.old.persistent.id }
     {
         match input {
             Input::Propose(own) => self.propose(alloc, own),
@@ -43,7 +43,7 @@ impl<T: Tape> Machine<T> {
     fn deliver(&mut self, alloc: Global, message: Message) -> Result<Vec<Message>, NodeFault>
         requires { IsReady self.old }
         ensures act { Acts T.Tape (Deliver (view_message message)) self.old result self.new }
-        ensures id { self.new.kept.id ≡ self.old.kept.id }
+        ensures id { self.new.persistent.id ≡ self.old.persistent.id }
     {
         match message {
             Message::Prepare(slot, ballot) => self.on_prepare(alloc, slot, ballot),

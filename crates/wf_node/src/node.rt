@@ -4,11 +4,11 @@ use std::marker::Model;
 use wf_ballot::{NodeId, Seq};
 use wf_def::map::MapDef;
 use wf_learner::History;
-use wf_proposer::Standing;
+use wf_proposer::ProposalState;
 use wf_tape::{MemoryTape, Tape};
 
-/// One node of the farm: its stored part, which is on its tape, and its proposal and leadership. Model: the parts of wf_model.
-/// Unless the node is halted, every image of an honest tape stands for the stored part.
+/// One node of the farm: its durable state, which is on its tape, and its proposal and leadership. Model: the parts of wf_model.
+/// Unless the node is halted, every image of a durable tape stands for the durable state.
 #[derive(Drop)]
 pub struct Node<T: Tape> {
     pub(crate) machine: Machine<T>,
@@ -23,9 +23,9 @@ impl<T: Tape> Model for Node<T> {
 
     ghost coded = { Prim.hlevel (codes, map.code) };
 
-    ghost view = { λ node. view_of node.machine.journal node.machine.kept.parts node.machine.proposer };
+    ghost view = { λ node. view_of node.machine.journal node.machine.persistent.parts node.machine.proposer };
 
-    ghost invariant = { λ node. IsNode T.Tape node.machine.journal node.machine.kept node.machine.proposer };
+    ghost invariant = { λ node. IsNode T.Tape node.machine.journal node.machine.persistent node.machine.proposer };
 }
 
 impl<T: Tape> Node<T> {
@@ -35,10 +35,10 @@ impl<T: Tape> Node<T> {
     ghost use Rattle.wf_def.specs.Limits.{IsWithinLimits};
     ghost use Rattle.wf_learner.specs.History.{map_at};
     ghost use Rattle.wf_node.specs.Fault.{IsWhyNot};
-    ghost use Rattle.wf_node.specs.Node.{working_of, IsOnTape};
-    ghost use Rattle.wf_node.specs.Step.{proposal_refusal, retry_refusal};
-    ghost use Rattle.wf_proposer.specs.Standing.{standing_of};
-    ghost use Rattle.wf_proposer.specs.declared.standing.Standing.TheVariants.{None};
+    ghost use Rattle.wf_node.specs.Node.{volatile_of, IsOnTape};
+    ghost use Rattle.wf_node.specs.Step.{proposal_step_rejection, retry_step_rejection};
+    ghost use Rattle.wf_proposer.specs.ProposalState.{proposal_state_of};
+    ghost use Rattle.wf_proposer.specs.declared.proposal_state.ProposalState.TheVariants.{None};
     ghost use Rattle.wf_journal.specs.Journal.{IsSettled};
 
     /// The node's number.
@@ -55,13 +55,13 @@ impl<T: Tape> Node<T> {
         self.machine.proposer.nodes()
     }
 
-    /// The node's tape. Unless the node is halted, an honest one holds only whole records, all of them synced, and stands for what
+    /// The node's tape. Unless the node is halted, a durable one holds only whole records, all of them synced, and stands for what
     /// the node has stored.
     pub fn tape(&self) -> &T
         ensures value { result.now ≡ self.now.tape }
-        ensures settled { T.honest → self.now.halted ≡ false →
+        ensures settled { T.durable → self.now.halted ≡ false →
             IsSettled (T.content self.now.tape) (T.images self.now.tape) }
-        ensures stands { T.honest → self.now.halted ≡ false → IsOnTape T.Tape self.now }
+        ensures stands { T.durable → self.now.halted ≡ false → IsOnTape T.Tape self.now }
     {
         self.machine.journal.tape()
     }
@@ -71,14 +71,14 @@ impl<T: Tape> Node<T> {
         ensures value { result ≡ length self.now.parts.history }
         ensures in_range { IsSequence result }
     {
-        self.machine.kept.history().published()
+        self.machine.persistent.history().published()
     }
 
     /// The published definitions.
     pub fn history(&self) -> &History
         ensures { result.now.definitions ≡ self.now.parts.history }
     {
-        self.machine.kept.history()
+        self.machine.persistent.history()
     }
 
     /// The map of a sequence, the empty one for 0; None above the published ones.
@@ -86,40 +86,40 @@ impl<T: Tape> Node<T> {
         ensures value { option_copied result ≡ map_at self.now.parts.history seq }
         ensures within { IfSome result (λ map. IsWithinLimits map.now) }
     {
-        self.machine.kept.history().get(seq)
+        self.machine.persistent.history().get(seq)
     }
 
     /// Why a proposal would be rejected now: N5 if the node is halted, else the error of the step. None if it would begin.
     /// Doesn't allocate, changes nothing.
-    pub fn proposal_refusal(&self) -> Option<NodeFault>
+    pub fn proposal_step_rejection(&self) -> Option<NodeFault>
         ensures halted { self.now.halted ≡ true → result ≡ Some NodeFault.Halted }
-        ensures refusal { self.now.halted ≡ false → IsWhyNot (proposal_refusal self.now) result }
+        ensures step_rejection { self.now.halted ≡ false → IsWhyNot (proposal_step_rejection self.now) result }
     {
         if self.machine.journal.is_halted() {
             return Some(NodeFault::Halted);
         }
-        self.machine.proposal_refusal()
+        self.machine.proposal_step_rejection()
     }
 
     /// Why a retry would be rejected now: N5 if the node is halted, else the error of the step. None if it would begin. Doesn't
     /// allocate, changes nothing.
-    pub fn retry_refusal(&self) -> Option<NodeFault>
+    pub fn retry_step_rejection(&self) -> Option<NodeFault>
         ensures halted { self.now.halted ≡ true → result ≡ Some NodeFault.Halted }
-        ensures refusal { self.now.halted ≡ false → IsWhyNot (retry_refusal self.now) result }
+        ensures step_rejection { self.now.halted ≡ false → IsWhyNot (retry_step_rejection self.now) result }
     {
         if self.machine.journal.is_halted() {
             return Some(NodeFault::Halted);
         }
-        self.machine.retry_refusal()
+        self.machine.retry_step_rejection()
     }
 
     /// The state of the node's proposal: None on a halted node.
-    pub fn proposal(&self) -> Standing
-        ensures { result ≡ (if self.now.halted then Standing.None
-            else standing_of (working_of self.now).proposing) }
+    pub fn proposal(&self) -> ProposalState
+        ensures { result ≡ (if self.now.halted then ProposalState.None
+            else proposal_state_of (volatile_of self.now).proposing) }
     {
         if self.machine.journal.is_halted() {
-            Standing::None
+            ProposalState::None
         } else {
             self.machine.proposer.proposal()
         }

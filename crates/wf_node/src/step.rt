@@ -11,12 +11,12 @@ use wf_tape::Tape;
 
 impl<T: Tape> Node<T> {
     ghost use Rattle.std.specs.Prelude.{◌≡◌, ◌≢◌, ◌++◌, true, false, Err, IfOk, IfErr, IsSome, OnOk};
-    ghost use Rattle.wf_node.specs.Fault.{refused_by};
+    ghost use Rattle.wf_node.specs.Fault.{rejected_by};
     ghost use Rattle.wf_node.specs.Images.{EachStandsFor, EachIsCut};
     ghost use Rattle.wf_node.specs.Input.{view};
     ghost use Rattle.wf_node.specs.Node.{stored_of, IsOnTape};
-    ghost use Rattle.wf_node.specs.Step.{row_of, entry_of, stored_next, refusal_at, IsRow, IsSameNode, IsStep, TakesMemory};
-    ghost use Rattle.wf_node.specs.Storing.{bytes_of};
+    ghost use Rattle.wf_node.specs.Step.{transition_of, entry_of, stored_next, step_rejection_at, IsTransition, IsSameNode, IsStep, TakesMemory};
+    ghost use Rattle.wf_node.specs.TapeWrites.{bytes_of};
     ghost use Rattle.wf_tape.specs.Change.{inside, HasFailed, Stays};
     ghost use Rattle.wf_tape.specs.Tape.{IsExtended};
 
@@ -32,17 +32,17 @@ impl<T: Tape> Node<T> {
         ensures halted { self.old.halted ≡ true → result ≡ Err NodeFault.Halted }
         ensures running { result ≡ Err NodeFault.Halted → self.old.halted ≡ true }
         ensures refused { self.old.halted ≡ false →
-            refused_by result ≡ refusal_at self.old (view input) }
-        ensures row { IfOk result (λ messages.
-            IsRow self.old (row_of self.old (view input)) messages.items self.new) }
-        ensures on_tape { T.honest → OnOk result (IsOnTape T.Tape self.new) }
-        ensures content { T.honest → OnOk result (T.content self.new.tape ≡
+            rejected_by result ≡ step_rejection_at self.old (view input) }
+        ensures transition { IfOk result (λ messages.
+            IsTransition self.old (transition_of self.old (view input)) messages.items self.new) }
+        ensures on_tape { T.durable → OnOk result (IsOnTape T.Tape self.new) }
+        ensures content { T.durable → OnOk result (T.content self.new.tape ≡
             T.content self.old.tape ++ bytes_of (entry_of self.old (view input))) }
         ensures unchanged { IfErr result (λ fault.
             fault ≢ NodeFault.Memory → fault ≢ NodeFault.TapeFailed → self.new ≡ self.old) }
         ensures same { IfErr result (λ fault. IsSameNode self.old self.new) }
         ensures memory { result ≡ Err NodeFault.Memory → self.new.halted ≡ false }
-        ensures same_tape { T.honest → result ≡ Err NodeFault.Memory →
+        ensures same_tape { T.durable → result ≡ Err NodeFault.Memory →
             Stays T.Tape self.old.tape self.new.tape }
         ensures takes { result ≡ Err NodeFault.Memory → TakesMemory self.old (view input) }
         ensures failed { result ≡ Err NodeFault.TapeFailed →
@@ -50,20 +50,20 @@ impl<T: Tape> Node<T> {
         ensures writes { result ≡ Err NodeFault.TapeFailed →
             IsSome (entry_of self.old (view input)) }
         ensures halts { result ≡ Err NodeFault.TapeFailed → self.new.halted ≡ true }
-        ensures part { T.honest → result ≡ Err NodeFault.TapeFailed →
+        ensures part { T.durable → result ≡ Err NodeFault.TapeFailed →
             IsExtended (T.content self.old.tape) (bytes_of (entry_of self.old (view input)))
             (T.content self.new.tape) }
-        ensures torn { T.honest → result ≡ Err NodeFault.TapeFailed →
+        ensures torn { T.durable → result ≡ Err NodeFault.TapeFailed →
             EachStandsFor (stored_of self.old) (stored_next self.old (view input))
             (T.images self.new.tape) }
-        ensures cut { T.honest → result ≡ Err NodeFault.TapeFailed →
+        ensures cut { T.durable → result ≡ Err NodeFault.TapeFailed →
             EachIsCut (entry_of self.old (view input)) (stored_of self.old)
             (stored_next self.old (view input))
             (T.images self.old.tape) (T.images self.new.tape) }
         ensures sturdy { T.never_fails self.old.tape → T.never_fails self.new.tape }
         ensures sound { T.never_fails self.old.tape →
             IfErr result (λ fault. fault ≢ NodeFault.TapeFailed) }
-        ensures inside { T.honest → self.old.halted ≡ false →
+        ensures inside { T.durable → self.old.halted ≡ false →
             EachStandsFor (stored_of self.old) (stored_next self.old (view input))
             (inside T.Tape self.old.tape self.new.tape) }
     {
@@ -85,14 +85,14 @@ impl<T: Tape> Node<T> {
     fn advance(&mut self, alloc: Global, input: Input) -> Result<Vec<Message>, NodeFault>
         requires { self.old.halted ≡ false }
         ensures step { IsStep T.Tape self.old (view input) result self.new }
-        ensures cut { T.honest → result ≡ Err NodeFault.TapeFailed →
+        ensures cut { T.durable → result ≡ Err NodeFault.TapeFailed →
             EachIsCut (entry_of self.old (view input)) (stored_of self.old)
             (stored_next self.old (view input))
             (T.images self.old.tape) (T.images self.new.tape) }
         ensures sturdy { T.never_fails self.old.tape → T.never_fails self.new.tape }
         ensures sound { T.never_fails self.old.tape →
             IfErr result (λ fault. fault ≢ NodeFault.TapeFailed) }
-        ensures inside { T.honest →
+        ensures inside { T.durable →
             EachStandsFor (stored_of self.old) (stored_next self.old (view input))
             (inside T.Tape self.old.tape self.new.tape) }
     {

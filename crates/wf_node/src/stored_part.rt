@@ -1,34 +1,34 @@
-//! The stored part of a node, in memory.
+//! The durable state of a node, in memory.
 
 ghost use Rattle.std.specs.Prelude.{◌≡◌, OnOk, OnErr, IsOk};
 ghost use Rattle.wf_acceptor.specs.Acceptor.{Applies, IsNext};
-ghost use Rattle.wf_node.specs.StoredPart.{IsRoomy, IsRoomFor, tried_after, definitions_after, publication_of};
+ghost use Rattle.wf_node.specs.DurablePart.{IsRoomy, IsRoomFor, tried_after, definitions_after, publication_of};
 ghost use Rattle.wf_journal.specs.Record.{view};
 
 use std::alloc::{AllocError, Global};
 use std::marker::Model;
-use wf_acceptor::{Acceptor, Answer};
+use wf_acceptor::{Acceptor, AcceptorAnswer};
 use wf_ballot::{Ballot, NodeId, Seq, Slot};
 use wf_canon::Canon;
 use wf_journal::Record;
 use wf_learner::History;
 
-/// The stored part of a node: the fold of its records.
+/// The durable state of a node: the fold of its records.
 #[derive(Drop)]
-pub struct StoredPart {
+pub struct DurablePart {
     // The last round that the node tried, 0 before the first.
     tried: u32,
     history: History,
     acceptor: Acceptor,
 }
 
-impl Model for StoredPart {
+impl Model for DurablePart {
     ghost use Rattle.std.specs.Prelude.{◌≡◌, length};
     ghost use Rattle.std.specs.Coded.{codes};
     ghost use Rattle.std.specs.FinMap as map;
-    ghost use Rattle.wf_node.specs.StoredPart.{StoredPart};
+    ghost use Rattle.wf_node.specs.DurablePart.{DurablePart};
 
-    ghost Value = { StoredPart };
+    ghost Value = { DurablePart };
 
     ghost coded = { Prim.hlevel (codes, map.code) };
 
@@ -47,22 +47,22 @@ impl Model for StoredPart {
     ghost invariant = { λ k. k.acceptor.part.published ≡ length k.history.definitions };
 }
 
-impl StoredPart {
+impl DurablePart {
     ghost use Rattle.std.specs.Prelude.{◌≡◌, ◌<◌, ℕ, length, true, nat_le, option_map, IfOk, OnOk, OnErr, IsOk, IfSome, None, ◌≢◌};
     ghost use Rattle.std.specs.Option.{option_copied};
     ghost use Rattle.wf_model.specs.Fits.{Fits};
     ghost use Rattle.wf_codec.specs.Message.{view_vote};
-    ghost use Rattle.wf_model.specs.Stored.{fits, nothing_stored, with_record};
+    ghost use Rattle.wf_model.specs.DurableState.{fits, nothing_stored, with_record};
     ghost use Rattle.wf_model.specs.Table.{store, votes_at};
     ghost use Rattle.wf_journal.specs.Record.{view};
-    ghost use Rattle.wf_node.specs.StoredPart.{accept_row, prepare_row, stored_of, HasRoomFor, HasRoomIfOwn, IsRow, Stores};
+    ghost use Rattle.wf_node.specs.DurablePart.{accept_transition, prepare_transition, stored_of, HasRoomFor, HasRoomIfOwn, IsTransition, Stores};
 
-    /// The stored part of a node that has stored nothing yet.
-    pub(crate) fn new(alloc: Global, id: NodeId) -> Result<StoredPart, AllocError>
-        ensures stored { IfOk result (λ kept. stored_of kept ≡ nothing_stored) }
-        ensures id { IfOk result (λ kept. kept.id ≡ id) }
+    /// The durable state of a node that has stored nothing yet.
+    pub(crate) fn new(alloc: Global, id: NodeId) -> Result<DurablePart, AllocError>
+        ensures stored { IfOk result (λ persistent. stored_of persistent ≡ nothing_stored) }
+        ensures id { IfOk result (λ persistent. persistent.id ≡ id) }
     {
-        Ok(StoredPart {
+        Ok(DurablePart {
             tried: 0,
             history: History::new(alloc)?,
             acceptor: Acceptor::new(alloc, id),
@@ -112,13 +112,17 @@ impl StoredPart {
     }
 
     /// Answers `Prepare(slot, ballot)` at a slot that isn't published. Allocation can fail only for a promise.
-    pub(crate) fn on_prepare(&mut self, slot: Slot, ballot: Ballot) -> Result<Answer, AllocError>
+    pub(crate) fn on_prepare(
+        &mut self,
+        slot: Slot,
+        ballot: Ballot,
+    ) -> Result<AcceptorAnswer, AllocError>
         requires { length self.old.parts.history < slot }
-        ensures row { IfOk result (IsRow (prepare_row self.old slot ballot)) }
+        ensures transition { IfOk result (IsTransition (prepare_transition self.old slot ballot)) }
         ensures room { IfOk result (λ answer. IfSome answer.entry (λ r. HasRoomFor self.new r)) }
         ensures parts { self.new.parts ≡ self.old.parts }
         ensures id { self.new.id ≡ self.old.id }
-        ensures memory { OnErr result (Stores (prepare_row self.old slot ballot)) }
+        ensures memory { OnErr result (Stores (prepare_transition self.old slot ballot)) }
     {
         self.acceptor.on_prepare(slot, ballot)
     }
@@ -129,13 +133,13 @@ impl StoredPart {
         slot: Slot,
         ballot: Ballot,
         canon: Canon,
-    ) -> Result<Answer, AllocError>
+    ) -> Result<AcceptorAnswer, AllocError>
         requires { length self.old.parts.history < slot }
-        ensures row { IfOk result (IsRow (accept_row self.old slot ballot canon)) }
+        ensures transition { IfOk result (IsTransition (accept_transition self.old slot ballot canon)) }
         ensures room { IfOk result (λ answer. IfSome answer.entry (λ r. HasRoomFor self.new r)) }
         ensures parts { self.new.parts ≡ self.old.parts }
         ensures id { self.new.id ≡ self.old.id }
-        ensures memory { OnErr result (Stores (accept_row self.old slot ballot canon)) }
+        ensures memory { OnErr result (Stores (accept_transition self.old slot ballot canon)) }
     {
         self.acceptor.on_accept(slot, ballot, canon)
     }
@@ -154,7 +158,7 @@ impl StoredPart {
     }
 
     /// Whether the record fits the fold; a published definition fits if its slot is the next.
-    #[tactic(auto, using(crate::proofs::Keeping::fits_in_turn), unfolding(wf_model::specs::Stored::fits))]
+    #[tactic(auto, using(crate::proofs::PersistentPart::fits_in_turn), unfolding(wf_model::specs::DurableState::fits))]
     pub(crate) fn fits(&self, entry: &Record) -> bool
         ensures { result ≡ fits (stored_of self.now) (view entry.now) }
     {
@@ -173,7 +177,7 @@ impl StoredPart {
         ensures err { OnErr result (self.new ≡ self.old) }
         ensures room { HasRoomFor self.old entry → IsOk result }
     {
-        match tell(&mut self.history, &mut self.acceptor, &entry) {
+        match report(&mut self.history, &mut self.acceptor, &entry) {
             Ok(()) => {
                 take_in(&mut self.tried, &mut self.history, entry);
                 Ok(())
@@ -203,7 +207,7 @@ impl StoredPart {
 }
 
 // The acceptor applies the record; afterwards there is room for it in the history.
-fn tell(history: &mut History, acceptor: &mut Acceptor, entry: &Record) -> Result<(), AllocError>
+fn report(history: &mut History, acceptor: &mut Acceptor, entry: &Record) -> Result<(), AllocError>
     requires { IsNext acceptor.old.part entry.now }
     ensures applied { OnOk result (Applies acceptor.old.part acceptor.new.part (view entry.now)) }
     ensures id { acceptor.new.part.id ≡ acceptor.old.part.id }

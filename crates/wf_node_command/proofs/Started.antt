@@ -10,7 +10,7 @@ use Rattle.wf_folder.specs.declared.node_admission.NodeRejection.{NodeRejection}
 use Rattle.wf_folder.specs.declared.node_file.NodeFile.{NodeFile}
 use Rattle.wf_folder.specs.declared.presence.Presence.{Presence}
 use Rattle.wf_line.specs.declared.node_line.NodeLine.{NodeLine}
-use Rattle.wf_loop.specs.Going.{IsEarlier, KeepsEarlier}
+use Rattle.wf_loop.specs.Continuation.{IsEarlier, KeepsEarlier}
 use Rattle.wf_loop.specs.Hub.{HasAnswered, process_of}
 use Rattle.wf_loop.specs.Lived.{HasLived}
 use Rattle.wf_loop.specs.declared.hub.Hub.{Hub}
@@ -58,7 +58,7 @@ module _ {T : Type 0} (tapes : Tape T) where
   kept_same before after same = λ past earlier. subst (λ (p : Process T tapes). IsEarlier tapes past p) (sym same) earlier
 
   its_own : (process : Process T tapes) → IsEarlier tapes process process
-  its_own process = inl (record { number = refl; read_from = refl; began = refl; given = ([], append-nil _); told = ([], append-nil _) })
+  its_own process = inl (record { number = refl; read_from = refl; began = refl; given = ([], append-nil _); emitted = ([], append-nil _) })
 
   pub gone_on : (file : NodeFile) (process : Process T tapes) (begun hub : Hub T tapes) → IsStarted tapes file process → process_of begun ≡ process
       → HasLived tapes (process_of hub) → HasAnswered tapes hub → KeepsEarlier tapes (process_of begun) (process_of hub) → HasGoneOn tapes file
@@ -67,26 +67,26 @@ module _ {T : Type 0} (tapes : Tape T) where
       record { started = process; is_started = started; hub = hub; earlier = keeps process earlier; lived = lived; answered = answered }
 
   pub served_by : (line : NodeLine) (file : NodeFile) (result : Result (Unit {0}) CommandFault) → IsAdmitted line file → IsEnd tapes file result → IsNodeDone tapes line result
-  served_by line file (Ok done) admitted end = record { file = file; admitted = admitted; served = end }
-  served_by line file (Err (faults.BadPeer index)) admitted end = absurd end
-  served_by line file (Err (faults.PeerCount count)) admitted end = absurd end
-  served_by line file (Err (faults.BadAddress option)) admitted end = absurd end
-  served_by line file (Err (faults.Id id nodes)) admitted end = absurd end
-  served_by line file (Err faults.Name) admitted end = absurd end
-  served_by line file (Err faults.NoFolder) admitted end = tt
-  served_by line file (Err faults.Held) admitted end = tt
-  served_by line file (Err (faults.NotEmpty why)) admitted end = absurd end
-  served_by line file (Err (faults.Unread kind)) admitted end = tt
-  served_by line file (Err (faults.Unwritten kind)) admitted end = tt
-  served_by line file (Err (faults.Rejected why)) admitted end = absurd end
-  served_by line file (Err (faults.Heard why)) admitted end = tt
-  served_by line file (Err (faults.FromUnread kind)) admitted end = absurd end
-  served_by line file (Err (faults.FromBad offset)) admitted end = absurd end
-  served_by line file (Err (faults.TapeUnread kind)) admitted end = tt
-  served_by line file (Err (faults.TapeUnwritten kind)) admitted end = tt
-  served_by line file (Err faults.TapeFailed) admitted end = tt
-  served_by line file (Err (faults.TapeBad offset)) admitted end = tt
-  served_by line file (Err faults.NoRandomBits) admitted end = tt
-  served_by line file (Err faults.Memory) admitted end = tt
-  served_by line file (Err (faults.Loop why)) admitted end = tt
-  served_by line file (Err (faults.Ended why)) admitted end = record { file = file; admitted = admitted; served = end }
+  served_by line file (Ok done) admit end = record { file = file; admit = admit; served = end }
+  served_by line file (Err (faults.BadPeer index)) admit end = absurd end
+  served_by line file (Err (faults.PeerCount count)) admit end = absurd end
+  served_by line file (Err (faults.BadAddress option)) admit end = absurd end
+  served_by line file (Err (faults.Id id nodes)) admit end = absurd end
+  served_by line file (Err faults.Name) admit end = absurd end
+  served_by line file (Err faults.NoFolder) admit end = tt
+  served_by line file (Err faults.Held) admit end = tt
+  served_by line file (Err (faults.NotEmpty why)) admit end = absurd end
+  served_by line file (Err (faults.Unread kind)) admit end = tt
+  served_by line file (Err (faults.Unwritten kind)) admit end = tt
+  served_by line file (Err (faults.Rejected why)) admit end = absurd end
+  served_by line file (Err (faults.Heard why)) admit end = tt
+  served_by line file (Err (faults.FromUnread kind)) admit end = absurd end
+  served_by line file (Err (faults.FromBad offset)) admit end = absurd end
+  served_by line file (Err (faults.TapeUnread kind)) admit end = tt
+  served_by line file (Err (faults.TapeUnwritten kind)) admit end = tt
+  served_by line file (Err faults.TapeFailed) admit end = tt
+  served_by line file (Err (faults.TapeBad offset)) admit end = tt
+  served_by line file (Err faults.NoRandomBits) admit end = tt
+  served_by line file (Err faults.Memory) admit end = tt
+  served_by line file (Err (faults.Loop why)) admit end = tt
+  served_by line file (Err (faults.Ended why)) admit end = record { file = file; admit = admit; served = end }

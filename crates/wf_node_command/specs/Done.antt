@@ -1,9 +1,9 @@
 -- What a command did.
 use Rattle.std.specs.Prelude.{◌≡◌, ◌≤◌, ℕ, ⊤, List, [], Option, Some, None, Result, Ok, Err, IsSome, MatchOption, length, option_map}
-use Rattle.wf_actor.specs.Opening.{IsOpened}
+use Rattle.wf_actor.specs.Start.{IsOpened}
 use Rattle.wf_actor.specs.Process.{IsBegun}
 use Rattle.wf_actor.specs.declared.process.Process.{Process}
-use Rattle.wf_folder.specs.Name.{IsNameText, padded}
+use Rattle.wf_folder.specs.Name.{IsNameText, pad}
 use Rattle.wf_folder.specs.NodeAdmission.{IsNodeRejection, IsNodeStart, IsSoundFind}
 use Rattle.wf_folder.specs.NodeFile.{IsNodeFile}
 use Rattle.wf_folder.specs.declared.node_admission.NodeFound.{NodeFound}
@@ -14,13 +14,13 @@ use Rattle.wf_line.specs.declared.node_line.InitLine.{InitLine}
 use Rattle.wf_line.specs.declared.node_line.NodeCommand.{NodeCommand}
 use Rattle.wf_line.specs.declared.node_line.NodeCommand.TheVariants as commands
 use Rattle.wf_line.specs.declared.node_line.NodeLine.{NodeLine}
-use Rattle.wf_loop.specs.Going.{IsEarlier}
+use Rattle.wf_loop.specs.Continuation.{IsEarlier}
 use Rattle.wf_loop.specs.Hub.{HasAnswered, process_of}
 use Rattle.wf_loop.specs.Lived.{HasLived}
 use Rattle.wf_loop.specs.declared.hub.Hub.{Hub}
 use Rattle.wf_def.specs.Definition.{Definition}
-use Rattle.wf_model.specs.Stored.{Stored}
-use Rattle.wf_node.specs.Opening.{IsFoldOf}
+use Rattle.wf_model.specs.DurableState.{DurableState}
+use Rattle.wf_node.specs.OpenedNode.{IsFoldOf}
 use Rattle.wf_tape.specs.declared.tape.Tape.{Ghosts as Tape}
 use Rattle.wf_node_command.specs.Address.{IsListFault, IsNoAddress, words_of}
 use Rattle.wf_node_command.specs.Fault.{IsFromSystem, fault_status}
@@ -93,7 +93,7 @@ module _ {T : Type 0} (tapes : Tape T) where
   -- The node was served: its folder admitted the start, and its process has gone on.
   pub record HasServed (line : NodeLine) : Type 0 where
     pub file : NodeFile
-    pub admitted : IsAdmitted line file
+    pub admit : IsAdmitted line file
     pub served : HasGoneOn file
 
   -- What `node` did: it took its turns, or a peer ended it, and then it was served; or it didn't begin.
@@ -106,7 +106,7 @@ module _ {T : Type 0} (tapes : Tape T) where
 
 -- a node opens on a tape with these bytes
 abbrev pub IsTape : List ℕ → Type 0
-IsTape bytes = (stored : Stored Definition) × IsFoldOf stored bytes
+IsTape bytes = (stored : DurableState Definition) × IsFoldOf stored bytes
 
 -- the tape to begin with: an empty one, or that of `--from`, which is one on which a node opens
 abbrev pub IsFirstTape : InitLine → List ℕ → Type 0
@@ -118,7 +118,7 @@ pub record IsFirstFile (line : InitLine) (file : NodeFile) : Type 0 where
   pub node : file.node ≡ line.id
   pub nodes : file.nodes ≡ line.nodes
   pub starts : file.starts ≡ 0
-  pub farm : file.farm ≡ padded line.farm.now
+  pub farm : file.farm ≡ pad line.farm.now
 
 -- The folder was made: it had no names, and has the file of a node that never started, and its tape.
 pub record HasMade (line : InitLine) : Type 0 where

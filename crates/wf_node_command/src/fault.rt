@@ -6,7 +6,7 @@ use std::{fmt, io};
 use thiserror::Error;
 use wf_folder::{NodeRejection, NotEmpty};
 use wf_loop::LoopFault;
-use wf_peer::{HeardFault, Rejection};
+use wf_peer::{HeardFault, PeerRejection};
 
 /// An option whose value is an address.
 #[derive(Clone, Copy, Debug)]
@@ -100,7 +100,7 @@ pub enum CommandFault {
     Loop(LoopFault),
     /// A peer told the node that it has to end.
     #[error("{0}")]
-    Ended(Rejection),
+    Ended(PeerRejection),
 }
 
 impl CommandFault {

@@ -179,7 +179,7 @@ fn read_if_there<R: Files + AllocGlobal>(
 }
 
 /// The file `farm` of a folder.
-pub(crate) fn found_in<R: Files + AllocGlobal>(
+pub(crate) fn find_in<R: Files + AllocGlobal>(
     rt: &R,
     folder: &str,
 ) -> Result<NodeFound, CommandFault>
@@ -197,7 +197,10 @@ pub(crate) fn found_in<R: Files + AllocGlobal>(
 }
 
 /// What was heard of the peers before, by the file `heard` of a folder: nothing if there is none.
-pub(crate) fn heard_in<R: Files + AllocGlobal>(rt: &R, folder: &str) -> Result<Heard, CommandFault>
+pub(crate) fn read_heard<R: Files + AllocGlobal>(
+    rt: &R,
+    folder: &str,
+) -> Result<Heard, CommandFault>
     ensures { IfErr result IsFromSystem }
 {
     match read_if_there(rt, folder, "heard", MOST_HEARD_BYTES) {

@@ -1,6 +1,6 @@
 //! `wfarm init`.
 ghost use Rattle.std.specs.Prelude.{◌≡◌, ◌≤◌, ◌<◌, IfErr, IfOk, IsSome};
-ghost use Rattle.wf_folder.specs.Name.{padded};
+ghost use Rattle.wf_folder.specs.Name.{pad};
 ghost use Rattle.wf_line.specs.NodeLine.{IsInitInRange};
 ghost use Rattle.wf_node_command.specs.Done.{IsFirstFile, IsFirstTape, IsFromFault, IsInitDone, IsInitFault, IsTape};
 ghost use Rattle.wf_node_command.specs.Fault.{IsFromSystem};
@@ -45,7 +45,7 @@ fn make_held<R: Files<File = File> + AllocGlobal>(
 ) -> Result<(), CommandFault>
     requires range { IsInitInRange line.now }
     requires member { line.now.id < line.now.nodes }
-    requires farm { farm ≡ padded line.now.farm.now }
+    requires farm { farm ≡ pad line.now.farm.now }
     ensures { IsInitDone line.now result }
 {
     match hold(rt, line.state) {
@@ -67,7 +67,7 @@ fn make<R: Files + AllocGlobal>(
 ) -> Result<(), CommandFault>
     requires range { IsInitInRange line.now }
     requires member { line.now.id < line.now.nodes }
-    requires farm { farm ≡ padded line.now.farm.now }
+    requires farm { farm ≡ pad line.now.farm.now }
     ensures { IsInitDone line.now result }
 {
     let names = match count_names(rt, line.state) {
@@ -96,7 +96,7 @@ fn write_files<R: Files + AllocGlobal>(
 ) -> Result<NodeFile, CommandFault>
     requires range { IsInitInRange line.now }
     requires member { line.now.id < line.now.nodes }
-    requires farm { farm ≡ padded line.now.farm.now }
+    requires farm { farm ≡ pad line.now.farm.now }
     ensures file { IfOk result (IsFirstFile line.now) }
     ensures fault { IfErr result IsFromSystem }
 {

@@ -4,7 +4,8 @@
 //! [`CommandFault::status`] is the exit status.
 //!
 //! **Promises** (`specs/Done.antt`).
-//! - `node` begins only on a folder whose file `farm` was found, is a node's, of a farm of as many nodes as addresses are listed, and whose
+//! - `node` begins only on a folder whose file `farm` was found, is a node's, of a farm of as many nodes as addresses are listed,
+//! and whose
 //!   tape is there: never on an empty or an unknown folder. Its node was opened on a tape as that node of that farm.
 //! - However many turns it was to take, and however it ended after it had begun, its process has lived as `HasLived` of `wf_loop` says,
 //!   from that node on, and each client was sent the response to exactly what had come of its request (`HasAnswered`).

@@ -4,14 +4,14 @@ ghost use Rattle.wf_folder.specs.NodeFile.{IsNodeFile};
 ghost use Rattle.wf_line.specs.NodeLine.{IsNodeInRange};
 ghost use Rattle.wf_loop.specs.Hub.{HasAnswered, process_of};
 ghost use Rattle.wf_loop.specs.Lived.{HasLived};
-ghost use Rattle.wf_loop.specs.Going.{KeepsEarlier};
+ghost use Rattle.wf_loop.specs.Continuation.{KeepsEarlier};
 ghost use Rattle.wf_node_command.specs.Address.{IsNoAddress, words_of};
 ghost use Rattle.wf_node_command.specs.Done.{IsAdmitted, IsEnd, IsNodeDone, IsNodeFault, IsStarted};
 ghost use Rattle.wf_node_command.specs.Fault.{IsFromSystem};
 
 use crate::addresses::{address, addresses};
 use crate::fault::{AddressOption, CommandFault};
-use crate::folder::{found_in, heard_in, hold, presence, replace_farm, tape_path};
+use crate::folder::{find_in, hold, presence, read_heard, replace_farm, tape_path};
 use crate::tape::{FileOpener, Opener, open_process, read_progress};
 use std::alloc::Global;
 use std::fs::File;
@@ -21,8 +21,8 @@ use std::time::Clock;
 use wf_ballot::NodeId;
 use wf_folder::{NodeFile, NodeFound, admit_node};
 use wf_line::node_line::NodeLine;
-use wf_loop::{Begun, Event, Hub, Log, Plan, Process};
-use wf_peer::{Heard, Own, Progress, Rejection};
+use wf_loop::{Begun, Hub, Log, NodeEvent, NodePlan, Process};
+use wf_peer::{Heard, Own, PeerRejection, Progress};
 use wf_tape::{FileTape, Tape};
 
 /// Where clients, peers, the operator and readers come, and where all nodes' peers do.
@@ -126,7 +126,7 @@ fn start<'a, R: Files<File = File> + Clock + Eprint + Net + AllocGlobal>(
     requires most { length places.peers.items ≤ 64 }
     ensures { IsNodeDone ⟦<FileTape<&'a R> as Tape>⟧ line.now result }
 {
-    match admitted(rt, line, places.peers.len() as u8) {
+    match admit(rt, line, places.peers.len() as u8) {
         Ok(file) => start_as(rt, line, places, &file, turns),
         Err(fault) => {
             drop(places);
@@ -137,18 +137,18 @@ fn start<'a, R: Files<File = File> + Clock + Eprint + Net + AllocGlobal>(
 
 /// The file of this start of one of so many nodes, by what is in the folder.
 #[tactic(auto, using(crate::proofs::Started::admitted_by, crate::proofs::Started::rejected_by, crate::proofs::Started::start_is_file, crate::proofs::Started::start_has_nodes, crate::proofs::Faults::system_of_node))]
-fn admitted<R: Files + AllocGlobal>(
+fn admit<R: Files + AllocGlobal>(
     rt: &R,
     line: &NodeLine<'_>,
     nodes: u8,
 ) -> Result<NodeFile, CommandFault>
     requires { nodes ≡ length (words_of line.now.peers.now) }
-    ensures admitted { IfOk result (IsAdmitted line.now) }
+    ensures admit { IfOk result (IsAdmitted line.now) }
     ensures file { IfOk result IsNodeFile }
     ensures nodes { IfOk result (λ file. file.nodes ≡ nodes) }
     ensures fault { IfErr result (IsNodeFault line.now) }
 {
-    let found = match found_in(rt, line.state) {
+    let found = match find_in(rt, line.state) {
         Ok(found) => found,
         Err(fault) => return Err(fault),
     };
@@ -184,7 +184,7 @@ fn start_as<'a, R: Files<File = File> + Clock + Eprint + Net + AllocGlobal>(
     turns: u64,
 ) -> Result<(), CommandFault>
     requires range { IsNodeInRange line.now }
-    requires admitted { IsAdmitted line.now file.now }
+    requires admit { IsAdmitted line.now file.now }
     requires file { IsNodeFile file.now }
     requires nodes { file.now.nodes ≡ length places.peers.items }
     ensures { IsNodeDone ⟦<FileTape<&'a R> as Tape>⟧ line.now result }
@@ -259,7 +259,7 @@ fn plan_of(
     file: &NodeFile,
     start: Progress,
     path: &str,
-) -> Result<Plan, CommandFault>
+) -> Result<NodePlan, CommandFault>
     requires file { IsNodeFile file.now }
     requires nodes { file.now.nodes ≡ length places.peers.items }
     ensures { IfErr result IsFromSystem }
@@ -281,7 +281,7 @@ fn plan_of(
         return Err(CommandFault::Memory);
     };
     let own = peers[file.node as usize];
-    Ok(Plan {
+    Ok(NodePlan {
         own: Own {
             farm: file.farm,
             nodes: file.nodes,
@@ -305,7 +305,7 @@ fn begin<'a, R: Files<File = File> + Clock + Eprint + Net + AllocGlobal>(
     rt: &'a R,
     line: &NodeLine<'_>,
     file: &NodeFile,
-    plan: Plan,
+    plan: NodePlan,
     process: Process<FileTape<&'a R>>,
     path: &str,
     turns: u64,
@@ -342,7 +342,7 @@ fn counted<R: Files + AllocGlobal>(
     requires { IsNodeFile file.now }
     ensures { IfErr result IsFromSystem }
 {
-    let heard = match heard_in(rt, line.state) {
+    let heard = match read_heard(rt, line.state) {
         Ok(heard) => heard,
         Err(fault) => return Err(fault),
     };
@@ -357,7 +357,7 @@ fn serve<R: Files<File = File> + Clock + Eprint + Net + AllocGlobal, T: Tape + D
     rt: &R,
     line: &NodeLine<'_>,
     file: &NodeFile,
-    plan: Plan,
+    plan: NodePlan,
     process: Process<T>,
     heard: Heard,
     opener: &O,
@@ -373,9 +373,9 @@ fn serve<R: Files<File = File> + Clock + Eprint + Net + AllocGlobal, T: Tape + D
         Err(fault) => return Err(CommandFault::Loop(fault)),
     };
     if let Some(http) = hub.http() {
-        log.write(&Event::Listening { http, listen });
+        log.write(&NodeEvent::Listening { http, listen });
     }
-    log.write(&Event::Opened {
+    log.write(&NodeEvent::Opened {
         node: file.node as usize,
         published: hub.process().node().published().number(),
     });
@@ -395,7 +395,7 @@ fn go_on<R: Files<File = File> + Clock + Eprint + Net + AllocGlobal, T: Tape + D
     hub: &mut Hub<T>,
     opener: &O,
     turns: u64,
-) -> Result<(), Rejection>
+) -> Result<(), PeerRejection>
     // Whatever came in however many turns, the node has lived by its acts, was given only what receivers returned, and sent only what it
     // returned.
     ensures lived { HasLived T.Tape (process_of hub.new) }

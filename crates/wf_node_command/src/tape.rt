@@ -124,7 +124,7 @@ fn shortened<'a, R: Files + AllocGlobal>(
     ensures { IfErr result IsFromSystem }
 {
     match Node::open(rt.alloc(), tape, id, n) {
-        Ok(node) => closed_short(rt, node, path),
+        Ok(node) => close_short(rt, node, path),
         Err((tape, fault)) => {
             drop(tape);
             Err(fault_of(rt, path, fault))
@@ -133,7 +133,7 @@ fn shortened<'a, R: Files + AllocGlobal>(
 }
 
 /// The tape of a node, shortened to what it has stored; as it was if an allocation fails.
-fn closed_short<'a, R: Files + AllocGlobal>(
+fn close_short<'a, R: Files + AllocGlobal>(
     rt: &'a R,
     node: Node<FileTape<&'a R>>,
     path: &str,

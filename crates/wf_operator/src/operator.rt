@@ -1,14 +1,14 @@
 //! What the operator's port answers.
 
 use crate::lines::{canon_at, empty_map, push_line, text_of};
-use crate::page::Page;
-use crate::request::{Request, is_whole, number_of, request_of};
+use crate::page::TextPage;
+use crate::request::{FirstLine, is_whole, number_of, request_of};
 use http::StatusCode;
 use std::alloc::{AllocError, Global};
-use wf_client::incoming::Incoming;
-use wf_client::outgoing::Outgoing;
+use wf_client::partial_request::Incoming;
+use wf_client::response_buffer::Outgoing;
 use wf_learner::History;
-use wf_visitors::{Reply, Server};
+use wf_visitors::{Server, ServerReply};
 
 /// The most lines of a history that one answer has.
 const MOST_LINES: u16 = 256;
@@ -53,19 +53,24 @@ pub struct Operator<O> {
 impl<O: Operated> Server for Operator<O> {
     ghost responds = { λ _ _ _ _ _. Unit {0} };
 
-    fn answer(&mut self, alloc: Global, incoming: &Incoming, outgoing: &mut Outgoing) -> Reply {
+    fn answer(
+        &mut self,
+        alloc: Global,
+        incoming: &Incoming,
+        outgoing: &mut Outgoing,
+    ) -> ServerReply {
         if !incoming.is_closed() && !is_whole(incoming.bytes()) {
-            return Reply::Lacks(1);
+            return ServerReply::Lacks(1);
         }
         if incoming.bytes().is_empty() {
-            return Reply::Nothing;
+            return ServerReply::Nothing;
         }
         match respond(alloc, &self.operated, incoming.bytes()) {
             Ok(page) => {
                 let (status, bytes) = page.send(outgoing);
-                Reply::Sent { status, bytes }
+                ServerReply::Sent { status, bytes }
             }
-            Err(AllocError) => Reply::Nothing,
+            Err(AllocError) => ServerReply::Nothing,
         }
     }
 }
@@ -78,14 +83,14 @@ impl<O: Operated> Operator<O> {
 }
 
 /// The page for a request.
-fn respond<O: Operated>(alloc: Global, operated: &O, bytes: &[u8]) -> Result<Page, AllocError> {
-    let Request {
+fn respond<O: Operated>(alloc: Global, operated: &O, bytes: &[u8]) -> Result<TextPage, AllocError> {
+    let FirstLine {
         method,
         path,
         query,
     } = request_of(bytes);
     if method != "GET" {
-        return Page::only_get(alloc);
+        return TextPage::only_get(alloc);
     }
     match path {
         "/healthz" => health_page(alloc, operated.health()),
@@ -93,20 +98,20 @@ fn respond<O: Operated>(alloc: Global, operated: &O, bytes: &[u8]) -> Result<Pag
         "/metrics" => metrics_page(alloc, operated),
         "/map" => map_page(alloc, operated.history(), query),
         "/history" => history_page(alloc, operated, query),
-        _ => Page::of(alloc, StatusCode::NOT_FOUND, "not found\n"),
+        _ => TextPage::of(alloc, StatusCode::NOT_FOUND, "not found\n"),
     }
 }
 
 /// Whether it serves, its tape stands, and no history differs.
-fn health_page(alloc: Global, health: Health) -> Result<Page, AllocError> {
+fn health_page(alloc: Global, health: Health) -> Result<TextPage, AllocError> {
     match health {
-        Health::Fine => Page::of(alloc, StatusCode::OK, "ok\n"),
-        Health::Halted => Page::of(alloc, StatusCode::SERVICE_UNAVAILABLE, "halted\n"),
-        Health::Differs { peer, sequence } => Ok(Page::of_text(
+        Health::Fine => TextPage::of(alloc, StatusCode::OK, "ok\n"),
+        Health::Halted => TextPage::of(alloc, StatusCode::SERVICE_UNAVAILABLE, "halted\n"),
+        Health::Differs { peer, sequence } => Ok(TextPage::of_text(
             StatusCode::SERVICE_UNAVAILABLE,
             format!(in alloc; "history differs from node {peer} at sequence {sequence}\n")?,
         )),
-        Health::ReaderDiffers { sequence } => Ok(Page::of_text(
+        Health::ReaderDiffers { sequence } => Ok(TextPage::of_text(
             StatusCode::SERVICE_UNAVAILABLE,
             format!(in alloc; "history differs from a reader at sequence {sequence}\n")?,
         )),
@@ -114,28 +119,28 @@ fn health_page(alloc: Global, health: Health) -> Result<Page, AllocError> {
 }
 
 /// Whether it has all that it heard of.
-fn readiness_page<O: Operated>(alloc: Global, operated: &O) -> Result<Page, AllocError> {
-    let Some(heard) = operated.later() else {
-        return Page::of(alloc, StatusCode::OK, "ready\n");
+fn readiness_page<O: Operated>(alloc: Global, operated: &O) -> Result<TextPage, AllocError> {
+    let Some(received) = operated.later() else {
+        return TextPage::of(alloc, StatusCode::OK, "ready\n");
     };
     let published = operated.history().published().number();
-    Ok(Page::of_text(
+    Ok(TextPage::of_text(
         StatusCode::SERVICE_UNAVAILABLE,
-        format!(in alloc; "behind: published {published}, heard of {heard}\n")?,
+        format!(in alloc; "behind: published {published}, heard of {received}\n")?,
     ))
 }
 
 /// The metrics, in Prometheus' text form.
-fn metrics_page<O: Operated>(alloc: Global, operated: &O) -> Result<Page, AllocError> {
+fn metrics_page<O: Operated>(alloc: Global, operated: &O) -> Result<TextPage, AllocError> {
     let mut text = String::new(alloc);
     operated.push_metrics(&mut text)?;
-    Ok(Page::of_metrics(text))
+    Ok(TextPage::of_metrics(text))
 }
 
 /// The canonical text of a published map.
-fn map_page(alloc: Global, history: &History, query: &str) -> Result<Page, AllocError> {
+fn map_page(alloc: Global, history: &History, query: &str) -> Result<TextPage, AllocError> {
     let Some(number) = number_of(query, "seq=") else {
-        return malformed(alloc);
+        return malformed_page(alloc);
     };
     let text = if number == 0 {
         empty_map(alloc, history)?
@@ -143,8 +148,8 @@ fn map_page(alloc: Global, history: &History, query: &str) -> Result<Page, Alloc
         published_map(alloc, history, number)?
     };
     match text {
-        Some(text) => Ok(Page::of_text(StatusCode::OK, text)),
-        None => Page::of(alloc, StatusCode::NOT_FOUND, "not published\n"),
+        Some(text) => Ok(TextPage::of_text(StatusCode::OK, text)),
+        None => TextPage::of(alloc, StatusCode::NOT_FOUND, "not published\n"),
     }
 }
 
@@ -161,9 +166,13 @@ fn published_map(
 }
 
 /// A line a sequence.
-fn history_page<O: Operated>(alloc: Global, operated: &O, query: &str) -> Result<Page, AllocError> {
+fn history_page<O: Operated>(
+    alloc: Global,
+    operated: &O,
+    query: &str,
+) -> Result<TextPage, AllocError> {
     let Some(from) = number_of(query, "from=") else {
-        return malformed(alloc);
+        return malformed_page(alloc);
     };
     let mut text = String::new(alloc);
     let from = from.max(1);
@@ -172,10 +181,10 @@ fn history_page<O: Operated>(alloc: Global, operated: &O, query: &str) -> Result
             push_line(&mut text, number, operated.digest_at(number), canon)?;
         }
     }
-    Ok(Page::of_text(StatusCode::OK, text))
+    Ok(TextPage::of_text(StatusCode::OK, text))
 }
 
 /// That a query isn't one.
-fn malformed(alloc: Global) -> Result<Page, AllocError> {
-    Page::of(alloc, StatusCode::BAD_REQUEST, "malformed\n")
+fn malformed_page(alloc: Global) -> Result<TextPage, AllocError> {
+    TextPage::of(alloc, StatusCode::BAD_REQUEST, "malformed\n")
 }

@@ -2,8 +2,8 @@
 
 use http::StatusCode;
 use std::alloc::{AllocError, Global};
-use wf_client::outgoing::Outgoing;
-use wf_http::refusal::Allowed;
+use wf_client::response_buffer::Outgoing;
+use wf_http::http_error::Allowed;
 use wf_http::response::Response;
 
 /// The media type of text.
@@ -14,22 +14,26 @@ const METRICS: &str = "text/plain; version=0.0.4; charset=utf-8";
 
 /// A page: its status, media type and text.
 #[derive(Drop)]
-pub(crate) struct Page {
+pub(crate) struct TextPage {
     status: StatusCode,
     media: &'static str,
     allowed: Option<Allowed>,
     text: String,
 }
 
-impl Page {
+impl TextPage {
     /// A page of one text.
-    pub(crate) fn of(alloc: Global, status: StatusCode, text: &str) -> Result<Page, AllocError> {
-        Ok(Page::of_text(status, String::from_str(alloc, text)?))
+    pub(crate) fn of(
+        alloc: Global,
+        status: StatusCode,
+        text: &str,
+    ) -> Result<TextPage, AllocError> {
+        Ok(TextPage::of_text(status, String::from_str(alloc, text)?))
     }
 
     /// A page of a text that is given away.
-    pub(crate) fn of_text(status: StatusCode, text: String) -> Page {
-        Page {
+    pub(crate) fn of_text(status: StatusCode, text: String) -> TextPage {
+        TextPage {
             status,
             media: TEXT,
             allowed: None,
@@ -38,8 +42,8 @@ impl Page {
     }
 
     /// A page of metrics.
-    pub(crate) fn of_metrics(text: String) -> Page {
-        Page {
+    pub(crate) fn of_metrics(text: String) -> TextPage {
+        TextPage {
             status: StatusCode::OK,
             media: METRICS,
             allowed: None,
@@ -48,8 +52,8 @@ impl Page {
     }
 
     /// That only GET is allowed.
-    pub(crate) fn only_get(alloc: Global) -> Result<Page, AllocError> {
-        let mut page = Page::of(
+    pub(crate) fn only_get(alloc: Global) -> Result<TextPage, AllocError> {
+        let mut page = TextPage::of(
             alloc,
             StatusCode::METHOD_NOT_ALLOWED,
             "method not allowed\n",

@@ -5,7 +5,7 @@ const MOST_HEAD: usize = 8_192;
 
 /// A request's first line, taken apart; empty where a part is absent.
 #[derive(Clone, Copy)]
-pub(crate) struct Request<'a> {
+pub(crate) struct FirstLine<'a> {
     pub(crate) method: &'a str,
     pub(crate) path: &'a str,
     pub(crate) query: &'a str,
@@ -19,12 +19,12 @@ pub(crate) fn is_whole(bytes: &[u8]) -> bool {
 }
 
 /// What is asked for.
-pub(crate) fn request_of(bytes: &[u8]) -> Request<'_> {
+pub(crate) fn request_of(bytes: &[u8]) -> FirstLine<'_> {
     let line = first_line(bytes);
     let (method, rest) = line.split_once(' ').unwrap_or((line, ""));
     let (target, _) = rest.split_once(' ').unwrap_or((rest, ""));
     let (path, query) = target.split_once('?').unwrap_or((target, ""));
-    Request {
+    FirstLine {
         method,
         path,
         query,

@@ -17,7 +17,7 @@ use Rattle.wf_order.proofs.Readers.{Reader, Reads, ReadsOn, ReadsFrom, give, rea
 use Rattle.wf_order.proofs.Blocks.{block_reads}
 use Rattle.wf_order.proofs.Keyed.{IsKeyed, IsOrdered, keyed_is_ordered}
 use Rattle.wf_order.proofs.Rows.{Rows, add, no_rows, or_else, once_column, again_column, alone, table_is_keyed}
-use Rattle.wf_order.proofs.Reordering.{block_reordered, block_consists}
+use Rattle.wf_order.proofs.EntryOrder.{block_reordered, block_consists}
 use Rattle.wf_order.proofs.Styles.{style_reads}
 use Rattle.wf_order.proofs.Labels.{label_reads}
 

@@ -26,7 +26,7 @@ use Rattle.wf_order.proofs.Blocks.{block_reads}
 use Rattle.wf_order.proofs.Keyed.{IsKeyed, IsOrdered, within_is_ordered}
 use Rattle.wf_order.proofs.Rows.{Rows, add, no_rows, or_else, once_column, again_column, alone, table_is_keyed}
 use Rattle.wf_order.proofs.Within.{Has, bind_has, if_has, PutIsWithin, block_within, keyed_within, table_within}
-use Rattle.wf_order.proofs.Reordering.{block_reordered, block_consists}
+use Rattle.wf_order.proofs.EntryOrder.{block_reordered, block_consists}
 use Rattle.wf_order.proofs.Classes.{class_reads}
 use Rattle.wf_order.proofs.Features.{feature_reads, feature_within}
 use Rattle.wf_order.proofs.Webs.{metadata_reads}

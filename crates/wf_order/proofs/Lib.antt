@@ -4,7 +4,7 @@ pub mod Loops
 pub mod Blocks
 pub mod Keyed
 pub mod Orders
-pub mod Reordering
+pub mod EntryOrder
 pub mod Rows
 pub mod Within
 pub mod Colors

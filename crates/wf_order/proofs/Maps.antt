@@ -21,7 +21,7 @@ use Rattle.wf_order.proofs.Options.{none_is_not_some}
 use Rattle.wf_order.proofs.Readers.{give, given_value, given_rest, Reads, ReadsOn, then_reads, gives_reads, nothing_reads, if_reads, option_reads, text_reads, number_reads, IsEnd, end_is, end_reads}
 use Rattle.wf_order.proofs.Keyed.{IsKeyed, IsOrdered, keyed_is_ordered}
 use Rattle.wf_order.proofs.Rows.{Rows, add, no_rows, or_else, once_column, again_column, alone, table_is_keyed}
-use Rattle.wf_order.proofs.Reordering.{block_reordered, block_consists}
+use Rattle.wf_order.proofs.EntryOrder.{block_reordered, block_consists}
 use Rattle.wf_order.proofs.Colors.{color_reads}
 use Rattle.wf_order.proofs.Layers.{layer_reads, layer_within}
 use Rattle.wf_order.proofs.Webs.{web_reads}

@@ -10,7 +10,7 @@ use Rattle.wf_def.specs.Limit.{most_points}
 use Rattle.wf_token.specs.Token.{Token, Word, Quoted, Braced, tokens}
 use Rattle.wf_block.specs.Grammar.{◌>>=◌, word, is_end}
 use Rattle.wf_block.specs.Steps.{fill, block}
-use Rattle.wf_metadata.specs.Web.{web, web_put, nothing_said}
+use Rattle.wf_metadata.specs.Web.{web, web_put, no_settings}
 use Rattle.wf_class.specs.Style.{style, style_put, no_style}
 use Rattle.wf_class.specs.Label.{label, label_put, no_label}
 use Rattle.wf_class.specs.Class.{class, class_put, class_once, no_class}
@@ -26,7 +26,7 @@ use Rattle.wf_order.proofs.Readers.{Reader, give}
 use Rattle.wf_order.proofs.Blocks.{Put}
 use Rattle.wf_order.proofs.Keyed.{IsOrdered}
 use Rattle.wf_order.proofs.Orders.{exchanged}
-use Rattle.wf_order.proofs.Reordering.{fill_entry, fill_exchanged, spelled_length}
+use Rattle.wf_order.proofs.EntryOrder.{fill_entry, fill_exchanged, spelled_length}
 use Rattle.wf_order.proofs.Styles.{style_ordered}
 use Rattle.wf_order.proofs.Labels.{label_ordered}
 use Rattle.wf_order.proofs.Classes.{class_ordered}
@@ -105,7 +105,7 @@ whole_alike put none finish entries others long fills rest =
 read_alike : (b : Block) (entries others : List Entry) → AreAlike b entries others → (rest : List Token) → ReadAlike b (spelled entries rest) (spelled others rest)
 unfolding map web layer class style label feature
 read_alike Map entries others h rest = whole_alike map_put no_map _ entries others h.as_long (h.fills tt) rest
-read_alike Web entries others h rest = whole_alike web_put nothing_said _ entries others h.as_long (h.fills tt) rest
+read_alike Web entries others h rest = whole_alike web_put no_settings _ entries others h.as_long (h.fills tt) rest
 read_alike Layer entries others h rest = λ o. whole_alike (layer_put o) no_layer _ entries others h.as_long (h.fills o) rest
 read_alike Class entries others h rest = whole_alike class_put no_class _ entries others h.as_long (h.fills tt) rest
 read_alike Style entries others h rest = whole_alike style_put no_style _ entries others h.as_long (h.fills tt) rest

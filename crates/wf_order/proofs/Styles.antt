@@ -12,7 +12,7 @@ use Rattle.wf_order.proofs.Readers.{ReadsOn, then_reads, gives_reads, whole_read
 use Rattle.wf_order.proofs.Blocks.{block_reads}
 use Rattle.wf_order.proofs.Keyed.{IsKeyed, IsOrdered, keyed_is_ordered}
 use Rattle.wf_order.proofs.Rows.{Rows, add, no_rows, once_column, alone, table_is_keyed}
-use Rattle.wf_order.proofs.Reordering.{block_reordered, block_consists}
+use Rattle.wf_order.proofs.EntryOrder.{block_reordered, block_consists}
 use Rattle.wf_order.proofs.Colors.{color_reads}
 
 abbrev Slots : Type 0

@@ -9,14 +9,14 @@ use Rattle.wf_block.specs.Distinct.{all_differ}
 use Rattle.wf_metadata.specs.declared.slots.Metadata as kept
 use Rattle.wf_metadata.specs.declared.slots.WebSlots.{WebSlots}
 use Rattle.wf_metadata.specs.Metadata.{metadata, pairs, kept as kept_of}
-use Rattle.wf_metadata.specs.Web.{web, web_put, nothing_said, no_metadata}
+use Rattle.wf_metadata.specs.Web.{web, web_put, no_settings, no_metadata}
 use Rattle.wf_order.specs.Entries.{MayBeReordered, ConsistsOfEntries}
 use Rattle.wf_order.proofs.Readers.{Reader, give, ReadsOn, then_reads, gives_reads, nothing_reads, if_reads, text_reads}
 use Rattle.wf_order.proofs.Loops.{whole_loop_reads}
 use Rattle.wf_order.proofs.Blocks.{block_reads}
 use Rattle.wf_order.proofs.Keyed.{IsKeyed, IsOrdered, keyed_is_ordered}
 use Rattle.wf_order.proofs.Rows.{Rows, add, no_rows, once_column, alone, table_is_keyed}
-use Rattle.wf_order.proofs.Reordering.{block_reordered, block_consists}
+use Rattle.wf_order.proofs.EntryOrder.{block_reordered, block_consists}
 
 -- ---- pairs
 
@@ -92,21 +92,21 @@ rows =
     (add (codes "IMAGEPATH") (once_column text (λ x. tt) text_reads)
     (add (codes "IMAGEURL") (once_column text (λ x. tt) text_reads) no_rows))
 
-pub web_keyed : IsKeyed web_put nothing_said
+pub web_keyed : IsKeyed web_put no_settings
 unfolding web_put
 web_keyed = table_is_keyed rows to from (λ r. refl) web_put (λ s k t. alone (choice (rows.table WebSlots (to s) from) k) t)
 
 pub web_reads : ReadsOn web
 unfolding web
-web_reads = then_reads _ (λ s tokens. Some (unwrap_or s.metadata no_metadata, tokens)) (block_reads web_put web_keyed.reads nothing_said) (λ s. gives_reads (unwrap_or s.metadata no_metadata))
+web_reads = then_reads _ (λ s tokens. Some (unwrap_or s.metadata no_metadata, tokens)) (block_reads web_put web_keyed.reads no_settings) (λ s. gives_reads (unwrap_or s.metadata no_metadata))
 
-pub web_ordered : IsOrdered web_put (web_put nothing_said)
-web_ordered = keyed_is_ordered web_put nothing_said web_keyed
+pub web_ordered : IsOrdered web_put (web_put no_settings)
+web_ordered = keyed_is_ordered web_put no_settings web_keyed
 
-pub web_reordered : MayBeReordered (web_put nothing_said) web
+pub web_reordered : MayBeReordered (web_put no_settings) web
 unfolding web
-web_reordered = block_reordered web_put (web_put nothing_said) web_ordered nothing_said (λ x. Some (unwrap_or x.0.metadata no_metadata, x.1))
+web_reordered = block_reordered web_put (web_put no_settings) web_ordered no_settings (λ x. Some (unwrap_or x.0.metadata no_metadata, x.1))
 
-pub web_consists : ConsistsOfEntries (web_put nothing_said) web
+pub web_consists : ConsistsOfEntries (web_put no_settings) web
 unfolding web
-web_consists = block_consists web_put (web_put nothing_said) web_ordered nothing_said (λ s. Some (unwrap_or s.metadata no_metadata))
+web_consists = block_consists web_put (web_put no_settings) web_ordered no_settings (λ s. Some (unwrap_or s.metadata no_metadata))

@@ -18,7 +18,7 @@ spelled (e ∷ entries) rest = Word e.keyword ∷ (e.arguments ++ spelled entrie
 unfoldable pub has_keyword : List ℕ → Entry → Bool
 has_keyword keyword e = str_eq_ignore_ascii_case keyword e.keyword
 
--- The same entries in another order: for each keyword, the entries with it are the same, in the same order.
+-- The entries are the others in another order: for each keyword, the entries with it are the same, in the same order.
 abbrev pub AreReordered : List Entry → List Entry → Type 0
 AreReordered entries others = (keyword : List ℕ) → filter (has_keyword keyword) entries ≡ filter (has_keyword keyword) others
 
@@ -27,8 +27,8 @@ module _ {S : Type 0} (alone : List ℕ → List Token → Option (S × List Tok
   -- none. The word END is no keyword.
   pub record IsEntry (e : Entry) : Type 0 where
     pub keyword : is_end e.keyword ≡ false
-    pub said : S
-    pub whole : alone e.keyword e.arguments ≡ Some (said, [])
+    pub settings : S
+    pub whole : alone e.keyword e.arguments ≡ Some (settings, [])
 
   -- The entries of a block may come in any order, as long as those of each keyword stay in theirs: whatever follows them, the block
   -- is read as the same, or as nothing either way.

@@ -1,4 +1,4 @@
 pub mod Entries
 pub mod Pairs
 pub mod Nested
-pub mod Laws
+pub mod Theorems

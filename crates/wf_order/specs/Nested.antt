@@ -6,7 +6,7 @@ use Rattle.wf_def.specs.Limit.{most_points}
 use Rattle.wf_token.specs.Token.{Token, Word, tokens}
 use Rattle.wf_block.specs.Grammar.{choice, is_end}
 use Rattle.wf_metadata.specs.declared.slots.WebSlots.{WebSlots}
-use Rattle.wf_metadata.specs.Web.{web_put, nothing_said}
+use Rattle.wf_metadata.specs.Web.{web_put, no_settings}
 use Rattle.wf_class.specs.declared.slots.style.StyleSlots.{StyleSlots}
 use Rattle.wf_class.specs.declared.slots.label.LabelSlots.{LabelSlots}
 use Rattle.wf_class.specs.declared.slots.class.ClassSlots.{ClassSlots}
@@ -55,7 +55,7 @@ Slots Feature = FeatureSlots
 -- what a keyword reads as the first one of its block
 abbrev pub first_in : (block : Block) → List ℕ → List Token → Option (Slots block × List Token)
 first_in Map = map_put no_map
-first_in Web = web_put nothing_said
+first_in Web = web_put no_settings
 first_in Layer = layer_put [] no_layer
 first_in Class = class_put no_class
 first_in Style = style_put no_style
@@ -66,7 +66,7 @@ first_in Feature = feature_put most_points no_feature
 abbrev pub nested : List ℕ → List Entry → List ℕ → Entry
 nested keyword entries «end» = record { keyword = keyword; arguments = spelled entries (Word «end» ∷ []) }
 
--- The same entries of a block in another order, also in its nested blocks: the block's own entries reordered (`here`), those of a
+-- A block's entries are the others in another order, also in its nested blocks: its own entries reordered (`here`), those of a
 -- nested block at its front (`inside`), those after its first entry (`after`), and any of these one after the other (`in_turn`).
 pub data AreReorderedWithin : Block → List Entry → List Entry → Type 0 where
   here : (block : Block) (entries others : List Entry) → All (IsEntry (first_in block)) entries → AreReordered entries others → AreReorderedWithin block entries others

@@ -7,7 +7,7 @@ use Rattle.wf_metadata.specs.Metadata.{metadata, pairs}
 unfoldable pub has_key : List ℕ → List ℕ × List ℕ → Bool
 has_key key pair = bytes_eq pair.0 key
 
--- The same pairs in another order: for each key, the pairs with it are the same, in the same order.
+-- The pairs are those of the other list in another order: for each key, the pairs with it are the same, in the same order.
 abbrev pub ArePairsReordered : List (List ℕ × List ℕ) → List (List ℕ × List ℕ) → Type 0
 ArePairsReordered all more = (key : List ℕ) → filter (has_key key) all ≡ filter (has_key key) more
 

@@ -1,9 +1,9 @@
 //! The order of a mapfile's keywords: they may come in any order, in each of its blocks.
 //!
-//! A block consists of entries, each a keyword with its arguments (MapServer mapfile reference). Entries of one keyword, such as the
-//! LAYERs of a MAP or the POINTS of a FEATURE, mean something by their order, so they stay in it; all others may change places.
-//! Model: `specs/Entries.antt` says what an entry is, and when two lists of entries differ by their order alone; `specs/Nested.antt`
-//! says the same of blocks within blocks.
+//! A block consists of entries, each a keyword with its arguments (MapServer mapfile reference). Entries of one keyword, such as
+//! the LAYERs of a MAP or the POINTS of a FEATURE, mean something by their order, so they stay in it; all others may change places.
+//! Model: `specs/Entries.antt` says what an entry is, and when two lists of entries differ by their order alone;
+//! `specs/Nested.antt` says the same of blocks within blocks.
 //!
 //! Promises: for each kind of block, entries in another order are read as the same value, or as nothing either way, whatever
 //! follows them; and whatever is read as a block consists of entries. Two mapfiles that differ by the order of entries alone, in
@@ -14,4 +14,4 @@
 //! Doesn't: which error comes first, and where, depends on the order, and no contract says anything of it.
 #![tactic(auto)]
 
-pub mod law;
+pub mod theorem;

@@ -36,12 +36,12 @@ color_at-one op background column row = by_test (covers op column row) refl wher
   by_test true covered = color_at-covered op background column row covered
   by_test false left = color_at-left op background column row left
 
-color_of_judged : (ops : List OperationValue) (background : Color) (column row : ℤ) → color_at ops background column row ≡ painted (map (judge column row) ops) background
+color_of_compared : (ops : List OperationValue) (background : Color) (column row : ℤ) → color_at ops background column row ≡ painted (map (judge column row) ops) background
 unfolding color_at
-color_of_judged [] background column row = refl
-color_of_judged (op ∷ ops) background column row =
+color_of_compared [] background column row = refl
+color_of_compared (op ∷ ops) background column row =
     color_at-append (op ∷ []) ops background column row
-    ∙ color_of_judged ops (color_at (op ∷ []) background column row) column row
+    ∙ color_of_compared ops (color_at (op ∷ []) background column row) column row
     ∙ ap (painted (map (judge column row) ops)) (color_at-one op background column row)
 
 -- ---- operations
@@ -147,9 +147,9 @@ module _ (V W : ViewValue) (m n : ℤ) (shown : (p : Point) → position_of V p 
   -- the colours are the same
   pub colors_alike : (d : Definition) (layers : List ℕ) (background : Color) → color_at (operations d layers V) background u v ≡ color_at (operations d layers W) background (plus u m) (plus v n)
   colors_alike d layers background =
-      color_of_judged (operations d layers V) background u v
-      ∙ ap (λ (judged : List (Bool × Color)). painted judged background) (operations_alike d layers)
-      ∙ sym (color_of_judged (operations d layers W) background (plus u m) (plus v n))
+      color_of_compared (operations d layers V) background u v
+      ∙ ap (λ (compared : List (Bool × Color)). painted compared background) (operations_alike d layers)
+      ∙ sym (color_of_compared (operations d layers W) background (plus u m) (plus v n))
 
 -- ---- tiles
 

@@ -140,7 +140,7 @@ fit_of e box width height cell fit =
 levels_differ : (e box : ExtentValue) (c d : GridCell) → IsFit e box c → IsFit e box d → c.z < d.z → ⊥
 levels_differ e box c d first second lower =
     let twice : 2 ^ (c.z + 1) ≤ 2 ^ d.z = pow-le-pow_right {n = 2} (omega arith) {i = c.z + 1} {j = d.z} (omega arith) in
-    let doubled : 2 ^ (c.z + 1) ≡ 2 ^ c.z * 2 ^ 1 = pow-add 2 c.z 1 in
+    let double : 2 ^ (c.z + 1) ≡ 2 ^ c.z * 2 ^ 1 = pow-add 2 c.z 1 in
     levels_apart (box.maxx -ℤ box.minx) (width_of e) (2 ^ c.z) (2 ^ d.z) (pow_pos d.z) (omega arith) (level_wide (width_of e) (2 ^ d.z) second.level)
     (cell_side e.minx (width_of e) (2 ^ c.z) c.col box.minx box.maxx first.col)
     (cell_side e.minx (width_of e) (2 ^ d.z) d.col box.minx box.maxx second.col)

@@ -174,9 +174,9 @@ module _ (numbers : List ℕ) (size n : ℕ) (taken marks : List ℕ) (before : 
   }
 
   pub taken_skip : slice_index marks n ≢ 1 → AreTaken numbers size (n + 1) taken marks
-  taken_skip unmarked =
+  taken_skip make_unmarked =
       let counted : slice_index marks n ≡ count_by (λ r. r == n) numbers % 2 = before.odd n (omega arith) within in
-      let none : slice_index marks n ≡ 0 = omega (arith, counted, unmarked) in
+      let none : slice_index marks n ≡ 0 = omega (arith, counted, make_unmarked) in
       record {
         sized = before.sized;
         cleared = λ k earlier. elim (cases_eq k n) [ inl same ↦ rw same none | inr apart ↦ before.cleared k (omega arith) ];

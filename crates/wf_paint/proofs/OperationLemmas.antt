@@ -1,11 +1,15 @@
 -- The colour of a pixel under operations, one list of them after another.
-use Rattle.std.proofs.Common.{◌≡◌, true, false, List, [], ◌∷◌, ◌++◌, reverse, Option, Some, None, ℤ, refl, ap, ◌∙◌}
+use Rattle.std.proofs.Common.{◌≡◌, true, false, ℕ, List, [], ◌∷◌, ◌++◌, reverse, slice_get, Option, Some, None, ℤ, refl, ap, ◌∙◌}
 use Rattle.std.specs.Option.{option_or}
 use Rattle.std.specs.List.{find}
 use Rattle.std.proofs.lemmas.List.{reverse-append}
 use Rattle.std.proofs.lemmas.List.Folds.{find-append}
+use Rattle.wf_def.specs.Attribute.{class_of}
+use Rattle.wf_def.specs.Definition.{LayerDefinition, ClassDefinition, FeatureDefinition}
+use Rattle.wf_def.specs.declared.choice.LayerKind.{LayerKind}
 use Rattle.wf_def.specs.declared.color.Color.{Color}
-use Rattle.wf_paint.specs.Operation.{OperationValue, covers, color_or, color_at}
+use Rattle.wf_paint.specs.Operation.{OperationValue, covers, color_or, color_at, class_at, class_operations, feature_operations}
+use Rattle.wf_paint.specs.View.{ViewValue}
 
 color_or-either : (background : Color) (a b : Option OperationValue) → color_or background (option_or a b) ≡ color_or (color_or background b) a
 color_or-either background None b = refl
@@ -29,3 +33,13 @@ color_at-covered op background column row covered = rw covered refl
 pub color_at-left : (op : OperationValue) (background : Color) (column row : ℤ) → covers op column row ≡ false → color_at (op ∷ []) background column row ≡ background
 unfolding color_at
 color_at-left op background column row left = rw left refl
+
+-- a feature has the operations of its class's styles
+pub feature_styled : (view : ViewValue) (layer : LayerDefinition) (feature : FeatureDefinition) (kind : LayerKind) (index : ℕ) (class : ClassDefinition) →
+    class_of layer feature ≡ Some index → slice_get layer.classes index ≡ Some class → layer.kind ≡ kind →
+    feature_operations view layer feature ≡ class_operations view kind feature.parts (Some class)
+unfolding feature_operations
+feature_styled view layer feature kind index class named found is =
+    ap (λ (o : Option ℕ). class_operations view layer.kind feature.parts (class_at layer o)) named
+    ∙ ap (class_operations view layer.kind feature.parts) found
+    ∙ ap (λ (k : LayerKind). class_operations view k feature.parts (Some class)) is

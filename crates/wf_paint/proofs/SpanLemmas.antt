@@ -98,22 +98,22 @@ IsSpanOf-both f g most a b first second = record {
 
 -- ---- boxes of columns and rows
 
-pub box_before : (columns rows : Span) (column row : ℕ) → row < rows.from → (is_within columns column && is_within rows row) ≡ false
+box_before : (columns rows : Span) (column row : ℕ) → row < rows.from → (is_within columns column && is_within rows row) ≡ false
 unfolding is_within
 box_before columns rows column row before = grind (arith, nat_tests)
 
-pub box_after : (columns rows : Span) (column row : ℕ) → rows.to ≤ row → (is_within columns column && is_within rows row) ≡ false
+box_after : (columns rows : Span) (column row : ℕ) → rows.to ≤ row → (is_within columns column && is_within rows row) ≡ false
 unfolding is_within
 box_after columns rows column row after = grind (arith, nat_tests)
 
 -- in one of its rows a box is its columns
-pub box_row : (columns rows : Span) (most row : ℕ) → columns.to ≤ most → rows.from ≤ row → row < rows.to →
+box_row : (columns rows : Span) (most row : ℕ) → columns.to ≤ most → rows.from ≤ row → row < rows.to →
     IsSpanOf (λ u. is_within columns u && is_within rows row) most columns
 unfolding is_within
 box_row columns rows most row within from to = record { within = within; passed = λ u below. grind (arith, nat_tests) }
 
 -- a square is the box of its columns and rows
-pub square_same : (size : ℕ) (p : PositionValue) (width height : ℕ) (columns rows : Span) →
+square_same : (size : ℕ) (p : PositionValue) (width height : ℕ) (columns rows : Span) →
     IsSpanOf (λ u. is_in_span size p.x (pos u)) width columns → IsSpanOf (λ u. is_in_span size p.y (pos u)) height rows →
     (column row : ℕ) → column < width → row < height → is_in_square size p (pos column) (pos row) ≡ (is_within columns column && is_within rows row)
 unfolding is_in_square
@@ -121,6 +121,22 @@ square_same size p width height columns rows across up column row wide high =
     let x = across.passed column wide in
     let y = up.passed row high in
     cc
+
+module _ (size : ℕ) (p : PositionValue) (width height : ℕ) (columns rows : Span) (across : IsSpanOf (λ u. is_in_span size p.x (pos u)) width columns) (up : IsSpanOf (λ u. is_in_span size p.y (pos u)) height rows) where
+  pub square_before : (column row : ℕ) → column < width → row < height → row < rows.from → is_in_square size p (pos column) (pos row) ≡ false
+  square_before column row wide high before = square_same size p width height columns rows across up column row wide high ∙ box_before columns rows column row before
+
+  pub square_after : (column row : ℕ) → column < width → row < height → rows.to ≤ row → is_in_square size p (pos column) (pos row) ≡ false
+  square_after column row wide high after = square_same size p width height columns rows across up column row wide high ∙ box_after columns rows column row after
+
+  -- in one of its rows a square is its columns
+  pub square_row : (row : ℕ) → rows.from ≤ row → row < rows.to → IsSpanOf (λ u. is_in_square size p (pos u) (pos row)) width columns
+  square_row row from to =
+      let box = box_row columns rows width row across.within from to in
+      record {
+        within = across.within;
+        passed = λ u below. square_same size p width height columns rows across up u row below (omega (arith, up.within)) ∙ box.passed u below;
+      }
 
 -- ---- row by row
 

@@ -1,12 +1,12 @@
 -- Strips: where the pixels of a row begin and end, and how that changes from row to row.
-use Rattle.std.proofs.Common.{◌≡◌, Bool, true, false, ℕ, suc, ◌+◌, ◌*◌, ◌^◌, ◌<◌, ◌≤◌, inl, inr, ◌&&◌, ◌||◌, not, nat_lt, max, min, ⊎_elim, Option, Some, None, is_some, ℤ, pos, ◌+ℤ◌, ◌*ℤ◌, neg_ℤ, nat_abs, ◌≤ℤ◌, negsuc, refl, sym, ap, ◌∙◌, arith}
-use Rattle.std.proofs.lemmas.Bool.{and_left, and_right, cases_lt, false≢true}
+use Rattle.std.proofs.Common.{◌≡◌, Bool, true, false, ℕ, suc, ◌+◌, ◌*◌, ◌^◌, ◌<◌, ◌≤◌, inl, inr, ◌==◌, ◌&&◌, ◌||◌, not, nat_lt, max, min, ⊎_elim, Option, Some, None, is_some, if◌then◌else◌, ℤ, pos, ◌+ℤ◌, ◌*ℤ◌, neg_ℤ, nat_abs, ◌≤ℤ◌, negsuc, refl, sym, ap, ◌∙◌, arith}
+use Rattle.std.proofs.lemmas.Bool.{and_left, and_right, cases_eq, cases_lt, eq-eqb, ne_eqb, false≢true}
 use Rattle.std.proofs.lemmas.Bool.Decides.{nat_tests}
 use Rattle.std.proofs.lemmas.Int.{ints}
 use Rattle.std.specs.Int.{int_rem_euclid}
 use Rattle.std.specs.Option.{option_or}
 use Rattle.std.proofs.Math.IntN.{pos-*ℤ-pos, negsuc-*ℤ-pos}
-use Rattle.std.proofs.Math.Nat.{mul_assoc, mul_comm, mul-le-mul}
+use Rattle.std.proofs.Math.Nat.{mul-le-mul}
 use Rattle.wf_paint.specs.Exact.{plus, difference, product, opposite, quotient, is_less}
 use Rattle.wf_def.specs.declared.color.Color.{Color}
 use Rattle.wf_paint.specs.Pixmap.{column_of, row_of}
@@ -15,12 +15,12 @@ use Rattle.wf_paint.specs.Shown.{IsColored, color_where}
 use Rattle.wf_paint.specs.Level.{level, row_level, level_at, is_in_margin}
 use Rattle.wf_paint.specs.Quotient.{number_of}
 use Rattle.wf_paint.specs.Span.{IsSpanOf, is_within, shared}
-use Rattle.wf_paint.specs.Strip.{is_in_strip, IsPart, IsEnd, IsStepped, IsBetween, StaysBetween, IsHiddenBlock}
+use Rattle.wf_paint.specs.Strip.{is_in_strip, most_between, AreEnds, IsPart, IsEnd, IsBetween, StaysBetween, IsHiddenBlock}
+use Rattle.wf_paint.specs.declared.ends.Ends.{Ends}
 use Rattle.wf_paint.specs.declared.levels.Levels.{Levels}
 use Rattle.wf_paint.specs.declared.quotient.Quotient.{Quotient}
 use Rattle.wf_paint.specs.declared.span.Span.{Span}
-use Rattle.wf_paint.specs.declared.stepped.Stepped.{Stepped}
-use Rattle.wf_paint.specs.Limit.{half_side, pixel_side}
+use Rattle.wf_paint.specs.Limit.{pixel_side}
 use Rattle.wf_paint.proofs.AlongLemmas.{times_sum, sixteen}
 use Rattle.wf_paint.proofs.ColoredLemmas.{IsColored-none, IsColored-either, IsColored-alike, column_within}
 use Rattle.wf_paint.proofs.LevelLemmas.{opposed, level_still, rising_span}
@@ -103,56 +103,48 @@ below_mirrored : (m z w : ℤ) → w ≡ difference (opposite z) (pos 1) → is_
 unfolding is_less opposite difference
 below_mirrored m z w is = grind (arith, ints)
 
-margin_mirrored : (m z w : ℤ) → w ≡ difference (opposite z) (pos 1) → is_in_margin m w ≡ is_in_margin m z
+pub margin_mirrored : (m z w : ℤ) → w ≡ difference (opposite z) (pos 1) → is_in_margin m w ≡ is_in_margin m z
 unfolding is_in_margin
 margin_mirrored m z w is =
     ap (λ (t : Bool). t && is_less w m) (above_mirrored m z w is) ∙ ap (λ (t : Bool). is_less z m && t) (below_mirrored m z w is)
     ∙ swapped (is_less z m) (not (is_less z (opposite m)))
 
-pub strip_mirrored : (l m : Levels) (rows columns : Span) (u v : ℕ) → m.margin ≡ l.margin → level_at m u v ≡ difference (opposite (level_at l u v)) (pos 1) →
-    is_in_strip l rows columns u v ≡ is_in_strip m rows columns u v
-unfolding is_in_strip
-strip_mirrored l m rows columns u v same is =
-    ap (λ (t : Bool). is_within columns u && (is_within rows v && t))
-    (sym (ap (λ (z : ℤ). is_in_margin z (level_at m u v)) same ∙ margin_mirrored l.margin (level_at l u v) (level_at m u v) is))
+-- the same levels within a margin, beside another test
+pub margin_same : (test : Bool) (l m : Levels) (u v : ℕ) → m.margin ≡ l.margin → is_in_margin l.margin (level_at m u v) ≡ is_in_margin l.margin (level_at l u v) →
+    (test && is_in_margin l.margin (level_at l u v)) ≡ (test && is_in_margin m.margin (level_at m u v))
+margin_same test l m u v same is = ap (λ (t : Bool). test && t) (sym is ∙ ap (λ (z : ℤ). is_in_margin z (level_at m u v)) (sym same))
 
 -- ---- the ends of a row's pixels
 
 -- a quotient that tells where a row's pixels end, and is near enough to 0 for the sums that follow
 pub record IsEdge (bound start change : ℤ) (step row : ℕ) (q : Quotient) : Type 0 where
   pub ends : IsEnd bound start change step row q
-  pub within : nat_abs q.whole ≤ (row + 1) * 2 ^ 51
+  pub within : nat_abs q.whole ≤ (row + 2) * 2 ^ 51
 
 one_more : (n bound z : ℤ) → n ≡ difference (difference bound z) (pos 1) → plus n (pos 1) ≡ difference bound z
 unfolding plus difference
 one_more n bound z is = omega (arith, ints)
 
-pub edge_begins : (bound start change here : ℤ) (step row : ℕ) (q : Quotient) → here ≡ level start change (pos row) →
-    number_of step q ≡ difference (difference bound here) (pos 1) → q.rest < step → nat_abs q.whole ≤ 2 ^ 50 → IsEdge bound start change step row q
-edge_begins bound start change here step row q is value rest within = record {
-  ends = record { value = one_more (number_of step q) bound here value ∙ ap (difference bound) is; rest = rest };
-  within = omega arith;
-}
-
-pub edge_stepped : (l : Levels) (bound : ℤ) (row : ℕ) (s : Stepped) → IsStepped l bound row s → IsEdge bound l.origin (product (pos pixel_side) l.up) s.step row s.now
-edge_stepped l bound row s is = record { ends = is.begins; within = omega (arith, is.near) }
-
-pub end_begins : (l : Levels) (bound here : ℤ) (row step : ℕ) (q : Quotient) → here ≡ row_level l row →
+end_begins : (l : Levels) (bound here : ℤ) (row step : ℕ) (q : Quotient) → here ≡ row_level l row →
     number_of step q ≡ difference (difference bound here) (pos 1) → q.rest < step → IsEnd bound l.origin (product (pos pixel_side) l.up) step row q
 unfolding row_level
 end_begins l bound here row step q is value rest = record { value = one_more (number_of step q) bound here value ∙ ap (difference bound) is; rest = rest }
 
-pub stepped_begins : (l : Levels) (bound here : ℤ) (row step : ℕ) (now change : Quotient) → pos step ≡ product (pos pixel_side) l.across → step ≤ 2 ^ 60 →
-    here ≡ row_level l row → number_of step now ≡ difference (difference bound here) (pos 1) → now.rest < step → nat_abs now.whole ≤ 2 ^ 50 →
+pub ends_begin : (l : Levels) (here : ℤ) (row step : ℕ) (low gap change : Quotient) → pos step ≡ product (pos pixel_side) l.across → step ≤ 2 ^ 60 →
+    here ≡ row_level l row → number_of step low ≡ difference (difference (opposite l.margin) here) (pos 1) → low.rest < step → nat_abs low.whole ≤ 2 ^ 50 →
+    number_of step gap ≡ plus l.margin l.margin → gap.rest < step → nat_abs gap.whole ≤ 2 ^ 50 →
     number_of step change ≡ opposite (product (pos pixel_side) l.up) → change.rest < step → nat_abs change.whole ≤ 2 ^ 50 →
-    IsStepped l bound row (record { now = now; change = change; step = step })
-stepped_begins l bound here row step now change across most is value rest near moves further slow = record {
+    AreEnds l row (record { low = low; gap = gap; change = change; step = step })
+ends_begin l here row step low gap change across most is value rest near apart between wide moves further slow = record {
   across = across;
   most = most;
-  begins = end_begins l bound here row step now is value rest;
-  near = near;
+  begins = end_begins l (opposite l.margin) here row step low is value rest;
+  near = omega (arith, near);
+  apart = apart;
+  gap_rest = between;
+  wide = wide;
   moves = moves;
-  rest = further;
+  change_rest = further;
   slow = slow;
 }
 
@@ -213,37 +205,55 @@ part_inside columns low high from to first last after before =
       value = rw (begins, ends) refl;
     }
 
--- ---- rows whose pixels are all as many
-
-rearranged : (t a b r : ℤ) → t ≡ a +ℤ b → t +ℤ r ≡ (a +ℤ r) +ℤ b
-rearranged t a b r is = omega (arith, ints)
-
-pub further_sum : (d r : ℕ) (v w whole : ℤ) → whole ≡ v +ℤ w → plus (product whole (pos d)) (pos r) ≡ plus (plus (product v (pos d)) (pos r)) (product w (pos d))
-unfolding plus product
-further_sum d r v w whole is =
-    rearranged (whole *ℤ pos d) (v *ℤ pos d) (w *ℤ pos d) (pos r) (ap (λ (z : ℤ). z *ℤ pos d) is ∙ times_sum v w (pos d))
-
--- twice the margin is the change of the level over as many columns as the line is wide
-pub even_margin : (w step : ℕ) (a m : ℤ) → pos 1 ≤ℤ a → m ≡ product (pos (half_side * w)) a → pos step ≡ product (pos pixel_side) a → product (pos w) (pos step) ≡ plus m m
-unfolding product plus
-even_margin w step (pos n) m rising margin same =
-    let stepped : step ≡ pixel_side * n = omega (arith, ints, pos-*ℤ-pos pixel_side n) in
-    let whole : w * (pixel_side * n) ≡ pixel_side * (w * n) = sym (mul_assoc w 16 n) ∙ ap (λ (k : ℕ). k * n) (mul_comm w 16) ∙ mul_assoc 16 w n in
-    let half : m ≡ pos (8 * (w * n)) = margin ∙ pos-*ℤ-pos (half_side * w) n ∙ ap pos (mul_assoc 8 w n) in
-    pos-*ℤ-pos w step ∙ ap (λ (k : ℕ). pos (w * k)) stepped ∙ ap pos whole ∙ omega (arith, ints)
-even_margin w step (negsuc n) m rising margin same = absurd (omega (arith, ints))
+-- ---- how far the ends of a row lie apart
 
 raised : (n h w m z : ℤ) → plus n (pos 1) ≡ difference (opposite m) z → h ≡ plus n w → w ≡ plus m m → plus h (pos 1) ≡ difference m z
 unfolding plus difference opposite
 raised n h w m z first second third = omega (arith, ints)
 
--- so the lower end tells the upper
-pub end_further : (m start change w : ℤ) (step row : ℕ) (low high : Quotient) → IsEnd (opposite m) start change step row low →
-    number_of step high ≡ plus (number_of step low) w → w ≡ plus m m → high.rest ≡ low.rest → IsEnd m start change step row high
-end_further m start change w step row low high is sum twice rest = record {
-  value = raised (number_of step low) (number_of step high) w m (level start change (pos row)) is.value sum twice;
-  rest = omega (arith, is.rest, rest);
+-- the upper end lies twice the margin further
+pub end_beyond : (m start change : ℤ) (step row : ℕ) (low gap high : Quotient) → IsEnd (opposite m) start change step row low → number_of step gap ≡ plus m m →
+    number_of step high ≡ plus (number_of step low) (number_of step gap) → high.rest < step → IsEnd m start change step row high
+end_beyond m start change step row low gap high is twice sum rest = record {
+  value = raised (number_of step low) (number_of step high) (number_of step gap) m (level start change (pos row)) is.value sum twice;
+  rest = rest;
 }
+
+pub low_edge : (l : Levels) (row : ℕ) (e : Ends) → AreEnds l row e → IsEdge (opposite l.margin) l.origin (product (pos pixel_side) l.up) e.step row e.low
+low_edge l row e is = record { ends = is.begins; within = omega (arith, is.near) }
+
+pub high_edge : (l : Levels) (row : ℕ) (e : Ends) (high : Quotient) → AreEnds l row e → number_of e.step high ≡ plus (number_of e.step e.low) (number_of e.step e.gap) →
+    high.rest < e.step → nat_abs high.whole ≤ nat_abs e.low.whole + 2 ^ 51 → IsEdge l.margin l.origin (product (pos pixel_side) l.up) e.step row high
+high_edge l row e high is sum rest within = record {
+  ends = end_beyond l.margin l.origin (product (pos pixel_side) l.up) e.step row e.low e.gap high is.begins is.apart sum rest;
+  within = omega (arith, is.near, within);
+}
+
+-- of another row, whose lower end is known
+pub ends_from : (l : Levels) (first row : ℕ) (e : Ends) (q : Quotient) → AreEnds l first e → IsEnd (opposite l.margin) l.origin (product (pos pixel_side) l.up) e.step row q →
+    nat_abs q.whole ≤ (row + 1) * 2 ^ 51 → AreEnds l row (record { low = q; gap = e.gap; change = e.change; step = e.step })
+ends_from l first row e q is begins near = record {
+  across = is.across;
+  most = is.most;
+  begins = begins;
+  near = near;
+  apart = is.apart;
+  gap_rest = is.gap_rest;
+  wide = is.wide;
+  moves = is.moves;
+  change_rest = is.change_rest;
+  slow = is.slow;
+}
+
+lowered_by : (n h m z w : ℤ) → plus n (pos 1) ≡ difference (opposite m) z → plus h (pos 1) ≡ difference m z → w ≡ plus m m → h ≡ plus n w
+unfolding plus difference opposite
+lowered_by n h m z w first second third = omega (arith, ints)
+
+-- the two ends of a row lie as far apart as those of each other row
+ends_apart : (m start change : ℤ) (step row : ℕ) (low gap high : Quotient) → IsEnd (opposite m) start change step row low → IsEnd m start change step row high →
+    number_of step gap ≡ plus m m → number_of step high ≡ plus (number_of step low) (number_of step gap)
+ends_apart m start change step row low gap high lower upper twice =
+    lowered_by (number_of step low) (number_of step high) m (level start change (pos row)) (number_of step gap) lower.value upper.value twice
 
 -- ---- rows between the first and the last one
 
@@ -356,46 +366,58 @@ strip_row l rows columns span width row within from to levels = record {
       (cases_lt u columns.to);
 }
 
--- the upper end of a row of `width` pixels
-abbrev pub upper_end : Quotient → ℕ → Quotient
-upper_end q width = record { whole = plus q.whole (pos width); rest = q.rest }
-
-further_end : (step width : ℕ) (q : Quotient) → number_of step (upper_end q width) ≡ plus (number_of step q) (product (pos width) (pos step))
-unfolding number_of plus
-further_end step width q = further_sum step q.rest q.whole (pos width) (q.whole +ℤ pos width) refl
-
--- the upper end lies twice the margin further
-end_beyond : (m start change : ℤ) (step row : ℕ) (low gap high : Quotient) → IsEnd (opposite m) start change step row low → number_of step gap ≡ plus m m →
-    number_of step high ≡ plus (number_of step low) (number_of step gap) → high.rest < step → IsEnd m start change step row high
-end_beyond m start change step row low gap high is twice sum rest = record {
-  value = raised (number_of step low) (number_of step high) (number_of step gap) m (level start change (pos row)) is.value sum twice;
-  rest = rest;
-}
-
 -- the pixels between the two ends, where both lie among the columns, are the row's part of the strip
-pub wide_row : (l : Levels) (step row count wide from : ℕ) (rows columns : Span) (low gap high : Quotient) → pos step ≡ product (pos pixel_side) l.across → columns.to ≤ wide →
-    rows.from ≤ row → row < rows.to → IsEnd (opposite l.margin) l.origin (product (pos pixel_side) l.up) step row low → number_of step gap ≡ plus l.margin l.margin →
-    number_of step high ≡ plus (number_of step low) (number_of step gap) → high.rest < step → pos from ≡ plus low.whole (pos 1) → pos (from + count) ≡ plus high.whole (pos 1) →
+pub wide_row : (l : Levels) (step row count wide from : ℕ) (rows columns : Span) (low high : Quotient) → pos step ≡ product (pos pixel_side) l.across → columns.to ≤ wide →
+    rows.from ≤ row → row < rows.to → IsEnd (opposite l.margin) l.origin (product (pos pixel_side) l.up) step row low →
+    IsEnd l.margin l.origin (product (pos pixel_side) l.up) step row high → pos from ≡ plus low.whole (pos 1) → pos (from + count) ≡ plus high.whole (pos 1) →
     columns.from ≤ from → from + count ≤ columns.to → IsSpanOf (λ u. is_in_strip l rows columns u row) wide (record { from = from; to = from + count })
-wide_row l step row count wide from rows columns low gap high same within after before is twice sum rest begins ends first last =
+wide_row l step row count wide from rows columns low high same within after before lower upper begins ends first last =
     let part = part_inside columns low high from (from + count) begins ends first last in
     rw part.value (strip_row l rows columns part.within wide row within after before
-    (rising_row l l.margin step row columns.to low high part.within same is (end_beyond l.margin l.origin (product (pos pixel_side) l.up) step row low gap high is twice sum rest)
-    part.from part.to part.to_within))
+    (rising_row l l.margin step row columns.to low high part.within same lower upper part.from part.to part.to_within))
 
--- where all of them are in the columns, they are the row's part of the strip
-pub whole_row : (l : Levels) (step row width wide from : ℕ) (rows columns : Span) (q : Quotient) → pos 1 ≤ℤ l.across → l.margin ≡ product (pos (half_side * width)) l.across →
-    pos step ≡ product (pos pixel_side) l.across → columns.to ≤ wide → rows.from ≤ row → row < rows.to →
-    IsEnd (opposite l.margin) l.origin (product (pos pixel_side) l.up) step row q → IsBetween columns width q → pos from ≡ plus q.whole (pos 1) →
-    IsSpanOf (λ u. is_in_strip l rows columns u row) wide (record { from = from; to = from + width })
-unfolding plus
-whole_row l step row width wide from rows columns q rising even same within after before is between begins =
-    let high : IsEnd l.margin l.origin (product (pos pixel_side) l.up) step row (upper_end q width) =
-    end_further l.margin l.origin (product (pos pixel_side) l.up) (product (pos width) (pos step)) step row q (upper_end q width) is (further_end step width q)
-    (even_margin width step l.across l.margin rising even same) refl in
-    let part = part_inside columns q (upper_end q width) from (from + width) begins (omega (arith, ints)) (omega (arith, ints, between.from)) (omega (arith, ints, between.to)) in
-    rw part.value (strip_row l rows columns part.within wide row within after before
-    (rising_row l l.margin step row columns.to q (upper_end q width) part.within same is high part.from part.to part.to_within))
+-- ---- how many pixels a row has
+
+same_le : (a b : ℤ) → a ≡ b → a ≤ℤ b
+same_le a b is = omega (arith, ints)
+
+-- at least as many as the whole part of how far its ends lie apart
+pub apart_least : (d : ℕ) (low gap high : Quotient) → high.rest < d → number_of d high ≡ plus (number_of d low) (number_of d gap) → (low.whole +ℤ gap.whole) ≤ℤ high.whole
+unfolding number_of
+apart_least d low gap high rest sum =
+    whole_order d (low.rest + gap.rest) high.rest (low.whole +ℤ gap.whole) high.whole rest
+    (same_le _ _ (sum_kept d low.rest gap.rest low.whole gap.whole (low.whole +ℤ gap.whole) refl ∙ sym sum))
+
+raised_by : (x all t r s e d : ℤ) → x +ℤ t ≡ all +ℤ (r +ℤ s) → s ≤ℤ e → d ≡ all +ℤ e → (x +ℤ t) ≤ℤ (d +ℤ r)
+raised_by x all t r s e d first second third = omega (arith, ints)
+
+-- and one more if the rests may carry
+carried_by : (d r s t e : ℕ) (v w whole : ℤ) → r < d → s ≤ e * d →
+    plus (product whole (pos d)) (pos t) ≡ plus (plus (product v (pos d)) (pos r)) (plus (product w (pos d)) (pos s)) → whole ≤ℤ ((v +ℤ w) +ℤ pos e)
+unfolding plus product
+carried_by d r s t e v w whole below rests sum =
+    whole_order d t r whole ((v +ℤ w) +ℤ pos e) below
+    (raised_by (whole *ℤ pos d) ((v +ℤ w) *ℤ pos d) (pos t) (pos r) (pos s) (pos e *ℤ pos d) (((v +ℤ w) +ℤ pos e) *ℤ pos d)
+    (sum ∙ sym (sum_kept d r s v w (v +ℤ w) refl)) (omega (arith, ints, rests, pos-*ℤ-pos e d)) (times_sum (v +ℤ w) (pos e) (pos d)))
+
+most_carried : (rest d r t : ℕ) (v w whole : ℤ) → r < d → rest < d → pos 1 ≤ℤ w →
+    plus (product whole (pos d)) (pos t) ≡ plus (plus (product v (pos d)) (pos r)) (plus (product w (pos d)) (pos rest)) →
+    whole ≤ℤ (v +ℤ pos (if rest == 0 then nat_abs w else nat_abs w + 1))
+most_carried rest d r t v w whole below under some sum = elim (cases_eq rest 0) [
+  | inl none ↦
+      let carried : whole ≤ℤ ((v +ℤ w) +ℤ pos 0) = carried_by d r rest t 0 v w whole below (omega arith) sum in
+      let most : whole ≤ℤ (v +ℤ pos (nat_abs w)) = omega (arith, ints) in
+      rw (eq-eqb rest 0 none) most
+  | inr more ↦
+      let carried : whole ≤ℤ ((v +ℤ w) +ℤ pos 1) = carried_by d r rest t 1 v w whole below (omega arith) sum in
+      let most : whole ≤ℤ (v +ℤ pos (nat_abs w + 1)) = omega (arith, ints) in
+      rw (ne_eqb rest 0 more) most
+]
+
+pub apart_most : (d : ℕ) (low gap high : Quotient) → low.rest < d → gap.rest < d → pos 1 ≤ℤ gap.whole → number_of d high ≡ plus (number_of d low) (number_of d gap) →
+    high.whole ≤ℤ (low.whole +ℤ pos (most_between gap))
+unfolding number_of most_between
+apart_most d low gap high below under some sum = most_carried gap.rest d low.rest high.rest low.whole gap.whole high.whole below under some sum
 
 module _ (l : Levels) (rows columns : Span) (u v : ℕ) where
   out_of_rows : is_within rows v ≡ false → is_in_strip l rows columns u v ≡ false
@@ -500,28 +522,14 @@ end_leaps l bound row step q c next is leaps sum rest =
       rest = rest;
     }
 
--- from another row on
-pub stepped_from : (l : Levels) (bound : ℤ) (first row : ℕ) (s : Stepped) (q : Quotient) → IsStepped l bound first s →
-    IsEnd bound l.origin (product (pos pixel_side) l.up) s.step row q → nat_abs q.whole ≤ 2 ^ 50 →
-    IsStepped l bound row (record { now = q; change = s.change; step = s.step })
-stepped_from l bound first row s q is end near = record {
-  across = is.across;
-  most = is.most;
-  begins = end;
-  near = near;
-  moves = is.moves;
-  rest = is.rest;
-  slow = is.slow;
+-- the rows from the first one to the one before the last one
+pub stays_between : (l : Levels) (step width : ℕ) (rows columns : Span) (low next : Quotient) → IsEnd (opposite l.margin) l.origin (product (pos pixel_side) l.up) step rows.from low →
+    IsEnd (opposite l.margin) l.origin (product (pos pixel_side) l.up) step rows.to next → IsBetween columns width low → IsBetween columns width next →
+    StaysBetween l step width rows columns
+stays_between l step width rows columns low next begin end first last = record {
+  each = λ row after before q here.
+      row_between (opposite l.margin) l.origin (product (pos pixel_side) l.up) step rows.from row rows.to width columns low q next after (omega arith) begin here end first last;
 }
-
-pub stays_part : (l : Levels) (step width from to : ℕ) (rows columns : Span) → rows.from ≤ from → to ≤ rows.to → StaysBetween l step width rows columns →
-    StaysBetween l step width (record { from = from; to = to }) columns
-stays_part l step width from to rows columns first last is = record { each = λ row after before q end. is.each row (omega arith) (omega arith) q end }
-
--- columns of a picture
-pub between_near : (columns : Span) (width : ℕ) (q : Quotient) → columns.to ≤ 2 ^ 40 → IsBetween columns width q → nat_abs q.whole ≤ 2 ^ 50
-unfolding plus
-between_near columns width q most is = omega (arith, ints, is.from, is.to, is.least)
 
 pub between_all : (columns : Span) (width wide : ℕ) (q : Quotient) → columns.to ≤ wide → IsBetween columns width q → IsBetween (record { from = 0; to = wide }) width q
 unfolding plus
@@ -582,17 +590,38 @@ in_span span u inside = (
   ],
 )
 
+row_few : (l : Levels) (step row wide from width : ℕ) (g : ℤ) (rows columns : Span) (low high : Quotient) → pos step ≡ product (pos pixel_side) l.across → columns.to ≤ wide →
+    rows.from ≤ row → row < rows.to → IsEnd (opposite l.margin) l.origin (product (pos pixel_side) l.up) step row low →
+    IsEnd l.margin l.origin (product (pos pixel_side) l.up) step row high → pos from ≡ plus low.whole (pos 1) → (low.whole +ℤ g) ≤ℤ high.whole → pos 1 ≤ℤ g →
+    high.whole ≤ℤ (low.whole +ℤ pos width) → IsBetween columns width low → (u : ℕ) → u < wide → is_in_strip l rows columns u row ≡ true → (from ≤ u) × (u < from + width)
+unfolding plus
+row_few l step row wide from width g rows columns low high same within after before lower upper begins least some most between u below shown =
+    let count : ℕ = nat_abs (high.whole +ℤ neg_ℤ low.whole) in
+    let ends : pos (from + count) ≡ high.whole +ℤ pos 1 = omega (arith, ints) in
+    let inside = wide_row l step row count wide from rows columns low high same within after before lower upper begins ends
+    (omega (arith, ints, between.from)) (omega (arith, ints, between.to)) in
+    let spot : (from ≤ u) × (u < from + count) = in_span (record { from = from; to = from + count }) u (sym (inside.passed u below) ∙ shown) in
+    (spot.0, omega (arith, ints, spot.1))
+
 -- the pixels of each row are at most `width`, from its lower end on
 abbrev pub AreFew : Levels → ℕ → ℕ → ℕ → Span → Span → Type 0
 AreFew l step width wide rows columns = (row : ℕ) → rows.from ≤ row → row < rows.to → (q : Quotient) →
     IsEnd (opposite l.margin) l.origin (product (pos pixel_side) l.up) step row q → (from u : ℕ) → pos from ≡ plus q.whole (pos 1) → u < wide →
     is_in_strip l rows columns u row ≡ true → (from ≤ u) × (u < from + width)
 
-pub whole_few : (l : Levels) (step width wide : ℕ) (rows columns : Span) → pos 1 ≤ℤ l.across → l.margin ≡ product (pos (half_side * width)) l.across →
-    pos step ≡ product (pos pixel_side) l.across → columns.to ≤ wide → StaysBetween l step width rows columns → AreFew l step width wide rows columns
-whole_few l step width wide rows columns rising even same within stays row after before q end from u begins below shown =
-    let inside = whole_row l step row width wide from rows columns q rising even same within after before end (stays.each row after before q end) begins in
-    in_span (record { from = from; to = from + width }) u (sym (inside.passed u below) ∙ shown)
+pub wide_few : (l : Levels) (step wide : ℕ) (gap : Quotient) (rows columns : Span) → pos step ≡ product (pos pixel_side) l.across → columns.to ≤ wide →
+    number_of step gap ≡ plus l.margin l.margin → gap.rest < step → pos 1 ≤ℤ gap.whole → StaysBetween l step (most_between gap) rows columns →
+    AreFew l step (most_between gap) wide rows columns
+unfolding plus
+wide_few l step wide gap rows columns same within twice rest some stays row after before q end from u begins below shown =
+    let change : ℤ = product (pos pixel_side) l.up in
+    let high : Quotient = end_at l.margin l.origin change step row in
+    let upper : IsEnd l.margin l.origin change step row high = end_exists l.margin l.origin change step row (omega (arith, rest)) in
+    let sum : number_of step high ≡ plus (number_of step q) (number_of step gap) = ends_apart l.margin l.origin change step row q gap high end upper twice in
+    let between : IsBetween columns (most_between gap) q = stays.each row after before q end in
+    let least : (q.whole +ℤ gap.whole) ≤ℤ high.whole = apart_least step q gap high upper.rest sum in
+    let most : high.whole ≤ℤ (q.whole +ℤ pos (most_between gap)) = apart_most step q gap high end.rest rest some sum in
+    row_few l step row wide from (most_between gap) gap.whole rows columns q high same within after before end upper begins least some most between u below shown
 
 -- where all of a box is painted, nothing is left to do in the rows whose pixels lie in it
 pub strip_hidden : (l : Levels) (step width : ℕ) (rows columns : Span) (low next : Quotient) (color : Color) (c : CanvasValue) → 0 < step → rows.to ≡ rows.from + 16 →

@@ -1,15 +1,15 @@
 -- The pixels of some rows and columns whose level lies within a margin.
-use Rattle.std.specs.Prelude.{◌≡◌, ℕ, ◌+◌, ◌^◌, ◌<◌, ◌≤◌, ◌&&◌, Bool, nat_lt, ℤ, pos, nat_abs, ◌≤ℤ◌}
+use Rattle.std.specs.Prelude.{◌≡◌, ℕ, ◌+◌, ◌*◌, ◌^◌, ◌<◌, ◌≤◌, ◌==◌, ◌&&◌, Bool, nat_lt, ℤ, pos, nat_abs, ◌≤ℤ◌, if◌then◌else◌}
 use Rattle.wf_paint.specs.Canvas.{CanvasValue, IsBoxPainted}
 use Rattle.wf_paint.specs.Exact.{plus, difference, product, opposite, is_less}
 use Rattle.wf_paint.specs.Level.{level, level_at, is_in_margin}
 use Rattle.wf_paint.specs.Limit.{pixel_side}
 use Rattle.wf_paint.specs.Quotient.{number_of}
 use Rattle.wf_paint.specs.Span.{is_within, shared}
+use Rattle.wf_paint.specs.declared.ends.Ends.{Ends}
 use Rattle.wf_paint.specs.declared.levels.Levels.{Levels}
 use Rattle.wf_paint.specs.declared.quotient.Quotient.{Quotient}
 use Rattle.wf_paint.specs.declared.span.Span.{Span}
-use Rattle.wf_paint.specs.declared.stepped.Stepped.{Stepped}
 
 unfoldable pub is_in_strip : Levels → Span → Span → ℕ → ℕ → Bool
 is_in_strip l rows columns column row = is_within columns column && (is_within rows row && is_in_margin l.margin (level_at l column row))
@@ -30,15 +30,22 @@ pub record IsEnd (bound start change : ℤ) (step row : ℕ) (q : Quotient) : Ty
   pub value : plus (number_of step q) (pos 1) ≡ difference bound (level start change (pos row))
   pub rest : q.rest < step
 
--- the quotient is that of this row, and its change leads to those of the next ones
-pub record IsStepped (l : Levels) (bound : ℤ) (row : ℕ) (s : Stepped) : Type 0 where
-  pub across : pos s.step ≡ product (pos pixel_side) l.across
-  pub most : s.step ≤ 2 ^ 60
-  pub begins : IsEnd bound l.origin (product (pos pixel_side) l.up) s.step row s.now
-  pub near : nat_abs s.now.whole ≤ 2 ^ 50
-  pub moves : number_of s.step s.change ≡ opposite (product (pos pixel_side) l.up)
-  pub rest : s.change.rest < s.step
-  pub slow : nat_abs s.change.whole ≤ 2 ^ 50
+-- the ends are those of this row, and their change leads to those of the next ones
+pub record AreEnds (l : Levels) (row : ℕ) (e : Ends) : Type 0 where
+  pub across : pos e.step ≡ product (pos pixel_side) l.across
+  pub most : e.step ≤ 2 ^ 60
+  pub begins : IsEnd (opposite l.margin) l.origin (product (pos pixel_side) l.up) e.step row e.low
+  pub near : nat_abs e.low.whole ≤ (row + 1) * 2 ^ 51
+  pub apart : number_of e.step e.gap ≡ plus l.margin l.margin
+  pub gap_rest : e.gap.rest < e.step
+  pub wide : nat_abs e.gap.whole ≤ 2 ^ 50
+  pub moves : number_of e.step e.change ≡ opposite (product (pos pixel_side) l.up)
+  pub change_rest : e.change.rest < e.step
+  pub slow : nat_abs e.change.whole ≤ 2 ^ 50
+
+-- the most pixels of a row whose ends lie so far apart
+unfoldable pub most_between : Quotient → ℕ
+most_between gap = if gap.rest == 0 then nat_abs gap.whole else nat_abs gap.whole + 1
 
 -- the `width` pixels after those that the number counts, 1 to 64, are all in the columns
 pub record IsBetween (columns : Span) (width : ℕ) (q : Quotient) : Type 0 where

@@ -18,30 +18,11 @@ use wf_def::color::Color;
 pub(crate) fn draw_about(canvas: &mut Canvas, size: u8, position: Position, color: Option<Color>)
     ensures { IsShown (in_color (SquareOf size position) color) canvas.old canvas.new }
 {
-    match color {
-        Some(color) => draw_square(canvas, size, position, color),
-        None => {}
-    }
-}
-
-/// Paints the square in the colour.
-fn draw_square(canvas: &mut Canvas, size: u8, position: Position, color: Color)
-    ensures { IsColored
-        (λ column row. is_in_square size position (pos column) (pos row))
-        color canvas.old canvas.new }
-{
+    let Some(color) = color else {
+        return;
+    };
     let columns = span_about(size, position.x(), canvas.width());
     let rows = span_about(size, position.y(), canvas.height());
-    draw_box(canvas, columns, rows, color);
-}
-
-/// Paints the pixels of these columns and rows in the colour.
-fn draw_box(canvas: &mut Canvas, columns: Span, rows: Span, color: Color)
-    requires columns { columns.to ≤ canvas.old.width }
-    requires rows { rows.to ≤ canvas.old.height }
-    ensures { IsColored
-        (λ column row. is_within columns column && is_within rows row) color canvas.old canvas.new }
-{
     for row in rows.from..rows.to {
         canvas.cover(row, columns.from, columns.to, color);
     }

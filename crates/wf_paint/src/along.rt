@@ -1,28 +1,29 @@
-//! Lines of a given width along segments, drawn row by row.
-ghost use Rattle.std.specs.Prelude.{◌≡◌, ℕ, ◌*◌, ◌≤◌, ◌<◌, ◌^◌, false, pos, nat_abs};
+//! Lines of a given width along segments. Each is a strip of the picture, which is drawn row by row.
+ghost use Rattle.std.specs.Prelude.{◌≡◌, ℕ, ◌*◌, ◌≤◌, ◌<◌, ◌^◌, ◌≤ℤ◌, false, pos, nat_abs};
 ghost use Rattle.wf_paint.specs.Near.{IsNear, IsReach, IsArea};
-ghost use Rattle.wf_paint.specs.Exact.{plus, difference, product, is_less};
+ghost use Rattle.wf_paint.specs.Exact.{plus, difference, opposite, is_less};
 ghost use Rattle.wf_paint.specs.Limit.{half_side};
-ghost use Rattle.wf_paint.specs.Level.{level_at};
-ghost use Rattle.wf_paint.specs.Position.{centre, turned};
-ghost use Rattle.wf_paint.specs.Coverage.{deviation, margin, is_along, is_across, is_on_flat, is_on, is_on_any};
+ghost use Rattle.wf_paint.specs.Level.{level_at, is_in_margin};
+ghost use Rattle.wf_paint.specs.Position.{PositionValue, centre, turned};
+ghost use Rattle.wf_paint.specs.Coverage.{deviation, margin, is_along, is_across, is_on_flat, is_on};
 ghost use Rattle.wf_paint.specs.Operation.{in_color, LineOf};
 ghost use Rattle.wf_paint.specs.Canvas.{IsAlike};
-ghost use Rattle.wf_paint.specs.Shown.{IsShown, IsColored};
+ghost use Rattle.wf_paint.specs.Shown.{IsShown};
 ghost use Rattle.wf_paint.specs.Span.{IsSpanOf};
+ghost use Rattle.wf_paint.specs.Strip.{is_in_strip};
 
 use crate::canvas::Canvas;
 use crate::coverage::{deviation, is_steep, margin, rise, run};
 use crate::edges::Edges;
 use crate::exact::is_less;
 use crate::level::centres_between;
-use crate::levels::Levels;
+use crate::levels::{Levels, Strip};
 use crate::limits::HALF_SIDE;
 use crate::position::Position;
 use crate::segment::Segment;
 use crate::span::Span;
 use crate::steps::centres_below;
-use crate::strip::{draw_strip, draw_upright};
+use crate::strip::draw_strip;
 use wf_def::color::Color;
 
 /// How many long segments are drawn from one look for painted blocks to the next.
@@ -35,20 +36,14 @@ const LONG: u64 = 2_048;
 pub(crate) fn draw_along(canvas: &mut Canvas, width: u8, edges: &Edges, color: Option<Color>)
     ensures { IsShown (in_color (LineOf width edges.now) color) canvas.old canvas.new }
 {
-    match color {
-        Some(color) => draw_segments(canvas, width, edges.drawn(), color),
-        None => {}
-    }
-}
-
-/// Paints a line along each segment.
-fn draw_segments(canvas: &mut Canvas, width: u8, segments: &[Segment], color: Color)
-    ensures { IsColored (λ column row.
-        is_on_any width (centre (pos column) (pos row)) segments.now) color canvas.old canvas.new }
-{
+    let Some(color) = color else {
+        return;
+    };
     let mut long = 0;
+    let segments = edges.drawn();
     for segment in segments {
-        draw_segment(canvas, width, segment, color);
+        let strip = strip_of(width, segment, canvas.width(), canvas.height());
+        draw_strip(canvas, strip, color);
         long = find_blocks(canvas, segment, long);
     }
 }
@@ -69,39 +64,119 @@ fn find_blocks(canvas: &mut Canvas, segment: &Segment, long: u32) -> u32
     0
 }
 
-/// Paints the line along the segment.
-fn draw_segment(canvas: &mut Canvas, width: u8, segment: &Segment, color: Color)
-    ensures { IsColored (λ column row.
-        is_on width (centre (pos column) (pos row)) segment.now) color canvas.old canvas.new }
+/// The line along the segment, as a strip of a picture of this size.
+fn strip_of(width: u8, segment: &Segment, wide: u32, high: u32) -> Strip
+    ensures origin { nat_abs result.levels.origin ≤ 2 ^ 110 }
+    ensures across { IsReach result.levels.across }
+    ensures rising { pos 0 ≤ℤ result.levels.across }
+    ensures up { IsReach result.levels.up }
+    ensures margin { IsArea result.levels.margin }
+    ensures rows { result.rows.to ≤ high }
+    ensures columns { result.columns.to ≤ wide }
+    ensures shown { (u v : ℕ) → u < wide → v < high →
+        is_in_strip result.levels result.rows result.columns u v
+        ≡ is_on width (centre (pos u) (pos v)) segment.now }
 {
     let (from, to) = (segment.from, segment.to);
     if is_steep(from, to) {
-        draw_steep(canvas, width, from.turned(), to.turned(), color);
+        upward(width, in_order(from.turned(), to.turned()), wide, high)
     } else {
-        draw_flat(canvas, width, from, to, color);
+        rightward(width, in_order(from, to), wide, high)
     }
 }
 
-/// Paints the line between two positions, in either order. It isn't longer along y than along x.
-fn draw_flat(canvas: &mut Canvas, width: u8, from: Position, to: Position, color: Color)
-    ensures { IsColored (λ column row.
-        is_on_flat width (centre (pos column) (pos row)) from to) color canvas.old canvas.new }
+/// The line between two positions that isn't longer along y than along x, from left to right.
+fn in_order(from: Position, to: Position) -> Segment
+    ensures { (width : ℕ) (c : PositionValue) →
+        is_across width c result.from result.to ≡ is_on_flat width c from to }
 {
     if is_less(to.x(), from.x()) {
-        draw_rightward(canvas, width, to, from, color);
+        Segment { from: to, to: from }
     } else {
-        draw_rightward(canvas, width, from, to, color);
+        Segment { from, to }
     }
 }
 
-/// Paints the line from `left` to `right`.
-fn draw_rightward(canvas: &mut Canvas, width: u8, left: Position, right: Position, color: Color)
-    ensures { IsColored (λ column row.
-        is_across width (centre (pos column) (pos row)) left right) color canvas.old canvas.new }
+/// The line from left to right, as a strip of a picture of this size.
+fn rightward(width: u8, line: Segment, wide: u32, high: u32) -> Strip
+    ensures origin { nat_abs result.levels.origin ≤ 2 ^ 110 }
+    ensures across { IsReach result.levels.across }
+    ensures rising { pos 0 ≤ℤ result.levels.across }
+    ensures up { IsReach result.levels.up }
+    ensures margin { IsArea result.levels.margin }
+    ensures rows { result.rows.to ≤ high }
+    ensures columns { result.columns.to ≤ wide }
+    ensures shown { (u v : ℕ) → u < wide → v < high →
+        is_in_strip result.levels result.rows result.columns u v
+        ≡ is_across width (centre (pos u) (pos v)) line.from line.to }
 {
-    let columns = span_along(left, right, canvas.width());
-    let rows = rows_near(width, left, right, canvas.height());
-    draw_strip(canvas, deviations(width, left, right), rows, columns, color);
+    let (left, right) = (line.from, line.to);
+    Strip {
+        levels: not_falling(deviations(width, left, right)),
+        rows: rows_near(width, left, right, high),
+        columns: span_along(left, right, wide),
+    }
+}
+
+/// The line from its lower to its upper end, whose positions have their axes exchanged, as a strip of a picture of this size.
+fn upward(width: u8, line: Segment, wide: u32, high: u32) -> Strip
+    ensures origin { nat_abs result.levels.origin ≤ 2 ^ 110 }
+    ensures across { IsReach result.levels.across }
+    ensures rising { pos 0 ≤ℤ result.levels.across }
+    ensures up { IsReach result.levels.up }
+    ensures margin { IsArea result.levels.margin }
+    ensures rows { result.rows.to ≤ high }
+    ensures columns { result.columns.to ≤ wide }
+    ensures shown { (u v : ℕ) → u < wide → v < high →
+        is_in_strip result.levels result.rows result.columns u v
+        ≡ is_across width (turned (centre (pos u) (pos v))) line.from line.to }
+{
+    let (lower, upper) = (line.from, line.to);
+    Strip {
+        levels: not_falling(turned_deviations(width, lower, upper)),
+        rows: span_along(lower, upper, high),
+        columns: rows_near(width, lower, upper, wide),
+    }
+}
+
+/// Levels that lie within the margin exactly where these do, and don't fall from column to column.
+fn not_falling(levels: Levels) -> Levels
+    requires origin { nat_abs levels.origin ≤ 2 ^ 109 }
+    requires across { IsReach levels.across }
+    requires up { IsReach levels.up }
+    ensures origin { nat_abs result.origin ≤ 2 ^ 110 }
+    ensures across { IsReach result.across }
+    ensures rising { pos 0 ≤ℤ result.across }
+    ensures up { IsReach result.up }
+    ensures margin { result.margin ≡ levels.margin }
+    ensures same { (u v : ℕ) → is_in_margin levels.margin (level_at result u v)
+        ≡ is_in_margin levels.margin (level_at levels u v) }
+{
+    if levels.across < 0 {
+        mirror(levels)
+    } else {
+        levels
+    }
+}
+
+/// Levels that lie within a margin exactly where these do, and fall where these rise.
+fn mirror(levels: Levels) -> Levels
+    requires origin { nat_abs levels.origin ≤ 2 ^ 109 }
+    requires across { IsReach levels.across }
+    requires up { IsReach levels.up }
+    ensures origin { nat_abs result.origin ≤ 2 ^ 110 }
+    ensures across { result.across ≡ opposite levels.across }
+    ensures up { IsReach result.up }
+    ensures margin { result.margin ≡ levels.margin }
+    ensures value { (u v : ℕ) →
+        level_at result u v ≡ difference (opposite (level_at levels u v)) (pos 1) }
+{
+    Levels {
+        origin: -levels.origin - 1,
+        across: -levels.across,
+        up: -levels.up,
+        margin: levels.margin,
+    }
 }
 
 /// How far each pixel's centre lies above the line from `left` to `right`, times the line's x length; the margin is half the width
@@ -120,6 +195,24 @@ fn deviations(width: u8, left: Position, right: Position) -> Levels
         across: rise(right, left),
         up: run(left, right),
         margin: margin(width, left, right),
+    }
+}
+
+/// How far each pixel's centre lies from the line, with the axes of both exchanged.
+fn turned_deviations(width: u8, low: Position, high: Position) -> Levels
+    ensures origin { nat_abs result.origin ≤ 2 ^ 109 }
+    ensures across { IsReach result.across }
+    ensures up { IsReach result.up }
+    ensures margin { result.margin ≡ margin width low high }
+    ensures margin_within { IsArea result.margin }
+    ensures value { (u v : ℕ) →
+        level_at result u v ≡ deviation (turned (centre (pos u) (pos v))) low high }
+{
+    Levels {
+        origin: deviation(Position::centre(0, 0).turned(), low, high),
+        across: run(low, high),
+        up: rise(high, low),
+        margin: margin(width, low, high),
     }
 }
 
@@ -187,53 +280,4 @@ fn upper_border(width: u8, position: i64) -> i64
     ensures { result ≡ plus position (pos (half_side * width)) }
 {
     position + HALF_SIDE * i64::from(width)
-}
-
-/// Paints the line between two positions, in either order. It is longer along y than along x; the positions have their axes
-/// exchanged.
-fn draw_steep(canvas: &mut Canvas, width: u8, from: Position, to: Position, color: Color)
-    ensures { IsColored (λ column row. is_on_flat width
-        (turned (centre (pos column) (pos row))) from to) color canvas.old canvas.new }
-{
-    if is_less(to.x(), from.x()) {
-        draw_upward(canvas, width, to, from, color);
-    } else {
-        draw_upward(canvas, width, from, to, color);
-    }
-}
-
-/// Paints the line from `low` up to `high`; the positions have their axes exchanged.
-fn draw_upward(canvas: &mut Canvas, width: u8, low: Position, high: Position, color: Color)
-    ensures { IsColored (λ column row. is_across width
-        (turned (centre (pos column) (pos row))) low high) color canvas.old canvas.new }
-{
-    let rows = span_along(low, high, canvas.height());
-    let columns = rows_near(width, low, high, canvas.width());
-    draw_upright(
-        canvas,
-        turned_deviations(width, low, high),
-        width,
-        rows,
-        columns,
-        color,
-    );
-}
-
-/// The same for each pixel's centre with its axes exchanged.
-fn turned_deviations(width: u8, low: Position, high: Position) -> Levels
-    ensures origin { nat_abs result.origin ≤ 2 ^ 109 }
-    ensures across { IsReach result.across }
-    ensures up { IsReach result.up }
-    ensures margin { result.margin ≡ margin width low high }
-    ensures even { result.margin ≡ product (pos (half_side * width)) result.across }
-    ensures margin_within { IsArea result.margin }
-    ensures value { (u v : ℕ) →
-        level_at result u v ≡ deviation (turned (centre (pos u) (pos v))) low high }
-{
-    Levels {
-        origin: deviation(Position::centre(0, 0).turned(), low, high),
-        across: run(low, high),
-        up: rise(high, low),
-        margin: margin(width, low, high),
-    }
 }

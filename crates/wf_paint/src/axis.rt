@@ -82,7 +82,7 @@ fn scaled(distance: i64, scale: u64, span: u64) -> i64
     ensures value { result ≡ scaled distance scale span }
     ensures within { nat_abs result ≤ 2 * most_scale * most_millionths }
 {
-    divided(stretched(distance, scale), span)
+    divide(stretched(distance, scale), span)
 }
 
 /// The product of a distance and a scale.
@@ -96,7 +96,7 @@ fn stretched(distance: i64, scale: u64) -> i128
 
 /// The quotient, rounded down.
 #[tactic(auto, using(crate::proofs::QuotientLemmas::quotient_bound), unfolding(crate::specs::Exact::quotient))]
-fn divided(stretched: i128, span: u64) -> i64
+fn divide(stretched: i128, span: u64) -> i64
     requires least { 1 ≤ span }
     requires most { nat_abs stretched ≤ span * (2 * most_scale * most_millionths) }
     ensures value { result ≡ quotient stretched (pos span) }

@@ -123,11 +123,13 @@ impl Canvas {
         if from < to {
             let left = (self.height - 1 - row) * self.width;
             let (start, end) = (left + from, left + to);
-            cover_range(&mut self.pixels, &mut self.free, start, end, color);
+            if !is_range_painted(&self.free, start, end) {
+                paint_range(&mut self.pixels, &mut self.free, start, end, color);
+            }
         }
     }
 
-    /// The same for 1 to 64 pixels of a row, from a column on.
+    /// Writes the colour to the free ones of 1 to 64 pixels of a row, from a column on; rows count from the bottom.
     #[inline(always)]
     pub(crate) fn cover_few(&mut self, row: u32, from: u32, count: u32, color: Color)
         requires row_within { row < self.old.height }
@@ -137,8 +139,10 @@ impl Canvas {
         ensures { IsColored (is_in_run row from (from + count)) color self.old self.new }
     {
         let left = (self.height - 1 - row) * self.width;
-        let end = left + (from + count);
-        cover_window(&mut self.pixels, &mut self.free, left + from, end, color);
+        let (start, end) = (left + from, left + (from + count));
+        if !is_window_painted(&self.free, start, end) {
+            paint_range(&mut self.pixels, &mut self.free, start, end, color);
+        }
     }
 
     /// Whether all pixels are painted. No pixel changes.
@@ -216,35 +220,15 @@ fn write_set(pixels: &mut Pixels, first: u32, bits: u64, color: Color)
     }
 }
 
-/// Writes the colour to the free pixels in start..end.
+/// Whether none of these pixels is free. False for more than 64 of them. Most lines that make a picture dear run over painted pixels, so
+/// that is tested before they are painted.
 #[inline(always)]
-fn cover_range(pixels: &mut Pixels, free: &mut Vec<u64>, start: u32, end: u32, color: Color)
-    requires cells { IsCells free.old.items pixels.old }
+fn is_range_painted(free: &Vec<u64>, start: u32, end: u32) -> bool
     requires order { start < end }
-    requires within { end ≤ 64 * length free.old.items }
-    ensures { IsRangePainted
-        start end color free.old.items pixels.old free.new.items pixels.new }
+    requires within { end ≤ 64 * length free.now.items }
+    ensures { result ≡ true → (i : ℕ) → start ≤ i → i < end → is_free free.now.items i ≡ false }
 {
-    if end - start <= 64 {
-        cover_window(pixels, free, start, end, color);
-    } else {
-        paint_range(pixels, free, start, end, color);
-    }
-}
-
-/// The same for at most 64 pixels. Most lines that make a picture dear run over painted pixels, so that is tested first.
-#[inline(always)]
-fn cover_window(pixels: &mut Pixels, free: &mut Vec<u64>, start: u32, end: u32, color: Color)
-    requires cells { IsCells free.old.items pixels.old }
-    requires order { start < end }
-    requires most { end ≤ start + 64 }
-    requires within { end ≤ 64 * length free.old.items }
-    ensures { IsRangePainted
-        start end color free.old.items pixels.old free.new.items pixels.new }
-{
-    if !is_window_painted(free, start, end) {
-        paint_range(pixels, free, start, end, color);
-    }
+    end - start <= 64 && is_window_painted(free, start, end)
 }
 
 /// Whether none of these pixels, at most 64, is free.
@@ -287,7 +271,7 @@ fn paint_range(pixels: &mut Pixels, free: &mut Vec<u64>, start: u32, end: u32, c
     }
 }
 
-/// The same for pixels of one word.
+/// Writes the colour to the free pixels in from..to, which are of one word.
 fn paint_word(pixels: &mut Pixels, free: &mut Vec<u64>, from: u32, to: u32, color: Color)
     requires cells { IsCells free.old.items pixels.old }
     requires order { from < to }
@@ -375,7 +359,7 @@ fn clear_painted(blocks: &mut Vec<u64>, free: &Vec<u64>, width: u32, height: u32
     }
 }
 
-/// The same for a row of blocks.
+/// Clears the bits of the painted blocks of one row of blocks.
 fn clear_row(blocks: &mut Vec<u64>, free: &Vec<u64>, width: u32, height: u32, index: u32)
     requires size { IsSized width height free.now.items }
     requires index { index < 64 }
@@ -388,7 +372,7 @@ fn clear_row(blocks: &mut Vec<u64>, free: &Vec<u64>, width: u32, height: u32, in
     }
 }
 
-/// The same for one block.
+/// Clears the bit of one block, if it is painted.
 fn clear_block(
     blocks: &mut Vec<u64>,
     free: &Vec<u64>,

@@ -247,12 +247,12 @@ fn nearest(number: i128, width: u64) -> i64
         4 * nat_abs (difference number (product k (pos width))) ≤ width → k ≡ result }
     ensures within { nat_abs result ≤ 2 ^ 39 }
 {
-    whole(doubled(number, width), 2 * width)
+    whole(double(number, width), 2 * width)
 }
 
 /// Twice the number plus the width.
 #[tactic(auto, unfolding(crate::specs::Exact::plus, crate::specs::Exact::product))]
-fn doubled(number: i128, width: u64) -> i128
+fn double(number: i128, width: u64) -> i128
     requires most { nat_abs number ≤ 2 ^ 38 * width }
     requires width_most { width ≤ 2 * most_millionths }
     ensures value { result ≡ plus (product (pos 2) number) (pos width) }

@@ -24,7 +24,8 @@ use wf_def::color::Color;
 /// From so many reaches in a row on, marks are faster than sorting.
 const MANY: usize = 128;
 
-/// Paints the inside of the edges; nothing if `color` is None. Returns Ok unless allocation fails.
+/// Paints the inside of the edges, in the rows between their lowest and their highest end; nothing if `color` is None. Returns Ok unless
+/// allocation fails.
 pub(crate) fn draw_inside(
     alloc: Global,
     canvas: &mut Canvas,
@@ -33,29 +34,17 @@ pub(crate) fn draw_inside(
 ) -> Result<(), AllocError>
     ensures { OnOk result (IsShown (in_color (FillOf edges.now) color) canvas.old canvas.new) }
 {
-    match color {
-        Some(color) => fill(alloc, canvas, edges.around(), color),
-        None => Ok(()),
-    }
-}
-
-/// Fills the rows between the lowest and the highest end of the edges.
-fn fill(
-    alloc: Global,
-    canvas: &mut Canvas,
-    edges: &[Segment],
-    color: Color,
-) -> Result<(), AllocError>
-    ensures { OnOk result (IsColored (λ column row.
-        is_inside (centre (pos column) (pos row)) edges.now) color canvas.old canvas.new) }
-{
+    let Some(color) = color else {
+        return Ok(());
+    };
+    let around = edges.around();
     let height = canvas.height();
-    let start = centres_below(lowest(edges), height);
-    let end = centres_below(highest(edges), height);
+    let start = centres_below(lowest(around), height);
+    let end = centres_below(highest(around), height);
     let mut reaches = Vec::new(alloc);
-    let mut odd = unmarked(alloc, canvas.width())?;
+    let mut odd = make_unmarked(alloc, canvas.width())?;
     for row in start..end {
-        fill_row(canvas, edges, row, &mut reaches, &mut odd, color)?;
+        fill_row(canvas, around, row, &mut reaches, &mut odd, color)?;
     }
     Ok(())
 }
@@ -83,7 +72,7 @@ fn highest(edges: &[Segment]) -> i64
 }
 
 /// Marks for the numbers up to `most`, of which none is marked.
-fn unmarked(alloc: Global, most: u32) -> Result<Vec<u8>, AllocError>
+fn make_unmarked(alloc: Global, most: u32) -> Result<Vec<u8>, AllocError>
     ensures size { IfOk result (λ marks. length marks.items ≡ most + 1) }
     ensures clear { IfOk result (λ marks. IsClear marks.items) }
 {

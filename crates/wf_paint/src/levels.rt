@@ -1,4 +1,6 @@
-//! Levels over a picture.
+//! Levels over a picture, and strips of it.
+
+use crate::span::Span;
 
 /// Numbers that change by constant steps over a picture: by `16 * across` from each column to the next, and by `16 * up` from each
 /// row to the next. `origin` is the number in the first column of the first row. `margin` is how far from 0 they may lie.
@@ -8,4 +10,12 @@ pub(crate) struct Levels {
     pub across: i64,
     pub up: i64,
     pub margin: i128,
+}
+
+/// The pixels of these rows and columns whose level lies within the margin about 0.
+#[derive(Clone, Copy)]
+pub(crate) struct Strip {
+    pub levels: Levels,
+    pub rows: Span,
+    pub columns: Span,
 }

@@ -8,17 +8,17 @@
 //! pictures as records of `specs/`.
 //!
 //! [`painter::paint`] goes from the last operation to the first, row by row, and writes only pixels that are still free, which a
-//! bit for each pixel tells: so hidden operations cost little. It skips operations that later ones hide: those of a layer that is listed again later; a fill
-//! of a feature that a later style fills; a line of a feature, if a later style has one at least as wide along the same segments.
+//! bit for each pixel tells: so hidden operations cost little. It skips operations that later ones hide: those of a layer that is
+//! listed again later; a fill of a feature that a later style fills; a line of a feature, if a later style has one at least as wide along the same segments.
 //! Of a shape's many segments it draws equal ones once, and fills between those that are there an odd number of times. Where
-//! blocks of 16 by 16 pixels are painted, a steep line passes 16 rows at once.
+//! blocks of 16 by 16 pixels are painted, a line passes 16 rows at once.
 //!
 //! It promises:
 //! - each pixel of a painted picture has the colour of the last operation in painter's order that covers it, else the background;
 //!   the only error is allocation failure
 //! - a request that is a tile of the map's grid has a view that sixteen tiles share, any other that of its box; it is a tile of at
-//!   most one cell ([`law::there_is_one_cell`])
-//! - all tiles of a level are parts of one drawing ([`law::tiles_are_parts_of_one_drawing`])
+//!   most one cell ([`theorem::there_is_one_cell`])
+//! - all tiles of a level are parts of one drawing ([`theorem::tiles_are_parts_of_one_drawing`])
 //!
 //! It draws no labels, knows no projection but the map's own, and writes no image format: a picture is three bytes a pixel, the
 //! top row first.
@@ -32,10 +32,10 @@ pub mod cell;
 pub mod corner;
 pub mod coverage;
 mod edges;
+mod ends;
 mod exact;
 mod grid;
 mod inside;
-pub mod law;
 mod level;
 mod levels;
 pub mod limits;
@@ -49,8 +49,8 @@ pub mod segment;
 mod segments;
 mod span;
 mod square;
-mod stepped;
 mod steps;
 mod strip;
+pub mod theorem;
 mod tile;
 pub mod view;

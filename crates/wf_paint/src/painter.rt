@@ -5,7 +5,7 @@
 ghost use Rattle.std.specs.Prelude.{◌≡◌, ◌<◌, ◌≤◌, ◌+◌, None, is_some, cond, max, length, drop, slice_index, OnOk, IfOk};
 ghost use Rattle.std.specs.Bool.{Decides};
 ghost use Rattle.std.specs.List.{All, Contains, flat_map};
-ghost use Rattle.wf_paint.specs.Operation.{operations, layer_operations, feature_operations, class_operations, squares, part_squares, color_at};
+ghost use Rattle.wf_paint.specs.Operation.{operations, layer_operations, feature_operations, squares, part_squares, color_at};
 ghost use Rattle.wf_paint.specs.Styles.{line_along, filled_and_outlined};
 ghost use Rattle.wf_paint.specs.Pixmap.{IsPicture};
 ghost use Rattle.wf_paint.specs.Shown.{IsShown};
@@ -20,7 +20,6 @@ use crate::segments::{paths, rings};
 use crate::view::View;
 use std::alloc::{AllocError, Global};
 use wf_def::choice::LayerKind;
-use wf_def::class::Class;
 use wf_def::color::Color;
 use wf_def::feature::{Feature, Part};
 use wf_def::layer::Layer;
@@ -44,7 +43,8 @@ pub fn paint(
     paint_after(alloc, 0, map, layers, view, background)
 }
 
-/// The same picture, with room for so many bytes before its own: [`Pixmap::into_file`] writes a head of that length there.
+/// Paints as [`paint`] does, with room for so many bytes before the picture's own: [`Pixmap::into_file`] writes a head of that
+/// length there.
 pub fn paint_after(
     alloc: Global,
     room: u8,
@@ -114,8 +114,8 @@ fn draw_layer(
     Ok(())
 }
 
-/// Paints a feature by its class; nothing if it has none.
-#[tactic(auto, unfolding(crate::specs::Operation::feature_operations))]
+/// Paints a feature's parts by the styles of its class; nothing if it has none.
+#[tactic(auto, unfolding(crate::specs::Operation::line, crate::specs::Operation::polygon))]
 fn draw_feature(
     alloc: Global,
     canvas: &mut Canvas,
@@ -126,45 +126,24 @@ fn draw_feature(
     ensures { OnOk result
         (IsShown (feature_operations view.now layer.now feature.now) canvas.old canvas.new) }
 {
-    match layer.class_of(feature) {
-        Some(index) => draw_class(
-            alloc,
-            canvas,
-            view,
-            layer.kind(),
-            feature.parts(),
-            &layer.classes()[index],
-        ),
-        None => Ok(()),
-    }
-}
-
-/// Paints a feature's parts by the styles of a class.
-#[tactic(auto, unfolding(crate::specs::Operation::line, crate::specs::Operation::polygon))]
-fn draw_class(
-    alloc: Global,
-    canvas: &mut Canvas,
-    view: &View,
-    kind: LayerKind,
-    parts: &[Part],
-    class: &Class,
-) -> Result<(), AllocError>
-    ensures { OnOk result (IsShown
-        (class_operations view.now kind parts.now (Some class.now)) canvas.old canvas.new) }
-{
-    match kind {
+    let Some(index) = layer.class_of(feature) else {
+        return Ok(());
+    };
+    let parts = feature.parts();
+    let styles = layer.classes()[index].styles();
+    match layer.kind() {
         LayerKind::Points => {
-            draw_markers(canvas, view, parts, class.styles());
+            draw_markers(canvas, view, parts, styles);
             Ok(())
         }
         LayerKind::Lines => {
             let segments = Edges::new(alloc, paths(alloc, view, parts)?)?;
-            draw_lines(canvas, &segments, class.styles());
+            draw_lines(canvas, &segments, styles);
             Ok(())
         }
         LayerKind::Polygons => {
             let edges = Edges::new(alloc, rings(alloc, view, parts)?)?;
-            draw_polygons(alloc, canvas, &edges, class.styles())
+            draw_polygons(alloc, canvas, &edges, styles)
         }
     }
 }

@@ -22,7 +22,7 @@ pub(crate) fn paths(alloc: Global, view: &View, parts: &[Part]) -> Result<Vec<Se
     Ok(segments)
 }
 
-/// The same, and the segment from each part's last point back to its first.
+/// The segments from each point of a part to the next and from its last back to its first, part by part.
 #[tactic(auto, unfolding(crate::specs::Segments::rings))]
 pub(crate) fn rings(alloc: Global, view: &View, parts: &[Part]) -> Result<Vec<Segment>, AllocError>
     ensures { IfOk result (λ s. s.items ≡ rings view.now parts.now) }
@@ -75,7 +75,8 @@ fn push_ring(segments: &mut Vec<Segment>, view: &View, points: &[Point]) -> Resu
     Ok(())
 }
 
-/// The same; returns the last position. Followed by the segments from there through any further positions, they are those of the
+/// Appends the segments from each point to the next, and returns the last position. Followed by the segments from there through any
+/// further positions, they are those of the
 /// whole path.
 fn push_from(
     segments: &mut Vec<Segment>,

@@ -37,14 +37,14 @@ pub(crate) fn steps_below(step: i128, bound: i128, most: u32) -> u32
     }
 }
 
-/// The same for a positive bound.
+/// The number of u in 0..most with step * u < bound, for a positive bound.
 fn multiples_below(step: u128, bound: u128, most: u32) -> u32
     requires step { 1 ≤ step }
     requires bound { 1 ≤ bound }
     ensures within { result ≤ most }
     ensures below { (u : ℕ) → u < most → nat_lt (step * u) bound ≡ nat_lt u result }
 {
-    let last = divided(bound - 1, step);
+    let last = divide(bound - 1, step);
     if last < u128::from(most) {
         last as u32 + 1
     } else {
@@ -53,7 +53,7 @@ fn multiples_below(step: u128, bound: u128, most: u32) -> u32
 }
 
 /// The quotient, by the processor's division of the least width that both numbers fit: a wider one takes longer.
-fn divided(number: u128, divisor: u128) -> u128
+fn divide(number: u128, divisor: u128) -> u128
     requires { 1 ≤ divisor }
     ensures { result ≡ number / divisor }
 {
@@ -141,22 +141,6 @@ fn falls_short(rest: u64, divisor: u64) -> bool
     ensures { result ≡ nat_lt rest divisor }
 {
     (rest as i64 - divisor as i64) < 0
-}
-
-/// The number, and so many times the divisor more.
-#[inline(always)]
-#[tactic(auto, using(crate::proofs::StripLemmas::further_sum), unfolding(crate::specs::Quotient::number_of))]
-pub(crate) fn further(number: Quotient, times: u8) -> Quotient
-    requires { nat_abs number.whole ≤ 2 ^ 61 }
-    ensures value { (divisor : ℕ) → number_of divisor result
-        ≡ plus (number_of divisor number) (product (pos times) (pos divisor)) }
-    ensures rest { result.rest ≡ number.rest }
-    ensures within { nat_abs result.whole ≤ 2 ^ 62 }
-{
-    Quotient {
-        whole: number.whole + i64::from(times),
-        rest: number.rest,
-    }
 }
 
 /// The number of the first `most` multiples of the divisor, from 0 on, that aren't greater than the number.

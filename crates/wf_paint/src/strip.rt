@@ -1,6 +1,6 @@
-//! Strips: the pixels whose level lies within a margin, painted row by row. The ends of a row's pixels are those of the row before,
-//! moved by a constant, so no row but the first takes a division. Only lines whose numbers are too large for it take one in each row.
-ghost use Rattle.std.specs.Prelude.{◌≡◌, ℕ, ◌+◌, ◌*◌, ◌^◌, ◌<◌, ◌≤◌, nat_abs, pos, ◌≤ℤ◌, ◌<ℤ◌, true, IfSome};
+//! Strips, painted row by row. The ends of a row's pixels are those of the row before, moved by a constant, so no row but the first
+//! takes a division. Only lines whose numbers are too large for it take one in each row.
+ghost use Rattle.std.specs.Prelude.{◌≡◌, ℕ, ◌+◌, ◌*◌, ◌^◌, ◌<◌, ◌≤◌, nat_abs, pos, ◌≤ℤ◌, ◌<ℤ◌, true, false, IfSome};
 ghost use Rattle.wf_paint.specs.Near.{IsReach, IsArea};
 ghost use Rattle.wf_paint.specs.Exact.{plus, difference, product, opposite};
 ghost use Rattle.wf_paint.specs.Quotient.{number_of};
@@ -8,210 +8,114 @@ ghost use Rattle.wf_paint.specs.Level.{level_at, row_level, is_in_margin};
 ghost use Rattle.wf_paint.specs.Canvas.{IsBoxPainted};
 ghost use Rattle.wf_paint.specs.Shown.{IsColored};
 ghost use Rattle.wf_paint.specs.Span.{IsSpanOf, shared};
-ghost use Rattle.wf_paint.specs.Strip.{is_in_strip, IsPart, IsBetween, IsEnd, IsHiddenBlock, IsStepped, StaysBetween};
-ghost use Rattle.wf_paint.specs.Limit.{half_side, most_pixels, pixel_side};
+ghost use Rattle.wf_paint.specs.Strip.{is_in_strip, most_between, AreEnds, IsPart, IsBetween, IsEnd, IsHiddenBlock, StaysBetween};
+ghost use Rattle.wf_paint.specs.Limit.{most_pixels, pixel_side};
 
 use crate::canvas::{BLOCK_SIDE, Canvas};
+use crate::ends::Ends;
 use crate::exact::{opposite, product};
 use crate::level::level_within;
-use crate::levels::Levels;
+use crate::levels::{Levels, Strip};
 use crate::limits::PIXEL_SIDE;
 use crate::quotient::Quotient;
 use crate::span::Span;
-use crate::stepped::Stepped;
-use crate::steps::{further, multiples_up_to, quotient, steps_below, sum};
+use crate::steps::{multiples_up_to, quotient, steps_below, sum};
 use wf_def::color::Color;
 
-/// In so many rows at each end, at most, a line that isn't steeper than 1 to 1 is cut off by its ends: it is up to 16 pixels wide.
-const MOST_CUT: u32 = 18;
-
-/// Paints the pixels of these rows and columns whose level lies within the margin about 0.
-pub(crate) fn draw_strip(
-    canvas: &mut Canvas,
-    levels: Levels,
-    rows: Span,
-    columns: Span,
-    color: Color,
-)
-    requires origin { nat_abs levels.origin ≤ 2 ^ 109 }
-    requires across { IsReach levels.across }
-    requires up { IsReach levels.up }
-    requires margin { IsArea levels.margin }
-    requires rows { rows.to ≤ canvas.old.height }
-    requires columns { columns.to ≤ canvas.old.width }
-    ensures { IsColored (is_in_strip levels rows columns) color canvas.old canvas.new }
+/// Paints the strip's pixels, 16 rows at a time.
+pub(crate) fn draw_strip(canvas: &mut Canvas, strip: Strip, color: Color)
+    requires origin { nat_abs strip.levels.origin ≤ 2 ^ 110 }
+    requires across { IsReach strip.levels.across }
+    requires rising { pos 0 ≤ℤ strip.levels.across }
+    requires up { IsReach strip.levels.up }
+    requires margin { IsArea strip.levels.margin }
+    requires rows { strip.rows.to ≤ canvas.old.height }
+    requires columns { strip.columns.to ≤ canvas.old.width }
+    ensures { IsColored (is_in_strip strip.levels strip.rows strip.columns) color
+        canvas.old canvas.new }
 {
     canvas.sides_are_limited();
-    if rows.from < rows.to {
-        if columns.from < columns.to {
-            draw_rows(canvas, levels, rows, columns, color);
-        }
+    if is_empty(strip) {
+        return;
     }
-}
-
-/// The same for levels whose margin is half the change over `width` columns: a row's pixels are exactly so many.
-pub(crate) fn draw_upright(
-    canvas: &mut Canvas,
-    levels: Levels,
-    width: u8,
-    rows: Span,
-    columns: Span,
-    color: Color,
-)
-    requires origin { nat_abs levels.origin ≤ 2 ^ 109 }
-    requires across { IsReach levels.across }
-    requires up { IsReach levels.up }
-    requires margin { IsArea levels.margin }
-    requires even { levels.margin ≡ product (pos (half_side * width)) levels.across }
-    requires rows { rows.to ≤ canvas.old.height }
-    requires columns { columns.to ≤ canvas.old.width }
-    ensures { IsColored (is_in_strip levels rows columns) color canvas.old canvas.new }
-{
-    canvas.sides_are_limited();
-    if levels.across > 0 && rows.from < rows.to && columns.from < columns.to {
-        draw_even(canvas, levels, width, rows, columns, color);
-    } else {
-        draw_strip(canvas, levels, rows, columns, color);
-    }
-}
-
-/// The same for levels that rise from column to column, in at least one row. One quotient tells both ends of a row's pixels.
-fn draw_even(
-    canvas: &mut Canvas,
-    levels: Levels,
-    width: u8,
-    rows: Span,
-    columns: Span,
-    color: Color,
-)
-    requires origin { nat_abs levels.origin ≤ 2 ^ 109 }
-    requires across { IsReach levels.across }
-    requires rising { pos 1 ≤ℤ levels.across }
-    requires up { IsReach levels.up }
-    requires margin { IsArea levels.margin }
-    requires even { levels.margin ≡ product (pos (half_side * width)) levels.across }
-    requires order { rows.from < rows.to }
-    requires rows { rows.to ≤ canvas.old.height }
-    requires most_rows { rows.to ≤ most_pixels }
-    requires columns { columns.to ≤ canvas.old.width }
-    ensures { IsColored (is_in_strip levels rows columns) color canvas.old canvas.new }
-{
-    let Some(low) = end_in(levels, opposite(levels.margin), rows.from) else {
-        return draw_far(canvas, levels, rows, columns, color);
+    let Some(ends) = ends_in(strip.levels, strip.rows.from) else {
+        return draw_far(canvas, strip, color);
     };
-    if stays_between(levels, low, width, rows, columns) {
-        draw_whole(canvas, levels, low, width, rows, columns, color);
-    } else {
-        draw_cut(canvas, levels, low, width, rows, columns, color);
+    let blocks = (strip.rows.to - strip.rows.from) / BLOCK_SIDE;
+    if blocks == 0 {
+        return draw_cut(canvas, strip, ends, color);
     }
+    let Some(leap) = leap(strip.levels, ends.step) else {
+        return draw_cut(canvas, strip, ends, color);
+    };
+    let mut low = ends.low;
+    for index in 0..blocks {
+        let from = strip.rows.from + BLOCK_SIDE * index;
+        let rows = Span {
+            from,
+            to: from + BLOCK_SIDE,
+        };
+        let next = sum(low, leap, ends.step);
+        draw_block(
+            canvas,
+            Strip { rows, ..strip },
+            Ends { low, ..ends },
+            next,
+            color,
+        );
+        low = next;
+    }
+    let rows = Span {
+        from: strip.rows.from + BLOCK_SIDE * blocks,
+        to: strip.rows.to,
+    };
+    draw_cut(canvas, Strip { rows, ..strip }, Ends { low, ..ends }, color);
 }
 
-/// Where the pixels of a row end whose level lies below the bound, and how that changes from row to row. None if 64 bits don't hold it.
-fn end_in(levels: Levels, bound: i128, row: u32) -> Option<Stepped>
+/// Whether the strip has no rows or no columns.
+#[tactic(auto, using(crate::proofs::StripLemmas::strip_nowhere, crate::proofs::StripLemmas::strip_without_columns))]
+fn is_empty(strip: Strip) -> bool
+    ensures none { result ≡ true → (column row : ℕ) →
+        is_in_strip strip.levels strip.rows strip.columns column row ≡ false }
+    ensures rows { result ≡ false → strip.rows.from < strip.rows.to }
+{
+    strip.rows.from >= strip.rows.to || strip.columns.from >= strip.columns.to
+}
+
+/// The ends of a row's pixels, and how they change from row to row. None if levels don't change from column to column, or if 64 bits
+/// don't hold the quotients.
+fn ends_in(levels: Levels, row: u32) -> Option<Ends>
     requires origin { nat_abs levels.origin ≤ 2 ^ 110 }
     requires across { IsReach levels.across }
-    requires rising { pos 1 ≤ℤ levels.across }
+    requires rising { pos 0 ≤ℤ levels.across }
     requires up { IsReach levels.up }
-    requires bound { IsArea bound }
+    requires margin { IsArea levels.margin }
     requires row { row ≤ most_pixels }
-    ensures { IfSome result (IsStepped levels bound row) }
+    ensures { IfSome result (AreEnds levels row) }
 {
+    if levels.across == 0 {
+        return None;
+    }
     let step = step(levels.across);
+    let start = row_level(levels, row);
+    let Some(low) = quotient(room(opposite(levels.margin), start), step) else {
+        return None;
+    };
+    let Some(gap) = quotient(double(levels.margin), step) else {
+        return None;
+    };
     let Some(change) = quotient(opposite(product(PIXEL_SIDE, levels.up)), step) else {
         return None;
     };
-    let Some(now) = quotient(room(bound, row_level(levels, row)), step) else {
-        return None;
-    };
-    Some(Stepped { now, change, step })
+    Some(Ends {
+        low,
+        gap,
+        change,
+        step,
+    })
 }
 
-/// Whether in each row the `width` pixels from its lower end on, at least one and at most 64, lie in the columns. They do if those of
-/// the first and of the last row do, since the lower end moves by a constant.
-fn stays_between(levels: Levels, low: Stepped, width: u8, rows: Span, columns: Span) -> bool
-    requires origin { nat_abs levels.origin ≤ 2 ^ 110 }
-    requires up { IsReach levels.up }
-    requires margin { IsArea levels.margin }
-    requires order { rows.from < rows.to }
-    requires most_rows { rows.to ≤ most_pixels }
-    requires low { IsStepped levels (opposite levels.margin) rows.from low }
-    ensures { result ≡ true → StaysBetween levels low.step width rows columns }
-{
-    let last = row_level(levels, rows.to - 1);
-    match quotient(room(opposite(levels.margin), last), low.step) {
-        Some(end) => is_between(columns, low.now, width) && is_between(columns, end, width),
-        None => false,
-    }
-}
-
-/// Whether the `width` pixels from this lower end of a row on, at least one and at most 64, lie in the columns.
-fn is_between(columns: Span, low: Quotient, width: u8) -> bool
-    requires { nat_abs low.whole ≤ 2 ^ 61 }
-    ensures { result ≡ true → IsBetween columns width low }
-{
-    let from = low.whole + 1;
-    width <= 64 && lies_in(columns, from, from + i64::from(width))
-}
-
-/// The same as `draw_even` where each row has `width` pixels in the columns. Rows that painted blocks hide are passed 16 at once.
-fn draw_whole(
-    canvas: &mut Canvas,
-    levels: Levels,
-    low: Stepped,
-    width: u8,
-    rows: Span,
-    columns: Span,
-    color: Color,
-)
-    requires up { IsReach levels.up }
-    requires rising { pos 1 ≤ℤ levels.across }
-    requires even { levels.margin ≡ product (pos (half_side * width)) levels.across }
-    requires order { rows.from < rows.to }
-    requires rows { rows.to ≤ canvas.old.height }
-    requires most_rows { rows.to ≤ most_pixels }
-    requires columns { columns.to ≤ canvas.old.width }
-    requires low { IsStepped levels (opposite levels.margin) rows.from low }
-    requires between { StaysBetween levels low.step width rows columns }
-    ensures { IsColored (is_in_strip levels rows columns) color canvas.old canvas.new }
-{
-    let Some(leap) = leap(levels, low.step) else {
-        return draw_whole_rows(canvas, levels, low, width, rows, columns, color);
-    };
-    let blocks = (rows.to - rows.from - 1) / BLOCK_SIDE;
-    let mut end = low.now;
-    for index in 0..blocks {
-        let row = rows.from + BLOCK_SIDE * index;
-        let here = restart(low, end);
-        let next = sum(end, leap, low.step);
-        let few = span(row, row + BLOCK_SIDE);
-        draw_whole_block(canvas, levels, here, next, width, few, columns, color);
-        end = next;
-    }
-    let last = span(rows.from + BLOCK_SIDE * blocks, rows.to);
-    draw_whole_rows(
-        canvas,
-        levels,
-        restart(low, end),
-        width,
-        last,
-        columns,
-        color,
-    );
-}
-
-/// The same changes from row to row, from another number on.
-#[inline(always)]
-fn restart(stepped: Stepped, now: Quotient) -> Stepped
-    ensures { result ≡ record { now = now; change = stepped.change; step = stepped.step } }
-{
-    Stepped {
-        now,
-        change: stepped.change,
-        step: stepped.step,
-    }
-}
-
-/// How the number that tells where a row's pixels end changes over 16 rows. None if 64 bits don't hold it.
+/// How an end changes over 16 rows. None if 64 bits don't hold it.
 fn leap(levels: Levels, step: u64) -> Option<Quotient>
     requires up { IsReach levels.up }
     requires step { 1 ≤ step }
@@ -226,34 +130,70 @@ fn leap(levels: Levels, step: u64) -> Option<Quotient>
     )
 }
 
-/// The same for 16 rows. Nothing is left to do if painted blocks hide all that lies between the first of them and the row after them.
-fn draw_whole_block(
-    canvas: &mut Canvas,
-    levels: Levels,
-    low: Stepped,
-    next: Quotient,
-    width: u8,
-    rows: Span,
-    columns: Span,
-    color: Color,
-)
-    requires up { IsReach levels.up }
-    requires rising { pos 1 ≤ℤ levels.across }
-    requires even { levels.margin ≡ product (pos (half_side * width)) levels.across }
-    requires order { rows.from < rows.to }
-    requires rows { rows.to ≤ canvas.old.height }
-    requires most_rows { rows.to ≤ most_pixels }
-    requires columns { columns.to ≤ canvas.old.width }
-    requires low { IsStepped levels (opposite levels.margin) rows.from low }
-    requires between { StaysBetween levels low.step width rows columns }
-    requires block { rows.to ≡ rows.from + 16 }
-    requires next { IsEnd (opposite levels.margin) levels.origin (product (pos pixel_side) levels.up) low.step rows.to next }
-    requires after { IsBetween columns width next }
-    ensures { IsColored (is_in_strip levels rows columns) color canvas.old canvas.new }
+/// Twice the margin.
+#[tactic(auto, unfolding(crate::specs::Exact::plus))]
+fn double(margin: i128) -> i128
+    requires { IsArea margin }
+    ensures value { result ≡ plus margin margin }
+    ensures within { nat_abs result ≤ 2 ^ 112 }
 {
-    if !is_hidden(canvas, low.now, next, width, rows.from) {
-        draw_whole_rows(canvas, levels, low, width, rows, columns, color);
+    2 * margin
+}
+
+/// Paints 16 rows of a strip; `next` is the lower end of the row after them. Nothing is left to do if painted blocks hide all that lies
+/// between the first of them and that row. In most blocks the ends of the columns cut off no pixel.
+fn draw_block(canvas: &mut Canvas, strip: Strip, ends: Ends, next: Quotient, color: Color)
+    requires block { strip.rows.to ≡ strip.rows.from + 16 }
+    requires rows { strip.rows.to ≤ canvas.old.height }
+    requires most_rows { strip.rows.to ≤ most_pixels }
+    requires columns { strip.columns.to ≤ canvas.old.width }
+    requires ends { AreEnds strip.levels strip.rows.from ends }
+    requires next { IsEnd (opposite strip.levels.margin) strip.levels.origin
+        (product (pos pixel_side) strip.levels.up) ends.step strip.rows.to next }
+    requires near { nat_abs next.whole ≤ 2 ^ 62 }
+    ensures { IsColored (is_in_strip strip.levels strip.rows strip.columns) color
+        canvas.old canvas.new }
+{
+    let width = most_between(ends.gap);
+    if !are_between(strip.columns, ends.low, next, width) {
+        draw_cut(canvas, strip, ends, color);
+    } else if !is_hidden(canvas, ends.low, next, width, strip.rows.from) {
+        draw_whole(canvas, strip, ends, color);
     }
+}
+
+/// The most pixels of a row whose ends lie so far apart; 0 if there may be none of them, or more than 64.
+#[tactic(auto, unfolding(crate::specs::Strip::most_between))]
+fn most_between(gap: Quotient) -> u8
+    ensures some { 1 ≤ result → pos 1 ≤ℤ gap.whole }
+    ensures value { 1 ≤ result → result ≡ most_between gap }
+{
+    if gap.whole < 1 || gap.whole > 63 {
+        0
+    } else if gap.rest == 0 {
+        gap.whole as u8
+    } else {
+        gap.whole as u8 + 1
+    }
+}
+
+/// Whether the `width` pixels from either lower end on, at least one and at most 64, lie in the columns.
+fn are_between(columns: Span, low: Quotient, next: Quotient, width: u8) -> bool
+    requires low { nat_abs low.whole ≤ 2 ^ 62 }
+    requires next { nat_abs next.whole ≤ 2 ^ 62 }
+    ensures first { result ≡ true → IsBetween columns width low }
+    ensures last { result ≡ true → IsBetween columns width next }
+{
+    is_between(columns, low, width) && is_between(columns, next, width)
+}
+
+/// Whether the `width` pixels from this lower end of a row on, at least one and at most 64, lie in the columns.
+fn is_between(columns: Span, low: Quotient, width: u8) -> bool
+    requires { nat_abs low.whole ≤ 2 ^ 62 }
+    ensures { result ≡ true → IsBetween columns width low }
+{
+    let from = low.whole + 1;
+    width <= 64 && lies_in(columns, from, from + i64::from(width))
 }
 
 /// Whether painted blocks hide what lies between the `width` pixels of a row and those of the 16th row after it.
@@ -289,260 +229,88 @@ fn is_box_hidden(canvas: &Canvas, left: i64, right: i64, width: u8, row: u32) ->
     canvas.hides(row, from, to)
 }
 
-/// The same as `draw_whole`, row by row.
-fn draw_whole_rows(
-    canvas: &mut Canvas,
-    levels: Levels,
-    low: Stepped,
-    width: u8,
-    rows: Span,
-    columns: Span,
-    color: Color,
-)
-    requires rising { pos 1 ≤ℤ levels.across }
-    requires even { levels.margin ≡ product (pos (half_side * width)) levels.across }
-    requires order { rows.from < rows.to }
-    requires rows { rows.to ≤ canvas.old.height }
-    requires most_rows { rows.to ≤ most_pixels }
-    requires columns { columns.to ≤ canvas.old.width }
-    requires low { IsStepped levels (opposite levels.margin) rows.from low }
-    requires between { StaysBetween levels low.step width rows columns }
-    ensures { IsColored (is_in_strip levels rows columns) color canvas.old canvas.new }
+/// Paints a strip of which each row has its pixels in the columns, at least one and at most 64.
+fn draw_whole(canvas: &mut Canvas, strip: Strip, ends: Ends, color: Color)
+    requires order { strip.rows.from ≤ strip.rows.to }
+    requires rows { strip.rows.to ≤ canvas.old.height }
+    requires most_rows { strip.rows.to ≤ most_pixels }
+    requires columns { strip.columns.to ≤ canvas.old.width }
+    requires ends { AreEnds strip.levels strip.rows.from ends }
+    requires some { pos 1 ≤ℤ ends.gap.whole }
+    requires between { StaysBetween strip.levels ends.step (most_between ends.gap)
+        strip.rows strip.columns }
+    ensures { IsColored (is_in_strip strip.levels strip.rows strip.columns) color
+        canvas.old canvas.new }
 {
-    let mut end = low.now;
-    for row in rows.from..rows.to {
-        canvas.cover_few(row, count(end.whole + 1), u32::from(width), color);
-        end = sum(end, low.change, low.step);
-    }
-}
-
-/// The same as `draw_even` where some rows have fewer pixels in the columns.
-fn draw_cut(
-    canvas: &mut Canvas,
-    levels: Levels,
-    low: Stepped,
-    width: u8,
-    rows: Span,
-    columns: Span,
-    color: Color,
-)
-    requires rising { pos 1 ≤ℤ levels.across }
-    requires even { levels.margin ≡ product (pos (half_side * width)) levels.across }
-    requires order { rows.from < rows.to }
-    requires rows { rows.to ≤ canvas.old.height }
-    requires most_rows { rows.to ≤ most_pixels }
-    requires columns { columns.to ≤ canvas.old.width }
-    requires low { IsStepped levels (opposite levels.margin) rows.from low }
-    ensures { IsColored (is_in_strip levels rows columns) color canvas.old canvas.new }
-{
-    let mut end = low.now;
-    for row in rows.from..rows.to {
-        let span = part(columns, end, further(end, width));
-        canvas.cover(row, span.from, span.to, color);
-        end = sum(end, low.change, low.step);
-    }
-}
-
-/// The same as `draw_strip` for at least one row.
-fn draw_rows(canvas: &mut Canvas, levels: Levels, rows: Span, columns: Span, color: Color)
-    requires origin { nat_abs levels.origin ≤ 2 ^ 109 }
-    requires across { IsReach levels.across }
-    requires up { IsReach levels.up }
-    requires margin { IsArea levels.margin }
-    requires order { rows.from ≤ rows.to }
-    requires rows { rows.to ≤ canvas.old.height }
-    requires most_rows { rows.to ≤ most_pixels }
-    requires columns { columns.to ≤ canvas.old.width }
-    ensures { IsColored (is_in_strip levels rows columns) color canvas.old canvas.new }
-{
-    if levels.across > 0 {
-        draw_rising(canvas, levels, rows, columns, color);
-    } else if levels.across < 0 {
-        draw_rising(canvas, mirrored(levels), rows, columns, color);
-    } else {
-        draw_level(canvas, levels, rows, columns, color);
-    }
-}
-
-/// Levels that lie within a margin exactly where these do, and fall where these rise.
-fn mirrored(levels: Levels) -> Levels
-    requires origin { nat_abs levels.origin ≤ 2 ^ 109 }
-    requires across { IsReach levels.across }
-    requires up { IsReach levels.up }
-    ensures origin { nat_abs result.origin ≤ 2 ^ 110 }
-    ensures across { result.across ≡ opposite levels.across }
-    ensures up { IsReach result.up }
-    ensures margin { result.margin ≡ levels.margin }
-    ensures value { (u v : ℕ) →
-        level_at result u v ≡ difference (opposite (level_at levels u v)) (pos 1) }
-{
-    Levels {
-        origin: -levels.origin - 1,
-        across: -levels.across,
-        up: -levels.up,
-        margin: levels.margin,
-    }
-}
-
-/// The same for levels that rise from column to column. Of a long line the ends of the columns, which are its own ends, cut off pixels in
-/// the first and the last rows alone.
-fn draw_rising(canvas: &mut Canvas, levels: Levels, rows: Span, columns: Span, color: Color)
-    requires origin { nat_abs levels.origin ≤ 2 ^ 110 }
-    requires across { IsReach levels.across }
-    requires rising { pos 1 ≤ℤ levels.across }
-    requires up { IsReach levels.up }
-    requires margin { IsArea levels.margin }
-    requires order { rows.from ≤ rows.to }
-    requires rows { rows.to ≤ canvas.old.height }
-    requires most_rows { rows.to ≤ most_pixels }
-    requires columns { columns.to ≤ canvas.old.width }
-    ensures { IsColored (is_in_strip levels rows columns) color canvas.old canvas.new }
-{
-    if rows.to - rows.from <= 4 * MOST_CUT {
-        draw_some(canvas, levels, rows, columns, color);
-        return;
-    }
-    let (first, last) = (rows.from + MOST_CUT, rows.to - MOST_CUT);
-    draw_some(canvas, levels, span(rows.from, first), columns, color);
-    draw_middle(canvas, levels, span(first, last), columns, color);
-    draw_some(canvas, levels, span(last, rows.to), columns, color);
-}
-
-/// The numbers in from..to.
-fn span(from: u32, to: u32) -> Span
-    ensures { result ≡ record { from = from; to = to } }
-{
-    Span { from, to }
-}
-
-/// The same for at least one row. In most lines no pixel is cut off.
-fn draw_middle(canvas: &mut Canvas, levels: Levels, rows: Span, columns: Span, color: Color)
-    requires origin { nat_abs levels.origin ≤ 2 ^ 110 }
-    requires across { IsReach levels.across }
-    requires rising { pos 1 ≤ℤ levels.across }
-    requires up { IsReach levels.up }
-    requires margin { IsArea levels.margin }
-    requires order { rows.from < rows.to }
-    requires rows { rows.to ≤ canvas.old.height }
-    requires most_rows { rows.to ≤ most_pixels }
-    requires columns { columns.to ≤ canvas.old.width }
-    ensures { IsColored (is_in_strip levels rows columns) color canvas.old canvas.new }
-{
-    let Some(low) = end_in(levels, opposite(levels.margin), rows.from) else {
-        return draw_far(canvas, levels, rows, columns, color);
-    };
-    let Some(gap) = quotient(doubled(levels.margin), low.step) else {
-        return draw_far(canvas, levels, rows, columns, color);
-    };
-    if is_few(gap) && stays_between(levels, low, gap.whole as u8 + 1, rows, columns) {
-        draw_wide(canvas, levels, low, gap, rows, columns, color);
-    } else {
-        draw_some(canvas, levels, rows, columns, color);
-    }
-}
-
-/// Twice the margin.
-#[tactic(auto, unfolding(crate::specs::Exact::plus))]
-fn doubled(margin: i128) -> i128
-    requires { IsArea margin }
-    ensures value { result ≡ plus margin margin }
-    ensures within { nat_abs result ≤ 2 ^ 112 }
-{
-    2 * margin
-}
-
-/// Whether a row has at least one and at most 64 pixels, if this is how far its ends lie apart.
-fn is_few(gap: Quotient) -> bool
-    ensures { result ≡ true → (pos 1 ≤ℤ gap.whole) × (gap.whole <ℤ pos 64) }
-{
-    1 <= gap.whole && gap.whole < 64
-}
-
-/// The same as `draw_rising` where each row has its pixels in the columns; its ends lie `gap` apart.
-fn draw_wide(
-    canvas: &mut Canvas,
-    levels: Levels,
-    low: Stepped,
-    gap: Quotient,
-    rows: Span,
-    columns: Span,
-    color: Color,
-)
-    requires order { rows.from < rows.to }
-    requires rows { rows.to ≤ canvas.old.height }
-    requires most_rows { rows.to ≤ most_pixels }
-    requires columns { columns.to ≤ canvas.old.width }
-    requires low { IsStepped levels (opposite levels.margin) rows.from low }
-    requires gap { number_of low.step gap ≡ plus levels.margin levels.margin }
-    requires rest { gap.rest < low.step }
-    requires least { pos 1 ≤ℤ gap.whole }
-    requires most { gap.whole <ℤ pos 64 }
-    requires between { StaysBetween levels low.step (nat_abs gap.whole + 1) rows columns }
-    ensures { IsColored (is_in_strip levels rows columns) color canvas.old canvas.new }
-{
-    let mut end = low.now;
-    for row in rows.from..rows.to {
-        let high = sum(end, gap, low.step);
+    let mut low = ends.low;
+    for row in strip.rows.from..strip.rows.to {
+        let high = sum(low, ends.gap, ends.step);
         canvas.cover_few(
             row,
-            count(end.whole + 1),
-            count(high.whole - end.whole),
+            count(low.whole + 1),
+            count(high.whole - low.whole),
             color,
         );
-        end = sum(end, low.change, low.step);
+        low = sum(low, ends.change, ends.step);
     }
 }
 
-/// The same where the ends of the columns may cut off pixels of each row.
-fn draw_some(canvas: &mut Canvas, levels: Levels, rows: Span, columns: Span, color: Color)
-    requires origin { nat_abs levels.origin ≤ 2 ^ 110 }
-    requires across { IsReach levels.across }
-    requires rising { pos 1 ≤ℤ levels.across }
-    requires up { IsReach levels.up }
-    requires margin { IsArea levels.margin }
-    requires order { rows.from ≤ rows.to }
-    requires rows { rows.to ≤ canvas.old.height }
-    requires most_rows { rows.to ≤ most_pixels }
-    requires columns { columns.to ≤ canvas.old.width }
-    ensures { IsColored (is_in_strip levels rows columns) color canvas.old canvas.new }
+/// Paints a strip where the ends of the columns may cut off pixels of each row.
+fn draw_cut(canvas: &mut Canvas, strip: Strip, ends: Ends, color: Color)
+    requires order { strip.rows.from ≤ strip.rows.to }
+    requires rows { strip.rows.to ≤ canvas.old.height }
+    requires most_rows { strip.rows.to ≤ most_pixels }
+    requires columns { strip.columns.to ≤ canvas.old.width }
+    requires ends { AreEnds strip.levels strip.rows.from ends }
+    ensures { IsColored (is_in_strip strip.levels strip.rows strip.columns) color
+        canvas.old canvas.new }
 {
-    let step = step(levels.across);
-    let start = row_level(levels, rows.from);
-    let Some(change) = quotient(opposite(product(PIXEL_SIDE, levels.up)), step) else {
-        return draw_far(canvas, levels, rows, columns, color);
-    };
-    let Some(mut low) = quotient(room(opposite(levels.margin), start), step) else {
-        return draw_far(canvas, levels, rows, columns, color);
-    };
-    let Some(mut high) = quotient(room(levels.margin, start), step) else {
-        return draw_far(canvas, levels, rows, columns, color);
-    };
-    for row in rows.from..rows.to {
-        let span = part(columns, low, high);
+    let mut low = ends.low;
+    let mut high = sum(low, ends.gap, ends.step);
+    for row in strip.rows.from..strip.rows.to {
+        let span = part(strip.columns, low, high);
         canvas.cover(row, span.from, span.to, color);
-        low = sum(low, change, step);
-        high = sum(high, change, step);
+        low = sum(low, ends.change, ends.step);
+        high = sum(high, ends.change, ends.step);
     }
 }
 
-/// The same for a line that is so long, far away or close to level that 64 bits don't hold its quotients: each row takes divisions.
-/// Such a line visits few rows.
-fn draw_far(canvas: &mut Canvas, levels: Levels, rows: Span, columns: Span, color: Color)
+/// Paints a strip so long, far away or close to level that 64 bits don't hold the ends of its rows: each row takes divisions. Such a
+/// strip has few rows.
+fn draw_far(canvas: &mut Canvas, strip: Strip, color: Color)
+    requires origin { nat_abs strip.levels.origin ≤ 2 ^ 110 }
+    requires across { IsReach strip.levels.across }
+    requires rising { pos 0 ≤ℤ strip.levels.across }
+    requires up { IsReach strip.levels.up }
+    requires margin { IsArea strip.levels.margin }
+    requires order { strip.rows.from ≤ strip.rows.to }
+    requires rows { strip.rows.to ≤ canvas.old.height }
+    requires most_rows { strip.rows.to ≤ most_pixels }
+    requires columns { strip.columns.to ≤ canvas.old.width }
+    ensures { IsColored (is_in_strip strip.levels strip.rows strip.columns) color
+        canvas.old canvas.new }
+{
+    for row in strip.rows.from..strip.rows.to {
+        let within = row_within(strip.levels, row, strip.columns.to);
+        let span = both(strip.columns, within);
+        canvas.cover(row, span.from, span.to, color);
+    }
+}
+
+/// The pixels, of the first `most` of a row, whose level lies within the margin about 0.
+fn row_within(levels: Levels, row: u32, most: u32) -> Span
     requires origin { nat_abs levels.origin ≤ 2 ^ 110 }
     requires across { IsReach levels.across }
-    requires rising { pos 1 ≤ℤ levels.across }
+    requires rising { pos 0 ≤ℤ levels.across }
     requires up { IsReach levels.up }
     requires margin { IsArea levels.margin }
-    requires order { rows.from ≤ rows.to }
-    requires rows { rows.to ≤ canvas.old.height }
-    requires most_rows { rows.to ≤ most_pixels }
-    requires columns { columns.to ≤ canvas.old.width }
-    ensures { IsColored (is_in_strip levels rows columns) color canvas.old canvas.new }
+    requires row { row ≤ most_pixels }
+    ensures { IsSpanOf (λ u. is_in_margin levels.margin (level_at levels u row)) most result }
 {
-    for row in rows.from..rows.to {
-        let within = rising_within(levels, row, columns.to);
-        let span = both(columns, within);
-        canvas.cover(row, span.from, span.to, color);
+    if levels.across == 0 {
+        level_within(row_level(levels, row), levels.margin, most)
+    } else {
+        rising_within(levels, row, most)
     }
 }
 
@@ -615,25 +383,6 @@ fn gap(bound: i128, level: i128) -> i128
     ensures { result ≡ difference bound level }
 {
     bound - level
-}
-
-/// The same for levels that don't change from column to column.
-fn draw_level(canvas: &mut Canvas, levels: Levels, rows: Span, columns: Span, color: Color)
-    requires origin { nat_abs levels.origin ≤ 2 ^ 110 }
-    requires across { levels.across ≡ pos 0 }
-    requires up { IsReach levels.up }
-    requires margin { IsArea levels.margin }
-    requires order { rows.from ≤ rows.to }
-    requires rows { rows.to ≤ canvas.old.height }
-    requires most_rows { rows.to ≤ most_pixels }
-    requires columns { columns.to ≤ canvas.old.width }
-    ensures { IsColored (is_in_strip levels rows columns) color canvas.old canvas.new }
-{
-    for row in rows.from..rows.to {
-        let within = level_within(row_level(levels, row), levels.margin, columns.to);
-        let span = both(columns, within);
-        canvas.cover(row, span.from, span.to, color);
-    }
 }
 
 /// The columns that the high number counts and the low one doesn't. In most rows they lie between the ends of `columns`, which is

@@ -4,11 +4,11 @@ use Rattle.std.specs.Prelude.{Option, Some, None, slice_set, cond}
 use Rattle.std.proofs.lemmas.Bool.{cases_lt}
 use Rattle.std.proofs.lemmas.List.{get_or_past}
 use Rattle.wf_ballot.specs.Ballot.{Ballot, below}
-use Rattle.wf_ballot.specs.OrderLaws.{below-asymmetric, below-irreflexive}
+use Rattle.wf_ballot.specs.OrderTheorems.{below-asymmetric, below-irreflexive}
 use Rattle.wf_model.specs.Message.{Message, Prepare, Promise, Accept, Accepted, Nack, Chosen, Ask}
-use Rattle.wf_model.specs.Stored.{raised}
+use Rattle.wf_model.specs.DurableState.{raised}
 use Rattle.wf_peer.specs.Progress.{HasKept, IsNoLess, IsNoLower, both_promised, together}
-use Rattle.wf_peer.specs.Sender.{NeverFalls, heard_of, promised, published_to, told_by, tried}
+use Rattle.wf_peer.specs.Sender.{NeverFalls, heard_of, promised, published_to, advanced_by, tried}
 use Rattle.wf_peer.specs.declared.progress.Progress.{Progress}
 
 pub no_lower_self : (promise : Option Ballot) → IsNoLower promise promise
@@ -36,25 +36,25 @@ by_promised p b = record { mark = refl; starts = omega arith; life = λ same. re
 by_published : (p : Progress) (s : ℕ) → IsNoLess p (published_to p s)
 by_published p s = record { mark = refl; starts = omega arith; life = λ same. refl; round = omega arith; promise = no_lower_self p.promise; published = omega arith }
 
-by_told : {V : Type 0} (p : Progress) (m : Message V) → IsNoLess p (told_by p m)
-by_told p (Prepare s b) = by_tried p b.round
-by_told p (Promise sender s b votes) = by_promised p b
-by_told p (Accept s b d) = by_tried p b.round
-by_told p (Accepted sender s b) = by_promised p b
-by_told p (Nack sender s b promise) = by_promised p promise
-by_told p (Chosen s d) = by_published p s
-by_told p (Ask s) = by_published p (s - 1)
+by_reported : {V : Type 0} (p : Progress) (m : Message V) → IsNoLess p (advanced_by p m)
+by_reported p (Prepare s b) = by_tried p b.round
+by_reported p (Promise sender s b votes) = by_promised p b
+by_reported p (Accept s b d) = by_tried p b.round
+by_reported p (Accepted sender s b) = by_promised p b
+by_reported p (Nack sender s b promise) = by_promised p promise
+by_reported p (Chosen s d) = by_published p s
+by_reported p (Ask s) = by_published p (s - 1)
 
 -- ---- together they are no less than what was heard
 
-no_lower_both : (heard said : Option Ballot) → IsNoLower heard (both_promised heard said)
+no_lower_both : (heard claimed : Option Ballot) → IsNoLower heard (both_promised heard claimed)
 no_lower_both heard None = no_lower_self heard
 no_lower_both heard (Some b) = no_lower_raised heard b
 
-by_together : (heard said : Progress) → HasKept (Some heard) said → IsNoLess heard (together (Some heard) said)
-by_together heard said kept = elim kept [
-  | inl same ↦ record { mark = same.mark; starts = omega (arith, same.starts); life = λ e. same.life; round = omega arith; promise = no_lower_both heard.promise said.promise; published = omega arith }
-  | inr more ↦ record { mark = more.mark; starts = more.starts; life = more.life; round = omega arith; promise = no_lower_both heard.promise said.promise; published = omega arith }
+by_together : (heard claimed : Progress) → HasKept (Some heard) claimed → IsNoLess heard (together (Some heard) claimed)
+by_together heard claimed kept = elim kept [
+  | inl same ↦ record { mark = same.mark; starts = omega (arith, same.starts); life = λ e. same.life; round = omega arith; promise = no_lower_both heard.promise claimed.promise; published = omega arith }
+  | inr more ↦ record { mark = more.mark; starts = more.starts; life = more.life; round = omega arith; promise = no_lower_both heard.promise claimed.promise; published = omega arith }
 ]
 
 pub nothing_falls : (heard : List (Option Progress)) → NeverFalls heard heard
@@ -87,12 +87,12 @@ falls_by old new node q no_less is = λ i p at. elim (equal_or_not i node) [
       (p, now, no_less_self p)
 ]
 
-pub falls_by_greeting : (old new : List (Option Progress)) (node : ℕ) (said : Progress) → HasKept (heard_of old node) said →
-    new ≡ slice_set old node (Some (together (heard_of old node) said)) → NeverFalls old new
-falls_by_greeting old new node said kept is =
-    falls_by old new node (together (heard_of old node) said) (λ p at. subst (λ (h : Option Progress). IsNoLess p (together h said)) (sym at) (by_together p said (subst (λ (h : Option Progress). HasKept h said) at kept))) is
+pub falls_by_greeting : (old new : List (Option Progress)) (node : ℕ) (claimed : Progress) → HasKept (heard_of old node) claimed →
+    new ≡ slice_set old node (Some (together (heard_of old node) claimed)) → NeverFalls old new
+falls_by_greeting old new node claimed kept is =
+    falls_by old new node (together (heard_of old node) claimed) (λ p at. subst (λ (h : Option Progress). IsNoLess p (together h claimed)) (sym at) (by_together p claimed (subst (λ (h : Option Progress). HasKept h claimed) at kept))) is
 
 pub falls_by_message : {V : Type 0} (old new : List (Option Progress)) (node : ℕ) (p : Progress) (m : Message V) → heard_of old node ≡ Some p →
-    new ≡ slice_set old node (Some (told_by p m)) → NeverFalls old new
+    new ≡ slice_set old node (Some (advanced_by p m)) → NeverFalls old new
 falls_by_message old new node p m there is =
-    falls_by old new node (told_by p m) (λ h at. let same : h ≡ p = cc in subst (λ (x : Progress). IsNoLess x (told_by p m)) (sym same) (by_told p m)) is
+    falls_by old new node (advanced_by p m) (λ h at. let same : h ≡ p = cc in subst (λ (x : Progress). IsNoLess x (advanced_by p m)) (sym same) (by_reported p m)) is

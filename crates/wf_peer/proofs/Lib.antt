@@ -4,4 +4,4 @@ pub mod Lines
 pub mod Parts
 pub mod Same
 pub mod Sizes
-pub mod Told
+pub mod Reported

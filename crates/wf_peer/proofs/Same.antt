@@ -8,9 +8,9 @@ use Rattle.hex.specs.Hex.{IsBytes, decode_sized, encode_lower}
 use Rattle.hex.proofs.HexLemmas.{decode_sized-encode_lower}
 use Rattle.hex.specs.declared.error.FromHexError.{FromHexError}
 use Rattle.wf_ballot.specs.Ballot.{Ballot, IsBallot}
-use Rattle.wf_ballot.specs.OrderLaws.{same_ballot}
+use Rattle.wf_ballot.specs.OrderTheorems.{same_ballot}
 use Rattle.wf_folder.specs.Number.{number_digits}
-use Rattle.wf_folder.specs.NumberLaws.{digits_of_mark, eight}
+use Rattle.wf_folder.specs.NumberTheorems.{digits_of_mark, eight}
 use Rattle.wf_folder.proofs.Numbers.{same_fronts}
 use Rattle.wf_peer.specs.Greeting.{IsPromise}
 use Rattle.wf_peer.specs.HeardText.{AreHeardOf, IsHeardOf, line_then, lines_of, mark_then, number_then, promise_then}

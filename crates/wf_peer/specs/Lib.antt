@@ -2,6 +2,6 @@ pub mod Admission
 pub mod Greeting
 pub mod HeardText
 pub mod Progress
-pub mod Reply
+pub mod GreetingReply
 pub mod Sender
-pub mod Told
+pub mod Reported

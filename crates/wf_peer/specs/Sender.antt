@@ -2,7 +2,7 @@
 use Rattle.std.specs.Prelude.{◌≡◌, ℕ, ◌-◌, max, List, slice_index_or, slice_set, Option, Some, None}
 use Rattle.wf_ballot.specs.Ballot.{Ballot}
 use Rattle.wf_model.specs.Message.{Message, Prepare, Promise, Accept, Accepted, Nack, Chosen, Ask}
-use Rattle.wf_model.specs.Stored.{raised}
+use Rattle.wf_model.specs.DurableState.{raised}
 use Rattle.wf_peer.specs.declared.progress.Progress.{Progress}
 use Rattle.wf_peer.specs.Progress.{IsNoLess}
 
@@ -27,14 +27,14 @@ promised p b = record p { promise = raised p.promise b }
 abbrev pub published_to : Progress → ℕ → Progress
 published_to p s = record p { published = max p.published s }
 
-abbrev pub told_by : {V : Type 0} → Progress → Message V → Progress
-told_by p (Prepare s b) = tried p b.round
-told_by p (Promise sender s b votes) = promised p b
-told_by p (Accept s b d) = tried p b.round
-told_by p (Accepted sender s b) = promised p b
-told_by p (Nack sender s b promise) = promised p promise
-told_by p (Chosen s d) = published_to p s
-told_by p (Ask s) = published_to p (s - 1)
+abbrev pub advanced_by : {V : Type 0} → Progress → Message V → Progress
+advanced_by p (Prepare s b) = tried p b.round
+advanced_by p (Promise sender s b votes) = promised p b
+advanced_by p (Accept s b d) = tried p b.round
+advanced_by p (Accepted sender s b) = promised p b
+advanced_by p (Nack sender s b promise) = promised p promise
+advanced_by p (Chosen s d) = published_to p s
+advanced_by p (Ask s) = published_to p (s - 1)
 
 -- ---- what was heard of each node of a farm, that of node i at index i
 
@@ -42,9 +42,9 @@ abbrev pub heard_of : List (Option Progress) → ℕ → Option Progress
 heard_of heard i = slice_index_or heard i None
 
 -- after a node's message: where it greeted, what that tells
-abbrev pub with_told : {V : Type 0} → List (Option Progress) → ℕ → Option Progress → Message V → List (Option Progress)
-with_told heard i None m = heard
-with_told heard i (Some p) m = slice_set heard i (Some (told_by p m))
+abbrev pub with_reported : {V : Type 0} → List (Option Progress) → ℕ → Option Progress → Message V → List (Option Progress)
+with_reported heard i None m = heard
+with_reported heard i (Some p) m = slice_set heard i (Some (advanced_by p m))
 
 -- nothing that was heard falls
 abbrev pub NeverFalls : (old new : List (Option Progress)) → Type 0

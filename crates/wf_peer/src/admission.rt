@@ -5,7 +5,7 @@ ghost use Rattle.wf_peer.specs.Progress.{HasKept, IsNoLess, IsNoLower, IsSameSta
 
 use crate::greeting::Greeting;
 use crate::progress::Progress;
-use crate::rejection::Rejection;
+use crate::rejection::PeerRejection;
 use wf_ballot::{Ballot, NodeId};
 use wf_folder::FarmName;
 
@@ -21,28 +21,28 @@ pub struct Own {
 }
 
 /// Whether a peer that greets so is let in, by what was last heard of this peer, if anything was, and this node's digest of its own
-/// history up to the sequence that the peer published last, if this node has published that one. `place` is the node that is listed at
-/// the address that was dialed; None for a peer that connected, which may be any other node of the farm.
+/// history up to the sequence that the peer published last, if this node has published that one. `index` is the node that is listed
+/// at the address that was dialed; None for a peer that connected, which may be any other node of the farm.
 ///
 /// A peer that is let in takes the place of an older connection from it: its start is no older.
 pub fn admit(
     own: &Own,
-    place: Option<NodeId>,
+    index: Option<NodeId>,
     heard: Option<Progress>,
     digest: Option<[u8; 32]>,
     greeting: &Greeting,
-) -> Result<(), Rejection>
-    ensures admitted { IsOk result ↔ IsAdmitted own.now place heard digest greeting.now }
-    ensures cause { IfErr result (IsCause own.now place heard digest greeting.now) }
+) -> Result<(), PeerRejection>
+    ensures admitted { IsOk result ↔ IsAdmitted own.now index heard digest greeting.now }
+    ensures cause { IfErr result (IsCause own.now index heard digest greeting.now) }
 {
     if greeting.farm != own.farm {
-        return Err(Rejection::OtherFarm);
+        return Err(PeerRejection::OtherFarm);
     }
     if greeting.nodes != own.nodes {
-        return Err(Rejection::OtherNodes);
+        return Err(PeerRejection::OtherNodes);
     }
-    if !is_placed(own, place, greeting.node) {
-        return Err(Rejection::OtherNode);
+    if !is_placed(own, index, greeting.node) {
+        return Err(PeerRejection::OtherNode);
     }
     if let Some(why) = forgotten_since(heard, &greeting.progress) {
         return Err(why);
@@ -50,28 +50,28 @@ pub fn admit(
     if agrees(digest, &greeting.digest) {
         Ok(())
     } else {
-        Err(Rejection::OtherHistory)
+        Err(PeerRejection::OtherHistory)
     }
 }
 
 /// Whether the node is the one that is listed, or, if none was dialed, another node of the farm.
-fn is_placed(own: &Own, place: Option<NodeId>, node: NodeId) -> bool
-    ensures { IsTrue result ↔ IsPlaced own.now place node }
+fn is_placed(own: &Own, index: Option<NodeId>, node: NodeId) -> bool
+    ensures { IsTrue result ↔ IsPlaced own.now index node }
 {
-    match place {
-        Some(place) => node == place,
+    match index {
+        Some(index) => node == index,
         None => node.number() < own.nodes && node != own.node,
     }
 }
 
 /// What a peer forgot that was heard of it.
-fn forgotten_since(heard: Option<Progress>, said: &Progress) -> Option<Rejection>
-    ensures none { IfNone result (HasKept heard said.now) }
-    ensures some { IfSome result (λ why. IsForgotten heard said.now why) }
-    ensures lost { IfSome result (λ _. ¬ HasKept heard said.now) }
+fn forgotten_since(heard: Option<Progress>, claimed: &Progress) -> Option<PeerRejection>
+    ensures none { IfNone result (HasKept heard claimed.now) }
+    ensures some { IfSome result (λ why. IsForgotten heard claimed.now why) }
+    ensures lost { IfSome result (λ _. ¬ HasKept heard claimed.now) }
 {
     match heard {
-        Some(heard) if !is_same_start(&heard, said) => match forgotten(&heard, said) {
+        Some(heard) if !is_same_start(&heard, claimed) => match forgotten(&heard, claimed) {
             Some(why) => Some(why),
             None => None,
         },
@@ -80,56 +80,56 @@ fn forgotten_since(heard: Option<Progress>, said: &Progress) -> Option<Rejection
 }
 
 /// Whether both tell of one start of one folder.
-fn is_same_start(heard: &Progress, said: &Progress) -> bool
-    ensures { IsTrue result ↔ IsSameStart heard.now said.now }
+fn is_same_start(heard: &Progress, claimed: &Progress) -> bool
+    ensures { IsTrue result ↔ IsSameStart heard.now claimed.now }
 {
-    said.mark == heard.mark && said.starts == heard.starts && said.life == heard.life
+    claimed.mark == heard.mark && claimed.starts == heard.starts && claimed.life == heard.life
 }
 
 /// What is less than what was heard.
-fn forgotten(heard: &Progress, said: &Progress) -> Option<Rejection>
-    ensures none { IfNone result (IsNoLess heard.now said.now) }
-    ensures some { IfSome result (λ why. IsLess heard.now said.now why) }
-    ensures less { IfSome result (λ _. ¬ IsNoLess heard.now said.now) }
+fn forgotten(heard: &Progress, claimed: &Progress) -> Option<PeerRejection>
+    ensures none { IfNone result (IsNoLess heard.now claimed.now) }
+    ensures some { IfSome result (λ why. IsLess heard.now claimed.now why) }
+    ensures less { IfSome result (λ _. ¬ IsNoLess heard.now claimed.now) }
 {
-    if said.mark != heard.mark {
-        return Some(Rejection::OtherMark);
+    if claimed.mark != heard.mark {
+        return Some(PeerRejection::OtherMark);
     }
-    if said.starts < heard.starts {
-        return Some(Rejection::OlderStart);
+    if claimed.starts < heard.starts {
+        return Some(PeerRejection::OlderStart);
     }
-    if said.starts == heard.starts && said.life != heard.life {
-        return Some(Rejection::OtherLife);
+    if claimed.starts == heard.starts && claimed.life != heard.life {
+        return Some(PeerRejection::OtherLife);
     }
-    if said.round < heard.round {
-        return Some(Rejection::LowerRound);
+    if claimed.round < heard.round {
+        return Some(PeerRejection::LowerRound);
     }
-    if !is_no_lower(heard.promise, said.promise) {
-        return Some(Rejection::LowerPromise);
+    if !is_no_lower(heard.promise, claimed.promise) {
+        return Some(PeerRejection::LowerPromise);
     }
-    if said.published.number() < heard.published.number() {
-        return Some(Rejection::LowerSequence);
+    if claimed.published.number() < heard.published.number() {
+        return Some(PeerRejection::LowerSequence);
     }
     None
 }
 
 /// Whether a promise is no lower than one that was heard.
-fn is_no_lower(heard: Option<Ballot>, said: Option<Ballot>) -> bool
-    ensures { IsTrue result ↔ IsNoLower heard said }
+fn is_no_lower(heard: Option<Ballot>, claimed: Option<Ballot>) -> bool
+    ensures { IsTrue result ↔ IsNoLower heard claimed }
 {
-    match (heard, said) {
+    match (heard, claimed) {
         (None, _) => true,
         (Some(_), None) => false,
-        (Some(heard), Some(said)) => !said.is_below(heard),
+        (Some(heard), Some(claimed)) => !claimed.is_below(heard),
     }
 }
 
 /// Whether digests agree, as far as this node has one.
-fn agrees(own: Option<[u8; 32]>, said: &[u8; 32]) -> bool
-    ensures { IsTrue result ↔ AgreesWith own said.now }
+fn agrees(own: Option<[u8; 32]>, claimed: &[u8; 32]) -> bool
+    ensures { IsTrue result ↔ AgreesWith own claimed.now }
 {
     match own {
-        Some(own) => own == *said,
+        Some(own) => own == *claimed,
         None => true,
     }
 }

@@ -25,7 +25,7 @@ impl Heard {
     ghost use Rattle.std.specs.Prelude.{◌≡◌, Some, None, List, Option, replicate, slice_set};
     ghost use Rattle.wf_codec.specs.Message.{view};
     ghost use Rattle.wf_peer.specs.Progress.{HasKept, together};
-    ghost use Rattle.wf_peer.specs.Sender.{NeverFalls, heard_of, with_told};
+    ghost use Rattle.wf_peer.specs.Sender.{NeverFalls, heard_of, with_reported};
 
     /// Nothing was heard of any node.
     pub fn new() -> Heard
@@ -64,52 +64,52 @@ impl Heard {
     /// A message came from a node that greeted: what it tells of the node's progress is kept. From another one nothing is.
     #[tactic(auto, using(crate::proofs::Kept::nothing_falls))]
     pub fn hear(&mut self, node: NodeId, message: &Message)
-        ensures value { self.new ≡ with_told self.old node (heard_of self.old node) (view message.now) }
+        ensures value { self.new ≡ with_reported self.old node (heard_of self.old node) (view message.now) }
         ensures falls { NeverFalls self.old self.new }
     {
         let Some(progress) = self.of(node) else {
             return;
         };
-        self.put(node, told_by(&progress, message));
+        self.put(node, advanced_by(&progress, message));
     }
 }
 
 ghost use Rattle.std.specs.Prelude.{◌≡◌, ◌≤◌};
 ghost use Rattle.wf_ballot.specs.Sequence.{IsSequence};
 ghost use Rattle.wf_codec.specs.Message.{view};
-ghost use Rattle.wf_model.specs.Stored.{raised};
+ghost use Rattle.wf_model.specs.DurableState.{raised};
 ghost use Rattle.wf_peer.specs.Progress.{both_promised, together};
-ghost use Rattle.wf_peer.specs.Sender.{promised, published_to, told_by, tried};
+ghost use Rattle.wf_peer.specs.Sender.{promised, published_to, advanced_by, tried};
 
 /// The progress that was heard, if any was, and the one that is said, together.
-fn together(heard: Option<Progress>, said: &Progress) -> Progress
-    ensures { result ≡ together heard said.now }
+fn together(heard: Option<Progress>, claimed: &Progress) -> Progress
+    ensures { result ≡ together heard claimed.now }
 {
     let Some(heard) = heard else {
-        return *said;
+        return *claimed;
     };
-    let number = heard.published.number().max(said.published.number());
+    let number = heard.published.number().max(claimed.published.number());
     Progress {
-        round: heard.round.max(said.round),
-        promise: both_promised(heard.promise, said.promise),
+        round: heard.round.max(claimed.round),
+        promise: both_promised(heard.promise, claimed.promise),
         published: Seq::new(number).unwrap(),
-        ..*said
+        ..*claimed
     }
 }
 
 /// The higher one of two promises.
-fn both_promised(heard: Option<Ballot>, said: Option<Ballot>) -> Option<Ballot>
-    ensures { result ≡ both_promised heard said }
+fn both_promised(heard: Option<Ballot>, claimed: Option<Ballot>) -> Option<Ballot>
+    ensures { result ≡ both_promised heard claimed }
 {
-    match said {
+    match claimed {
         Some(ballot) => Some(raised(heard, ballot)),
         None => heard,
     }
 }
 
 /// The progress that a message of the node tells.
-fn told_by(progress: &Progress, message: &Message) -> Progress
-    ensures { result ≡ told_by progress.now (view message.now) }
+fn advanced_by(progress: &Progress, message: &Message) -> Progress
+    ensures { result ≡ advanced_by progress.now (view message.now) }
 {
     match message {
         Message::Prepare(_, ballot) => tried(progress, *ballot),
@@ -143,7 +143,7 @@ fn promised(progress: &Progress, ballot: Ballot) -> Progress
 }
 
 /// The promise, raised to this ballot.
-#[tactic(auto, unfolding(wf_model::specs::Stored::raised))]
+#[tactic(auto, unfolding(wf_model::specs::DurableState::raised))]
 fn raised(promise: Option<Ballot>, ballot: Ballot) -> Ballot
     ensures { Some result ≡ raised promise ballot }
 {

@@ -28,8 +28,8 @@ impl Heard {
     /// ```text
     /// wfarm heard 1
     /// nothing
-    /// mark 0123456789abcdef0123456789abcdef starts 00000003 life 8899aabbccddeeff0011223344556677 tried 00000007 promised 00000007 of 00000001 published 0000000c
-    /// mark 00112233445566778899aabbccddeeff starts 00000001 life ffeeddccbbaa99887766554433221100 tried 00000000 nothing promised published 0000000b
+    /// mark 0123456789abcdef0123456789abcdef starts 00000003 life 8899aabbccddeeff0011223344556677 tried 00000007 promised 00000007
+    /// of 00000001 published 0000000c mark 00112233445566778899aabbccddeeff starts 00000001 life ffeeddccbbaa99887766554433221100 tried 00000000 nothing promised published 0000000b
     /// ```
     pub fn text(&self, alloc: Global) -> Result<Vec<u8>, AllocError>
         ensures text { IfOk result (λ text. text.items ≡ heard_text self.now) }

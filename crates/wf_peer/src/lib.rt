@@ -1,16 +1,17 @@
 //! What a node knows of its peers: the greeting with which each connects, whether it is let in, and what was last heard of it.
 //!
-//! Nodes in processes of their own greet each other before they send messages. A [`Greeting`] says which farm and node a peer is, and
-//! its [`Progress`]: its folder's mark, how often it started, the mark of this start, the highest round that it tried, its promise and
-//! its last published sequence. [`admit`] lets a peer in or says why not ([`Rejection`]); [`Heard`] keeps the progress that was last heard of each peer,
-//! raised by each greeting and each message that comes from it, and its text for a file. A sound node's progress never falls, since each
-//! record is synced before a message tells of it: a later start that says less than was heard lost its disk, or runs on a copy. Within
-//! one start nothing is compared, since what a node says on two connections comes in any order. [`is_from`] says who may send a message.
+//! Nodes in processes of their own greet each other before they send messages. A [`Greeting`] says which farm and node a peer is,
+//! and its [`Progress`]: its folder's mark, how often it started, the mark of this start, the highest round that it tried, its promise and
+//! its last published sequence. [`admit`] lets a peer in or says why not ([`PeerRejection`]); [`Heard`] keeps the progress that was
+//! last heard of each peer, raised by each greeting and each message that comes from it, and its text for a file. A sound node's progress never falls, since each
+//! record is synced before a message tells of it: a later start that says less than was heard lost its disk, or runs on a copy.
+//! Within one start nothing is compared, since what a node says on two connections comes in any order. [`is_from`] says who may send a message.
 //!
-//! Promises: each greeting and each reply to one has exactly one encoding, and nothing else is decoded as it (`specs/Greeting.antt`).
-//! A peer is let in iff it meets the definition, and a cause that is returned is one (`specs/Admission.antt`). What was heard never
+//! Promises: each greeting and each reply to one has exactly one encoding, and nothing else is decoded as it
+//! (`specs/Greeting.antt`). A peer is let in iff it meets the definition, and a cause that is returned is one (`specs/Admission.antt`). What was heard never
 //! falls (`specs/Progress.antt`, `specs/Sender.antt`), and has exactly one text (`specs/HeardText.antt`). If
-//! a node's working part goes with what it has stored, a transition's messages tell no more of it than is stored by then (`specs/Told.antt`).
+//! a node's volatile state goes with what it has stored, a transition's messages tell no more of it than is stored by then
+//! (`specs/Reported.antt`).
 //!
 //! Not here: connections, who is at an address, files, and time.
 #![tactic(auto)]
@@ -23,11 +24,11 @@ mod greeting;
 mod heard;
 mod heard_reader;
 mod heard_text;
-mod law;
 mod progress;
 mod rejection;
 mod reply;
 mod sender;
+mod theorem;
 
 pub use admission::{Own, admit};
 pub use decoder::decode;
@@ -35,8 +36,8 @@ pub use encoder::encode;
 pub use fault::{GreetingFault, HeardFault};
 pub use greeting::{GREETING_BYTES, Greeting, PEER_VERSION};
 pub use heard::Heard;
-pub use law::{no_less_is_transitive, steps_tell_no_more};
 pub use progress::Progress;
-pub use rejection::Rejection;
-pub use reply::{REJECTION_BYTES, Reply, decode_reply, encode_rejection};
+pub use rejection::PeerRejection;
+pub use reply::{GreetingReply, REJECTION_BYTES, decode_reply, encode_rejection};
 pub use sender::is_from;
+pub use theorem::{no_less_is_transitive, steps_report_no_more};

@@ -2,7 +2,7 @@ use thiserror::Error;
 
 /// Why a peer isn't let in. Its line is for both: the node that rejects a peer logs it, and so does the peer that is told.
 #[derive(Clone, Copy, Debug, PartialEq, Eq, Error)]
-pub enum Rejection {
+pub enum PeerRejection {
     /// Its farm has another name.
     #[error("a node of another farm")]
     OtherFarm,
@@ -35,10 +35,10 @@ pub enum Rejection {
     OtherHistory,
 }
 
-impl Rejection {
+impl PeerRejection {
     ghost use Rattle.std.specs.Prelude.{◌≡◌, ◌↔◌, ℕ, Some, IsTrue, IfSome};
-    ghost use Rattle.wf_peer.specs.Reply.{EndsANode, rejection_byte};
-    ghost use Rattle.wf_peer.specs.declared.rejection.Rejection.{Rejection as RejectionValue};
+    ghost use Rattle.wf_peer.specs.GreetingReply.{EndsANode, rejection_byte};
+    ghost use Rattle.wf_peer.specs.declared.rejection.PeerRejection.{PeerRejection as RejectionValue};
 
     /// Whether a node that is told this has forgotten something, or runs on a copy, and has to end.
     pub fn ends_a_node(self) -> bool
@@ -46,12 +46,12 @@ impl Rejection {
     {
         matches!(
             self,
-            Rejection::OtherMark
-                | Rejection::OlderStart
-                | Rejection::OtherLife
-                | Rejection::LowerRound
-                | Rejection::LowerPromise
-                | Rejection::LowerSequence
+            PeerRejection::OtherMark
+                | PeerRejection::OlderStart
+                | PeerRejection::OtherLife
+                | PeerRejection::LowerRound
+                | PeerRejection::LowerPromise
+                | PeerRejection::LowerSequence
         )
     }
 
@@ -60,35 +60,35 @@ impl Rejection {
         ensures { result ≡ rejection_byte self }
     {
         match self {
-            Rejection::OtherFarm => 1,
-            Rejection::OtherNodes => 2,
-            Rejection::OtherNode => 3,
-            Rejection::OtherMark => 4,
-            Rejection::OlderStart => 5,
-            Rejection::OtherLife => 6,
-            Rejection::LowerRound => 7,
-            Rejection::LowerPromise => 8,
-            Rejection::LowerSequence => 9,
-            Rejection::OtherHistory => 10,
+            PeerRejection::OtherFarm => 1,
+            PeerRejection::OtherNodes => 2,
+            PeerRejection::OtherNode => 3,
+            PeerRejection::OtherMark => 4,
+            PeerRejection::OlderStart => 5,
+            PeerRejection::OtherLife => 6,
+            PeerRejection::LowerRound => 7,
+            PeerRejection::LowerPromise => 8,
+            PeerRejection::LowerSequence => 9,
+            PeerRejection::OtherHistory => 10,
         }
     }
 
     /// The rejection with this byte; None if there is none.
-    pub fn of_byte(byte: u8) -> Option<Rejection>
+    pub fn of_byte(byte: u8) -> Option<PeerRejection>
         ensures value { IfSome result (λ why. byte ≡ rejection_byte why) }
         ensures each { (why : RejectionValue) → byte ≡ rejection_byte why → result ≡ Some why }
     {
         match byte {
-            1 => Some(Rejection::OtherFarm),
-            2 => Some(Rejection::OtherNodes),
-            3 => Some(Rejection::OtherNode),
-            4 => Some(Rejection::OtherMark),
-            5 => Some(Rejection::OlderStart),
-            6 => Some(Rejection::OtherLife),
-            7 => Some(Rejection::LowerRound),
-            8 => Some(Rejection::LowerPromise),
-            9 => Some(Rejection::LowerSequence),
-            10 => Some(Rejection::OtherHistory),
+            1 => Some(PeerRejection::OtherFarm),
+            2 => Some(PeerRejection::OtherNodes),
+            3 => Some(PeerRejection::OtherNode),
+            4 => Some(PeerRejection::OtherMark),
+            5 => Some(PeerRejection::OlderStart),
+            6 => Some(PeerRejection::OtherLife),
+            7 => Some(PeerRejection::LowerRound),
+            8 => Some(PeerRejection::LowerPromise),
+            9 => Some(PeerRejection::LowerSequence),
+            10 => Some(PeerRejection::OtherHistory),
             _ => None,
         }
     }

@@ -9,7 +9,7 @@ use Rattle.wf_paint.specs.declared.corner.Corner.{Corner}
 use Rattle.wf_label.specs.Ink.{inked, IsInked}
 use Rattle.wf_label.specs.Label.{candidates}
 use Rattle.wf_label.specs.Placed.{PlacedValue}
-use Rattle.wf_label.specs.Placing.{IsPlacing, EachListHasOnePlacing, PlacedIsThePlacing, placed_of}
+use Rattle.wf_label.specs.LabelLayout.{IsLayout, EachListHasOneLayout, PlacedIsTheLayout, placed_of}
 use Rattle.wf_picture.specs.Image.{image}
 use Rattle.wf_picture.specs.Picture.{placed, labelled, corner_of, crop, picture, IsImageOf, IsViewFor}
 use Rattle.wf_picture.specs.Request.{RequestValue}
@@ -30,18 +30,18 @@ inked_over labels width height below old new shows drawn = record {
 }
 
 -- the labels that are placed are those of the definition
-same_placing : EachListHasOnePlacing → PlacedIsThePlacing → (map : Definition) (layers : List ℕ) (view : ViewValue) (labels : List PlacedValue) →
-    IsPlacing view (candidates map layers view) labels → labels ≡ placed map layers view
+same_layout : EachListHasOneLayout → PlacedIsTheLayout → (map : Definition) (layers : List ℕ) (view : ViewValue) (labels : List PlacedValue) →
+    IsLayout view (candidates map layers view) labels → labels ≡ placed map layers view
 unfolding placed
-same_placing one computed map layers view labels is =
+same_layout one computed map layers view labels is =
     one view (candidates map layers view) (placed_of view (candidates map layers view)) labels (computed view (candidates map layers view)) is
 
-pub labelled_over : EachListHasOnePlacing → PlacedIsThePlacing → (map : Definition) (layers : List ℕ) (view : ViewValue) (background : Color) (labels : List PlacedValue) (old new : PixmapValue) →
-    IsPlacing view (candidates map layers view) labels → IsPicture view.width view.height (color_at (operations map layers view) background) old → IsInked labels old new →
+pub labelled_over : EachListHasOneLayout → PlacedIsTheLayout → (map : Definition) (layers : List ℕ) (view : ViewValue) (background : Color) (labels : List PlacedValue) (old new : PixmapValue) →
+    IsLayout view (candidates map layers view) labels → IsPicture view.width view.height (color_at (operations map layers view) background) old → IsInked labels old new →
     IsPicture view.width view.height (labelled map layers view background) new
 unfolding labelled
 labelled_over one computed map layers view background labels old new is shows drawn =
-    let same = same_placing one computed map layers view labels is in
+    let same = same_layout one computed map layers view labels is in
     inked_over (placed map layers view) view.width view.height (color_at (operations map layers view) background) old new shows (rw same at drawn)
 
 -- what holds of a result's value holds of it when it follows from what is known of it

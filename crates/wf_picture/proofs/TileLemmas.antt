@@ -17,7 +17,7 @@ use Rattle.wf_label.specs.Anchor.{anchor_of}
 use Rattle.wf_label.specs.Ink.{inked}
 use Rattle.wf_label.specs.Label.{labelled as label_at, label_of, text_of, feature_label, layer_labels, entry_labels, labels_of, labels_up_to, candidates}
 use Rattle.wf_label.specs.Placed.{PlacedValue}
-use Rattle.wf_label.specs.Placing.{stands, joined, placed_after, placed_of}
+use Rattle.wf_label.specs.LabelLayout.{stands, joined, placed_after, placed_of}
 use Rattle.wf_label.specs.PixelBox.{is_whole_in}
 use Rattle.wf_picture.specs.Image.{image}
 use Rattle.wf_picture.specs.Picture.{placed, labelled, crop, picture}

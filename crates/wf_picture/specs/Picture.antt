@@ -13,7 +13,7 @@ use Rattle.wf_paint.specs.declared.corner.Corner.{Corner}
 use Rattle.wf_label.specs.Ink.{inked}
 use Rattle.wf_label.specs.Label.{candidates}
 use Rattle.wf_label.specs.Placed.{PlacedValue}
-use Rattle.wf_label.specs.Placing.{placed_of}
+use Rattle.wf_label.specs.LabelLayout.{placed_of}
 use Rattle.wf_picture.specs.Image.{image}
 use Rattle.wf_picture.specs.Request.{RequestValue}
 use Rattle.wf_picture.specs.declared.size.Size.{Size}

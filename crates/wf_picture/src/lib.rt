@@ -12,8 +12,8 @@
 //! - `draw` returns exactly these bytes, unless allocation fails.
 //! - `labelled` and `cut` are the two halves of `draw`, so that a caller may keep the picture between them: `labelled` returns
 //!   the picture of a whole view, and `cut` the image of any request that has this view, both unless allocation fails.
-//! - Each request has exactly one image (`law::there_is_one_image`).
-//! - All tiles of a view are parts of one picture with its labels (`law::tiles_are_crops_of_one_picture`). So a label that
+//! - Each request has exactly one image (`theorem::there_is_one_image`).
+//! - All tiles of a view are parts of one picture with its labels (`theorem::tiles_are_crops_of_one_picture`). So a label that
 //!   crosses the border of two tiles is whole in both together.
 //!
 //! The crate checks no request: the caller's precondition is that the layers exist. It writes no other format, keeps no picture,
@@ -21,7 +21,7 @@
 #![tactic(auto)]
 
 mod image;
-pub mod law;
 pub mod picture;
 pub mod request;
 pub mod size;
+pub mod theorem;

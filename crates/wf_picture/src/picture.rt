@@ -11,8 +11,8 @@ use std::alloc::{AllocError, Global};
 use wf_def::color::Color;
 use wf_def::map::MapDef;
 use wf_label::draw::draw_labels;
-use wf_label::law::there_is_one_placed_set;
 use wf_label::placement::place;
+use wf_label::theorem::there_is_one_placed_set;
 use wf_paint::corner::Corner;
 use wf_paint::painter::paint_after;
 use wf_paint::pixmap::Pixmap;
@@ -55,7 +55,7 @@ fn file_of(
         (labelled map.now layers.now view.now background)) }
 {
     let room = header_size(view.width(), view.height());
-    let pixmap = labelled_after(alloc, room, map, layers, view, background)?;
+    let pixmap = draw_labelled_after(alloc, room, map, layers, view, background)?;
     file(alloc, pixmap)
 }
 
@@ -82,11 +82,11 @@ pub fn labelled(
     requires { All (λ i. i < length map.now.layers) layers.now }
     ensures { IfOk result (λ p. IsWholePicture map.now layers.now view.now background p) }
 {
-    labelled_after(alloc, 0, map, layers, view, background)
+    draw_labelled_after(alloc, 0, map, layers, view, background)
 }
 
-/// The same picture, with room for so many bytes before its own.
-fn labelled_after(
+/// The picture of the whole view, with room for so many bytes before its own.
+fn draw_labelled_after(
     alloc: Global,
     room: u8,
     map: &MapDef,

@@ -3,23 +3,23 @@ use Rattle.std.proofs.Common.{◌≡◌, ◌∙◌, ◌<◌, ◌≤◌, ◌+◌,
 use Rattle.std.proofs.lemmas.List.{append_assoc, map_more, take_all}
 use Rattle.wf_def.specs.Definition.{Definition}
 use Rattle.wf_def.specs.Equality.{definition_eq}
-use Rattle.wf_law.specs.Laws.{IsBeginning}
+use Rattle.wf_safety.specs.Theorems.{IsBeginning}
 use Rattle.wf_model.specs.Message as model
-use Rattle.wf_model.specs.Stored.{Stored}
+use Rattle.wf_model.specs.DurableState.{DurableState}
 use Rattle.wf_model.specs.Table as table
-use Rattle.wf_model.specs.Working.{Working}
+use Rattle.wf_model.specs.VolatileState.{VolatileState}
 use Rattle.wf_model.specs.World as world
-use Rattle.wf_model.specs.World.{Event, Node, World, deliver, delivered, happens, refusal_of, refusal_running, refused, refused_at, steps}
+use Rattle.wf_model.specs.World.{Event, Node, World, deliver, delivered, happens, step_rejection_of, step_rejection_running, refused, rejected_at, steps}
 use Rattle.wf_farm.specs.Agreement.{HasStored, HistoriesGrow, IsOneWorld}
-use Rattle.wf_farm.specs.Cluster.{AreNodes, Moves, last_refused}
-use Rattle.wf_farm.specs.Carrying.{IsMemory}
-use Rattle.wf_farm.specs.Farm.{MemoryFarm, IsAtOnce, Runs, Shows, size}
-use Rattle.wf_farm.specs.Place.{MemoryPlace, IsNode}
+use Rattle.wf_farm.specs.Cluster.{AreNodes, Moves, last_rejected}
+use Rattle.wf_farm.specs.Carriage.{IsMemory}
+use Rattle.wf_farm.specs.Farm.{MemoryFarm, IsAtOnce, Runs, Refines, size}
+use Rattle.wf_farm.specs.NodeHost.{MemoryHost, IsNode}
 use Rattle.wf_farm.specs.declared.fault.FarmFault.{FarmFault}
-use Rattle.wf_farm.specs.declared.place.Place.TheVariants.{Running, Stopped}
-use Rattle.wf_play.specs.Performing.{Delivers}
+use Rattle.wf_farm.specs.declared.host.NodeHost.TheVariants.{Running, Stopped}
+use Rattle.wf_play.specs.OrderEffect.{Delivers}
 use Rattle.wf_play.specs.Session.{Plays}
-use Rattle.wf_play.proofs.Playing.{nothing_played}
+use Rattle.wf_play.proofs.FarmCalls.{nothing_played}
 
 -- a delivery fails for memory before anything is done
 pub at_once_is_memory : (fault : FarmFault) → IsAtOnce fault → IsMemory fault
@@ -34,8 +34,8 @@ steps_on w (event ∷ events) more = steps_on (happens definition_eq w event) ev
 
 runs_on : (events more : List (Event Definition)) (before between after : MemoryFarm) → Runs events before between → Runs more between after → Runs (events ++ more) before after
 unfolding Moves
-runs_on events more before between after first second = λ w shows.
-    subst (λ (v : World Definition). Shows after v) (steps_on w events more) (second (steps definition_eq w events) (first w shows))
+runs_on events more before between after first second = λ w refines.
+    subst (λ (v : World Definition). Refines after v) (steps_on w events more) (second (steps definition_eq w events) (first w refines))
 
 -- ---- lists of published maps grow, one after the other
 
@@ -43,37 +43,37 @@ beginning_on : {A : Type 0} (xs ys zs : List A) → IsBeginning xs ys → IsBegi
 beginning_on xs ys zs first second =
     (first.0 ++ second.0, sym (append_assoc xs first.0 second.0) ∙ ap (λ front. front ++ second.0) first.1 ∙ second.1)
 
--- a node of the model has a stored part
-stored_at : (place : MemoryPlace) (node : Node Definition) → IsNode place node → HasStored (Some place) node.stored
+-- a node of the model has a durable state
+stored_at : (host : MemoryHost) (node : Node Definition) → IsNode host node → HasStored (Some host) node.stored
 stored_at (Running running) node is = ap (λ (n : Node Definition). n.stored) is
 stored_at (Stopped tape) node is = is.1
 
-stored_in : (places : List MemoryPlace) (nodes : List (Node Definition)) (i : ℕ) → AreNodes places nodes → i < length places → (stored : Stored Definition) × HasStored (slice_get places i) stored
+stored_in : (hosts : List MemoryHost) (nodes : List (Node Definition)) (i : ℕ) → AreNodes hosts nodes → i < length hosts → (stored : DurableState Definition) × HasStored (slice_get hosts i) stored
 stored_in [] nodes i are there = absurd (omega arith)
-stored_in (place ∷ places) [] i are there = absurd are
-stored_in (place ∷ places) (node ∷ nodes) zero are there = (node.stored, stored_at place node are.0)
-stored_in (place ∷ places) (node ∷ nodes) (suc i) are there = stored_in places nodes i are.1 (omega arith)
+stored_in (host ∷ hosts) [] i are there = absurd are
+stored_in (host ∷ hosts) (node ∷ nodes) zero are there = (node.stored, stored_at host node are.0)
+stored_in (host ∷ hosts) (node ∷ nodes) (suc i) are there = stored_in hosts nodes i are.1 (omega arith)
 
--- what has a stored part is there
-there_is : (places : List MemoryPlace) (i : ℕ) (stored : Stored Definition) → HasStored (slice_get places i) stored → i < length places
+-- what has a durable state is there
+there_is : (hosts : List MemoryHost) (i : ℕ) (stored : DurableState Definition) → HasStored (slice_get hosts i) stored → i < length hosts
 there_is [] i stored has = absurd has
-there_is (place ∷ places) zero stored has = omega arith
-there_is (place ∷ places) (suc i) stored has = let below = there_is places i stored has in omega arith
+there_is (host ∷ hosts) zero stored has = omega arith
+there_is (host ∷ hosts) (suc i) stored has = let below = there_is hosts i stored has in omega arith
 
 grows_on : (before between after : MemoryFarm) → size between ≡ size before → IsOneWorld between → HistoriesGrow before between → HistoriesGrow between after → HistoriesGrow before after
 unfolding HistoriesGrow
 grows_on before between after same one first second = λ i old new had has.
-    let below = there_is before.places i old had in
-    let middle = stored_in between.places one.the_world.nodes i one.shown.nodes (omega (arith, below, same)) in
+    let below = there_is before.hosts i old had in
+    let middle = stored_in between.hosts one.the_world.nodes i one.shown.nodes (omega (arith, below, same)) in
     beginning_on old.history middle.0.history new.history (first i old middle.0 had middle.1) (second i middle.0 new middle.1 has)
 
-places_grow : (before between after : MemoryFarm) → between.places ≡ before.places → HistoriesGrow between after → HistoriesGrow before after
+hosts_grow : (before between after : MemoryFarm) → between.hosts ≡ before.hosts → HistoriesGrow between after → HistoriesGrow before after
 unfolding HistoriesGrow
-places_grow before between after same grows = λ i old new had has. grows i old new (subst (λ (p : List MemoryPlace). HasStored (slice_get p i) old) (sym same) had) has
+hosts_grow before between after same grows = λ i old new had has. grows i old new (subst (λ (p : List MemoryHost). HasStored (slice_get p i) old) (sym same) had) has
 
-grow_places : (before between after : MemoryFarm) → after.places ≡ between.places → HistoriesGrow before between → HistoriesGrow before after
+grow_hosts : (before between after : MemoryFarm) → after.hosts ≡ between.hosts → HistoriesGrow before between → HistoriesGrow before after
 unfolding HistoriesGrow
-grow_places before between after same grows = λ i old new had has. grows i old new had (subst (λ (p : List MemoryPlace). HasStored (slice_get p i) new) same has)
+grow_hosts before between after same grows = λ i old new had has. grows i old new had (subst (λ (p : List MemoryHost). HasStored (slice_get p i) new) same has)
 
 -- ---- a play, and a delivery more
 
@@ -84,7 +84,7 @@ plays_on more before between after plays one runs same grows = record {
   size = same ∙ plays.size;
   grows = inr (
       elim plays.grows [
-        | inl still ↦ places_grow before between after still grows
+        | inl still ↦ hosts_grow before between after still grows
         | inr grown ↦ grows_on before between after plays.size one grown grows
       ]
       );
@@ -105,7 +105,7 @@ pub record HaveDelivered (i : ℕ) (messages : List ℕ) (index : ℕ) (before a
 
 runs_none : (i : ℕ) (messages : List ℕ) (farm : MemoryFarm) → Runs (map (λ k. deliver i k) (take 0 messages)) farm farm
 unfolding Moves steps
-runs_none i messages farm = λ w shows. shows
+runs_none i messages farm = λ w refines. refines
 
 pub none_so_far : (i : ℕ) (messages : List ℕ) (farm : MemoryFarm) → HaveDelivered i messages 0 farm farm
 none_so_far i messages farm = record { runs = runs_none i messages farm; refused = refl; pumped = refl; complete = refl; plays = nothing_played farm }
@@ -135,31 +135,31 @@ one_failed i messages index before between after so_far one runs same grows = pl
 
 -- ---- no delivery is rejected
 
-running_takes : (stored : Stored Definition) (working : Option (Working Definition)) (message : model.Message Definition) → refusal_running stored working (table.Deliver message) ≡ None
-unfolding refusal_running table.refusal
+running_takes : (stored : DurableState Definition) (volatile : Option (VolatileState Definition)) (message : model.Message Definition) → step_rejection_running stored volatile (table.Deliver message) ≡ None
+unfolding step_rejection_running table.step_rejection
 running_takes stored None message = refl
-running_takes stored (Some working) message = refl
+running_takes stored (Some volatile) message = refl
 
-node_takes : (node : Option (Node Definition)) (message : Option (model.Message Definition)) → refusal_of node (delivered message) ≡ None
-unfolding refusal_of delivered
+node_takes : (node : Option (Node Definition)) (message : Option (model.Message Definition)) → step_rejection_of node (delivered message) ≡ None
+unfolding step_rejection_of delivered
 node_takes None message = refl
 node_takes (Some node) None = refl
-node_takes (Some node) (Some message) = running_takes node.stored node.working message
+node_takes (Some node) (Some message) = running_takes node.stored node.volatile message
 
-never_refused : (w : World Definition) (i k : ℕ) → refused w (deliver i k) ≡ None
-unfolding refused refused_at world.input_of
-never_refused w i k = node_takes (slice_get w.nodes i) (slice_get w.sent k)
+never_rejected : (w : World Definition) (i k : ℕ) → refused w (deliver i k) ≡ None
+unfolding refused rejected_at world.input_of
+never_rejected w i k = node_takes (slice_get w.nodes i) (slice_get w.sent k)
 
-pub none_refused : (w : World Definition) (i : ℕ) (messages : List ℕ) → last_refused w (map (λ k. deliver i k) messages) ≡ None
-unfolding last_refused
-none_refused w i [] = refl
-none_refused w i (k ∷ []) = never_refused w i k
-none_refused w i (k ∷ next ∷ rest) = none_refused (happens definition_eq w (deliver i k)) i (next ∷ rest)
+pub none_rejected : (w : World Definition) (i : ℕ) (messages : List ℕ) → last_rejected w (map (λ k. deliver i k) messages) ≡ None
+unfolding last_rejected
+none_rejected w i [] = refl
+none_rejected w i (k ∷ []) = never_rejected w i k
+none_rejected w i (k ∷ next ∷ rest) = none_rejected (happens definition_eq w (deliver i k)) i (next ∷ rest)
 
 pub all_delivered : (i : ℕ) (messages : List ℕ) (index : ℕ) (before after : MemoryFarm) → length messages ≤ index → HaveDelivered i messages index before after → Delivers i messages before after
 all_delivered i messages index before after all so_far = record {
   runs = subst (λ (ks : List ℕ). Runs (map (λ k. deliver i k) ks) before after) (take_all index messages all) so_far.runs;
-  rejected = λ w shows. none_refused w i messages;
+  rejected = λ w refines. none_rejected w i messages;
   refused = so_far.refused;
   pumped = so_far.pumped;
 }

@@ -5,22 +5,22 @@ use Rattle.wf_farm.specs.Farm.{MemoryFarm}
 use Rattle.wf_farm.specs.declared.carrier.CarrierFault.{CarrierFault}
 use Rattle.wf_farm.specs.declared.carrier.CarrierFault.TheVariants as carrier
 use Rattle.wf_script.specs.Script.{Numbered}
-use Rattle.wf_play.proofs.Performing.{fault_is_memory, fault_there}
+use Rattle.wf_play.proofs.OrderEffect.{fault_is_memory, fault_there}
 use Rattle.wf_play.specs.Fault.{CountsWrites, IsOrderFault, IsPlayingFault, LosesNone, order_fault}
-use Rattle.wf_play.specs.Performing.{may_use, may_use_at}
-use Rattle.wf_play.specs.Running.{IsRefusalOf}
+use Rattle.wf_play.specs.OrderEffect.{may_use, may_use_at}
+use Rattle.wf_play.specs.ScriptRun.{IsStepRejectionOf}
 use Rattle.wf_play.specs.declared.fault.PlayFault.{PlayFault}
 use Rattle.wf_play.specs.declared.fault.PlayFault.TheVariants as play
 
 -- before the script was read no write fails
-pub no_writes_yet : (input : Option (List ℕ)) (fault : PlayFault) (count : ℕ) → IsRefusalOf input fault → CountsWrites {T = Unit {0}} (Err fault) count count
+pub no_writes_yet : (input : Option (List ℕ)) (fault : PlayFault) (count : ℕ) → IsStepRejectionOf input fault → CountsWrites {T = Unit {0}} (Err fault) count count
 no_writes_yet input (play.Script fault) count why = refl
 no_writes_yet input play.Read count why = refl
 no_writes_yet input play.Write count why = absurd why
 no_writes_yet input play.Wire count why = absurd why
 
 -- and no message is carried
-pub none_lost_yet : (input : Option (List ℕ)) (fault : PlayFault) → IsRefusalOf input fault → LosesNone fault
+pub none_lost_yet : (input : Option (List ℕ)) (fault : PlayFault) → IsStepRejectionOf input fault → LosesNone fault
 none_lost_yet input (play.Script fault) why = tt
 none_lost_yet input play.Read why = tt
 none_lost_yet input play.Write why = absurd why

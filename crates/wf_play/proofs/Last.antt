@@ -3,11 +3,11 @@ use Rattle.std.proofs.Common.{◌≡◌, ◌∙◌, ℕ, List, ◌++◌}
 use Rattle.std.specs.Prelude.{Option}
 use Rattle.wf_farm.specs.Farm.{MemoryFarm}
 use Rattle.wf_script.specs.Script.{Numbered, Script}
-use Rattle.wf_stream.specs.KnownLaws.{appends_more}
-use Rattle.wf_stream.specs.Reading.{EndsByFailing}
+use Rattle.wf_stream.specs.KnownTheorems.{appends_more}
+use Rattle.wf_stream.specs.Effects.{EndsByFailing}
 use Rattle.wf_stream.specs.declared.stream.Sink.{Ghosts as Sink}
 use Rattle.wf_play.specs.Fault.{EndsWriting, IsOrderFault}
-use Rattle.wf_play.specs.Running.{HavePlayed, IsRefusalOf}
+use Rattle.wf_play.specs.ScriptRun.{HavePlayed, IsStepRejectionOf}
 use Rattle.wf_play.specs.Session.{Stage}
 use Rattle.wf_play.specs.declared.fault.PlayFault.{PlayFault}
 use Rattle.wf_play.specs.declared.fault.PlayFault.TheVariants as play
@@ -34,7 +34,7 @@ module _ {K : Type 0} (sinks : Sink K) where
   order_is_not_last there farm old new play.Write why = absurd why
 
   -- nor is that of an input
-  pub input_is_not_last : (input : Option (List ℕ)) (old : K) (fault : PlayFault) → IsRefusalOf input fault → EndsWriting sinks old old fault
+  pub input_is_not_last : (input : Option (List ℕ)) (old : K) (fault : PlayFault) → IsStepRejectionOf input fault → EndsWriting sinks old old fault
   input_is_not_last input old (play.Script fault) why = tt
   input_is_not_last input old play.Read why = tt
   input_is_not_last input old play.Write why = absurd why

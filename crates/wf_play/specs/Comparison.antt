@@ -3,7 +3,7 @@ use Rattle.std.specs.Prelude.{◌≡◌, ◌⊎◌, ◌&&◌, ℕ, Bool, true, L
 use Rattle.wf_wms.specs.Answer.{AnswerValue, AsksForMap}
 use Rattle.wf_wms.specs.declared.kind.Kind.{Kind}
 use Rattle.wf_wms.specs.contracts.kind.KindPartialEq.TheImpl as kinds
-use Rattle.wf_farm.specs.Answering.{Answers, IsNoAnswer, sequence_at}
+use Rattle.wf_farm.specs.ClientAnswers.{Answers, IsNoAnswer, sequence_at}
 use Rattle.wf_farm.specs.Farm.{MemoryFarm}
 use Rattle.wf_farm.specs.declared.fault.FarmFault.{FarmFault}
 use Rattle.wf_play.specs.Session.{node_at}

@@ -1,7 +1,7 @@
 -- Why a run of a script ends before its end.
 use Rattle.std.specs.Prelude.{◌≡◌, ℕ, ⊤, true, false, Option, Some, List, Result, Ok, Err}
 use Rattle.std.specs.Io.KnownBytes.{Keeps}
-use Rattle.wf_stream.specs.Reading.{EndsByFailing, Rises}
+use Rattle.wf_stream.specs.Effects.{EndsByFailing, Rises}
 use Rattle.wf_stream.specs.declared.stream.Sink.{Ghosts as Sink}
 use Rattle.wf_script.specs.Fault.{IsMemory, is_memory}
 use Rattle.wf_script.specs.Order.{Order}
@@ -10,7 +10,7 @@ use Rattle.wf_script.specs.declared.fault.ScriptFault.TheVariants as script
 use Rattle.wf_farm.specs.Farm.{MemoryFarm}
 use Rattle.wf_farm.specs.declared.carrier.CarrierFault.{CarrierFault}
 use Rattle.wf_farm.specs.declared.carrier.CarrierFault.TheVariants as carrier
-use Rattle.wf_play.specs.Performing.{fault_at, may_use, may_use_at}
+use Rattle.wf_play.specs.OrderEffect.{fault_at, may_use, may_use_at}
 use Rattle.wf_play.specs.declared.fault.PlayFault.{PlayFault}
 use Rattle.wf_play.specs.declared.fault.PlayFault.TheVariants as play
 

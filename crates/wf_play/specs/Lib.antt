@@ -1,8 +1,8 @@
 pub mod Fault
-pub mod Running
+pub mod ScriptRun
 pub mod Session
-pub mod Performing
+pub mod OrderEffect
 pub mod Comparison
-pub mod Telling
-pub mod Law
-pub mod Ending
+pub mod Report
+pub mod Theorem
+pub mod PlayEnd

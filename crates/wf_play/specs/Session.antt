@@ -37,11 +37,11 @@ pub record Plays (before after : MemoryFarm) : Type 0 where
   pub events : List (Event Definition)
   pub runs : Runs events before after
   pub size : size after ≡ size before
-  pub grows : (after.places ≡ before.places) ⊎ HistoriesGrow before after
+  pub grows : (after.hosts ≡ before.hosts) ⊎ HistoriesGrow before after
 
 -- node i, if it runs
 abbrev pub node_at : MemoryFarm → ℕ → Option (Node TapeValue)
-node_at farm i = running_in (slice_get farm.places i)
+node_at farm i = running_in (slice_get farm.hosts i)
 
 -- some node publishes this definition under sequence s
 abbrev pub IsPublished : MemoryFarm → ℕ → Definition → Type 0

@@ -4,7 +4,7 @@ ghost use Rattle.wf_script.specs.Script.{name_of};
 ghost use Rattle.std.specs.Prelude.{◌≡◌, OnOk, codes, length, option_copied};
 ghost use Rattle.wf_learner.specs.History.{map_at};
 ghost use Rattle.wf_play.specs.Session.{node_at};
-ghost use Rattle.wf_play.specs.Telling.{IsAppended, definition_line, no_node, proposal_line, published_line, published_word, sent_line, standing_words};
+ghost use Rattle.wf_play.specs.Report.{IsAppended, definition_line, no_node, proposal_line, published_line, published_word, sent_line, proposal_state_words};
 
 use crate::session::Session;
 use std::alloc::AllocError;
@@ -14,33 +14,33 @@ use wf_canon::Canon;
 use wf_def::map::MapDef;
 use wf_farm::Farm;
 use wf_node::Node;
-use wf_proposer::Standing;
-use wf_script::{Question, Script};
+use wf_proposer::ProposalState;
+use wf_script::{FarmQuestion, Script};
 use wf_tape::MemoryTape;
 
 impl<'s> Session<'s> {
     ghost use Rattle.std.specs.Prelude.{◌≤◌, false, None, IfSome};
     ghost use Rattle.wf_ballot.specs.Sequence.{last_sequence};
     ghost use Rattle.wf_play.specs.Session.{IsPublished};
-    ghost use Rattle.wf_play.specs.Telling.{answer_text};
+    ghost use Rattle.wf_play.specs.Report.{answer_text};
 
     /// Appends the answer, one line.
-    pub(crate) fn answer(&self, question: Question, out: &mut String) -> Result<(), AllocError>
+    pub(crate) fn answer(&self, question: FarmQuestion, out: &mut String) -> Result<(), AllocError>
         ensures { OnOk result
             (IsAppended (answer_text self.now.script question self.now.farm) out.old out.new) }
     {
         match question {
-            Question::Published => tell_published(&self.farm, out),
-            Question::Sent => tell_sent(&self.farm, out),
-            Question::Proposal(node) => tell_proposal(&self.farm, node, out),
-            Question::Definition(node, sequence) => {
-                tell_definition(self.script, &self.farm, node, sequence, out)
+            FarmQuestion::Published => write_published(&self.farm, out),
+            FarmQuestion::Sent => write_sent(&self.farm, out),
+            FarmQuestion::Proposal(node) => write_proposal(&self.farm, node, out),
+            FarmQuestion::Definition(node, sequence) => {
+                write_definition(self.script, &self.farm, node, sequence, out)
             }
-            Question::Same => self.tell_same(out),
+            FarmQuestion::Same => self.write_same(out),
         }
     }
 
-    fn tell_same(&self, out: &mut String) -> Result<(), AllocError>
+    fn write_same(&self, out: &mut String) -> Result<(), AllocError>
         ensures { OnOk result (IsAppended (codes "same\n") out.old out.new) }
     {
         match self.differ() {
@@ -140,17 +140,17 @@ impl<'s> Session<'s> {
 }
 
 /// Each node's last published sequence, `-` for a stopped one.
-fn tell_published(farm: &Farm, out: &mut String) -> Result<(), AllocError>
-    ensures { OnOk result (IsAppended (published_line farm.now.places) out.old out.new) }
+fn write_published(farm: &Farm, out: &mut String) -> Result<(), AllocError>
+    ensures { OnOk result (IsAppended (published_line farm.now.hosts) out.old out.new) }
 {
     out.push_str("published")?;
     for number in 0..farm.size() {
-        tell_published_by(farm, number, out)?;
+        write_published_by(farm, number, out)?;
     }
     out.push_str("\n")
 }
 
-fn tell_published_by(farm: &Farm, number: usize, out: &mut String) -> Result<(), AllocError>
+fn write_published_by(farm: &Farm, number: usize, out: &mut String) -> Result<(), AllocError>
     ensures { OnOk result (IsAppended (published_word (node_at farm.now number)) out.old out.new) }
 {
     match farm.node(number) {
@@ -162,35 +162,35 @@ fn tell_published_by(farm: &Farm, number: usize, out: &mut String) -> Result<(),
     }
 }
 
-fn tell_sent(farm: &Farm, out: &mut String) -> Result<(), AllocError>
+fn write_sent(farm: &Farm, out: &mut String) -> Result<(), AllocError>
     ensures { OnOk result (IsAppended (sent_line (length farm.now.sent)) out.old out.new) }
 {
     let count = farm.sent_count();
     writeln!(out, "sent {count}")
 }
 
-fn tell_proposal(farm: &Farm, number: usize, out: &mut String) -> Result<(), AllocError>
+fn write_proposal(farm: &Farm, number: usize, out: &mut String) -> Result<(), AllocError>
     ensures { OnOk result
         (IsAppended (proposal_line number (node_at farm.now number)) out.old out.new) }
 {
     let Some(node) = farm.node(number) else {
-        return tell_no_node(out);
+        return write_no_node(out);
     };
     write!(out, "proposal {number} ")?;
-    tell_standing(node.proposal(), out)
+    write_proposal_state(node.proposal(), out)
 }
 
-fn tell_standing(standing: Standing, out: &mut String) -> Result<(), AllocError>
-    ensures { OnOk result (IsAppended (standing_words standing) out.old out.new) }
+fn write_proposal_state(proposal_state: ProposalState, out: &mut String) -> Result<(), AllocError>
+    ensures { OnOk result (IsAppended (proposal_state_words proposal_state) out.old out.new) }
 {
-    match standing {
-        Standing::None => out.push_str("none\n"),
-        Standing::Running => out.push_str("running\n"),
-        Standing::Published(slot) => {
+    match proposal_state {
+        ProposalState::None => out.push_str("none\n"),
+        ProposalState::Running => out.push_str("running\n"),
+        ProposalState::Published(slot) => {
             let number = slot.number();
             writeln!(out, "published {number}")
         }
-        Standing::Overtaken(slot) => {
+        ProposalState::Overtaken(slot) => {
             let number = slot.number();
             writeln!(out, "overtaken {number}")
         }
@@ -198,7 +198,7 @@ fn tell_standing(standing: Standing, out: &mut String) -> Result<(), AllocError>
 }
 
 /// The name of the first equal map; `?` where there is none, or where the node hasn't published the sequence.
-fn tell_definition(
+fn write_definition(
     script: &Script,
     farm: &Farm,
     number: usize,
@@ -209,7 +209,7 @@ fn tell_definition(
         (definition_line script.now number sequence (node_at farm.now number)) out.old out.new) }
 {
     let Some(node) = farm.node(number) else {
-        return tell_no_node(out);
+        return write_no_node(out);
     };
     let name = name_at(script, node, sequence);
     writeln!(out, "definition {number} {sequence} {name}")
@@ -226,7 +226,7 @@ fn name_at<'s>(script: &'s Script, node: &Node<MemoryTape>, sequence: usize) -> 
 }
 
 /// The map that the node publishes at the sequence.
-#[tactic(auto, using(crate::proofs::Telling::unpublished))]
+#[tactic(auto, using(crate::proofs::Report::unpublished))]
 fn published_at<'n>(node: &'n Node<MemoryTape>, sequence: usize) -> Option<&'n MapDef>
     ensures { option_copied result ≡ map_at node.now.parts.history sequence }
 {
@@ -236,7 +236,7 @@ fn published_at<'n>(node: &'n Node<MemoryTape>, sequence: usize) -> Option<&'n M
     node.definition(Seq::new(sequence as u16)?)
 }
 
-pub(crate) fn tell_no_node(out: &mut String) -> Result<(), AllocError>
+pub(crate) fn write_no_node(out: &mut String) -> Result<(), AllocError>
     ensures { OnOk result (IsAppended no_node out.old out.new) }
 {
     out.push_str("no node\n")

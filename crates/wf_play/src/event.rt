@@ -1,7 +1,7 @@
 //! The event of a farm that an order is, and what is written about its rejection.
 
 ghost use Rattle.std.specs.Prelude.{◌≡◌, IfOk, OnOk, option_map, slice_get};
-ghost use Rattle.wf_play.specs.Telling.{IsAppended, refusal_line};
+ghost use Rattle.wf_play.specs.Report.{IsAppended, step_rejection_line};
 
 use crate::session::Session;
 use std::alloc::AllocError;
@@ -14,7 +14,7 @@ use wf_script::Order;
 impl<'s> Session<'s> {
     ghost use Rattle.wf_farm.specs.Event.{view as event_view};
     ghost use Rattle.wf_model.specs.Action.{numbered};
-    ghost use Rattle.wf_play.specs.Performing.{action_of, event_at};
+    ghost use Rattle.wf_play.specs.OrderEffect.{action_of, event_at};
     ghost use Rattle.wf_script.specs.Order.{view};
 
     /// The event that the order is; None if it is none, or several.
@@ -72,8 +72,8 @@ impl<'s> Session<'s> {
 }
 
 /// Appends the line about a rejected event, if it was rejected.
-pub(crate) fn tell_refused(refused: Option<Rejection>, out: &mut String) -> Result<(), AllocError>
-    ensures { OnOk result (IsAppended (refusal_line refused) out.old out.new) }
+pub(crate) fn write_rejected(refused: Option<Rejection>, out: &mut String) -> Result<(), AllocError>
+    ensures { OnOk result (IsAppended (step_rejection_line refused) out.old out.new) }
 {
     match refused {
         Some(rejection) => {

@@ -11,12 +11,13 @@
 //! - The order changes the farm as the model says, whatever the carrier. A step, a stop, a restart or a crash within a step is one
 //!   event; deliveries are one event each, in turn; a pump is the farm's pump; `skip`, questions and messages that are cut off
 //!   leave the world as it is.
-//! - Its output is the rejection of an event or the answer to a question (`Writes` of `specs/Telling.antt`).
+//! - Its output is the rejection of an event or the answer to a question (`Writes` of `specs/Report.antt`).
 //! - Where the tape of a node may fail, as a `fuse` says, the order does that, or the tape failed within one of its steps: then the
 //!   node crashed there and is opened again, and a line tells what the crash kept. That happens once.
 //! - Its errors are allocation failure, at exactly the order's line, and a message that the carrier doesn't bring. That comes only
 //!   of an order that carries messages, and never of a faithful carrier. No other order uses the carrier.
-//! - Whatever the order, the farm has made some events of the model and no node's list lost a map; where a tape may fail, only after Ok,
+//! - Whatever the order, the farm has made some events of the model and no node's list lost a map; where a tape may fail, only
+//! after Ok,
 //!   since an error loses the farm then. Whatever the result, the nodes agree. The theorems beneath agreement hold too: ballots
 //!   belong to their nodes, promises are kept, and each Accept has a majority of promises for it.
 //!
@@ -28,20 +29,20 @@
 //! - Where it returns an error of the script other than allocation failure, nothing is written, and the error is the input's own.
 //! - Where an allocation fails at an order, the error names its line, and what the orders before it write is written, as where a
 //!   message isn't carried; where a write fails, that is written, and a beginning of what one order more writes (`WritesBeginning`
-//!   of `specs/Ending.antt`).
+//!   of `specs/PlayEnd.antt`).
 //! - After Ok the whole input is a script, each of its orders was performed in turn on a new farm, and exactly their output was
-//!   written (`PlaysInput` of `specs/Running.antt`).
+//!   written (`PlaysInput` of `specs/ScriptRun.antt`).
 #![tactic(auto)]
 
 mod answer;
-mod carrying;
 mod event;
 mod fault;
-mod fusing;
-mod law;
+mod message_orders;
 mod request;
 mod run;
 mod session;
+mod theorem;
+mod torn_orders;
 
 pub use fault::PlayFault;
 pub use run::run_script;

@@ -2,11 +2,11 @@
 
 ghost use Rattle.std.specs.Prelude.{◌≡◌, IfOk, IfErr, OnOk};
 ghost use Rattle.std.specs.String.{string_bytes};
-ghost use Rattle.wf_farm.specs.Answering.{Answers, sequence_at};
+ghost use Rattle.wf_farm.specs.ClientAnswers.{Answers, sequence_at};
 ghost use Rattle.wf_play.specs.Comparison.{Compares, IsTrueWhereOne, IsUncompared, is_same_answer, is_same_kind};
-ghost use Rattle.wf_play.specs.Telling.{IsAppended, IsOfAnswer, IsOneAppended, IsToldAbsent, TellsAnswer, TellsEqual, exception_line, kind_line, number_of};
+ghost use Rattle.wf_play.specs.Report.{IsAppended, IsOfAnswer, IsOneAppended, IsReportedAbsent, ReportsAnswer, ReportsEqual, exception_line, kind_line, number_of};
 
-use crate::answer::tell_no_node;
+use crate::answer::write_no_node;
 use crate::session::Session;
 use std::alloc::{AllocError, Global};
 use std::fmt::Write;
@@ -15,7 +15,7 @@ use wf_wms::{Answer, Exception, Kind};
 
 impl<'s> Session<'s> {
     /// What the node answers to the query: its kind, and how many bytes it has.
-    pub(crate) fn tell_answer(
+    pub(crate) fn write_answer(
         &self,
         alloc: Global,
         number: usize,
@@ -23,14 +23,14 @@ impl<'s> Session<'s> {
         out: &mut String,
     ) -> Result<(), AllocError>
         ensures { OnOk result
-            (IsOneAppended (TellsAnswer self.now.farm number query.now) out.old out.new) }
+            (IsOneAppended (ReportsAnswer self.now.farm number query.now) out.old out.new) }
     {
-        tell_answer(alloc, &self.farm, number, query, out)
+        write_answer(alloc, &self.farm, number, query, out)
     }
 
     /// Whether the two nodes answer the query equally.
-    #[tactic(auto, using(crate::proofs::Telling::of_comparison))]
-    pub(crate) fn tell_equal(
+    #[tactic(auto, using(crate::proofs::Report::of_comparison))]
+    pub(crate) fn write_equal(
         &self,
         alloc: Global,
         first: usize,
@@ -39,12 +39,12 @@ impl<'s> Session<'s> {
         out: &mut String,
     ) -> Result<(), AllocError>
         ensures { OnOk result
-            (IsOneAppended (TellsEqual self.now.farm first second query.now) out.old out.new) }
+            (IsOneAppended (ReportsEqual self.now.farm first second query.now) out.old out.new) }
     {
         match self.equal(alloc, first, second, query) {
             Ok(true) => out.push_str("equal\n"),
             Ok(false) => out.push_str("differ\n"),
-            Err(fault) => tell_no_answer(fault, out),
+            Err(fault) => write_no_answer(fault, out),
         }
     }
 
@@ -60,7 +60,7 @@ impl<'s> Session<'s> {
         query: &[u8],
     ) -> Result<bool, FarmFault>
         ensures test { IfOk result (λ equal. Compares self.now.farm first second query.now equal) }
-        ensures law { IfOk result
+        ensures theorem { IfOk result
             (λ equal. IsTrueWhereOne self.now.farm first second query.now equal) }
         ensures fault { IfErr result (λ fault. IsUncompared self.now.farm first second fault) }
     {
@@ -77,7 +77,7 @@ fn compare_nodes(
     query: &[u8],
 ) -> Result<bool, FarmFault>
     ensures test { IfOk result (λ equal. Compares farm.now first second query.now equal) }
-    ensures law { IfOk result (λ equal. IsTrueWhereOne farm.now first second query.now equal) }
+    ensures theorem { IfOk result (λ equal. IsTrueWhereOne farm.now first second query.now equal) }
     ensures fault { IfErr result (λ fault. IsUncompared farm.now first second fault) }
 {
     match farm.answer(alloc, first, query) {
@@ -101,7 +101,7 @@ fn compare_with(
 ) -> Result<bool, FarmFault>
     requires { Answers farm.now first (sequence_at farm.now first) query.now answer.now }
     ensures test { IfOk result (λ equal. Compares farm.now first second query.now equal) }
-    ensures law { IfOk result (λ equal. IsTrueWhereOne farm.now first second query.now equal) }
+    ensures theorem { IfOk result (λ equal. IsTrueWhereOne farm.now first second query.now equal) }
     ensures fault { IfErr result (λ fault. IsUncompared farm.now first second fault) }
 {
     match farm.answer(alloc, second, query) {
@@ -126,7 +126,7 @@ fn compare(
     requires first { Answers farm.now first (sequence_at farm.now first) query.now answer.now }
     requires second { Answers farm.now second (sequence_at farm.now second) query.now another.now }
     ensures test { Compares farm.now first second query.now result }
-    ensures law { IsTrueWhereOne farm.now first second query.now result }
+    ensures theorem { IsTrueWhereOne farm.now first second query.now result }
 {
     // Theorem: nodes at one sequence, or asked for one map, have one answer to a query.
     farm.answers_agree();
@@ -151,38 +151,38 @@ fn is_same_kind(kind: Kind, other: Kind) -> bool
 }
 
 /// What the node answers to the query.
-#[tactic(auto, using(crate::proofs::Telling::no_answer_told, crate::proofs::Telling::of_answer))]
-fn tell_answer(
+#[tactic(auto, using(crate::proofs::Report::no_answer_reported, crate::proofs::Report::of_answer))]
+fn write_answer(
     alloc: Global,
     farm: &Farm,
     number: usize,
     query: &[u8],
     out: &mut String,
 ) -> Result<(), AllocError>
-    ensures { OnOk result (IsOneAppended (TellsAnswer farm.now number query.now) out.old out.new) }
+    ensures { OnOk result (IsOneAppended (ReportsAnswer farm.now number query.now) out.old out.new) }
 {
     match farm.answer(alloc, number, query) {
         Ok(answer) => {
-            let told = tell_kind(number, answer.kind, answer.bytes.len(), out);
+            let reported = write_kind(number, answer.kind, answer.bytes.len(), out);
             drop(answer);
-            told
+            reported
         }
-        Err(fault) => tell_no_answer(fault, out),
+        Err(fault) => write_no_answer(fault, out),
     }
 }
 
 /// The line about an answer of `size` bytes.
-fn tell_kind(number: usize, kind: Kind, size: usize, out: &mut String) -> Result<(), AllocError>
+fn write_kind(number: usize, kind: Kind, size: usize, out: &mut String) -> Result<(), AllocError>
     ensures { OnOk result (IsAppended (kind_line number kind size) out.old out.new) }
 {
     match kind {
         Kind::Capabilities => writeln!(out, "get {number} capabilities {size}"),
         Kind::Map => writeln!(out, "get {number} map {size}"),
-        Kind::Exception(exception) => tell_exception(number, exception, size, out),
+        Kind::Exception(exception) => write_exception(number, exception, size, out),
     }
 }
 
-fn tell_exception(
+fn write_exception(
     number: usize,
     exception: Exception,
     size: usize,
@@ -195,12 +195,12 @@ fn tell_exception(
 }
 
 /// Appends that there is no such node, or returns the allocation failure.
-fn tell_no_answer(fault: FarmFault, out: &mut String) -> Result<(), AllocError>
+fn write_no_answer(fault: FarmFault, out: &mut String) -> Result<(), AllocError>
     requires { IsOfAnswer fault }
-    ensures { OnOk result (IsToldAbsent fault (string_bytes out.old) (string_bytes out.new)) }
+    ensures { OnOk result (IsReportedAbsent fault (string_bytes out.old) (string_bytes out.new)) }
 {
     match fault {
-        FarmFault::NoNode => tell_no_node(out),
+        FarmFault::NoNode => write_no_node(out),
         FarmFault::Memory(_) => Err(AllocError),
         FarmFault::Carried(_) => unreachable!(),
     }

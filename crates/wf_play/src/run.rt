@@ -2,12 +2,12 @@
 
 ghost use Rattle.std.specs.Prelude.{◌≡◌, ◌+◌, ◌<◌, IfErr, IfOk, IfSome, Ok, OnOk, length};
 ghost use Rattle.std.specs.Io.KnownBytes.{IsAtEnd};
-ghost use Rattle.wf_stream.specs.Reading.{TakesUpTo};
-ghost use Rattle.wf_script.specs.Lines.{judged, most_script_bytes};
-ghost use Rattle.wf_play.specs.Ending.{IsEnded, MayBeBegun, WritesBeginning};
+ghost use Rattle.wf_stream.specs.Effects.{TakesUpTo};
+ghost use Rattle.wf_script.specs.Lines.{examined, most_script_bytes};
+ghost use Rattle.wf_play.specs.PlayEnd.{IsEnded, MayBeBegun, WritesBeginning};
 ghost use Rattle.wf_play.specs.Fault.{CountsReads, CountsWrites, EndsWriting, IsInputFault, IsPlayingFault, KeepsQuiet, LosesNone};
 ghost use Rattle.wf_script.specs.Fault.{IsMemory};
-ghost use Rattle.wf_play.specs.Running.{HavePlayed, IsRefusalOf, IsScriptText, PlaysInput, ReadsWhole, WritesPlay};
+ghost use Rattle.wf_play.specs.ScriptRun.{HavePlayed, IsStepRejectionOf, IsScriptText, PlaysInput, ReadsWhole, WritesPlay};
 ghost use Rattle.wf_play.specs.Session.{stage};
 ghost use Rattle.wf_script.specs.Text.{script_of};
 
@@ -16,7 +16,7 @@ use crate::session::Session;
 use std::alloc::Global;
 use std::io::ErrorKind;
 use wf_farm::Carrier;
-use wf_script::{MOST_SCRIPT_BYTES, Script, ScriptFault, a_beginning_is_judged_alike};
+use wf_script::{MOST_SCRIPT_BYTES, Script, ScriptFault, a_beginning_is_examined_alike};
 use wf_stream::{Sink, Source, read_up_to, write_all};
 
 /// Reads a script to its end, or to the byte that makes it too long, and plays it on a new farm, whose messages come by the
@@ -57,7 +57,7 @@ pub fn run_script<S: Source, K: Sink, C: Carrier>(
 /// The input to its end, or its first bytes.
 fn input<S: Source>(alloc: Global, source: &mut S) -> Result<Vec<u8>, PlayFault>
     ensures first { IfOk result
-        (λ bytes. IfSome (S.left source.old) (λ known. bytes.items ≡ judged known)) }
+        (λ bytes. IfSome (S.left source.old) (λ known. bytes.items ≡ examined known)) }
     ensures end { IfOk result
         (λ bytes. length bytes.items < most_script_bytes + 1 → IsAtEnd (S.left source.new)) }
     ensures err { IfErr result IsInputFault }
@@ -80,11 +80,11 @@ fn script<S: Source>(alloc: Global, source: &mut S) -> Result<Script, PlayFault>
     ensures means { IfOk result
         (λ script. IfSome (S.left source.old) (λ text. script_of text ≡ Ok script)) }
     ensures end { OnOk result (IsAtEnd (S.left source.new)) }
-    ensures err { IfErr result (IsRefusalOf (S.left source.old)) }
+    ensures err { IfErr result (IsStepRejectionOf (S.left source.old)) }
     ensures most { TakesUpTo (most_script_bytes + 1) (S.left source.old) (S.left source.new) }
     ensures reads { CountsReads result (S.failures source.old) (S.failures source.new) }
 {
-    a_beginning_is_judged_alike();
+    a_beginning_is_examined_alike();
     let bytes = input(alloc, source)?;
     let script = Script::read(alloc, &bytes);
     drop(bytes);

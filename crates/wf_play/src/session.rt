@@ -2,12 +2,12 @@
 
 ghost use Rattle.std.specs.Prelude.{◌≡◌, OnOk};
 
-use crate::event::tell_refused;
+use crate::event::write_rejected;
 use crate::fault::{PlayFault, fault_at_line};
-use crate::law::farm_obeys_laws;
+use crate::theorem::farm_obeys_theorems;
 use std::alloc::{AllocError, Global};
 use std::marker::Model;
-use wf_farm::{Carrier, CarrierFault, Event, Farm, Fuse, Kept};
+use wf_farm::{Carrier, CarrierFault, Event, Farm, Kept, NodeFuse};
 use wf_script::{Order, Script, ScriptFault};
 
 /// The farm on which a script is played. It is changed by the farm's own calls alone.
@@ -16,7 +16,7 @@ pub struct Session<'s> {
     pub(crate) script: &'s Script,
     pub(crate) farm: Farm,
     // The node whose tape will fail, and at which call of it from now on.
-    pub(crate) fuse: Option<(usize, Fuse)>,
+    pub(crate) fuse: Option<(usize, NodeFuse)>,
     // The node within a step of which its tape failed in the last order, and what the crash kept.
     pub(crate) torn: Option<(usize, Kept)>,
 }
@@ -46,20 +46,20 @@ impl<'s> Session<'s> {
     ghost use Rattle.std.specs.Prelude.{[], ◌∷◌, None, false, map, IfOk, IfErr};
     ghost use Rattle.wf_farm.specs.Agreement.{HasOneHistory, IsOneWorld};
     ghost use Rattle.wf_farm.specs.Event.{view as event_view};
-    ghost use Rattle.wf_farm.specs.Farm.{Shows, size};
+    ghost use Rattle.wf_farm.specs.Farm.{Refines, size};
     ghost use Rattle.wf_farm.specs.declared.carrier.CarrierFault.TheVariants as faults;
     ghost use Rattle.wf_model.specs.World.{start};
     ghost use Rattle.wf_script.specs.Order.{view};
     ghost use Rattle.wf_play.specs.Fault.{IsOrderFault, LosesNone, LosesOnlyOf};
-    ghost use Rattle.wf_play.specs.Law.{HasKeptPromises, HasOwnBallots, HasPromisedMajorities};
-    ghost use Rattle.wf_play.specs.Performing.{Acts, Happens, HappensIf, IsPerformed, Obeys, PerformsOrder, carries, event_at, fuse_set, left_by, may_use, may_use_at, order_at};
+    ghost use Rattle.wf_play.specs.Theorem.{HasKeptPromises, HasOwnBallots, HasPromisedMajorities};
+    ghost use Rattle.wf_play.specs.OrderEffect.{Acts, Happens, HappensIf, IsPerformed, Obeys, PerformsOrder, carries, event_at, fuse_set, left_by, may_use, may_use_at, order_at};
     ghost use Rattle.wf_play.specs.Session.{KeepsRest, Plays, stage};
-    ghost use Rattle.wf_play.specs.Telling.{IsAppended, Reports, Tells, TellsOrder, happened_text, refusal_line};
+    ghost use Rattle.wf_play.specs.Report.{IsAppended, Reports, WritesOne, ReportsOrder, happened_text, step_rejection_line};
 
     /// The farm before the script's first order: the model's start. Returns S1 at line 1 where an allocation failed.
     pub fn new(alloc: Global, script: &'s Script) -> Result<Session<'s>, ScriptFault>
         ensures script { IfOk result (λ session. session.script ≡ script.now) }
-        ensures start { IfOk result (λ session. Shows session.farm (start script.now.nodes)) }
+        ensures start { IfOk result (λ session. Refines session.farm (start script.now.nodes)) }
         ensures size { IfOk result (λ session. size session.farm ≡ script.now.nodes) }
         ensures fresh { IfOk result (λ session. session.farm.pumped ≡ 0) }
         ensures whole { IfOk result (λ session. session.fuse ≡ None) }
@@ -86,8 +86,8 @@ impl<'s> Session<'s> {
     /// Performs the order of that number, counted from 0, and appends its output; nothing where there is no such
     /// order. The carrier brings the messages of a delivery and of a pump to their nodes, and sends those that are cut off; a step
     /// within which a node crashes doesn't use it. Whatever the order and the carrier, the farm has made some events, and the
-    /// theorems hold of it after them. Where the tape of a node fails within a step, the node crashed there and is opened again; the
-    /// session's `torn` tells it then, and it is written.
+    /// theorems hold of it after them. Where the tape of a node fails within a step, the node crashed there and is opened again;
+    /// the session's `torn` tells it then, and it is written.
     ///
     /// Returns S1 at the order's line where an allocation failed, and `Wire` where the carrier failed, or brought another message:
     /// then a part of the order may have happened, or be written. Of a faithful carrier S1 is the only error. Where a tape could
@@ -101,7 +101,7 @@ impl<'s> Session<'s> {
     ) -> Result<(), PlayFault>
         ensures script { self.new.script ≡ self.old.script }
         ensures does { OnOk result (PerformsOrder number self.old self.new) }
-        ensures tells { OnOk result (TellsOrder number self.old self.new out.old out.new) }
+        ensures reports { OnOk result (ReportsOrder number self.old self.new out.old out.new) }
         ensures fault { IfErr result (IsOrderFault (order_at self.old number) self.old.farm) }
         ensures faithful { C.faithful → IfErr result LosesNone }
         ensures unused { may_use_at (order_at self.old number) self.old.farm ≡ false →
@@ -116,7 +116,7 @@ impl<'s> Session<'s> {
     {
         self.forget_torn();
         let performed = self.perform_order(alloc, carrier, number, out);
-        self.obeys_laws();
+        self.obeys_theorems();
         performed
     }
 
@@ -128,18 +128,18 @@ impl<'s> Session<'s> {
     }
 
     /// The theorems about the farm hold of it as it is.
-    fn obeys_laws(&self)
+    fn obeys_theorems(&self)
         ensures agree { HasOneHistory self.now.farm }
         ensures world { IsOneWorld self.now.farm }
         ensures ballots { HasOwnBallots self.now.farm }
         ensures promises { HasKeptPromises self.now.farm }
         ensures majorities { HasPromisedMajorities self.now.farm }
     {
-        farm_obeys_laws(&self.farm);
+        farm_obeys_theorems(&self.farm);
     }
 
     /// Performs the order, if there is one.
-    #[tactic(auto, using(crate::proofs::Playing::nothing_played, crate::proofs::Performing::nothing_performed, crate::proofs::Faults::order_fault_there, crate::proofs::Faults::none_lost, crate::proofs::Performing::used_there, crate::proofs::Telling::nothing_written))]
+    #[tactic(auto, using(crate::proofs::FarmCalls::nothing_played, crate::proofs::OrderEffect::nothing_performed, crate::proofs::Faults::order_fault_there, crate::proofs::Faults::none_lost, crate::proofs::OrderEffect::used_there, crate::proofs::Report::nothing_written))]
     fn perform_order<C: Carrier>(
         &mut self,
         alloc: Global,
@@ -150,7 +150,7 @@ impl<'s> Session<'s> {
         requires torn { self.old.torn ≡ None }
         ensures script { self.new.script ≡ self.old.script }
         ensures does { OnOk result (PerformsOrder number self.old self.new) }
-        ensures tells { OnOk result (TellsOrder number self.old self.new out.old out.new) }
+        ensures reports { OnOk result (ReportsOrder number self.old self.new out.old out.new) }
         ensures fault { IfErr result (IsOrderFault (order_at self.old number) self.old.farm) }
         ensures faithful { C.faithful → IfErr result LosesNone }
         ensures unused { may_use_at (order_at self.old number) self.old.farm ≡ false →
@@ -169,7 +169,7 @@ impl<'s> Session<'s> {
     }
 
     /// Performs the order, and takes the fuse that it names, if it names one.
-    #[tactic(auto, using(crate::proofs::Tearing::performed))]
+    #[tactic(auto, using(crate::proofs::TornOrders::performed))]
     fn obey_order<C: Carrier>(
         &mut self,
         alloc: Global,
@@ -182,7 +182,7 @@ impl<'s> Session<'s> {
         ensures does { OnOk result
             (IsPerformed self.old.script.maps (view order.now) self.new.torn
             (stage self.old) (stage self.new)) }
-        ensures tells { OnOk result (Tells (view order.now) self.old self.new out.old out.new) }
+        ensures reports { OnOk result (WritesOne (view order.now) self.old self.new out.old out.new) }
         ensures lost { IfErr result (LosesOnlyOf (view order.now) self.old.farm) }
         ensures faithful { C.faithful → IfErr result (λ fault. fault ≡ faults.Memory) }
         ensures unused { may_use (view order.now) self.old.farm ≡ false →
@@ -196,7 +196,7 @@ impl<'s> Session<'s> {
     }
 
     /// Performs the order, with the fuse on the tape of its node, if there is one.
-    #[tactic(auto, using(crate::proofs::Tearing::does_whole, crate::proofs::Tearing::tells_whole, crate::proofs::Tearing::left_whole))]
+    #[tactic(auto, using(crate::proofs::TornOrders::does_whole, crate::proofs::TornOrders::reports_whole, crate::proofs::TornOrders::left_whole))]
     fn obey_with_fuse<C: Carrier>(
         &mut self,
         alloc: Global,
@@ -208,7 +208,7 @@ impl<'s> Session<'s> {
         ensures script { self.new.script ≡ self.old.script }
         ensures fuse { OnOk result (self.new.fuse ≡ left_by self.old.fuse self.new.torn) }
         ensures does { OnOk result (Obeys (view order.now) self.old self.new) }
-        ensures tells { OnOk result (Tells (view order.now) self.old self.new out.old out.new) }
+        ensures reports { OnOk result (WritesOne (view order.now) self.old self.new out.old out.new) }
         ensures lost { IfErr result (LosesOnlyOf (view order.now) self.old.farm) }
         ensures faithful { C.faithful → IfErr result (λ fault. fault ≡ faults.Memory) }
         ensures unused { may_use (view order.now) self.old.farm ≡ false →
@@ -228,7 +228,7 @@ impl<'s> Session<'s> {
     {
         match order {
             Order::Fuse(node, call, kept, crash) => {
-                let fuse = Fuse {
+                let fuse = NodeFuse {
                     call: *call,
                     kept: *kept,
                     crash: *crash,
@@ -240,7 +240,7 @@ impl<'s> Session<'s> {
     }
 
     /// Performs the order, where no tape fails.
-    #[tactic(auto, using(crate::proofs::Playing::nothing_played, crate::proofs::Telling::nothing_more))]
+    #[tactic(auto, using(crate::proofs::FarmCalls::nothing_played, crate::proofs::Report::nothing_more))]
     pub(crate) fn obey<C: Carrier>(
         &mut self,
         alloc: Global,
@@ -250,7 +250,7 @@ impl<'s> Session<'s> {
     ) -> Result<(), CarrierFault>
         ensures rest { KeepsRest self.old self.new }
         ensures does { OnOk result (Acts (view order.now) self.old self.new) }
-        ensures tells { OnOk result (Reports (view order.now) self.old self.new out.old out.new) }
+        ensures reports { OnOk result (Reports (view order.now) self.old self.new out.old out.new) }
         ensures lost { IfErr result (LosesOnlyOf (view order.now) self.old.farm) }
         ensures faithful { C.faithful → IfErr result (λ fault. fault ≡ faults.Memory) }
         ensures unused { may_use (view order.now) self.old.farm ≡ false →
@@ -283,7 +283,7 @@ impl<'s> Session<'s> {
         requires { carries (view order.now) ≡ false }
         ensures rest { KeepsRest self.old self.new }
         ensures does { OnOk result (Acts (view order.now) self.old self.new) }
-        ensures tells { OnOk result (Reports (view order.now) self.old self.new out.old out.new) }
+        ensures reports { OnOk result (Reports (view order.now) self.old self.new out.old out.new) }
         ensures memory { IfErr result (λ fault. fault ≡ faults.Memory) }
         ensures plays { Plays self.old.farm self.new.farm }
     {
@@ -293,12 +293,12 @@ impl<'s> Session<'s> {
         }
     }
 
-    #[tactic(auto, using(crate::proofs::Playing::nothing_played, crate::proofs::Playing::skipped_played, crate::proofs::Telling::just))]
+    #[tactic(auto, using(crate::proofs::FarmCalls::nothing_played, crate::proofs::FarmCalls::skipped_played, crate::proofs::Report::just))]
     fn act(&mut self, alloc: Global, order: &Order, out: &mut String) -> Result<(), AllocError>
         requires { carries (view order.now) ≡ false }
         ensures rest { KeepsRest self.old self.new }
         ensures does { OnOk result (Acts (view order.now) self.old self.new) }
-        ensures tells { OnOk result (Reports (view order.now) self.old self.new out.old out.new) }
+        ensures reports { OnOk result (Reports (view order.now) self.old self.new out.old out.new) }
         ensures plays { Plays self.old.farm self.new.farm }
     {
         match order {
@@ -307,8 +307,8 @@ impl<'s> Session<'s> {
                 Ok(())
             }
             Order::Ask(question) => self.answer(*question, out),
-            Order::Get(node, query) => self.tell_answer(alloc, *node, query, out),
-            Order::Equal(node, other, query) => self.tell_equal(alloc, *node, *other, query, out),
+            Order::Get(node, query) => self.write_answer(alloc, *node, query, out),
+            Order::Equal(node, other, query) => self.write_equal(alloc, *node, *other, query, out),
             // A fuse is no event: it is taken once the order is performed.
             Order::Fuse(..)
             | Order::Step(..)
@@ -320,13 +320,13 @@ impl<'s> Session<'s> {
     }
 
     /// Makes the event that the order is, if it is one.
-    #[tactic(auto, using(crate::proofs::Playing::nothing_played, crate::proofs::Performing::happened, crate::proofs::Performing::unhappened))]
+    #[tactic(auto, using(crate::proofs::FarmCalls::nothing_played, crate::proofs::OrderEffect::happened, crate::proofs::OrderEffect::unhappened))]
     fn make(&mut self, alloc: Global, order: &Order, out: &mut String) -> Result<(), AllocError>
         ensures rest { KeepsRest self.old self.new }
         ensures does { OnOk result
             (HappensIf (event_at self.old.script.maps (view order.now))
             self.old.farm self.new.farm) }
-        ensures tells { OnOk result (IsAppended
+        ensures reports { OnOk result (IsAppended
             (happened_text (event_at self.old.script.maps (view order.now)) self.new.farm.refused)
             out.old out.new) }
         ensures plays { Plays self.old.farm self.new.farm }
@@ -339,27 +339,27 @@ impl<'s> Session<'s> {
     }
 
     /// Makes the events in turn, and appends the rejection of the last one, if it was rejected.
-    #[tactic(auto, using(crate::proofs::Playing::run_played, crate::proofs::Playing::part_played))]
+    #[tactic(auto, using(crate::proofs::FarmCalls::run_played, crate::proofs::FarmCalls::part_played))]
     fn run(&mut self, alloc: Global, events: &[Event], out: &mut String) -> Result<(), AllocError>
         ensures rest { KeepsRest self.old self.new }
         ensures does { OnOk result
             (Happens (map event_view events.now) self.old.farm self.new.farm) }
-        ensures tells { OnOk result
-            (IsAppended (refusal_line self.new.farm.refused) out.old out.new) }
+        ensures reports { OnOk result
+            (IsAppended (step_rejection_line self.new.farm.refused) out.old out.new) }
         ensures plays { Plays self.old.farm self.new.farm }
     {
         if self.farm.run(alloc, events).is_err() {
             return Err(AllocError);
         }
-        tell_refused(self.farm.refused(), out)
+        write_rejected(self.farm.refused(), out)
     }
 
     /// Makes the event, and appends its rejection, if it was rejected.
     fn happen(&mut self, alloc: Global, event: Event, out: &mut String) -> Result<(), AllocError>
         ensures rest { KeepsRest self.old self.new }
         ensures does { OnOk result (Happens (event_view event ∷ []) self.old.farm self.new.farm) }
-        ensures tells { OnOk result
-            (IsAppended (refusal_line self.new.farm.refused) out.old out.new) }
+        ensures reports { OnOk result
+            (IsAppended (step_rejection_line self.new.farm.refused) out.old out.new) }
         ensures plays { Plays self.old.farm self.new.farm }
     {
         let events = [event];

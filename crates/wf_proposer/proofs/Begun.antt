@@ -3,44 +3,44 @@ use Rattle.std.proofs.Common.{◌≡◌, ℕ, ◌+◌, max, Bool, true, false, i
 use Rattle.wf_ballot.specs.Ballot.{Ballot}
 use Rattle.wf_def.specs.Definition.{Definition}
 use Rattle.wf_model.specs.Fits.{IsForNext}
-use Rattle.wf_model.specs.Stored.{HasStored, Stored, published, next_sequence}
+use Rattle.wf_model.specs.DurableState.{HasStored, DurableState, published, next_sequence}
 use Rattle.wf_model.specs.Message.{Vote, Prepare, Accept, from_sequence, vote_of}
-use Rattle.wf_model.specs.Stored as stored_part
-use Rattle.wf_model.specs.Table.{Row, Refusal, begin_at, stores, says, ask_votes, lead, propose_by, on_propose, on_retry, running_row, round_known, rounds_full, refuse_round}
-use Rattle.wf_model.specs.Working as model
-use Rattle.wf_model.specs.Working.{leading_at, is_in_window, nobody, proposed, carried}
-use Rattle.wf_proposer.specs.Next.{Next, begun, led, row_at}
+use Rattle.wf_model.specs.DurableState as stored_part
+use Rattle.wf_model.specs.Table.{Transition, StepRejection, begin_at, stores, only_sends, ask_votes, lead, propose_by, on_propose, on_retry, running_transition, round_known, rounds_full, reject_round}
+use Rattle.wf_model.specs.VolatileState as model
+use Rattle.wf_model.specs.VolatileState.{leading_at, is_in_window, nobody, proposed, carried}
+use Rattle.wf_proposer.specs.Next.{Next, begun, led, transition_at}
 use Rattle.wf_proposer.specs.Proposal.{proposal_of}
-use Rattle.wf_proposer.specs.Refusal.{refused_by, IsWhyNot}
-use Rattle.wf_proposer.specs.Working.{leadership_of, leading_of, proposing_of, working_from}
+use Rattle.wf_proposer.specs.StepRejection.{rejected_by, IsWhyNot}
+use Rattle.wf_proposer.specs.VolatileState.{leadership_of, leading_of, proposing_of, volatile_from}
 use Rattle.wf_proposer.specs.declared.proposal.Proposal.{Proposal}
-use Rattle.wf_proposer.specs.declared.refusal.Refusal as held
-use Rattle.wf_proposer.specs.declared.working.Leadership.{Leadership}
-use Rattle.wf_proposer.specs.declared.working.Proposing.{Proposing}
-use Rattle.wf_proposer.specs.declared.working.Proposing.TheVariants.{Accepting}
-use Rattle.wf_proposer.proofs.HeardSets.{among-nobody}
+use Rattle.wf_proposer.specs.declared.step_rejection.StepRejection as held
+use Rattle.wf_proposer.specs.declared.volatile.Leadership.{Leadership}
+use Rattle.wf_proposer.specs.declared.volatile.Proposing.{Proposing}
+use Rattle.wf_proposer.specs.declared.volatile.Proposing.TheVariants.{Accepting}
+use Rattle.wf_proposer.proofs.ResponderSets.{among-nobody}
 
 abbrev Leading : Type 0
 Leading = Option (model.Leadership Definition)
 
 -- ---- the next sequence
 
-after_published : (slot tried sequence : ℕ) (stored : Stored Definition) → HasStored stored tried sequence → slot ≡ sequence + 1 → slot ≡ next_sequence stored
+after_published : (slot tried sequence : ℕ) (stored : DurableState Definition) → HasStored stored tried sequence → slot ≡ sequence + 1 → slot ≡ next_sequence stored
 unfolding next_sequence
 after_published slot tried sequence stored has after = after ∙ ap (λ p. p + 1) (sym has.up_to)
 
 -- ---- in a new round
 
 -- the beginning of a proposal, with these nodes as those whose answers are counted
-abbrev begun_with : ℕ → Definition → Ballot → (ℕ → Bool) → Row Definition
-begun_with s own ballot heard =
+abbrev begun_with : ℕ → Definition → Ballot → (ℕ → Bool) → Transition Definition
+begun_with s own ballot responders =
     stores (record {
       proposing = model.Running (record {
         sequence = s;
         ballot = ballot;
         own = own;
         phase = model.Preparing;
-        heard = heard;
+        responders = responders;
         best = [];
         seen = 0;
       });
@@ -48,44 +48,44 @@ begun_with s own ballot heard =
     })
     (stored_part.Tried ballot.round) (Prepare s ballot)
 
-begun-row : (o : Option Leadership) (q : Proposing) (me slot round : ℕ) (own : Definition) (stored : Stored Definition) → slot ≡ next_sequence stored →
-    row_at o q (begun slot own (record { round = round; node = me })) ≡ begin_at me stored own round
+begun-transition : (o : Option Leadership) (q : Proposing) (me slot round : ℕ) (own : Definition) (stored : DurableState Definition) → slot ≡ next_sequence stored →
+    transition_at o q (begun slot own (record { round = round; node = me })) ≡ begin_at me stored own round
 unfolding begin_at stores
-begun-row o q me slot round own stored for_next =
+begun-transition o q me slot round own stored for_next =
     let ballot : Ballot = record { round = round; node = me } in
-    ap (λ (s : ℕ). row_at o q (begun s own ballot)) for_next ∙ ap (begun_with (next_sequence stored) own ballot) among-nobody
+    ap (λ (s : ℕ). transition_at o q (begun s own ballot)) for_next ∙ ap (begun_with (next_sequence stored) own ballot) among-nobody
 
 -- the first attempt is for the sequence after the published ones, in the round after the one tried
-first-row : (next : Next) (o : Option Leadership) (q : Proposing) (me slot tried sequence : ℕ) (own : Definition) (stored : Stored Definition) →
+first-transition : (next : Next) (o : Option Leadership) (q : Proposing) (me slot tried sequence : ℕ) (own : Definition) (stored : DurableState Definition) →
     HasStored stored tried sequence → slot ≡ sequence + 1 → None ≡ leading_at (leading_of o) slot →
     next ≡ begun slot own (record { round = tried + 1; node = me }) →
-    row_at o q next ≡ on_propose me stored (working_from (leading_of o) q) own
+    transition_at o q next ≡ on_propose me stored (volatile_from (leading_of o) q) own
 unfolding on_propose propose_by
-first-row next o q me slot tried sequence own stored has after leads_not is =
+first-transition next o q me slot tried sequence own stored has after leads_not is =
     let for_next : slot ≡ next_sequence stored = after_published slot tried sequence stored has after in
     let none : None ≡ leading_at (leading_of o) (next_sequence stored) = leads_not ∙ ap (leading_at (leading_of o)) for_next in
-    ap (row_at o q) (is ∙ ap (λ (r : ℕ). begun slot own (record { round = r + 1; node = me })) (sym has.tried)) ∙
-    begun-row o q me slot (stored.tried + 1) own stored for_next ∙
+    ap (transition_at o q) (is ∙ ap (λ (r : ℕ). begun slot own (record { round = r + 1; node = me })) (sym has.tried)) ∙
+    begun-transition o q me slot (stored.tried + 1) own stored for_next ∙
     ap (λ (l : Leading). propose_by me stored l own) none
 
-pub first_answer : (r : Result Next held.Refusal) (o : Option Leadership) (q : Proposing) (me slot tried sequence : ℕ) (own : Definition) (stored : Stored Definition) →
+pub first_answer : (r : Result Next held.StepRejection) (o : Option Leadership) (q : Proposing) (me slot tried sequence : ℕ) (own : Definition) (stored : DurableState Definition) →
     HasStored stored tried sequence → slot ≡ sequence + 1 → None ≡ leading_at (leading_of o) slot →
     IfOk r (λ next. next ≡ begun slot own (record { round = tried + 1; node = me })) →
-    IfOk r (λ next. row_at o q next ≡ on_propose me stored (working_from (leading_of o) q) own)
-first_answer (Ok next) o q me slot tried sequence own stored has after leads_not is = first-row next o q me slot tried sequence own stored has after leads_not is
+    IfOk r (λ next. transition_at o q next ≡ on_propose me stored (volatile_from (leading_of o) q) own)
+first_answer (Ok next) o q me slot tried sequence own stored has after leads_not is = first-transition next o q me slot tried sequence own stored has after leads_not is
 first_answer (Err e) o q me slot tried sequence own stored has after leads_not is = is
 
 -- ---- with a leadership
 
 -- the beginning of a leader's proposal under this leadership, with these nodes as those whose answers are counted
-abbrev led_with : model.Leadership Definition → ℕ → Definition → (ℕ → Bool) → Row Definition
-led_with l s own heard =
+abbrev led_with : model.Leadership Definition → ℕ → Definition → (ℕ → Bool) → Transition Definition
+led_with l s own responders =
     ask_votes l (record {
       sequence = s;
       ballot = l.ballot;
       own = own;
       phase = model.Accepting;
-      heard = heard;
+      responders = responders;
       best = from_sequence l.base l.best s;
       seen = 0;
     })
@@ -101,19 +101,19 @@ covering None s l e = absurd cc
 covering (Some k) s l e = inside l k (is_in_window k.base s) e
 
 -- its transition, if this is the leadership held
-abbrev led_under : Leadership → ℕ → Definition → Leading → Row Definition
+abbrev led_under : Leadership → ℕ → Definition → Leading → Transition Definition
 led_under l slot own m =
     record {
       entry = None;
       messages = Accept slot l.ballot (carried (vote_of l.base l.best slot) own) ∷ [];
-      working = working_from m (Accepting (record { slot = slot; ballot = l.ballot; own = own; heard = 0; seen = 0 }));
+      volatile = volatile_from m (Accepting (record { slot = slot; ballot = l.ballot; own = own; responders = 0; seen = 0 }));
     }
 
-led-row : (l : Leadership) (o : Option Leadership) (q : Proposing) (me slot : ℕ) (own : Definition) (stored : Stored Definition) → slot ≡ next_sequence stored →
+led-transition : (l : Leadership) (o : Option Leadership) (q : Proposing) (me slot : ℕ) (own : Definition) (stored : DurableState Definition) → slot ≡ next_sequence stored →
     Some (leadership_of l) ≡ leading_at (leading_of o) slot →
-    row_at o q (led l slot own) ≡ on_propose me stored (working_from (leading_of o) q) own
-unfolding on_propose propose_by lead ask_votes says proposed
-led-row l o q me slot own stored for_next leads =
+    transition_at o q (led l slot own) ≡ on_propose me stored (volatile_from (leading_of o) q) own
+unfolding on_propose propose_by lead ask_votes only_sends proposed
+led-transition l o q me slot own stored for_next leads =
     let held : leading_of o ≡ Some (leadership_of l) = covering (leading_of o) slot (leadership_of l) leads in
     let at_next : Some (leadership_of l) ≡ leading_at (leading_of o) (next_sequence stored) = leads ∙ ap (leading_at (leading_of o)) for_next in
     ap (led_under l slot own) held ∙
@@ -121,60 +121,60 @@ led-row l o q me slot own stored for_next leads =
     ap (λ (s : ℕ). led_with (leadership_of l) s own nobody) for_next ∙
     ap (λ (m : Leading). propose_by me stored m own) at_next
 
-pub led_answer : (r : Result Next held.Refusal) (l : Leadership) (o : Option Leadership) (q : Proposing) (me slot tried sequence : ℕ) (own : Definition) (stored : Stored Definition) →
+pub led_answer : (r : Result Next held.StepRejection) (l : Leadership) (o : Option Leadership) (q : Proposing) (me slot tried sequence : ℕ) (own : Definition) (stored : DurableState Definition) →
     HasStored stored tried sequence → slot ≡ sequence + 1 → Some (leadership_of l) ≡ leading_at (leading_of o) slot →
-    IfOk r (λ next. next ≡ led l slot own) → IfOk r (λ next. row_at o q next ≡ on_propose me stored (working_from (leading_of o) q) own)
+    IfOk r (λ next. next ≡ led l slot own) → IfOk r (λ next. transition_at o q next ≡ on_propose me stored (volatile_from (leading_of o) q) own)
 led_answer (Ok next) l o q me slot tried sequence own stored has after leads is =
-    ap (row_at o q) is ∙ led-row l o q me slot own stored (after_published slot tried sequence stored has after) leads
+    ap (transition_at o q) is ∙ led-transition l o q me slot own stored (after_published slot tried sequence stored has after) leads
 led_answer (Err e) l o q me slot tried sequence own stored has after leads is = is
 
 -- ---- rejections
 
-pub led_refused : (r : Result Next held.Refusal) (o : Leading) (l : model.Leadership Definition) (slot tried sequence : ℕ) (stored : Stored Definition) →
-    HasStored stored tried sequence → slot ≡ sequence + 1 → Some l ≡ leading_at o slot → refused_by r ≡ None → refused_by r ≡ refuse_round stored (leading_at o (next_sequence stored))
-unfolding refuse_round
-led_refused r o l slot tried sequence stored has after leads none =
-    none ∙ ap (refuse_round stored) (leads ∙ ap (leading_at o) (after_published slot tried sequence stored has after))
+pub led_rejected : (r : Result Next held.StepRejection) (o : Leading) (l : model.Leadership Definition) (slot tried sequence : ℕ) (stored : DurableState Definition) →
+    HasStored stored tried sequence → slot ≡ sequence + 1 → Some l ≡ leading_at o slot → rejected_by r ≡ None → rejected_by r ≡ reject_round stored (leading_at o (next_sequence stored))
+unfolding reject_round
+led_rejected r o l slot tried sequence stored has after leads none =
+    none ∙ ap (reject_round stored) (leads ∙ ap (leading_at o) (after_published slot tried sequence stored has after))
 
-pub first_refused : (r : Result Next held.Refusal) (o : Leading) (slot tried sequence : ℕ) (stored : Stored Definition) →
-    HasStored stored tried sequence → slot ≡ sequence + 1 → None ≡ leading_at o slot → refused_by r ≡ rounds_full tried → refused_by r ≡ refuse_round stored (leading_at o (next_sequence stored))
-unfolding refuse_round
-first_refused r o slot tried sequence stored has after leads_not full =
-    full ∙ ap rounds_full (sym has.tried) ∙ ap (refuse_round stored) (leads_not ∙ ap (leading_at o) (after_published slot tried sequence stored has after))
+pub first_rejected : (r : Result Next held.StepRejection) (o : Leading) (slot tried sequence : ℕ) (stored : DurableState Definition) →
+    HasStored stored tried sequence → slot ≡ sequence + 1 → None ≡ leading_at o slot → rejected_by r ≡ rounds_full tried → rejected_by r ≡ reject_round stored (leading_at o (next_sequence stored))
+unfolding reject_round
+first_rejected r o slot tried sequence stored has after leads_not full =
+    full ∙ ap rounds_full (sym has.tried) ∙ ap (reject_round stored) (leads_not ∙ ap (leading_at o) (after_published slot tried sequence stored has after))
 
 -- why a proposal would be rejected where none runs
-pub led_allowed : (o : Leading) (l : model.Leadership Definition) (slot tried sequence : ℕ) (stored : Stored Definition) →
-    HasStored stored tried sequence → slot ≡ sequence + 1 → Some l ≡ leading_at o slot → IsWhyNot (refuse_round stored (leading_at o (next_sequence stored))) None
-unfolding refuse_round
+pub led_allowed : (o : Leading) (l : model.Leadership Definition) (slot tried sequence : ℕ) (stored : DurableState Definition) →
+    HasStored stored tried sequence → slot ≡ sequence + 1 → Some l ≡ leading_at o slot → IsWhyNot (reject_round stored (leading_at o (next_sequence stored))) None
+unfolding reject_round
 led_allowed o l slot tried sequence stored has after leads =
-    sym (ap (refuse_round stored) (leads ∙ ap (leading_at o) (after_published slot tried sequence stored has after)))
+    sym (ap (reject_round stored) (leads ∙ ap (leading_at o) (after_published slot tried sequence stored has after)))
 
-pub first_why : (why : Option held.Refusal) (o : Leading) (slot tried sequence : ℕ) (stored : Stored Definition) →
-    HasStored stored tried sequence → slot ≡ sequence + 1 → None ≡ leading_at o slot → IsWhyNot (rounds_full tried) why → IsWhyNot (refuse_round stored (leading_at o (next_sequence stored))) why
-unfolding refuse_round
+pub first_why : (why : Option held.StepRejection) (o : Leading) (slot tried sequence : ℕ) (stored : DurableState Definition) →
+    HasStored stored tried sequence → slot ≡ sequence + 1 → None ≡ leading_at o slot → IsWhyNot (rounds_full tried) why → IsWhyNot (reject_round stored (leading_at o (next_sequence stored))) why
+unfolding reject_round
 first_why why o slot tried sequence stored has after leads_not is =
-    let full : rounds_full tried ≡ refuse_round stored (leading_at o (next_sequence stored)) =
-    ap rounds_full (sym has.tried) ∙ ap (refuse_round stored) (leads_not ∙ ap (leading_at o) (after_published slot tried sequence stored has after)) in
-    subst (λ (x : Option Refusal). IsWhyNot x why) full is
+    let full : rounds_full tried ≡ reject_round stored (leading_at o (next_sequence stored)) =
+    ap rounds_full (sym has.tried) ∙ ap (reject_round stored) (leads_not ∙ ap (leading_at o) (after_published slot tried sequence stored has after)) in
+    subst (λ (x : Option StepRejection). IsWhyNot x why) full is
 
 -- ---- a retry
 
 -- a retry is for the same sequence, in the round after the highest one known
-again-row : (next : Next) (o : Option Leadership) (q : Proposing) (p : Proposal) (phase : model.Phase) (best : List (Option (Vote Definition))) (me tried : ℕ) (stored : Stored Definition) →
+again-transition : (next : Next) (o : Option Leadership) (q : Proposing) (p : Proposal) (phase : model.Phase) (best : List (Option (Vote Definition))) (me tried : ℕ) (stored : DurableState Definition) →
     proposing_of (leading_of o) q ≡ model.Running (proposal_of phase best p) → stored.tried ≡ tried → p.slot ≡ next_sequence stored →
     next ≡ begun p.slot p.own (record { round = max tried p.seen + 1; node = me }) →
-    row_at o q next ≡ on_retry me stored (working_from (leading_of o) q)
+    transition_at o q next ≡ on_retry me stored (volatile_from (leading_of o) q)
 unfolding on_retry round_known
-again-row next o q p phase best me tried stored runs same for_next is =
-    let W : model.Working Definition = working_from (leading_of o) q in
-    ap (row_at o q) (is ∙ ap (λ (r : ℕ). begun p.slot p.own (record { round = max r p.seen + 1; node = me })) (sym same)) ∙
-    begun-row o q me p.slot (max stored.tried p.seen + 1) p.own stored for_next ∙
-    ap (λ (x : model.Proposing Definition). running_row W x (λ proposal. begin_at me stored proposal.own (round_known stored proposal + 1))) (sym runs)
+again-transition next o q p phase best me tried stored runs same for_next is =
+    let W : model.VolatileState Definition = volatile_from (leading_of o) q in
+    ap (transition_at o q) (is ∙ ap (λ (r : ℕ). begun p.slot p.own (record { round = max r p.seen + 1; node = me })) (sym same)) ∙
+    begun-transition o q me p.slot (max stored.tried p.seen + 1) p.own stored for_next ∙
+    ap (λ (x : model.Proposing Definition). running_transition W x (λ proposal. begin_at me stored proposal.own (round_known stored proposal + 1))) (sym runs)
 
-pub again_answer : (r : Result Next held.Refusal) (o : Option Leadership) (q : Proposing) (p : Proposal) (phase : model.Phase) (best : List (Option (Vote Definition))) (me tried : ℕ) (stored : Stored Definition) →
+pub again_answer : (r : Result Next held.StepRejection) (o : Option Leadership) (q : Proposing) (p : Proposal) (phase : model.Phase) (best : List (Option (Vote Definition))) (me tried : ℕ) (stored : DurableState Definition) →
     proposing_of (leading_of o) q ≡ model.Running (proposal_of phase best p) → stored.tried ≡ tried → IsForNext stored (proposing_of (leading_of o) q) →
     IfOk r (λ next. next ≡ begun p.slot p.own (record { round = max tried p.seen + 1; node = me })) →
-    IfOk r (λ next. row_at o q next ≡ on_retry me stored (working_from (leading_of o) q))
+    IfOk r (λ next. transition_at o q next ≡ on_retry me stored (volatile_from (leading_of o) q))
 again_answer (Ok next) o q p phase best me tried stored runs same for_next is =
-    again-row next o q p phase best me tried stored runs same (subst (IsForNext stored) runs for_next) is
+    again-transition next o q p phase best me tried stored runs same (subst (IsForNext stored) runs for_next) is
 again_answer (Err e) o q p phase best me tried stored runs same for_next is = is

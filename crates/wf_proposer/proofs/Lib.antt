@@ -1,3 +1,3 @@
-pub mod HeardSets
+pub mod ResponderSets
 pub mod Begun
 pub mod Counted

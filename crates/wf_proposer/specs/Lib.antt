@@ -1,8 +1,8 @@
-pub mod Heard
+pub mod Responders
 pub mod Proposal
-pub mod Working
+pub mod VolatileState
 pub mod Change
 pub mod Next
-pub mod Refusal
-pub mod Standing
+pub mod StepRejection
+pub mod ProposalState
 pub mod Proposer

@@ -13,34 +13,34 @@ use Rattle.wf_codec.specs.Message as message
 use Rattle.wf_codec.specs.Message.{view_votes}
 use Rattle.wf_codec.specs.Report.{Report}
 use Rattle.wf_model.specs.Message.{Vote, first_vote, vote_of}
-use Rattle.wf_model.specs.Working.{better_each, carried, same_ballot}
-use Rattle.wf_model.specs.Table.{Row, on_accepted, on_promise}
-use Rattle.wf_proposer.specs.Heard.{are_majority}
-use Rattle.wf_proposer.specs.Working.{working_of}
+use Rattle.wf_model.specs.VolatileState.{better_each, carried, same_ballot}
+use Rattle.wf_model.specs.Table.{Transition, on_accepted, on_promise}
+use Rattle.wf_proposer.specs.Responders.{are_majority}
+use Rattle.wf_proposer.specs.VolatileState.{volatile_of}
 use Rattle.wf_proposer.specs.Change.{changed}
 use Rattle.wf_proposer.specs.declared.proposal.Proposal.{Proposal}
-use Rattle.wf_proposer.specs.declared.refusal.Refusal.{Refusal}
-use Rattle.wf_proposer.specs.declared.refusal.Refusal.TheVariants.{Memory}
-use Rattle.wf_proposer.specs.declared.working.Leadership.{Leadership}
-use Rattle.wf_proposer.specs.declared.working.Proposing.{Proposing}
-use Rattle.wf_proposer.specs.declared.working.Proposing.TheVariants.{Preparing, Accepting, Won, Overtaken}
-use Rattle.wf_proposer.specs.declared.working.Working.{Working}
+use Rattle.wf_proposer.specs.declared.step_rejection.StepRejection.{StepRejection}
+use Rattle.wf_proposer.specs.declared.step_rejection.StepRejection.TheVariants.{Memory}
+use Rattle.wf_proposer.specs.declared.volatile.Leadership.{Leadership}
+use Rattle.wf_proposer.specs.declared.volatile.Proposing.{Proposing}
+use Rattle.wf_proposer.specs.declared.volatile.Proposing.TheVariants.{Preparing, Accepting, Won, Overtaken}
+use Rattle.wf_proposer.specs.declared.volatile.VolatileState.{VolatileState}
 use Rattle.wf_proposer.specs.declared.change.Change.{Change}
 use Rattle.wf_proposer.specs.declared.change.Change.TheVariants.{Nothing, Becomes, Proposes, Promised, Voted, Sees}
 
--- the record to store, None if there is none; the messages to send after that; and the effect of a commit on the working part
+-- the record to store, None if there is none; the messages to send after that; and the effect of a commit on the volatile state
 pub record Next : Type 0 where
   pub entry : Option Record
   pub messages : List Message
   pub change : Change
 
--- the transition of this result, at a proposer with that working part
-abbrev pub row_at : Option Leadership → Proposing → Next → Row Definition
-row_at leadership proposing next =
+-- the transition of this result, at a proposer with that volatile state
+abbrev pub transition_at : Option Leadership → Proposing → Next → Transition Definition
+transition_at leadership proposing next =
     record {
       entry = option_map record_of_tape.view next.entry;
       messages = map message.view next.messages;
-      working = working_of (changed next.change leadership proposing);
+      volatile = volatile_of (changed next.change leadership proposing);
     }
 
 -- the result if a proposal of `own` begins at the ballot
@@ -50,7 +50,7 @@ begun slot own ballot =
       entry = Some (Tried ballot.round);
       messages = Prepare slot ballot ∷ [];
       change = Becomes (record {
-        proposing = Preparing (record { slot = slot; ballot = ballot; own = own; heard = 0; seen = 0 }) [];
+        proposing = Preparing (record { slot = slot; ballot = ballot; own = own; responders = 0; seen = 0 }) [];
         leadership = None;
       });
     }
@@ -61,7 +61,7 @@ led leadership slot own =
     record {
       entry = None;
       messages = Accept slot leadership.ballot (carried (vote_of leadership.base leadership.best slot) own) ∷ [];
-      change = Proposes (Accepting (record { slot = slot; ballot = leadership.ballot; own = own; heard = 0; seen = 0 }));
+      change = Proposes (Accepting (record { slot = slot; ballot = leadership.ballot; own = own; responders = 0; seen = 0 }));
     }
 
 -- the leadership once a majority has promised, with these best votes
@@ -75,20 +75,20 @@ elected_for p best d =
       entry = None;
       messages = Accept p.slot p.ballot d ∷ [];
       change = Becomes (record {
-        proposing = Accepting (record p { heard = 0 });
+        proposing = Accepting (record p { responders = 0 });
         leadership = Some (leadership_from p best);
       });
     }
 
-abbrev pub elected : Proposal → List (Option (Vote Definition)) → Next
-elected p best = elected_for p best (carried (first_vote best) p.own)
+abbrev pub elect : Proposal → List (Option (Vote Definition)) → Next
+elect p best = elected_for p best (carried (first_vote best) p.own)
 
 -- the result after these of n nodes promised, the last one with this report
 abbrev pub promised_by : ℕ → Proposal → List (Option (Vote Definition)) → ℕ → Report → Next
-promised_by n p best heard report =
-    if are_majority n heard
-    then elected p (better_each best (view_votes report.votes))
-    else record { entry = None; messages = []; change = Promised heard report }
+promised_by n p best responders report =
+    if are_majority n responders
+    then elect p (better_each best (view_votes report.votes))
+    else record { entry = None; messages = []; change = Promised responders report }
 
 -- how the proposal ends if d is published at its slot
 abbrev pub ended_with : Proposal → Definition → Proposing
@@ -105,10 +105,10 @@ chosen_for p d =
 
 -- the result after these of n nodes voted for d
 abbrev pub voted_by : ℕ → Proposal → Definition → ℕ → Next
-voted_by n p d heard =
-    if are_majority n heard
+voted_by n p d responders =
+    if are_majority n responders
     then chosen_for p d
-    else record { entry = None; messages = []; change = Voted heard }
+    else record { entry = None; messages = []; change = Voted responders }
 
 -- the result after a Nack of this ballot at the slot, with the promise
 abbrev pub nacked_by : Proposal → ℕ → Ballot → Ballot → Next
@@ -120,22 +120,22 @@ nacked_by p slot ballot promise =
     }
 
 -- the transition sends something
-abbrev pub Sends : Row Definition → Type 0
-Sends row = row.messages ≡ [] → ⊥
+abbrev pub Sends : Transition Definition → Type 0
+Sends transition = transition.messages ≡ [] → ⊥
 
--- the transitions of a Promise and of an Accepted, in a farm of n nodes, at this working part
-abbrev pub promise_row : ℕ → Working → ℕ → Ballot → Report → Row Definition
-promise_row n working from ballot report = on_promise n (working_of working) from report.slot ballot (view_votes report.votes)
+-- the transitions of a Promise and of an Accepted, in a farm of n nodes, at this volatile state
+abbrev pub promise_transition : ℕ → VolatileState → ℕ → Ballot → Report → Transition Definition
+promise_transition n volatile from ballot report = on_promise n (volatile_of volatile) from report.slot ballot (view_votes report.votes)
 
-abbrev pub accepted_row : ℕ → Working → ℕ → ℕ → Ballot → Row Definition
-accepted_row n working from slot ballot = on_accepted definition_eq n (working_of working) from slot ballot
+abbrev pub accepted_transition : ℕ → VolatileState → ℕ → ℕ → Ballot → Transition Definition
+accepted_transition n volatile from slot ballot = on_accepted definition_eq n (volatile_of volatile) from slot ballot
 
 -- ---- a call's result
 
--- After Ok the result is this transition, at a proposer with that working part.
-abbrev pub Returns : Working → Row Definition → Result Next Refusal → Type 0
-Returns working row result = IfOk result (λ next. row_at working.leadership working.proposing next ≡ row)
+-- After Ok the result is this transition, at a proposer with that volatile state.
+abbrev pub Returns : VolatileState → Transition Definition → Result Next StepRejection → Type 0
+Returns volatile transition result = IfOk result (λ next. transition_at volatile.leadership volatile.proposing next ≡ transition)
 
 -- The only error is allocation failure, and only if this transition sends something.
-abbrev pub AllocatesOnlyToSend : Row Definition → Result Next Refusal → Type 0
-AllocatesOnlyToSend row result = IsErr result → Sends row × (result ≡ Err Memory)
+abbrev pub AllocatesOnlyToSend : Transition Definition → Result Next StepRejection → Type 0
+AllocatesOnlyToSend transition result = IsErr result → Sends transition × (result ≡ Err Memory)

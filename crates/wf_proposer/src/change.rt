@@ -1,20 +1,20 @@
-use crate::heard::Heard;
-use crate::working::{Proposing, Working};
+use crate::responders::Responders;
+use crate::volatile::{Proposing, VolatileState};
 use wf_codec::Report;
 
-/// The effect of a commit on the working part.
+/// The effect of a commit on the volatile state.
 #[derive(Drop)]
 pub enum Change {
     /// Nothing.
     Nothing,
-    /// The new working part: a proposal begins and a leadership ends, or a majority has promised and a leadership begins.
-    Becomes(Working),
+    /// The new volatile state: a proposal begins and a leadership ends, or a majority has promised and a leadership begins.
+    Becomes(VolatileState),
     /// What is proposed now, or how it ended; a leadership stays.
     Proposes(Proposing),
     /// These nodes have promised, and this is the report of the last one.
-    Promised(Heard, Report),
+    Promised(Responders, Report),
     /// These nodes have voted.
-    Voted(Heard),
+    Voted(Responders),
     /// The highest round that a Nack reported.
     Sees(u32),
 }

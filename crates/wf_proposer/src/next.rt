@@ -7,7 +7,7 @@ use std::marker::Model;
 use wf_codec::Message;
 use wf_journal::Record;
 
-/// A proposer's result: a record to store, messages to send once it is stored, and the change of the working part.
+/// A proposer's result: a record to store, messages to send once it is stored, and the change of the volatile state.
 pub struct Next {
     entry: Option<Record>,
     messages: Vec<Message>,
@@ -49,7 +49,7 @@ impl Next {
     }
 
     /// One message to send, once the record, if any, is stored.
-    pub(crate) fn says(
+    pub(crate) fn only_sends(
         alloc: Global,
         entry: Option<Record>,
         message: Message,
@@ -87,7 +87,7 @@ impl Next {
         self.messages.as_slice()
     }
 
-    /// The record, the messages and the change of the working part.
+    /// The record, the messages and the change of the volatile state.
     pub(crate) fn into_parts(self) -> (Option<Record>, Vec<Message>, Change)
         ensures entry { result.0 ≡ self.entry }
         ensures messages { result.1.items ≡ self.messages }

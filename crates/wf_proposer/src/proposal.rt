@@ -1,10 +1,10 @@
 ghost use Rattle.std.specs.Prelude.{◌≡◌, [], None, Ok};
 
 use crate::change::Change;
-use crate::heard::Heard;
 use crate::next::Next;
-use crate::refusal::Refusal;
-use crate::working::{Leadership, Proposing, Working};
+use crate::responders::Responders;
+use crate::step_rejection::StepRejection;
+use crate::volatile::{Leadership, Proposing, VolatileState};
 use std::alloc::{AllocError, Global};
 use wf_ballot::{Ballot, NodeId, Round, Slot};
 use wf_canon::Canon;
@@ -21,7 +21,7 @@ pub struct Proposal {
     /// Its node's own definition.
     pub own: Canon,
     /// The nodes whose answers are counted in its phase.
-    pub heard: Heard,
+    pub responders: Responders,
     /// The highest round that a Nack reported, 0 before the first.
     pub seen: u32,
 }
@@ -31,22 +31,22 @@ impl Proposal {
     ghost use Rattle.wf_codec.specs.Message.{view_votes};
     ghost use Rattle.wf_model.specs.Message.{first_vote};
     ghost use Rattle.wf_model.specs.Table as table;
-    ghost use Rattle.wf_model.specs.Working as model;
-    ghost use Rattle.wf_proposer.specs.Heard.{are_majority};
-    ghost use Rattle.wf_proposer.specs.Next.{accepted_row, begun, chosen_for, elected, elected_for, ended_with, leadership_from, nacked_by, promise_row, promised_by, voted_by, AllocatesOnlyToSend, Returns};
-    ghost use Rattle.wf_proposer.specs.Proposal.{Hears};
-    ghost use Rattle.wf_proposer.specs.Refusal.{refused_by};
-    ghost use Rattle.wf_proposer.specs.Working.{accepting, leading_of, led_votes, preparing};
+    ghost use Rattle.wf_model.specs.VolatileState as model;
+    ghost use Rattle.wf_proposer.specs.Responders.{are_majority};
+    ghost use Rattle.wf_proposer.specs.Next.{accepted_transition, begun, chosen_for, elect, elected_for, ended_with, leadership_from, nacked_by, promise_transition, promised_by, voted_by, AllocatesOnlyToSend, Returns};
+    ghost use Rattle.wf_proposer.specs.Proposal.{IsNewResponse};
+    ghost use Rattle.wf_proposer.specs.StepRejection.{rejected_by};
+    ghost use Rattle.wf_proposer.specs.VolatileState.{accepting, leading_of, led_votes, preparing};
 
     /// A proposal of `own`, of which no answer is counted yet.
     pub fn new(slot: Slot, ballot: Ballot, own: Canon) -> Proposal
-        ensures { result ≡ record { slot = slot; ballot = ballot; own = own; heard = 0; seen = 0 } }
+        ensures { result ≡ record { slot = slot; ballot = ballot; own = own; responders = 0; seen = 0 } }
     {
         Proposal {
             slot,
             ballot,
             own,
-            heard: Heard::nobody(),
+            responders: Responders::nobody(),
             seen: 0,
         }
     }
@@ -56,25 +56,25 @@ impl Proposal {
         ensures { IfOk result (λ next. next ≡ begun slot own ballot) }
     {
         let proposal = Proposal::new(slot, ballot, own);
-        let working = Working {
+        let volatile = VolatileState {
             proposing: Proposing::Preparing(proposal, BestVotes::none()),
             leadership: None,
         };
         let tried = Record::Tried(Round::of(ballot));
         let message = Message::Prepare(slot, ballot);
-        let change = Change::Becomes(working);
-        Next::says(alloc, Some(tried), message, change)
+        let change = Change::Becomes(volatile);
+        Next::only_sends(alloc, Some(tried), message, change)
     }
 
     /// The proposal begins again, in a round above the one tried and each one reported. There may be none left.
     #[tactic(auto, unfolding(wf_model::specs::Table::rounds_full))]
-    pub fn again(&self, alloc: Global, node: NodeId, tried: u32) -> Result<Next, Refusal>
-        ensures refused { refused_by result ≡ table.rounds_full (max tried self.now.seen) }
-        ensures row { IfOk result (λ next. next ≡ begun self.now.slot self.now.own
+    pub fn again(&self, alloc: Global, node: NodeId, tried: u32) -> Result<Next, StepRejection>
+        ensures refused { rejected_by result ≡ table.rounds_full (max tried self.now.seen) }
+        ensures transition { IfOk result (λ next. next ≡ begun self.now.slot self.now.own
             (record { round = max tried self.now.seen + 1; node = node })) }
     {
         match Ballot::next(tried.max(self.seen), node) {
-            None => Err(Refusal::RoundsFull),
+            None => Err(StepRejection::RoundsFull),
             Some(ballot) => {
                 let own = self.own.copy()?;
                 let next = Proposal::begin(alloc, self.slot, own, ballot)?;
@@ -91,15 +91,15 @@ impl Proposal {
         slot: Slot,
         own: Canon,
         tried: u32,
-    ) -> Result<Next, Refusal>
-        ensures refused { refused_by result ≡ table.rounds_full tried }
-        ensures row { IfOk result (λ next. next ≡
+    ) -> Result<Next, StepRejection>
+        ensures refused { rejected_by result ≡ table.rounds_full tried }
+        ensures transition { IfOk result (λ next. next ≡
             begun slot own (record { round = tried + 1; node = node })) }
     {
         match Ballot::next(tried, node) {
             None => {
                 drop(own);
-                Err(Refusal::RoundsFull)
+                Err(StepRejection::RoundsFull)
             }
             Some(ballot) => {
                 let next = Proposal::begin(alloc, slot, own, ballot)?;
@@ -116,7 +116,7 @@ impl Proposal {
     }
 
     /// Whether this is the proposal at the slot and the ballot.
-    #[tactic(auto, unfolding(wf_model::specs::Working::same_ballot))]
+    #[tactic(auto, unfolding(wf_model::specs::VolatileState::same_ballot))]
     pub fn is_at(&self, slot: Slot, ballot: Ballot) -> bool
         ensures { result ≡ ((self.now.slot == slot) && model.same_ballot self.now.ballot ballot) }
     {
@@ -125,17 +125,17 @@ impl Proposal {
 
     /// Whether the proposal waits for the answer, which is of its phase: it is of its slot and ballot, from a node of the farm whose
     /// answer isn't counted yet.
-    #[tactic(auto, unfolding(wf_model::specs::Table::hears, wf_model::specs::Working::is_at, wf_model::specs::Working::same_phase))]
-    fn hears(&self, n: u8, from: NodeId, slot: Slot, ballot: Ballot) -> bool
-        ensures promise { Hears model.Preparing n self.now from slot ballot result }
-        ensures vote { Hears model.Accepting n self.now from slot ballot result }
+    #[tactic(auto, unfolding(wf_model::specs::Table::is_new_response, wf_model::specs::VolatileState::is_at, wf_model::specs::VolatileState::same_phase))]
+    fn is_new_response(&self, n: u8, from: NodeId, slot: Slot, ballot: Ballot) -> bool
+        ensures promise { IsNewResponse model.Preparing n self.now from slot ballot result }
+        ensures vote { IsNewResponse model.Accepting n self.now from slot ballot result }
     {
-        self.is_at(slot, ballot) && from.number() < n && !self.heard.contains(from)
+        self.is_at(slot, ballot) && from.number() < n && !self.responders.contains(from)
     }
 
     /// A Promise arrived while promises are asked for, `best` the best votes so far: it is counted, and for each slot the better vote
-    /// is kept. Once a majority has promised, votes are asked for; only that allocates. An answer that the proposal doesn't wait for
-    /// has no effect.
+    /// is kept. Once a majority has promised, votes are asked for; only that allocates. An answer that the proposal doesn't wait
+    /// for has no effect.
     pub fn on_promise(
         &self,
         alloc: Global,
@@ -144,17 +144,17 @@ impl Proposal {
         from: NodeId,
         ballot: Ballot,
         report: Report,
-    ) -> Result<Next, Refusal>
+    ) -> Result<Next, StepRejection>
         ensures memory { (leadership : Option Leadership) → AllocatesOnlyToSend
-            (promise_row n (preparing leadership self.now best.now) from ballot report) result }
-        ensures row { (leadership : Option Leadership) → Returns
+            (promise_transition n (preparing leadership self.now best.now) from ballot report) result }
+        ensures transition { (leadership : Option Leadership) → Returns
             (preparing leadership self.now best.now)
-            (promise_row n (preparing leadership self.now best.now) from ballot report) result }
+            (promise_transition n (preparing leadership self.now best.now) from ballot report) result }
     {
-        if !self.hears(n, from, report.slot(), ballot) {
-            return ignored(alloc, report);
+        if !self.is_new_response(n, from, report.slot(), ballot) {
+            return ignore(alloc, report);
         }
-        self.promised(alloc, n, self.heard.with(from), best, report)
+        self.promised(alloc, n, self.responders.with(from), best, report)
     }
 
     /// The result after these nodes promised, the last one with this report. Once they are a majority, votes are asked for; only
@@ -163,25 +163,25 @@ impl Proposal {
         &self,
         alloc: Global,
         n: u8,
-        heard: Heard,
+        responders: Responders,
         best: &BestVotes,
         report: Report,
-    ) -> Result<Next, Refusal>
+    ) -> Result<Next, StepRejection>
         ensures memory { IsErr result →
-            (are_majority n heard ≡ true) × (result ≡ Err Refusal.Memory) }
-        ensures next { IfOk result (λ next. next ≡ promised_by n self.now best.now heard report) }
+            (are_majority n responders ≡ true) × (result ≡ Err StepRejection.Memory) }
+        ensures next { IfOk result (λ next. next ≡ promised_by n self.now best.now responders report) }
     {
-        if !heard.is_majority(n) {
-            return Ok(Next::quiet(alloc, Change::Promised(heard, report)));
+        if !responders.is_majority(n) {
+            return Ok(Next::quiet(alloc, Change::Promised(responders, report)));
         }
-        let next = self.elected(alloc, best, report)?;
+        let next = self.elect(alloc, best, report)?;
         Ok(next)
     }
 
     /// A majority has promised, the last node with this report: votes are asked for, and a leadership begins.
-    fn elected(&self, alloc: Global, best: &BestVotes, report: Report) -> Result<Next, AllocError>
+    fn elect(&self, alloc: Global, best: &BestVotes, report: Report) -> Result<Next, AllocError>
         ensures { IfOk result (λ next. next ≡
-            elected self.now (model.better_each best.now (view_votes report.votes))) }
+            elect self.now (model.better_each best.now (view_votes report.votes))) }
     {
         match best.copy() {
             Ok(copy) => {
@@ -198,7 +198,7 @@ impl Proposal {
 
     /// Votes are asked for, for the best vote reported at the proposal's slot, or else for its own definition.
     fn leads(&self, alloc: Global, best: BestVotes) -> Result<Next, AllocError>
-        ensures { IfOk result (λ next. next ≡ elected self.now best) }
+        ensures { IfOk result (λ next. next ≡ elect self.now best) }
     {
         match best.first_or(&self.own).copy() {
             Ok(canon) => self.asks_votes(alloc, best, canon),
@@ -216,8 +216,8 @@ impl Proposal {
         match self.own.copy() {
             Ok(own) => {
                 let message = Message::Accept(self.slot, self.ballot, canon);
-                let change = Change::Becomes(self.led_by(own, best));
-                Next::says(alloc, None, message, change)
+                let change = Change::Becomes(self.lead_by(own, best));
+                Next::only_sends(alloc, None, message, change)
             }
             Err(fault) => {
                 drop(best);
@@ -227,10 +227,10 @@ impl Proposal {
         }
     }
 
-    /// The working part once votes are asked for; `own` is a copy of the proposal's own definition.
-    fn led_by(&self, own: Canon, best: BestVotes) -> Working
+    /// The volatile state once votes are asked for; `own` is a copy of the proposal's own definition.
+    fn lead_by(&self, own: Canon, best: BestVotes) -> VolatileState
         ensures { result ≡ record {
-          proposing = Proposing.Accepting (record self.now { own = own; heard = 0 });
+          proposing = Proposing.Accepting (record self.now { own = own; responders = 0 });
           leadership = Some (leadership_from self.now best);
         } }
     {
@@ -241,7 +241,7 @@ impl Proposal {
             ballot: self.ballot,
             best,
         };
-        Working {
+        VolatileState {
             proposing: Proposing::Accepting(proposal),
             leadership: Some(leadership),
         }
@@ -249,7 +249,7 @@ impl Proposal {
 
     /// The definition that votes were asked for under the leadership: that of the best vote reported at the proposal's slot, or else
     /// its own.
-    #[tactic(auto, unfolding(wf_model::specs::Message::first_vote, wf_model::specs::Working::carried))]
+    #[tactic(auto, unfolding(wf_model::specs::Message::first_vote, wf_model::specs::VolatileState::carried))]
     fn carried<'a>(&'a self, leadership: &'a Option<Leadership>) -> &'a Canon
         ensures { result.now ≡ model.carried
             (first_vote (led_votes (leading_of leadership.now) self.now.slot)) self.now.own }
@@ -270,27 +270,38 @@ impl Proposal {
         from: NodeId,
         slot: Slot,
         ballot: Ballot,
-    ) -> Result<Next, Refusal>
+    ) -> Result<Next, StepRejection>
         ensures memory { AllocatesOnlyToSend
-            (accepted_row n (accepting leadership.now self.now) from slot ballot) result }
-        ensures row { Returns (accepting leadership.now self.now)
-            (accepted_row n (accepting leadership.now self.now) from slot ballot) result }
+            (accepted_transition n (accepting leadership.now self.now) from slot ballot) result }
+        ensures transition { Returns (accepting leadership.now self.now)
+            (accepted_transition n (accepting leadership.now self.now) from slot ballot) result }
     {
-        if !self.hears(n, from, slot, ballot) {
+        if !self.is_new_response(n, from, slot, ballot) {
             return Ok(Next::quiet(alloc, Change::Nothing));
         }
-        self.voted(alloc, n, self.heard.with(from), self.carried(leadership))
+        self.voted(
+            alloc,
+            n,
+            self.responders.with(from),
+            self.carried(leadership),
+        )
     }
 
     /// The result after these nodes voted for the definition. Once they are a majority, it is published and the proposal ends; only
     /// that allocates.
-    fn voted(&self, alloc: Global, n: u8, heard: Heard, canon: &Canon) -> Result<Next, Refusal>
+    fn voted(
+        &self,
+        alloc: Global,
+        n: u8,
+        responders: Responders,
+        canon: &Canon,
+    ) -> Result<Next, StepRejection>
         ensures memory { IsErr result →
-            (are_majority n heard ≡ true) × (result ≡ Err Refusal.Memory) }
-        ensures next { IfOk result (λ next. next ≡ voted_by n self.now canon.now heard) }
+            (are_majority n responders ≡ true) × (result ≡ Err StepRejection.Memory) }
+        ensures next { IfOk result (λ next. next ≡ voted_by n self.now canon.now responders) }
     {
-        if !heard.is_majority(n) {
-            return Ok(Next::quiet(alloc, Change::Voted(heard)));
+        if !responders.is_majority(n) {
+            return Ok(Next::quiet(alloc, Change::Voted(responders)));
         }
         let next = self.publishes(alloc, canon)?;
         Ok(next)
@@ -302,10 +313,10 @@ impl Proposal {
     {
         let published = Record::Published(self.slot, canon.copy()?);
         match canon.copy() {
-            Ok(told) => {
-                let message = Message::Chosen(self.slot, told);
+            Ok(reported) => {
+                let message = Message::Chosen(self.slot, reported);
                 let change = Change::Proposes(self.ended(canon));
-                Next::says(alloc, Some(published), message, change)
+                Next::only_sends(alloc, Some(published), message, change)
             }
             Err(fault) => {
                 drop(published);
@@ -337,7 +348,7 @@ impl Proposal {
 }
 
 /// A report that no proposal waits for has no effect.
-pub fn ignored(alloc: Global, report: Report) -> Result<Next, Refusal>
+pub fn ignore(alloc: Global, report: Report) -> Result<Next, StepRejection>
     ensures { result ≡ Ok (record { entry = None; messages = []; change = Change.Nothing }) }
 {
     drop(report);

@@ -6,7 +6,7 @@ use Rattle.std.proofs.lemmas.Option.{slice_get_past, slice_get_within}
 use Rattle.wf_ballot.specs.Sequence.{last_sequence}
 use Rattle.wf_ballot.specs.Slot.{IsSlot}
 use Rattle.wf_def.specs.Definition.{Definition}
-use Rattle.wf_model.specs.Stored.{definition_at}
+use Rattle.wf_model.specs.DurableState.{definition_at}
 
 -- one more of a list
 one_more : (k : ℕ) (list : List Definition) → take (suc k) list ≡ take k list ++ option_to_list (slice_get list k)

@@ -2,11 +2,11 @@
 use Rattle.std.proofs.Common.{◌≡◌, ◌≢◌, ◌∙◌, ℕ, ◌+◌, ◌-◌, ◌≤◌, ◌<◌, List, [], ◌∷◌, ◌++◌, length, refl, sym, ap, subst, arith, length-append, append_assoc, append-nil}
 use Rattle.std.specs.Int.{w32, to_be_bytes}
 use Rattle.std.specs.Prelude.{◌^◌, Result, Ok, Err, MatchResult}
-use Rattle.wf_canon.specs.Refusal.{IsWhyRefused}
+use Rattle.wf_canon.specs.StepRejection.{IsWhyRejected}
 use Rattle.wf_codec.specs.Message.{HasText}
 use Rattle.wf_def.specs.Definition.{Definition}
 use Rattle.wf_frame.specs.Report.{text_bytes}
-use Rattle.wf_reader.specs.Reading.{ReadsTexts}
+use Rattle.wf_reader.specs.ReplyReader.{ReadsTexts}
 use Rattle.wf_reader.specs.Reply.{AreTexts, texts_bytes}
 use Rattle.wf_reader.specs.declared.fault.ReplyFault.{ReplyFault}
 use Rattle.wf_reader.specs.declared.fault.ReplyFault.TheVariants.{Memory as NoMemory}
@@ -64,8 +64,8 @@ each_more (Ok x) old mid new found rest d e pushed same whole later =
     later ∙ ap (λ (l : List Definition). l ++ rest) pushed ∙ append_assoc old (d ∷ []) rest ∙ ap (λ (x : Definition). old ++ x ∷ rest) same ∙ ap (λ (l : List Definition). old ++ l) (sym whole)
 each_more (Err fault) old mid new found rest d e pushed same whole later = later
 
--- a text that is a definition's isn't refused, memory aside
-pub not_refused : (fault : CanonFault) (text : List ℕ) (d : Definition) → IsWhyRefused fault text → HasText d → text ≡ canon d → fault ≡ Memory
-not_refused TooBig text d why has is = absurd (omega (arith, why, has.short, ap length is))
-not_refused NotCanonical text d why has is = absurd (why d has.within (sym is))
-not_refused Memory text d why has is = refl
+-- a text that is a definition's isn't rejected, memory aside
+pub not_rejected : (fault : CanonFault) (text : List ℕ) (d : Definition) → IsWhyRejected fault text → HasText d → text ≡ canon d → fault ≡ Memory
+not_rejected TooBig text d why has is = absurd (omega (arith, why, has.short, ap length is))
+not_rejected NotCanonical text d why has is = absurd (why d has.within (sym is))
+not_rejected Memory text d why has is = refl

@@ -2,18 +2,18 @@
 use Rattle.std.specs.Prelude.{◌≡◌, ◌≢◌, ℕ, ◌<◌, ◌≤◌, List, drop, length, take}
 use Rattle.wf_def.specs.Definition.{Definition}
 use Rattle.wf_digest.specs.Digest.{digest_at}
-use Rattle.wf_model.specs.Table.{most_told}
+use Rattle.wf_model.specs.Table.{most_reports}
 use Rattle.wf_reader.specs.Answer.{Answer, most_distance}
 use Rattle.wf_reader.specs.declared.answerer.Answerer.{Answerer}
 use Rattle.wf_reader.specs.declared.question.Question.{Question}
-use Rattle.wf_reader.specs.declared.rejection.Rejection.{Rejection}
-use Rattle.wf_reader.specs.declared.rejection.Rejection.TheVariants as causes
+use Rattle.wf_reader.specs.declared.rejection.QuestionRejection.{QuestionRejection}
+use Rattle.wf_reader.specs.declared.rejection.QuestionRejection.TheVariants as causes
 use Rattle.wf_reader.specs.declared.reply.Reply.{Reply}
 use Rattle.wf_reader.specs.declared.reply.Reply.TheVariants as replies
 
 -- the definitions that are published at the next sequences, at most eight
-abbrev pub next_told : List Definition → ℕ → List Definition
-next_told history published = take most_told (drop published history)
+abbrev pub next_reported : List Definition → ℕ → List Definition
+next_reported history published = take most_reports (drop published history)
 
 -- the digests differ at the reader's last published sequence, which the answerer has published too
 pub record Differ (history : List Definition) (q : Question) : Type 0 where
@@ -21,24 +21,24 @@ pub record Differ (history : List Definition) (q : Question) : Type 0 where
   pub differ : q.digest ≢ digest_at history q.published
 
 -- the reader is of the same farm, and the answerer isn't too far from a voter
-pub record IsHeard (own : Answerer) (q : Question) : Type 0 where
+pub record IsReceived (own : Answerer) (q : Question) : Type 0 where
   pub farm : q.farm ≡ own.farm
   pub near : own.distance ≤ most_distance
 
 pub record IsAnswerTo (own : Answerer) (history : List Definition) (q : Question) (a : Answer) : Type 0 where
-  pub heard : IsHeard own q
+  pub received : IsReceived own q
   pub agree : ¬ Differ history q
   pub distance : a.distance ≡ own.distance
   pub published : a.published ≡ length history
   pub digest : a.digest ≡ digest_at history (length history)
-  pub definitions : a.definitions ≡ next_told history q.published
+  pub definitions : a.definitions ≡ next_reported history q.published
 
 -- why a question isn't answered; one of another version isn't read as a question
-abbrev pub IsCause : Answerer → List Definition → Question → Rejection → Type 0
+abbrev pub IsCause : Answerer → List Definition → Question → QuestionRejection → Type 0
 IsCause own history q causes.OtherFarm = q.farm ≢ own.farm
 IsCause own history q causes.OtherVersion = ⊥
 IsCause own history q causes.TooFar = (q.farm ≡ own.farm) × (most_distance < own.distance)
-IsCause own history q (causes.OtherHistory s) = IsHeard own q × Differ history q × (s ≡ q.published)
+IsCause own history q (causes.OtherHistory s) = IsReceived own q × Differ history q × (s ≡ q.published)
 
 abbrev pub IsReplyTo : Answerer → List Definition → Question → Reply → Type 0
 IsReplyTo own history q (replies.Answer a) = IsAnswerTo own history q a

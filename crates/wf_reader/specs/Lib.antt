@@ -1,5 +1,5 @@
 pub mod Answer
 pub mod Answerer
 pub mod Question
-pub mod Reading
+pub mod ReplyReader
 pub mod Reply

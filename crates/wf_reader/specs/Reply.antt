@@ -5,10 +5,10 @@ use Rattle.wf_ballot.specs.Sequence.{IsSequence, seq_bytes}
 use Rattle.wf_codec.specs.Message.{HasText}
 use Rattle.wf_def.specs.Definition.{Definition}
 use Rattle.wf_frame.specs.Report.{text_bytes}
-use Rattle.wf_model.specs.Table.{most_told}
+use Rattle.wf_model.specs.Table.{most_reports}
 use Rattle.wf_reader.specs.Answer.{Answer, most_distance}
-use Rattle.wf_reader.specs.declared.rejection.Rejection.{Rejection}
-use Rattle.wf_reader.specs.declared.rejection.Rejection.TheVariants as causes
+use Rattle.wf_reader.specs.declared.rejection.QuestionRejection.{QuestionRejection}
+use Rattle.wf_reader.specs.declared.rejection.QuestionRejection.TheVariants as causes
 use Rattle.wf_reader.specs.declared.reply.Reply.{Reply}
 use Rattle.wf_reader.specs.declared.reply.Reply.TheVariants as replies
 use Rattle.wf_spelling.specs.Canon.{canon, most_canon_bytes}
@@ -23,10 +23,10 @@ pub record IsAnswer (a : Answer) : Type 0 where
   pub distance : a.distance ≤ most_distance
   pub published : IsSequence a.published
   pub digest : length a.digest ≡ 32
-  pub few : length a.definitions ≤ most_told
+  pub few : length a.definitions ≤ most_reports
   pub texts : AreTexts a.definitions
 
-abbrev pub IsRejection : Rejection → Type 0
+abbrev pub IsRejection : QuestionRejection → Type 0
 IsRejection (causes.OtherHistory s) = IsSequence s
 IsRejection _ = Unit {0}
 
@@ -49,18 +49,18 @@ abbrev pub answer_bytes : Answer → List ℕ
 answer_bytes a = (1 ∷ a.distance ∷ []) ++ answer_fields a
 
 -- a rejection: a 2, its cause, and a sequence
-abbrev pub cause_byte : Rejection → ℕ
+abbrev pub cause_byte : QuestionRejection → ℕ
 cause_byte causes.OtherFarm = 1
 cause_byte causes.OtherVersion = 2
 cause_byte (causes.OtherHistory s) = 3
 cause_byte causes.TooFar = 4
 
 -- the sequence up to which histories differ; 0 for another cause
-abbrev pub cause_sequence : Rejection → ℕ
+abbrev pub cause_sequence : QuestionRejection → ℕ
 cause_sequence (causes.OtherHistory s) = s
 cause_sequence _ = 0
 
-abbrev pub rejection_bytes : Rejection → List ℕ
+abbrev pub rejection_bytes : QuestionRejection → List ℕ
 rejection_bytes why = (2 ∷ cause_byte why ∷ []) ++ seq_bytes (cause_sequence why)
 
 unfoldable pub body_bytes : Reply → List ℕ
@@ -73,7 +73,7 @@ reply_bytes reply = to_be_bytes w32 (length (body_bytes reply)) ++ body_bytes re
 
 -- the most bytes after the length, and in all
 abbrev pub most_body_bytes : ℕ
-most_body_bytes = 36 + most_told * (4 + most_canon_bytes)
+most_body_bytes = 36 + most_reports * (4 + most_canon_bytes)
 
 abbrev pub most_reply_bytes : ℕ
 most_reply_bytes = 4 + most_body_bytes

@@ -19,7 +19,7 @@ pub struct Answer {
 
 impl Model for Answer {
     ghost use Rattle.std.specs.Prelude.{◌≤◌, length};
-    ghost use Rattle.wf_model.specs.Table.{most_told};
+    ghost use Rattle.wf_model.specs.Table.{most_reports};
     ghost use Rattle.wf_reader.specs.Answer.{Answer, most_distance};
 
     ghost Value = { Answer };
@@ -31,19 +31,19 @@ impl Model for Answer {
       definitions = a.definitions.items;
     } };
 
-    ghost invariant = { λ a. (a.distance ≤ most_distance) × (length a.definitions.items ≤ most_told) };
+    ghost invariant = { λ a. (a.distance ≤ most_distance) × (length a.definitions.items ≤ most_reports) };
 }
 
 impl Answer {
     ghost use Rattle.std.specs.Prelude.{◌≡◌, ◌≤◌, length};
     ghost use Rattle.wf_ballot.specs.Sequence.{IsSequence};
-    ghost use Rattle.wf_model.specs.Table.{most_told};
+    ghost use Rattle.wf_model.specs.Table.{most_reports};
     ghost use Rattle.wf_reader.specs.Answer.{most_distance};
 
     /// The answer of these parts.
     pub fn new(distance: u8, published: Seq, digest: [u8; 32], definitions: Vec<Canon>) -> Answer
         requires near { distance ≤ most_distance }
-        requires few { length definitions.items ≤ most_told }
+        requires few { length definitions.items ≤ most_reports }
         ensures { result ≡ record { distance = distance; published = published; digest = digest; definitions = definitions.items } }
     {
         Answer {
@@ -81,7 +81,7 @@ impl Answer {
     /// The definitions at the sequences after the reader's last one, in their order.
     pub fn definitions(&self) -> &[Canon]
         ensures value { result.now ≡ self.now.definitions }
-        ensures few { length result.now ≤ most_told }
+        ensures few { length result.now ≤ most_reports }
     {
         self.definitions.as_slice()
     }

@@ -2,20 +2,20 @@
 ghost use Rattle.std.specs.Prelude.{◌≡◌, ◌+◌, ◌<◌, ◌≤◌, ◌↔◌, ◌++◌, ℕ, List, IfOk, IsTrue, OnErr, OnOk, drop, length, take};
 ghost use Rattle.std.specs.Option.{option_to_list};
 ghost use Rattle.wf_digest.specs.Digest.{AreDigestsOf};
-ghost use Rattle.wf_model.specs.Stored.{definition_at};
-ghost use Rattle.wf_model.specs.Table.{most_told};
-ghost use Rattle.wf_reader.specs.Answerer.{Differ, IsReplyTo, next_told};
+ghost use Rattle.wf_model.specs.DurableState.{definition_at};
+ghost use Rattle.wf_model.specs.Table.{most_reports};
+ghost use Rattle.wf_reader.specs.Answerer.{Differ, IsReplyTo, next_reported};
 
 use crate::answer::{Answer, MOST_DISTANCE};
 use crate::question::Question;
-use crate::rejection::Rejection;
+use crate::rejection::QuestionRejection;
 use crate::reply::Reply;
 use std::alloc::{AllocError, Global};
 use wf_ballot::{Seq, Slot};
 use wf_canon::Canon;
 use wf_digest::Digests;
 use wf_folder::FarmName;
-use wf_learner::{History, MOST_TOLD};
+use wf_learner::{History, MOST_REPORTS};
 
 /// Who answers: a process of this farm, and how far from a voter it is.
 #[derive(Clone, Copy, Debug, PartialEq, Eq)]
@@ -39,13 +39,13 @@ pub fn reply_to(
     ensures memory { AreDigestsOf history.now.definitions digests.now → OnErr result (question.now.published < length history.now.definitions) }
 {
     if question.farm != own.farm {
-        return Ok(Reply::Rejected(Rejection::OtherFarm));
+        return Ok(Reply::Rejected(QuestionRejection::OtherFarm));
     }
     if MOST_DISTANCE < own.distance {
-        return Ok(Reply::Rejected(Rejection::TooFar));
+        return Ok(Reply::Rejected(QuestionRejection::TooFar));
     }
     if differ(digests, question) {
-        return Ok(Reply::Rejected(Rejection::OtherHistory(question.published)));
+        return Ok(Reply::Rejected(QuestionRejection::OtherHistory(question.published)));
     }
     let published = history.published();
     let Some(digest) = digests.at(published) else {
@@ -68,12 +68,12 @@ fn differ(digests: &Digests, question: &Question) -> bool
 /// The definitions at the sequences after this one, eight at most. Allocation can fail only if there are some.
 #[tactic(auto, using(crate::proofs::Next::next_found))]
 fn definitions_after(alloc: Global, history: &History, seq: Seq) -> Result<Vec<Canon>, AllocError>
-    ensures ok { IfOk result (λ found. found.items ≡ next_told history.now.definitions seq) }
+    ensures ok { IfOk result (λ found. found.items ≡ next_reported history.now.definitions seq) }
     ensures memory { OnErr result (seq < length history.now.definitions) }
 {
     let mut found = Vec::new(alloc);
     let first = seq.number();
-    for offset in 0..MOST_TOLD {
+    for offset in 0..MOST_REPORTS {
         push_at(history, first + offset + 1, &mut found)?;
     }
     Ok(found)

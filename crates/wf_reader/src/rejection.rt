@@ -3,7 +3,7 @@ use wf_ballot::Seq;
 
 /// Why a question isn't answered. Its line is for both ends.
 #[derive(Clone, Copy, Debug, PartialEq, Eq, Error)]
-pub enum Rejection {
+pub enum QuestionRejection {
     /// The reader is of a farm of another name.
     #[error("another farm")]
     OtherFarm,

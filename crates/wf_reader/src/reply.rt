@@ -1,5 +1,5 @@
 use crate::answer::Answer;
-use crate::rejection::Rejection;
+use crate::rejection::QuestionRejection;
 
 /// The most bytes of a reply: the longest eight definitions, each behind its length, and 40 more.
 pub const MOST_REPLY_BYTES: usize = 524_360;
@@ -10,5 +10,5 @@ pub enum Reply {
     /// What is published next.
     Answer(Answer),
     /// The question isn't answered, for this cause.
-    Rejected(Rejection),
+    Rejected(QuestionRejection),
 }

@@ -5,23 +5,23 @@ ghost use Rattle.wf_ballot.specs.Sequence.{IsSequence, seq_bytes};
 ghost use Rattle.wf_codec.specs.Message.{HasText};
 ghost use Rattle.wf_def.specs.Definition.{Definition};
 ghost use Rattle.wf_frame.specs.Report.{text_bytes};
-ghost use Rattle.wf_model.specs.Table.{most_told};
+ghost use Rattle.wf_model.specs.Table.{most_reports};
 ghost use Rattle.wf_reader.specs.Answer.{Answer as AnswerValue};
-ghost use Rattle.wf_reader.specs.Reading.{IsReadAs, ReadsTexts};
+ghost use Rattle.wf_reader.specs.ReplyReader.{IsReadAs, ReadsTexts};
 ghost use Rattle.wf_reader.specs.Reply.{AreTexts, IsAnswer, IsRejection, IsReply, answer_fields, body_bytes, cause_byte, cause_sequence, most_reply_bytes, reply_bytes, texts_bytes};
-ghost use Rattle.wf_reader.specs.declared.rejection.Rejection.{Rejection as RejectionValue};
+ghost use Rattle.wf_reader.specs.declared.rejection.QuestionRejection.{QuestionRejection as RejectionValue};
 ghost use Rattle.wf_reader.specs.declared.reply.Reply.{Reply as ReplyValue};
 ghost use Rattle.wf_spelling.specs.Canon.{canon, most_canon_bytes};
 
 use crate::answer::{Answer, MOST_DISTANCE};
 use crate::fault::ReplyFault;
 use crate::question_bytes::array;
-use crate::rejection::Rejection;
+use crate::rejection::QuestionRejection;
 use crate::reply::{MOST_REPLY_BYTES, Reply};
 use std::alloc::Global;
 use wf_ballot::Seq;
 use wf_canon::{Canon, CanonFault, one_text_one_map};
-use wf_learner::MOST_TOLD;
+use wf_learner::MOST_REPORTS;
 
 /// The number of bytes of an answer before its texts, without its first two.
 const ANSWER_FIELDS: usize = 34;
@@ -130,12 +130,12 @@ fn answer_of(alloc: Global, distance: u8, bytes: &[u8]) -> Result<Answer, ReplyF
 fn read_texts(alloc: Global, bytes: &[u8]) -> Result<Vec<Canon>, ReplyFault>
     ensures bytes { IfOk result (λ found. bytes.now ≡ texts_bytes found.items) }
     ensures texts { IfOk result (λ found. AreTexts found.items) }
-    ensures few { IfOk result (λ found. length found.items ≤ most_told) }
-    ensures each { (definitions : List Definition) → AreTexts definitions → length definitions ≤ most_told → bytes.now ≡ texts_bytes definitions →
+    ensures few { IfOk result (λ found. length found.items ≤ most_reports) }
+    ensures each { (definitions : List Definition) → AreTexts definitions → length definitions ≤ most_reports → bytes.now ≡ texts_bytes definitions →
         MatchResult result (λ found. found.items ≡ definitions) (λ fault. fault ≡ ReplyFault.Memory) }
 {
     let mut definitions = Vec::new(alloc);
-    match push_texts(alloc, MOST_TOLD, bytes, &mut definitions) {
+    match push_texts(alloc, MOST_REPORTS, bytes, &mut definitions) {
         Ok(()) => Ok(definitions),
         Err(fault) => Err(fault),
     }
@@ -190,7 +190,7 @@ fn cut_text(bytes: &[u8]) -> Option<(&[u8], &[u8])>
 }
 
 /// The definition of a canonical text.
-#[tactic(auto, using(crate::proofs::Texts::not_refused))]
+#[tactic(auto, using(crate::proofs::Texts::not_rejected))]
 fn definition_of(alloc: Global, text: &[u8]) -> Result<Canon, ReplyFault>
     ensures text { IfOk result (λ definition. text.now ≡ canon definition) }
     ensures has_text { IfOk result HasText }
@@ -206,7 +206,7 @@ fn definition_of(alloc: Global, text: &[u8]) -> Result<Canon, ReplyFault>
 }
 
 /// The rejection with this cause and these bytes after it.
-fn rejection_of(cause: u8, bytes: &[u8]) -> Option<Rejection>
+fn rejection_of(cause: u8, bytes: &[u8]) -> Option<QuestionRejection>
     ensures rejection { IfSome result IsRejection }
     ensures cause { IfSome result (λ why. cause ≡ cause_byte why) }
     ensures bytes { IfSome result (λ why. bytes.now ≡ seq_bytes (cause_sequence why)) }
@@ -214,15 +214,15 @@ fn rejection_of(cause: u8, bytes: &[u8]) -> Option<Rejection>
 {
     let seq = Seq::from_bytes(bytes)?;
     if cause == 3 {
-        return Some(Rejection::OtherHistory(seq));
+        return Some(QuestionRejection::OtherHistory(seq));
     }
     if seq.number() != 0 {
         return None;
     }
     match cause {
-        1 => Some(Rejection::OtherFarm),
-        2 => Some(Rejection::OtherVersion),
-        4 => Some(Rejection::TooFar),
+        1 => Some(QuestionRejection::OtherFarm),
+        2 => Some(QuestionRejection::OtherVersion),
+        4 => Some(QuestionRejection::TooFar),
         _ => None,
     }
 }

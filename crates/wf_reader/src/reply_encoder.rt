@@ -6,7 +6,7 @@ ghost use Rattle.wf_frame.specs.Report.{text_bytes};
 ghost use Rattle.wf_spelling.specs.Canon.{canon, most_canon_bytes};
 
 use crate::answer::Answer;
-use crate::rejection::Rejection;
+use crate::rejection::QuestionRejection;
 use crate::reply::Reply;
 use std::alloc::AllocError;
 use wf_canon::Canon;
@@ -54,12 +54,12 @@ fn answer_length(answer: &Answer) -> usize
 
 /// The number of bytes of a rejection.
 #[tactic(auto, unfolding(wf_ballot::specs::Sequence::seq_bytes))]
-fn rejection_length(why: &Rejection) -> usize
+fn rejection_length(why: &QuestionRejection) -> usize
     ensures value { result ≡ length (rejection_bytes why.now) }
     ensures four { result ≡ 4 }
     ensures is_rejection { IsRejection why.now }
 {
-    if let Rejection::OtherHistory(seq) = why {
+    if let QuestionRejection::OtherHistory(seq) = why {
         let _ = seq.number();
     }
     4
@@ -138,7 +138,7 @@ fn put_text(out: &mut Vec<u8>, text: &Canon)
 
 /// Appends a rejection, for which there is room.
 #[tactic(auto, unfolding(wf_ballot::specs::Sequence::seq_bytes))]
-fn put_rejection(out: &mut Vec<u8>, why: &Rejection)
+fn put_rejection(out: &mut Vec<u8>, why: &QuestionRejection)
     requires { vec_len out.old + length (rejection_bytes why.now) ≤ vec_capacity out.old }
     ensures { out.new.items ≡ out.old.items ++ rejection_bytes why.now }
 {
@@ -147,23 +147,25 @@ fn put_rejection(out: &mut Vec<u8>, why: &Rejection)
 }
 
 /// The byte of a cause.
-fn cause_byte(why: &Rejection) -> u8
+fn cause_byte(why: &QuestionRejection) -> u8
     ensures { result ≡ cause_byte why.now }
 {
     match why {
-        Rejection::OtherFarm => 1,
-        Rejection::OtherVersion => 2,
-        Rejection::OtherHistory(_) => 3,
-        Rejection::TooFar => 4,
+        QuestionRejection::OtherFarm => 1,
+        QuestionRejection::OtherVersion => 2,
+        QuestionRejection::OtherHistory(_) => 3,
+        QuestionRejection::TooFar => 4,
     }
 }
 
 /// The sequence that a cause names, or 0.
-fn cause_sequence(why: &Rejection) -> u16
+fn cause_sequence(why: &QuestionRejection) -> u16
     ensures { result ≡ cause_sequence why.now }
 {
     match why {
-        Rejection::OtherHistory(seq) => seq.number(),
-        Rejection::OtherFarm | Rejection::OtherVersion | Rejection::TooFar => 0,
+        QuestionRejection::OtherHistory(seq) => seq.number(),
+        QuestionRejection::OtherFarm
+        | QuestionRejection::OtherVersion
+        | QuestionRejection::TooFar => 0,
     }
 }

@@ -1,12 +1,12 @@
-use wf_reader::Rejection;
+use wf_reader::QuestionRejection;
 
 /// What came of the bytes of a question.
 #[derive(Clone, Copy, PartialEq, Eq)]
-pub(crate) enum Answered {
+pub(crate) enum QuestionOutcome {
     /// The question isn't whole.
     Short,
     /// The reply was written; if it is a rejection, the connection is to end.
-    Replied(Option<Rejection>),
+    Replied(Option<QuestionRejection>),
     /// It isn't a question.
     Malformed,
     /// An allocation failed.

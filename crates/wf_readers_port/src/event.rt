@@ -1,24 +1,24 @@
 //! What has become of a reader.
 
 use std::fmt;
-use wf_reader::Rejection;
-use wf_visitors::{Entry, Level};
+use wf_reader::QuestionRejection;
+use wf_visitors::{Level, LogEntry};
 
 /// What has become of a reader.
 #[derive(Clone, Copy)]
 pub(crate) enum ReaderEvent {
     /// It was rejected, and closed.
-    Rejected(Rejection),
+    Rejected(QuestionRejection),
     /// What it sent isn't a question, and it was closed.
     Malformed,
     /// It gave way to another.
     Replaced,
 }
 
-impl Entry for ReaderEvent {
+impl LogEntry for ReaderEvent {
     fn level(&self) -> Level {
         match self {
-            ReaderEvent::Rejected(Rejection::OtherHistory(_)) => Level::Error,
+            ReaderEvent::Rejected(QuestionRejection::OtherHistory(_)) => Level::Error,
             ReaderEvent::Rejected(_) | ReaderEvent::Malformed | ReaderEvent::Replaced =>
                 Level::Warn,
         }

@@ -1,12 +1,12 @@
 //! The readers' port.
 
 use crate::event::ReaderEvent;
-use crate::published::Published;
-use crate::reader::{Left, Reader};
+use crate::published::PortView;
+use crate::reader::{Reader, ReaderTurn};
 use mio::net::{TcpListener, TcpStream};
 use std::alloc::{AllocError, Global};
 use std::time::Clock;
-use wf_reader::Rejection;
+use wf_reader::QuestionRejection;
 use wf_visitors::{Context, register, register_again};
 
 /// The most connections accepted in one turn.
@@ -130,30 +130,30 @@ impl ReadersPort {
     pub fn turn<R: Clock + Eprint + AllocGlobal>(
         &mut self,
         context: &Context<'_, '_, R>,
-        published: &Published<'_>,
+        published: &PortView<'_>,
         index: usize,
     ) {
         let Some(mut reader) = self.take(index) else {
             return;
         };
         match reader.turn(context.alloc(), published, context.time) {
-            Left::Here => self.put(index, reader),
-            Left::Busy => {
+            ReaderTurn::Here => self.put(index, reader),
+            ReaderTurn::Busy => {
                 register_again(context.registry, reader.stream(), self.token(index));
                 self.put(index, reader);
             }
-            Left::Gone => {}
-            Left::Rejected(why) => {
+            ReaderTurn::Gone => {}
+            ReaderTurn::Rejected(why) => {
                 self.note(&why, context.time);
                 context.log.write(&ReaderEvent::Rejected(why));
             }
-            Left::Malformed => context.log.write(&ReaderEvent::Malformed),
+            ReaderTurn::Malformed => context.log.write(&ReaderEvent::Malformed),
         }
     }
 
     /// Notes that a reader's history differs.
-    fn note(&mut self, why: &Rejection, time: u64) {
-        if let Rejection::OtherHistory(seq) = why {
+    fn note(&mut self, why: &QuestionRejection, time: u64) {
+        if let QuestionRejection::OtherHistory(seq) = why {
             self.difference = Some(Difference {
                 sequence: seq.number(),
                 time,

@@ -1,12 +1,12 @@
 //! A reader's connection.
 
-use crate::answered::Answered;
-use crate::answering::answer;
-use crate::published::Published;
+use crate::answered::QuestionOutcome;
+use crate::published::PortView;
+use crate::replies::answer;
 use mio::net::TcpStream;
 use std::alloc::Global;
-use wf_client::outgoing::Outgoing;
-use wf_reader::{QUESTION_BYTES, Rejection};
+use wf_client::response_buffer::Outgoing;
+use wf_reader::{QUESTION_BYTES, QuestionRejection};
 use wf_stream::Sink;
 use wf_timing::is_silent;
 use wf_visitors::{Done, read, write};
@@ -23,13 +23,13 @@ pub(crate) struct Reader {
     stream: TcpStream,
     question: Vec<u8>,
     reply: Outgoing,
-    rejected: Option<Rejection>,
+    rejected: Option<QuestionRejection>,
     since: u64,
 }
 
 /// What a turn of a reader leaves.
 #[derive(Clone, Copy, PartialEq, Eq)]
-pub(crate) enum Left {
+pub(crate) enum ReaderTurn {
     /// It waits.
     Here,
     /// There may be more to do.
@@ -37,7 +37,7 @@ pub(crate) enum Left {
     /// It has gone.
     Gone,
     /// It has gone: it was rejected.
-    Rejected(Rejection),
+    Rejected(QuestionRejection),
     /// It has gone: what it sent isn't a question.
     Malformed,
 }
@@ -46,7 +46,7 @@ pub(crate) enum Left {
 #[derive(Clone, Copy, PartialEq, Eq)]
 enum Step {
     More,
-    Done(Left),
+    Done(ReaderTurn),
 }
 
 impl Reader {
@@ -77,33 +77,38 @@ impl Reader {
     }
 
     /// Writes what is to be written, and answers what was asked, a bounded part of it.
-    pub(crate) fn turn(&mut self, alloc: Global, published: &Published<'_>, time: u64) -> Left {
+    pub(crate) fn turn(
+        &mut self,
+        alloc: Global,
+        published: &PortView<'_>,
+        time: u64,
+    ) -> ReaderTurn {
         for _ in 0..MOST_QUESTIONS {
             match self.step(alloc, published, time) {
                 Step::More => {}
                 Step::Done(left) => return left,
             }
         }
-        Left::Busy
+        ReaderTurn::Busy
     }
 
     /// Writes the rest of a reply; once it is taken, reads a question, and replies to it.
-    fn step(&mut self, alloc: Global, published: &Published<'_>, time: u64) -> Step {
+    fn step(&mut self, alloc: Global, published: &PortView<'_>, time: u64) -> Step {
         if let Some(left) = self.give() {
             return Step::Done(left);
         }
-        if let Some(left) = self.hear() {
+        if let Some(left) = self.receive() {
             return Step::Done(left);
         }
         let mut bytes = Vec::new(alloc);
         match answer(alloc, published, self.question.as_slice(), &mut bytes) {
-            Answered::Short => Step::Done(Left::Here),
-            Answered::Replied(why) => {
+            QuestionOutcome::Short => Step::Done(ReaderTurn::Here),
+            QuestionOutcome::Replied(why) => {
                 self.rejected = why;
                 self.reply_with(alloc, bytes, time)
             }
-            Answered::Malformed => Step::Done(Left::Malformed),
-            Answered::Memory => Step::Done(Left::Gone),
+            QuestionOutcome::Malformed => Step::Done(ReaderTurn::Malformed),
+            QuestionOutcome::Memory => Step::Done(ReaderTurn::Gone),
         }
     }
 
@@ -114,16 +119,16 @@ impl Reader {
         self.since = time;
         match self.reply.write(bytes.as_slice()) {
             Ok(_) => Step::More,
-            Err(_) => Step::Done(Left::Gone),
+            Err(_) => Step::Done(ReaderTurn::Gone),
         }
     }
 
     /// Writes what is to be written. None: it was all taken, and a question may come.
-    fn give(&mut self) -> Option<Left> {
+    fn give(&mut self) -> Option<ReaderTurn> {
         for _ in 0..u64::MAX {
             if self.reply.is_taken() {
                 return match self.rejected {
-                    Some(why) => Some(Left::Rejected(why)),
+                    Some(why) => Some(ReaderTurn::Rejected(why)),
                     None => None,
                 };
             }
@@ -132,15 +137,15 @@ impl Reader {
                     let count = count.min(self.reply.remaining());
                     self.reply.advance(count);
                 }
-                Done::Blocked => return Some(Left::Here),
-                Done::Closed | Done::Failed => return Some(Left::Gone),
+                Done::Blocked => return Some(ReaderTurn::Here),
+                Done::Closed | Done::Failed => return Some(ReaderTurn::Gone),
             }
         }
-        Some(Left::Busy)
+        Some(ReaderTurn::Busy)
     }
 
     /// Reads a question, and nothing after it. None: it is whole.
-    fn hear(&mut self) -> Option<Left> {
+    fn receive(&mut self) -> Option<ReaderTurn> {
         let mut piece = [0u8; QUESTION_BYTES];
         for _ in 0..MOST_READS {
             let missing = QUESTION_BYTES.saturating_sub(self.question.len());
@@ -151,13 +156,13 @@ impl Reader {
                 Done::Bytes(count) => {
                     let count = count.min(missing);
                     if self.question.extend_from_slice(&piece[..count]).is_err() {
-                        return Some(Left::Gone);
+                        return Some(ReaderTurn::Gone);
                     }
                 }
-                Done::Blocked => return Some(Left::Here),
-                Done::Closed | Done::Failed => return Some(Left::Gone),
+                Done::Blocked => return Some(ReaderTurn::Here),
+                Done::Closed | Done::Failed => return Some(ReaderTurn::Gone),
             }
         }
-        Some(Left::Busy)
+        Some(ReaderTurn::Busy)
     }
 }

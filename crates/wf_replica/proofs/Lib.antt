@@ -1,5 +1,5 @@
 pub mod Answered
 pub mod Growth
-pub mod Heard
-pub mod Said
-pub mod Told
+pub mod Received
+pub mod Completion
+pub mod Reported

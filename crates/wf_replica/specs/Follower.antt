@@ -1,11 +1,11 @@
 -- What a replica has heard and learned.
 use Rattle.std.specs.Prelude.{◌≡◌, ℕ, ◌≤◌, List, ◌∷◌, [], ◌++◌, length, take}
 use Rattle.wf_def.specs.Definition.{Definition}
-use Rattle.wf_law.specs.Laws.{IsBeginning}
+use Rattle.wf_safety.specs.Theorems.{IsBeginning}
 use Rattle.wf_learner.specs.History.{next_of}
 use Rattle.wf_model.specs.Message.{Chosen, Message}
 use Rattle.wf_tape.specs.declared.tape.Tape.{Ghosts as Tape}
-use Rattle.wf_replica.specs.Learning.{messages_of, numbered}
+use Rattle.wf_replica.specs.LearnedList.{messages_of, numbered}
 use Rattle.wf_replica.specs.declared.follower.Follower.{Follower}
 
 -- its published maps
@@ -13,13 +13,13 @@ abbrev pub list_of : {T : Type 0} {tapes : Tape T} → Follower T tapes → List
 list_of follower = follower.shelf.definitions
 
 -- the messages that it heard, one after the other
-abbrev pub heard_by : {T : Type 0} {tapes : Tape T} → Follower T tapes → List (Message Definition)
-heard_by follower = messages_of follower.heard.items
+abbrev pub received_by : {T : Type 0} {tapes : Tape T} → Follower T tapes → List (Message Definition)
+received_by follower = messages_of follower.received.items
 
 -- it heard and learned the first k of these definitions, as chosen for the next sequences
 pub record Learns {T : Type 0} {tapes : Tape T} (k : ℕ) (old new : Follower T tapes) (definitions : List Definition) : Type 0 where
   pub within : k ≤ length definitions
-  pub heard : heard_by new ≡ heard_by old ++ numbered (next_of (list_of old)) (take k definitions)
+  pub received : received_by new ≡ received_by old ++ numbered (next_of (list_of old)) (take k definitions)
   pub list : list_of new ≡ list_of old ++ take k definitions
 
 -- its list went on, or stayed
@@ -29,4 +29,4 @@ pub record Grows {T : Type 0} {tapes : Tape T} (old new : Follower T tapes) : Ty
 -- it learned nothing
 pub record IsSame {T : Type 0} {tapes : Tape T} (old new : Follower T tapes) : Type 0 where
   pub list : list_of new ≡ list_of old
-  pub heard : heard_by new ≡ heard_by old
+  pub received : received_by new ≡ received_by old

@@ -1,7 +1,7 @@
-pub mod Asking
+pub mod Questions
 pub mod FarmFile
 pub mod Follower
 pub mod Growth
-pub mod Laws
-pub mod Learning
+pub mod Theorems
+pub mod LearnedList
 pub mod Service

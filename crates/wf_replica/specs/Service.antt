@@ -1,23 +1,23 @@
 -- What a replica responds to a request: from its published maps, as a node does, but for its status; and it publishes nothing.
 use Rattle.std.specs.Prelude.{◌≡◌, ℕ, List, ◌++◌, codes, decimal, length, Option, Some, Result, Ok, Err}
-use Rattle.wf_client.specs.Outgoing.{Outgoing}
+use Rattle.wf_client.specs.ResponseBuffer.{Outgoing}
 use Rattle.wf_def.specs.Definition.{Definition}
-use Rattle.wf_edge.specs.Notice.{notice_response, response_of}
+use Rattle.wf_edge.specs.ErrorResponse.{response_of_error, response_of}
 use Rattle.wf_edge.specs.Page.{IsServiceGiven, line_page}
 use Rattle.wf_edge.specs.Request.{BeginsWith, IsRequestFault, Request}
-use Rattle.wf_edge.specs.Route.{judged}
-use Rattle.wf_edge.specs.Saying.{IsFaultSaid, IsSaid}
-use Rattle.wf_edge.specs.declared.notice.Notice.{Notice}
-use Rattle.wf_edge.specs.declared.notice.Notice.TheVariants as notice
+use Rattle.wf_edge.specs.Route.{resolved}
+use Rattle.wf_edge.specs.Completion.{IsErrorCompleted, IsCompleted}
+use Rattle.wf_edge.specs.declared.error_response.ErrorResponse.{ErrorResponse}
+use Rattle.wf_edge.specs.declared.error_response.ErrorResponse.TheVariants as error_response
 use Rattle.wf_edge.specs.declared.outcome.Outcome.{Outcome}
 use Rattle.wf_edge.specs.declared.outcome.Outcome.TheVariants as outcome
-use Rattle.wf_edge.specs.declared.resource.Asked.{Asked}
-use Rattle.wf_edge.specs.declared.resource.Asked.TheVariants as asked
+use Rattle.wf_edge.specs.declared.resource.RequestedResource.{RequestedResource}
+use Rattle.wf_edge.specs.declared.resource.RequestedResource.TheVariants as asked
 use Rattle.wf_http.specs.Head.{Begins, Head}
 use Rattle.wf_http.specs.Response.{Response}
 use Rattle.wf_http.specs.Target.{query_of}
 use Rattle.wf_http.specs.declared.fault.RequestFault.{RequestFault}
-use Rattle.wf_http.specs.declared.refusal.Refusal.TheVariants as refusal
+use Rattle.wf_http.specs.declared.http_error.HttpError.TheVariants as http_error
 
 -- GET /status: one line
 abbrev pub status_words : ℕ → List ℕ
@@ -27,20 +27,20 @@ abbrev pub status_page : ℕ → Response
 status_page published = line_page 200 (status_words published)
 
 -- POST /publish, as any path that isn't there
-abbrev pub publish_answer : Result Response Notice
-publish_answer = Err (notice.Refused refusal.NotFound)
+abbrev pub publish_answer : Result Response ErrorResponse
+publish_answer = Err (error_response.Rejected http_error.NotFound)
 
 -- the answer to a request, by what it asks for and its query
-abbrev pub Answers : Asked → List ℕ → List Definition → Result Response Notice → Type 0
+abbrev pub Answers : RequestedResource → List ℕ → List Definition → Result Response ErrorResponse → Type 0
 Answers asked.Wms query history answer = IsServiceGiven history query answer
 Answers asked.Status query history answer = answer ≡ Ok (status_page (length history))
 Answers (asked.Publish bytes) query history answer = answer ≡ publish_answer
 
 -- the answer to a request was written, or a beginning of it where memory failed
-pub record IsAnswered (request : Request) (history : List Definition) (old new : List ℕ) (said : Outcome) : Type 0 where
-  pub answer : Result Response Notice
+pub record IsAnswered (request : Request) (history : List Definition) (old new : List ℕ) (completion : Outcome) : Type 0 where
+  pub answer : Result Response ErrorResponse
   pub answers : Answers request.asked (query_of request.head.target) history answer
-  pub says : IsSaid (response_of answer) (Some old) (Some new) said
+  pub sends : IsCompleted (response_of answer) (Some old) (Some new) completion
 
 -- the head of the input asks for a publish
 pub record AsksToPublish (input : List ℕ) : Type 0 where
@@ -48,14 +48,14 @@ pub record AsksToPublish (input : List ℕ) : Type 0 where
   pub rest : List ℕ
   pub begins : Begins input head rest
   pub bytes : ℕ
-  pub asks : judged head ≡ Ok (asked.Publish bytes)
+  pub asks : resolved head ≡ Ok (asked.Publish bytes)
 
 -- What is written for an input: the answer to the request that it begins with; of a publish that it isn't there, once its head has come;
 -- or the rejection of what isn't a request.
-pub data IsServed (input : List ℕ) (history : List Definition) (old new : List ℕ) (said : Outcome) : Type 0 where
-  OfRequest : (request : Request) → BeginsWith input request → IsAnswered request history old new said → IsServed input history old new said
-  OfPublish : AsksToPublish input → IsSaid (response_of publish_answer) (Some old) (Some new) said → IsServed input history old new said
-  OfFault : (fault : RequestFault) → IsRequestFault input fault → IsFaultSaid fault (Some old) (Some new) said → IsServed input history old new said
+pub data IsServed (input : List ℕ) (history : List Definition) (old new : List ℕ) (completion : Outcome) : Type 0 where
+  OfRequest : (request : Request) → BeginsWith input request → IsAnswered request history old new completion → IsServed input history old new completion
+  OfPublish : AsksToPublish input → IsCompleted (response_of publish_answer) (Some old) (Some new) completion → IsServed input history old new completion
+  OfFault : (fault : RequestFault) → IsRequestFault input fault → IsErrorCompleted fault (Some old) (Some new) completion → IsServed input history old new completion
 
 -- unless a response was written, nothing was
 abbrev pub IsUnsent : Outcome → Outgoing → Outgoing → Type 0

@@ -1,7 +1,7 @@
 //! A replica: the maps that it has learned, and its tape.
 
 ghost use Rattle.std.specs.Prelude.{◌≡◌, []};
-ghost use Rattle.wf_replica.specs.Learning.{learned, messages_of};
+ghost use Rattle.wf_replica.specs.LearnedList.{learned, messages_of};
 
 use crate::shelf::Shelf;
 use http_server::Log;
@@ -16,6 +16,6 @@ pub struct Follower<T: Tape> {
     pub(crate) shelf: Shelf,
     pub(crate) digests: Digests,
     pub(crate) tape: Option<T>,
-    pub(crate) heard: Log<Message, usize>,
-    ghost learned: { learned [] (messages_of heard.items) ≡ shelf.definitions },
+    pub(crate) received: Log<Message, usize>,
+    ghost learned: { learned [] (messages_of received.items) ≡ shelf.definitions },
 }

@@ -1,18 +1,18 @@
 //! The status of a replica.
 
 ghost use Rattle.std.specs.Prelude.{◌≡◌, ◌≤◌, ◌+◌, ◌++◌, Some, decimal, length};
-ghost use Rattle.wf_edge.specs.Notice.{plain, text_line};
+ghost use Rattle.wf_edge.specs.ErrorResponse.{plain, text_line};
 ghost use Rattle.wf_edge.specs.Page.{page_of};
-ghost use Rattle.wf_edge.specs.Saying.{IsSaid};
+ghost use Rattle.wf_edge.specs.Completion.{IsCompleted};
 ghost use Rattle.wf_replica.specs.Service.{status_page, status_words};
 
 use arrayvec::ArrayVec;
 use http::StatusCode;
 use itoa::Buffer;
 use wf_ballot::Seq;
-use wf_client::outgoing::Outgoing;
+use wf_client::response_buffer::Outgoing;
+use wf_edge::completion::write_response;
 use wf_edge::outcome::Outcome;
-use wf_edge::saying::say;
 use wf_http::buffer::append;
 use wf_http::response::Response;
 
@@ -23,12 +23,12 @@ const PLAIN: &str = "text/plain";
 const MOST_LINE: usize = 64;
 
 /// Writes the page of the status: the sequence of the last published map. Allocates nothing but the bytes that are written.
-pub(crate) fn say_status(outgoing: &mut Outgoing, published: Seq) -> Outcome
-    ensures { IsSaid (status_page published) (Some outgoing.old.bytes) (Some outgoing.new.bytes) result }
+pub(crate) fn write_status(outgoing: &mut Outgoing, published: Seq) -> Outcome
+    ensures { IsCompleted (status_page published) (Some outgoing.old.bytes) (Some outgoing.new.bytes) result }
 {
     let line = status_line(published);
     let response = line_response(line.as_slice());
-    say(outgoing, &response)
+    write_response(outgoing, &response)
 }
 
 /// The response of a line of text.

@@ -1,8 +1,8 @@
 //! The record of a published definition, as it is on tapes.
 
 ghost use Rattle.std.specs.Prelude.{◌≡◌, ◌+◌, ◌≤◌, ◌++◌, length, vec_len, vec_capacity, IfOk};
-ghost use Rattle.wf_journal.specs.Spelling.{spelling};
-ghost use Rattle.wf_model.specs.Stored.{Published};
+ghost use Rattle.wf_journal.specs.Encoding.{spelling};
+ghost use Rattle.wf_model.specs.DurableState.{Published};
 ghost use Rattle.wf_spelling.specs.Canon.{canon};
 
 use std::alloc::{AllocError, Global};
@@ -13,7 +13,7 @@ use wf_canon::Canon;
 const HEADER: &[u8] = &[2, 4];
 
 /// The bytes on a tape of the record that a definition is published. The only error is allocation failure.
-#[tactic(auto, unfolding(wf_journal::specs::Spelling::body, wf_journal::specs::Spelling::text_spelling, wf_ballot::specs::Frame::frame))]
+#[tactic(auto, unfolding(wf_journal::specs::Encoding::body, wf_journal::specs::Encoding::text_spelling, wf_ballot::specs::Frame::frame))]
 pub(crate) fn record_bytes(
     alloc: Global,
     slot: Slot,

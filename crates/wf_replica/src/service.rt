@@ -7,17 +7,17 @@ ghost use Rattle.wf_replica.specs.Service.{AsksToPublish, IsServed, IsUnsent};
 use crate::follower::Follower;
 use crate::shelf::Shelf;
 use std::alloc::Global;
-use wf_client::incoming::Incoming;
-use wf_client::outgoing::Outgoing;
-use wf_edge::notice::Notice;
+use wf_client::partial_request::Incoming;
+use wf_client::response_buffer::Outgoing;
+use wf_edge::completion::{write_error, write_response};
+use wf_edge::error_report::respond_to_error;
+use wf_edge::error_response::ErrorResponse;
 use wf_edge::outcome::Outcome;
 use wf_edge::request::Request;
-use wf_edge::resource::Asked;
-use wf_edge::route::judge;
-use wf_edge::saying::{say, say_fault};
-use wf_edge::telling::told;
+use wf_edge::resource::RequestedResource;
+use wf_edge::route::resolve;
 use wf_http::front::Front;
-use wf_http::refusal::Refusal;
+use wf_http::http_error::HttpError;
 use wf_tape::Tape;
 
 impl<T: Tape> Follower<T> {
@@ -33,14 +33,17 @@ impl<T: Tape> Follower<T> {
 }
 
 /// Serves what has come of a request.
-#[tactic(auto, using(crate::proofs::Said::said_unsent, crate::proofs::Said::ended_unsent, crate::proofs::Said::fault_unsent))]
+#[tactic(auto, using(crate::proofs::Completion::completion_unsent, crate::proofs::Completion::ended_unsent, crate::proofs::Completion::fault_unsent))]
 fn serve(alloc: Global, shelf: &mut Shelf, incoming: &Incoming, outgoing: &mut Outgoing) -> Outcome
     ensures served { IsServed incoming.now.bytes shelf.old.definitions outgoing.old.bytes outgoing.new.bytes result }
     ensures unsent { IsUnsent result outgoing.old outgoing.new }
     ensures same { shelf.new ≡ shelf.old }
 {
     if asks_to_publish(incoming) {
-        return say(outgoing, &told(Notice::Refused(Refusal::NotFound)));
+        return write_response(
+            outgoing,
+            &respond_to_error(ErrorResponse::Rejected(HttpError::NotFound)),
+        );
     }
     match Request::read(alloc, &mut incoming.reader()) {
         Ok(request) => {
@@ -48,7 +51,7 @@ fn serve(alloc: Global, shelf: &mut Shelf, incoming: &Incoming, outgoing: &mut O
             drop(request);
             outcome
         }
-        Err(fault) => say_fault(outgoing, fault),
+        Err(fault) => write_error(outgoing, fault),
     }
 }
 
@@ -58,7 +61,7 @@ fn asks_to_publish(incoming: &Incoming) -> bool
 {
     match Front::read(&mut incoming.reader()) {
         Ok(front) => {
-            let publishes = matches!(judge(&front), Ok(Asked::Publish(_)));
+            let publishes = matches!(resolve(&front), Ok(RequestedResource::Publish(_)));
             drop(front);
             publishes
         }

@@ -2,20 +2,20 @@
 use Rattle.std.proofs.Common.{◌≡◌, ℕ, List, [], ◌∷◌, ◌++◌, sym, subst}
 use Rattle.std.proofs.Math.Logic.{∥∥₁_map}
 use Rattle.wf_client.specs.Client.{Client}
-use Rattle.wf_client.specs.Outgoing.{Outgoing}
+use Rattle.wf_client.specs.ResponseBuffer.{Outgoing}
 use Rattle.wf_edge.specs.declared.outcome.Outcome.{Outcome}
-use Rattle.wf_replica.specs.Follower.{IsSame, heard_by, list_of}
-use Rattle.wf_replica.specs.Learning.{learned}
+use Rattle.wf_replica.specs.Follower.{IsSame, received_by, list_of}
+use Rattle.wf_replica.specs.LearnedList.{learned}
 use Rattle.wf_replica.specs.Service.{IsServed}
 use Rattle.wf_replica.specs.declared.follower.Follower.{Follower}
 use Rattle.wf_replica_command.specs.Answer.{AreAnswered, IsResponse}
 use Rattle.wf_replica_command.specs.declared.renderer.Renderer.{Renderer}
-use Rattle.wf_visitors.specs.Reply.{nothing}
+use Rattle.wf_visitors.specs.ServerReply.{nothing}
 use Rattle.wf_tape.specs.declared.tape.Tape.{Ghosts as Tape}
 
 module _ {T : Type 0} (tapes : Tape T) where
   -- what a replica writes is its response
-  pub responded : (before after : Follower T tapes) (came : List ℕ) (old new : Outgoing) (outcome : Outcome) → old ≡ nothing → learned [] (heard_by before) ≡ list_of before
+  pub responded : (before after : Follower T tapes) (came : List ℕ) (old new : Outgoing) (outcome : Outcome) → old ≡ nothing → learned [] (received_by before) ≡ list_of before
       → IsServed came (list_of before) old.bytes new.bytes outcome → IsSame before after → IsResponse tapes before came new.bytes × IsSame before after
   responded before after came old new outcome empty lived served same =
       (record { lived = lived; outcome = outcome; served = subst (λ (o : Outgoing). IsServed came (list_of before) o.bytes new.bytes outcome) empty served }, same)

@@ -11,18 +11,18 @@ use Rattle.wf_career.specs.Replica.{IsServed}
 use Rattle.wf_def.specs.Definition.{Definition}
 use Rattle.wf_line.specs.declared.replica_line.ReplicaLine.{ReplicaLine}
 use Rattle.wf_model.specs.Message.{Message}
-use Rattle.wf_reader.specs.declared.rejection.Rejection.{Rejection}
-use Rattle.wf_replica.specs.Follower.{heard_by, list_of}
-use Rattle.wf_replica.specs.Laws.{AreTold, LearnedAreServed}
-use Rattle.wf_replica.specs.Learning.{learned}
+use Rattle.wf_reader.specs.declared.rejection.QuestionRejection.{QuestionRejection}
+use Rattle.wf_replica.specs.Follower.{received_by, list_of}
+use Rattle.wf_replica.specs.Theorems.{AreReported, LearnedAreServed}
+use Rattle.wf_replica.specs.LearnedList.{learned}
 use Rattle.wf_replica.specs.declared.follower.Follower.{Follower}
 use Rattle.wf_replica_command.specs.Done.{HasServed, IsDone, IsEnd}
 use Rattle.wf_replica_command.specs.Fault.{IsFromSystem, IsReplicaFault, fault_of}
-use Rattle.wf_replica_command.specs.Hub.{HasAnswered, HasLived, HasStayed, IsOfFarm}
+use Rattle.wf_replica_command.specs.ReplicaHub.{HasAnswered, HasLived, HasStayed, IsOfFarm}
 use Rattle.wf_replica_command.specs.declared.fault.AddressOption.TheVariants as options
 use Rattle.wf_replica_command.specs.declared.fault.ReplicaFault.{ReplicaFault}
 use Rattle.wf_replica_command.specs.declared.fault.ReplicaFault.TheVariants as faults
-use Rattle.wf_replica_command.specs.declared.hub.Hub.{Hub}
+use Rattle.wf_replica_command.specs.declared.hub.ReplicaHub.{ReplicaHub}
 use Rattle.wf_tape.specs.declared.tape.Tape.{Ghosts as Tape}
 
 -- ---- the command line
@@ -123,18 +123,18 @@ module _ {T : Type 0} (tapes : Tape T) where
 
   -- ---- what was served
 
-  has_served : (hub : Hub T tapes) → HasLived tapes hub → IsOfFarm tapes hub → HasAnswered tapes hub → HasStayed tapes hub → HasServed tapes
+  has_served : (hub : ReplicaHub T tapes) → HasLived tapes hub → IsOfFarm tapes hub → HasAnswered tapes hub → HasStayed tapes hub → HasServed tapes
   has_served hub lived of_farm answered stayed = record { hub = hub; lived = lived; of_farm = of_farm; answered = answered; stayed = stayed }
 
-  pub served_to_the_end : (hub : Hub T tapes) → HasLived tapes hub → IsOfFarm tapes hub → HasAnswered tapes hub → HasStayed tapes hub → IsEnd tapes (Ok tt)
+  pub served_to_the_end : (hub : ReplicaHub T tapes) → HasLived tapes hub → IsOfFarm tapes hub → HasAnswered tapes hub → HasStayed tapes hub → IsEnd tapes (Ok tt)
   served_to_the_end hub lived of_farm answered stayed = has_served hub lived of_farm answered stayed
 
-  pub served_until : (why : Rejection) (hub : Hub T tapes) → HasLived tapes hub → IsOfFarm tapes hub → HasAnswered tapes hub → HasStayed tapes hub → IsEnd tapes (Err (faults.Ended why))
+  pub served_until : (why : QuestionRejection) (hub : ReplicaHub T tapes) → HasLived tapes hub → IsOfFarm tapes hub → HasAnswered tapes hub → HasStayed tapes hub → IsEnd tapes (Err (faults.Ended why))
   served_until why hub lived of_farm answered stayed = has_served hub lived of_farm answered stayed
 
 -- what was learned of answers of a farm is one of its lists
-pub of_farm : {T : Type 0} (list : List Definition) (heard : List (Message Definition)) → LearnedAreServed T → learned [] heard ≡ list →
-    (n : ℕ) (careers : ℕ → Career T) → AreTold n careers heard → IsServed n careers list
-of_farm list heard served lived n careers told =
-    subst (λ (l : List Definition). IsServed n careers l) (ap (λ (h : List (Message Definition)). learned [] h) (take-length heard) ∙ lived)
-    (served n careers heard told (length heard))
+pub of_farm : {T : Type 0} (list : List Definition) (received : List (Message Definition)) → LearnedAreServed T → learned [] received ≡ list →
+    (n : ℕ) (careers : ℕ → Career T) → AreReported n careers received → IsServed n careers list
+of_farm list received served lived n careers emitted =
+    subst (λ (l : List Definition). IsServed n careers l) (ap (λ (h : List (Message Definition)). learned [] h) (take-length received) ∙ lived)
+    (served n careers received emitted (length received))

@@ -1,4 +1,4 @@
 mod Answers
 mod Faults
-mod Going
+mod Continuation
 mod Order

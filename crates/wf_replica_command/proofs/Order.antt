@@ -5,8 +5,8 @@ use Rattle.wf_replica.specs.Follower.{IsSame}
 use Rattle.wf_replica.specs.declared.follower.Follower.{Follower}
 use Rattle.wf_client.specs.Client.{Client}
 use Rattle.wf_replica_command.specs.Answer.{AreInOrder, IsResponse}
-use Rattle.wf_replica_command.specs.Going.{GoesOn}
-use Rattle.wf_replica_command.proofs.Going.{goes_on_twice, stays_same}
+use Rattle.wf_replica_command.specs.Continuation.{GoesOn}
+use Rattle.wf_replica_command.proofs.Continuation.{goes_on_twice, stays_same}
 use Rattle.wf_replica_command.specs.declared.renderer.Renderer.{Renderer}
 use Rattle.wf_tape.specs.declared.tape.Tape.{Ghosts as Tape}
 
@@ -45,7 +45,7 @@ module _ {T : Type 0} (tapes : Tape T) where
   -- where nobody was answered
   pub kept : (before after : Renderer T tapes) → (after ≡ before) ⊎ IsSame before.follower after.follower → IsSame before.follower after.follower
   kept before after why = elim why [
-    | inl is ↦ subst (λ (r : Renderer T tapes). IsSame before.follower r.follower) (sym is) (record { list = refl; heard = refl })
+    | inl is ↦ subst (λ (r : Renderer T tapes). IsSame before.follower r.follower) (sym is) (record { list = refl; received = refl })
     | inr same ↦ same
   ]
 

@@ -2,11 +2,11 @@
 use Rattle.std.specs.Prelude.{◌≡◌, ℕ, ⊤, List, [], ◌∷◌}
 use Rattle.wf_client.specs.Client.{Client}
 use Rattle.wf_edge.specs.declared.outcome.Outcome.{Outcome}
-use Rattle.wf_replica.specs.Follower.{heard_by, list_of}
-use Rattle.wf_replica.specs.Learning.{learned}
+use Rattle.wf_replica.specs.Follower.{received_by, list_of}
+use Rattle.wf_replica.specs.LearnedList.{learned}
 use Rattle.wf_replica.specs.Service.{IsServed}
 use Rattle.wf_replica.specs.declared.follower.Follower.{Follower}
-use Rattle.wf_replica_command.specs.Going.{GoesOn}
+use Rattle.wf_replica_command.specs.Continuation.{GoesOn}
 use Rattle.wf_replica_command.specs.declared.renderer.Renderer.{Renderer}
 use Rattle.wf_tape.specs.declared.tape.Tape.{Ghosts as Tape}
 
@@ -14,7 +14,7 @@ module _ {T : Type 0} (tapes : Tape T) where
   -- A replica, whose list is what it has heard, was asked by the bytes that came, and this was written: the response over that list, or a
   -- beginning of it where memory failed.
   pub record IsResponse (replica : Follower T tapes) (came response : List ℕ) : Type 0 where
-    pub lived : learned [] (heard_by replica) ≡ list_of replica
+    pub lived : learned [] (received_by replica) ≡ list_of replica
     pub outcome : Outcome
     pub served : IsServed came (list_of replica) [] response outcome
 

@@ -2,17 +2,17 @@
 use Rattle.std.specs.Prelude.{ℕ, Result, Ok, Err}
 use Rattle.wf_line.specs.declared.replica_line.ReplicaLine.{ReplicaLine}
 use Rattle.wf_replica_command.specs.Fault.{IsFromSystem, IsReplicaFault, fault_status}
-use Rattle.wf_replica_command.specs.Hub.{HasAnswered, HasLived, HasStayed, IsOfFarm}
+use Rattle.wf_replica_command.specs.ReplicaHub.{HasAnswered, HasLived, HasStayed, IsOfFarm}
 use Rattle.wf_replica_command.specs.declared.fault.ReplicaFault.{ReplicaFault}
 use Rattle.wf_replica_command.specs.declared.fault.ReplicaFault.TheVariants as faults
-use Rattle.wf_replica_command.specs.declared.hub.Hub.{Hub}
+use Rattle.wf_replica_command.specs.declared.hub.ReplicaHub.{ReplicaHub}
 use Rattle.wf_tape.specs.declared.tape.Tape.{Ghosts as Tape}
 
 module _ {T : Type 0} (tapes : Tape T) where
   -- It has served: its list is what it heard, which is the farm's if all that it heard was; each client was answered from the list as it
   -- then was; and the list never went back.
   pub record HasServed : Type 0 where
-    pub hub : Hub T tapes
+    pub hub : ReplicaHub T tapes
     pub lived : HasLived tapes hub
     pub of_farm : IsOfFarm tapes hub
     pub answered : HasAnswered tapes hub

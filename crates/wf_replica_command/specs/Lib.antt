@@ -1,5 +1,5 @@
 pub mod Answer
 pub mod Done
 pub mod Fault
-pub mod Going
-pub mod Hub
+pub mod Continuation
+pub mod ReplicaHub

@@ -1,16 +1,16 @@
 //! A replica asks its sources, and learns what they answer.
 
-ghost use Rattle.wf_replica_command.specs.Going.{GoesOn};
+ghost use Rattle.wf_replica_command.specs.Continuation.{GoesOn};
 
-use crate::event::{Event, Why};
-use crate::source::{Source, Turned};
+use crate::event::{ReplicaEvent, SourceEnd};
+use crate::source::{SourceConnection, SourceTurn};
 use std::alloc::Global;
 use std::net::{Net, SocketAddr};
 use std::time::Clock;
 use wf_ballot::Seq;
 use wf_canon::Canon;
 use wf_folder::FarmName;
-use wf_reader::{Answer, Answerer, MOST_DISTANCE, Rejection, Reply};
+use wf_reader::{Answer, Answerer, MOST_DISTANCE, QuestionRejection, Reply};
 use wf_replica::{Asking, Follower};
 use wf_tape::Tape;
 use wf_visitors::Context;
@@ -20,15 +20,15 @@ use wf_visitors::Context;
 pub(crate) struct Asker {
     sources: Vec<SocketAddr>,
     asking: Asking,
-    source: Option<Source>,
+    source: Option<SourceConnection>,
     // the one to which the connection is
     of: usize,
     pub(crate) answerer: Answerer,
-    pub(crate) heard: u16,
+    pub(crate) received: u16,
     // it began with no map, and hasn't yet had all that a source has
     pub(crate) is_new: bool,
     // why the replica has to end
-    pub(crate) end: Option<Rejection>,
+    pub(crate) end: Option<QuestionRejection>,
 }
 
 impl Asker {
@@ -50,7 +50,7 @@ impl Asker {
                 farm,
                 distance: MOST_DISTANCE + 1,
             },
-            heard: 0,
+            received: 0,
             is_new,
             end: None,
         }
@@ -67,7 +67,7 @@ impl Asker {
     }
 
     /// Takes in what came from the source, and asks what is due.
-    #[tactic(auto, using(crate::proofs::Going::stays, crate::proofs::Going::stays_equal, crate::proofs::Going::goes_on_twice))]
+    #[tactic(auto, using(crate::proofs::Continuation::stays, crate::proofs::Continuation::stays_equal, crate::proofs::Continuation::goes_on_twice))]
     pub(crate) fn go_on<R: Net + Clock + Eprint + AllocGlobal, T: Tape + Drop>(
         &mut self,
         context: &Context<'_, '_, R>,
@@ -75,9 +75,9 @@ impl Asker {
     )
         ensures { GoesOn follower.old follower.new }
     {
-        self.hear(context, follower);
+        self.receive(context, follower);
         if self.asking.is_silent(context.time) {
-            self.leave(context, Why::Silent);
+            self.leave(context, SourceEnd::Silent);
         }
         if self.asking.is_due(context.time) && self.end.is_none() {
             self.ask(context, follower);
@@ -85,8 +85,8 @@ impl Asker {
     }
 
     /// Takes in what came from the source.
-    #[tactic(auto, using(crate::proofs::Going::stays, crate::proofs::Going::stays_equal, crate::proofs::Going::goes_on_twice))]
-    fn hear<R: Net + Clock + Eprint + AllocGlobal, T: Tape + Drop>(
+    #[tactic(auto, using(crate::proofs::Continuation::stays, crate::proofs::Continuation::stays_equal, crate::proofs::Continuation::goes_on_twice))]
+    fn receive<R: Net + Clock + Eprint + AllocGlobal, T: Tape + Drop>(
         &mut self,
         context: &Context<'_, '_, R>,
         follower: &mut Follower<T>,
@@ -99,14 +99,14 @@ impl Asker {
         let turned = source.turn(context.alloc(), context.registry);
         self.source = Some(source);
         match turned {
-            Turned::Same => {}
-            Turned::Replied(reply) => self.take_reply(context, follower, reply),
-            Turned::Ended(why) => self.leave(context, why),
+            SourceTurn::Same => {}
+            SourceTurn::Replied(reply) => self.take_reply(context, follower, reply),
+            SourceTurn::Ended(why) => self.leave(context, why),
         }
     }
 
     /// Takes a reply.
-    #[tactic(auto, using(crate::proofs::Going::stays, crate::proofs::Going::stays_equal, crate::proofs::Going::goes_on_twice))]
+    #[tactic(auto, using(crate::proofs::Continuation::stays, crate::proofs::Continuation::stays_equal, crate::proofs::Continuation::goes_on_twice))]
     fn take_reply<R: Clock + Eprint + AllocGlobal, T: Tape + Drop>(
         &mut self,
         context: &Context<'_, '_, R>,
@@ -122,13 +122,13 @@ impl Asker {
             }
             Reply::Rejected(why) => {
                 self.end = end_of(&why);
-                self.leave(context, Why::Rejected(why));
+                self.leave(context, SourceEnd::Rejected(why));
             }
         }
     }
 
     /// Learns what an answer says. Where the source's history differs, the replica has to end.
-    #[tactic(auto, using(crate::proofs::Going::stays, crate::proofs::Going::stays_equal, crate::proofs::Going::goes_on_twice))]
+    #[tactic(auto, using(crate::proofs::Continuation::stays, crate::proofs::Continuation::stays_equal, crate::proofs::Continuation::goes_on_twice))]
     fn take_answer<R: Clock + Eprint + AllocGlobal, T: Tape + Drop>(
         &mut self,
         context: &Context<'_, '_, R>,
@@ -140,13 +140,16 @@ impl Asker {
         let published = answer.published();
         if let Some(digest) = follower.digests().at(published) {
             if digest != answer.digest() {
-                self.end = Some(Rejection::OtherHistory(published));
-                self.leave(context, Why::Rejected(Rejection::OtherHistory(published)));
+                self.end = Some(QuestionRejection::OtherHistory(published));
+                self.leave(
+                    context,
+                    SourceEnd::Rejected(QuestionRejection::OtherHistory(published)),
+                );
                 return;
             }
         }
         learn(context, follower, answer.definitions());
-        self.heard = self.heard.max(published.number());
+        self.received = self.received.max(published.number());
         self.answerer.distance = answer.distance() + 1;
         let brings = !answer.definitions().is_empty();
         self.is_new = self.is_new && brings;
@@ -159,16 +162,16 @@ impl Asker {
             self.asking.answer(brings, context.time);
         }
         if self.asking.source != self.of && self.source.take().is_some() {
-            context.log.write(&Event::Lost {
+            context.log.write(&ReplicaEvent::Lost {
                 source: self.of,
-                why: Why::Passed,
+                why: SourceEnd::Passed,
             });
         }
     }
 
     /// Ends the connection to the source: the next one is asked.
-    fn leave<R: Clock + Eprint>(&mut self, context: &Context<'_, '_, R>, why: Why) {
-        context.log.write(&Event::Lost {
+    fn leave<R: Clock + Eprint>(&mut self, context: &Context<'_, '_, R>, why: SourceEnd) {
+        context.log.write(&ReplicaEvent::Lost {
             source: self.of,
             why,
         });
@@ -179,7 +182,7 @@ impl Asker {
     }
 
     /// Asks the source for what is published next.
-    #[tactic(auto, using(crate::proofs::Going::stays, crate::proofs::Going::stays_equal, crate::proofs::Going::goes_on_twice))]
+    #[tactic(auto, using(crate::proofs::Continuation::stays, crate::proofs::Continuation::stays_equal, crate::proofs::Continuation::goes_on_twice))]
     fn ask<R: Net + Clock + Eprint + AllocGlobal, T: Tape + Drop>(
         &mut self,
         context: &Context<'_, '_, R>,
@@ -189,7 +192,7 @@ impl Asker {
     {
         self.asking.ask(context.time);
         if self.source.is_none() && !self.connect(context) {
-            self.leave(context, Why::Failed);
+            self.leave(context, SourceEnd::Failed);
             return;
         }
         let Some(question) = follower.question(self.answerer.farm) else {
@@ -200,7 +203,7 @@ impl Asker {
         if let Some(source) = &mut self.source {
             let _ = source.ask(context.alloc(), &question);
         }
-        self.hear(context, follower);
+        self.receive(context, follower);
     }
 
     /// Connects to the source that is to be asked. Returns whether the connection is in progress.
@@ -213,8 +216,13 @@ impl Asker {
             return false;
         };
         self.of = index;
-        self.source = Source::connect(context.rt, context.alloc(), context.registry, address);
-        context.log.write(&Event::Asking {
+        self.source = SourceConnection::connect(
+            context.rt,
+            context.alloc(),
+            context.registry,
+            address,
+        );
+        context.log.write(&ReplicaEvent::Asking {
             source: index,
             address,
         });
@@ -223,7 +231,7 @@ impl Asker {
 }
 
 /// Learns definitions, as far as memory allows: the others are asked for again.
-#[tactic(auto, using(crate::proofs::Going::goes_on_by))]
+#[tactic(auto, using(crate::proofs::Continuation::goes_on_by))]
 fn learn<R: Clock + Eprint + AllocGlobal, T: Tape + Drop>(
     context: &Context<'_, '_, R>,
     follower: &mut Follower<T>,
@@ -246,20 +254,20 @@ fn log_learned<R: Clock + Eprint, T: Tape + Drop>(
 ) {
     let published = follower.history().published();
     if before < published {
-        context.log.write(&Event::Learned {
+        context.log.write(&ReplicaEvent::Learned {
             published: published.number(),
         });
     }
     if had_tape && !follower.has_tape() {
-        context.log.write(&Event::TapeFailed);
+        context.log.write(&ReplicaEvent::TapeFailed);
     }
 }
 
 /// Why a replica has to end whose question is rejected so, if it has to.
-fn end_of(why: &Rejection) -> Option<Rejection> {
+fn end_of(why: &QuestionRejection) -> Option<QuestionRejection> {
     match why {
-        Rejection::OtherFarm => Some(Rejection::OtherFarm),
-        Rejection::OtherHistory(seq) => Some(Rejection::OtherHistory(*seq)),
-        Rejection::OtherVersion | Rejection::TooFar => None,
+        QuestionRejection::OtherFarm => Some(QuestionRejection::OtherFarm),
+        QuestionRejection::OtherHistory(seq) => Some(QuestionRejection::OtherHistory(*seq)),
+        QuestionRejection::OtherVersion | QuestionRejection::TooFar => None,
     }
 }

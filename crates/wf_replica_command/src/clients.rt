@@ -1,11 +1,11 @@
 //! A replica and its clients.
 
 ghost use Rattle.std.specs.Prelude.{◌≡◌};
-ghost use Rattle.wf_replica.specs.Follower.{heard_by, list_of};
-ghost use Rattle.wf_replica.specs.Learning.{learned};
+ghost use Rattle.wf_replica.specs.Follower.{received_by, list_of};
+ghost use Rattle.wf_replica.specs.LearnedList.{learned};
 ghost use Rattle.wf_replica_command.specs.Answer.{AreAnswered, AreInOrder};
-ghost use Rattle.wf_replica_command.specs.Going.{GoesOn};
-ghost use Rattle.wf_visitors.specs.Visitors.{said_of};
+ghost use Rattle.wf_replica_command.specs.Continuation.{GoesOn};
+ghost use Rattle.wf_visitors.specs.Visitors.{responses_of};
 
 use crate::asker::Asker;
 use crate::renderer::Renderer;
@@ -23,24 +23,24 @@ const MOST_SERVED: usize = 8;
 /// A replica and its clients. A clause sees a log that only proofs read: for each client that was answered, in order, the replica as it then
 /// was.
 #[derive(Drop)]
-pub struct Clients<T: Tape> {
+pub struct ReplicaClients<T: Tape> {
     pub(crate) visitors: Visitors,
     pub(crate) renderer: Renderer<T>,
     pub(crate) asked: Past<Renderer<T>, usize>,
-    ghost answered: { ∥ AreAnswered T.Tape asked.items (said_of visitors) ∥₁ },
+    ghost answered: { ∥ AreAnswered T.Tape asked.items (responses_of visitors) ∥₁ },
     ghost in_order: { ∥ AreInOrder T.Tape asked.items renderer.follower ∥₁ },
 }
 
-impl<T: Tape + Drop> Clients<T> {
+impl<T: Tape + Drop> ReplicaClients<T> {
     ghost use Rattle.std.specs.Prelude.{[]};
 
     /// Nobody was answered yet.
     #[tactic(auto, using(crate::proofs::Answers::none_answered, crate::proofs::Order::none_in_order))]
     pub(crate) fn new(visitors: Visitors, follower: Follower<T>) -> Self
-        requires { said_of visitors ≡ [] }
+        requires { responses_of visitors ≡ [] }
         ensures { result.renderer.follower ≡ follower }
     {
-        Clients {
+        ReplicaClients {
             visitors,
             renderer: Renderer {
                 follower,
@@ -53,8 +53,8 @@ impl<T: Tape + Drop> Clients<T> {
     /// The replica's list is what it has heard, each client that was answered was answered from it, and it never went back, always. The call
     /// does nothing.
     pub(crate) fn always_served(&self)
-        ensures lived { learned [] (heard_by self.now.renderer.follower) ≡ list_of self.now.renderer.follower }
-        ensures answered { ∥ AreAnswered T.Tape self.now.asked.items (said_of self.now.visitors) ∥₁ }
+        ensures lived { learned [] (received_by self.now.renderer.follower) ≡ list_of self.now.renderer.follower }
+        ensures answered { ∥ AreAnswered T.Tape self.now.asked.items (responses_of self.now.visitors) ∥₁ }
         ensures in_order { ∥ AreInOrder T.Tape self.now.asked.items self.now.renderer.follower ∥₁ }
     {
         self.renderer.follower.always_learned();
@@ -94,7 +94,7 @@ impl<T: Tape + Drop> Clients<T> {
     }
 
     /// Answers requests that are whole, a bounded number of them. Returns whether there are more.
-    #[tactic(auto, using(crate::proofs::Going::stays, crate::proofs::Going::goes_on_twice))]
+    #[tactic(auto, using(crate::proofs::Continuation::stays, crate::proofs::Continuation::goes_on_twice))]
     pub(crate) fn serve<R: Clock + Eprint + AllocGlobal>(
         &mut self,
         context: &Context<'_, '_, R>,
@@ -111,7 +111,7 @@ impl<T: Tape + Drop> Clients<T> {
     }
 
     /// Answers the request in a slot, if it is whole.
-    #[tactic(auto, using(crate::proofs::Answers::one_more_answered, crate::proofs::Order::next_in_order, crate::proofs::Order::stays_in_order, crate::proofs::Order::kept, crate::proofs::Going::stays_same, crate::proofs::Going::stays))]
+    #[tactic(auto, using(crate::proofs::Answers::one_more_answered, crate::proofs::Order::next_in_order, crate::proofs::Order::stays_in_order, crate::proofs::Order::kept, crate::proofs::Continuation::stays_same, crate::proofs::Continuation::stays))]
     fn serve_one<R: Clock + Eprint + AllocGlobal>(
         &mut self,
         context: &Context<'_, '_, R>,

@@ -3,21 +3,21 @@ ghost use Rattle.std.specs.Prelude.{◌≡◌, ◌≤◌, IfErr};
 ghost use Rattle.wf_line.specs.ProcessLine.{IsReplicaInRange};
 ghost use Rattle.wf_replica_command.specs.Done.{IsDone, IsEnd};
 ghost use Rattle.wf_replica_command.specs.Fault.{IsFromSystem};
-ghost use Rattle.wf_replica_command.specs.Hub.{HasAnswered, HasLived, HasStayed, IsOfFarm};
+ghost use Rattle.wf_replica_command.specs.ReplicaHub.{HasAnswered, HasLived, HasStayed, IsOfFarm};
 
 use crate::asker::Asker;
-use crate::event::Event;
+use crate::event::ReplicaEvent;
 use crate::fault::ReplicaFault;
 use crate::folder::{claim, hold, is_there, path_in};
-use crate::hub::{Hub, Turn};
-use crate::plan::{Plan, plan_of};
+use crate::hub::{ReplicaHub, Turn};
+use crate::plan::{ReplicaPlan, plan_of};
 use std::fs::File;
 use std::net::Net;
 use std::rt::Files;
 use std::time::Clock;
 use wf_folder::FarmName;
 use wf_line::replica_line::ReplicaLine;
-use wf_replica::{Follower, Found};
+use wf_replica::{Follower, FoundTape};
 use wf_tape::{FileTape, Tape};
 use wf_visitors::{Log, now};
 
@@ -25,7 +25,8 @@ use wf_visitors::{Log, now};
 const TAPE: &str = "replica.tape";
 
 /// Serves a replica for this many turns, or until it has to end. A turn waits until a socket is ready or something is due, 0.1 seconds at
-/// most. The folder is made a replica's if it is empty, and locked meanwhile. Err: the cause, whose text is the line for standard error.
+/// most. The folder is made a replica's if it is empty, and locked meanwhile. Err: the cause, whose text is the line for standard
+/// error.
 #[tactic(auto, using(crate::proofs::Faults::not_begun, crate::proofs::Faults::not_served))]
 pub fn run<'a, R: Files<File = File> + Clock + Eprint + Net + AllocGlobal>(
     rt: &'a R,
@@ -57,7 +58,7 @@ pub fn run<'a, R: Files<File = File> + Clock + Eprint + Net + AllocGlobal>(
 fn start<'a, R: Files<File = File> + Clock + Eprint + Net + AllocGlobal>(
     rt: &'a R,
     line: &ReplicaLine<'_>,
-    plan: Plan,
+    plan: ReplicaPlan,
     turns: u64,
 ) -> Result<(), ReplicaFault>
     requires { IsReplicaInRange line.now }
@@ -110,7 +111,7 @@ fn open<'a, R: Files<File = File> + Clock + Eprint + AllocGlobal>(
     ensures { IfErr result IsFromSystem }
 {
     if !is_there(rt, path) {
-        log.write(&Event::Missing);
+        log.write(&ReplicaEvent::Missing);
     }
     let tape = match FileTape::open(rt.alloc(), rt, path) {
         Ok(tape) => Some(tape),
@@ -126,13 +127,13 @@ fn open<'a, R: Files<File = File> + Clock + Eprint + AllocGlobal>(
 }
 
 /// Logs what was found on a tape.
-fn log_opened<R: Clock + Eprint>(log: &Log<'_, R>, found: Found, published: u16) {
+fn log_opened<R: Clock + Eprint>(log: &Log<'_, R>, found: FoundTape, published: u16) {
     match found {
-        Found::Published => {}
-        Found::Damaged => log.write(&Event::Damaged),
-        Found::Failed => log.write(&Event::TapeFailed),
+        FoundTape::Published => {}
+        FoundTape::Damaged => log.write(&ReplicaEvent::Damaged),
+        FoundTape::Failed => log.write(&ReplicaEvent::TapeFailed),
     }
-    log.write(&Event::Opened { published });
+    log.write(&ReplicaEvent::Opened { published });
 }
 
 /// Serves a replica, whose tape is at that path.
@@ -140,19 +141,19 @@ fn log_opened<R: Clock + Eprint>(log: &Log<'_, R>, found: Found, published: u16)
 fn serve<R: Net + Files + Clock + Eprint + AllocGlobal, T: Tape + Drop>(
     rt: &R,
     log: &Log<'_, R>,
-    plan: Plan,
+    plan: ReplicaPlan,
     tape: String,
     follower: Follower<T>,
     turns: u64,
 ) -> Result<(), ReplicaFault>
     ensures { IsEnd T.Tape result }
 {
-    let mut hub = match Hub::new(rt, plan, tape, first_of(rt), follower) {
+    let mut hub = match ReplicaHub::new(rt, plan, tape, first_of(rt), follower) {
         Ok(hub) => hub,
         Err(fault) => return Err(fault),
     };
     if let Some(http) = hub.http() {
-        log.write(&Event::Listening { http });
+        log.write(&ReplicaEvent::Listening { http });
     }
     let ended = go_on(rt, log, &mut hub, turns);
     drop(hub);
@@ -172,7 +173,7 @@ fn first_of<R: Clock>(rt: &R) -> usize {
 fn go_on<R: Net + Files + Clock + Eprint + AllocGlobal, T: Tape + Drop>(
     rt: &R,
     log: &Log<'_, R>,
-    hub: &mut Hub<T>,
+    hub: &mut ReplicaHub<T>,
     turns: u64,
 ) -> Result<(), ReplicaFault>
     ensures { IsEnd T.Tape result }

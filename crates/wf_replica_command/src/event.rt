@@ -2,12 +2,12 @@
 
 use std::fmt;
 use std::net::SocketAddr;
-use wf_reader::{Rejection, ReplyFault};
-use wf_visitors::{Entry, Level};
+use wf_reader::{QuestionRejection, ReplyFault};
+use wf_visitors::{Level, LogEntry};
 
 /// Why the connection to a source ended.
 #[derive(Clone, Copy, PartialEq, Eq)]
-pub(crate) enum Why {
+pub(crate) enum SourceEnd {
     /// The source closed it.
     Closed,
     /// It failed.
@@ -17,27 +17,27 @@ pub(crate) enum Why {
     /// What came isn't a reply.
     BadReply(ReplyFault),
     /// The source doesn't answer.
-    Rejected(Rejection),
+    Rejected(QuestionRejection),
     /// Another source is asked.
     Passed,
 }
 
-impl fmt::Display for Why {
+impl fmt::Display for SourceEnd {
     fn fmt<W: fmt::Write>(&self, f: &mut fmt::Formatter<W>) -> fmt::Result {
         match self {
-            Why::Closed => f.write_str("closed"),
-            Why::Failed => f.write_str("failed"),
-            Why::Silent => f.write_str("silent"),
-            Why::BadReply(fault) => write!(f, "\"bad reply: {fault}\""),
-            Why::Rejected(rejection) => write!(f, "\"refused by it: {rejection}\""),
-            Why::Passed => f.write_str("passed"),
+            SourceEnd::Closed => f.write_str("closed"),
+            SourceEnd::Failed => f.write_str("failed"),
+            SourceEnd::Silent => f.write_str("silent"),
+            SourceEnd::BadReply(fault) => write!(f, "\"bad reply: {fault}\""),
+            SourceEnd::Rejected(rejection) => write!(f, "\"refused by it: {rejection}\""),
+            SourceEnd::Passed => f.write_str("passed"),
         }
     }
 }
 
 /// An event. Sources are named by their index in the list.
 #[derive(Clone, Copy)]
-pub(crate) enum Event {
+pub(crate) enum ReplicaEvent {
     /// The address for clients is bound.
     Listening { http: SocketAddr },
     /// The replica has begun with what its tape has.
@@ -53,41 +53,41 @@ pub(crate) enum Event {
     /// A source is asked.
     Asking { source: usize, address: SocketAddr },
     /// The connection to a source has ended.
-    Lost { source: usize, why: Why },
+    Lost { source: usize, why: SourceEnd },
 }
 
-impl Entry for Event {
+impl LogEntry for ReplicaEvent {
     fn level(&self) -> Level {
         match self {
-            Event::TapeFailed => Level::Error,
-            Event::Damaged => Level::Warn,
-            Event::Lost {
-                why: Why::Passed,
+            ReplicaEvent::TapeFailed => Level::Error,
+            ReplicaEvent::Damaged => Level::Warn,
+            ReplicaEvent::Lost {
+                why: SourceEnd::Passed,
                 ..
             } => Level::Info,
-            Event::Lost { .. } => Level::Warn,
-            Event::Listening { .. }
-            | Event::Opened { .. }
-            | Event::Missing
-            | Event::Learned { .. }
-            | Event::Asking { .. } => Level::Info,
+            ReplicaEvent::Lost { .. } => Level::Warn,
+            ReplicaEvent::Listening { .. }
+            | ReplicaEvent::Opened { .. }
+            | ReplicaEvent::Missing
+            | ReplicaEvent::Learned { .. }
+            | ReplicaEvent::Asking { .. } => Level::Info,
         }
     }
 }
 
-impl fmt::Display for Event {
+impl fmt::Display for ReplicaEvent {
     fn fmt<W: fmt::Write>(&self, f: &mut fmt::Formatter<W>) -> fmt::Result {
         match self {
-            Event::Listening { http } => write!(f, "listening http={http}"),
-            Event::Opened { published } => write!(f, "opened published={published}"),
-            Event::Missing => f.write_str("tape-missing begun=anew"),
-            Event::Damaged => f.write_str("tape-damaged begun=anew"),
-            Event::TapeFailed => f.write_str("tape-failed goes-on=in-memory"),
-            Event::Learned { published } => write!(f, "learned published={published}"),
-            Event::Asking { source, address } => {
+            ReplicaEvent::Listening { http } => write!(f, "listening http={http}"),
+            ReplicaEvent::Opened { published } => write!(f, "opened published={published}"),
+            ReplicaEvent::Missing => f.write_str("tape-missing begun=anew"),
+            ReplicaEvent::Damaged => f.write_str("tape-damaged begun=anew"),
+            ReplicaEvent::TapeFailed => f.write_str("tape-failed goes-on=in-memory"),
+            ReplicaEvent::Learned { published } => write!(f, "learned published={published}"),
+            ReplicaEvent::Asking { source, address } => {
                 write!(f, "asking source={source} address={address}")
             }
-            Event::Lost { source, why } => write!(f, "lost source={source} why={why}"),
+            ReplicaEvent::Lost { source, why } => write!(f, "lost source={source} why={why}"),
         }
     }
 }

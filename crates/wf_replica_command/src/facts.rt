@@ -13,7 +13,7 @@ use wf_visitors::Counts;
 
 /// What a replica tells its operator.
 #[derive(Drop)]
-pub(crate) struct Facts<'a, R> {
+pub(crate) struct ReplicaFacts<'a, R> {
     pub(crate) rt: &'a R,
     pub(crate) history: &'a History,
     pub(crate) digests: &'a Digests,
@@ -29,7 +29,7 @@ pub(crate) struct Facts<'a, R> {
     pub(crate) readers: usize,
 }
 
-impl<'a, R: Files> Operated for Facts<'a, R> {
+impl<'a, R: Files> Operated for ReplicaFacts<'a, R> {
     fn history(&self) -> &History {
         self.history
     }
@@ -49,7 +49,7 @@ impl<'a, R: Files> Operated for Facts<'a, R> {
     fn later(&self) -> Option<u16> {
         // one that began with no map isn't ready before it has what a source has
         if self.is_behind || self.asker.is_new {
-            Some(self.asker.heard)
+            Some(self.asker.received)
         } else {
             None
         }
@@ -73,12 +73,12 @@ impl<'a, R: Files> Operated for Facts<'a, R> {
 }
 
 /// Appends what is known of the replica and its farm.
-fn push_farm<R>(text: &mut String, facts: &Facts<'_, R>) -> Result<(), AllocError> {
+fn push_farm<R>(text: &mut String, facts: &ReplicaFacts<'_, R>) -> Result<(), AllocError> {
     let published = facts.history.published().number();
-    let heard = facts.asker.heard.max(published);
+    let received = facts.asker.received.max(published);
     let distance = facts.asker.answerer.distance;
     gauge(text, "wfarm_published_sequence", published as u64)?;
-    gauge(text, "wfarm_heard_sequence", heard as u64)?;
+    gauge(text, "wfarm_heard_sequence", received as u64)?;
     gauge(
         text,
         "wfarm_sources_connected",

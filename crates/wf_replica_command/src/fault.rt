@@ -5,7 +5,7 @@ ghost use Rattle.wf_replica_command.specs.Fault.{fault_status};
 use std::alloc::AllocError;
 use std::{fmt, io};
 use thiserror::Error;
-use wf_reader::Rejection;
+use wf_reader::QuestionRejection;
 
 /// An option whose value is an address.
 #[derive(Clone, Copy, Debug)]
@@ -78,7 +78,7 @@ pub enum ReplicaFault {
     Memory,
     /// A source doesn't answer this replica, which has to end.
     #[error("{0}")]
-    Ended(Rejection),
+    Ended(QuestionRejection),
 }
 
 impl ReplicaFault {

@@ -1,24 +1,24 @@
 //! One thread that waits for its sockets, turn after turn.
 ghost use Rattle.std.specs.Prelude.{◌≡◌, [], IfErr};
 ghost use Rattle.wf_replica_command.specs.Fault.{IsFromSystem};
-ghost use Rattle.wf_replica_command.specs.Going.{GoesOn};
-ghost use Rattle.wf_replica_command.specs.Hub.{HasAnswered, HasLived, HasStayed, IsOfFarm, follower_of};
-ghost use Rattle.wf_visitors.specs.Visitors.{said_of};
+ghost use Rattle.wf_replica_command.specs.Continuation.{GoesOn};
+ghost use Rattle.wf_replica_command.specs.ReplicaHub.{HasAnswered, HasLived, HasStayed, IsOfFarm, follower_of};
+ghost use Rattle.wf_visitors.specs.Visitors.{responses_of};
 
 use crate::asker::Asker;
-use crate::clients::Clients;
-use crate::facts::Facts;
+use crate::clients::ReplicaClients;
+use crate::facts::ReplicaFacts;
 use crate::fault::ReplicaFault;
-use crate::parts::{Begin, MOST_EVENTS, OPERATORS, bind};
-use crate::plan::Plan;
-use crate::token::Socket;
+use crate::parts::{MOST_EVENTS, OPERATORS, ReplicaStart, bind};
+use crate::plan::ReplicaPlan;
+use crate::token::ReplicaSocket;
 use mio::{Events, Poll};
 use std::net::{Net, SocketAddr};
 use std::rt::Files;
 use std::time::{Clock, Duration};
 use wf_operator::{Behind, Operator};
-use wf_reader::Rejection;
-use wf_readers_port::{Published, ReadersPort};
+use wf_reader::QuestionRejection;
+use wf_readers_port::{PortView, ReadersPort};
 use wf_replica::{Follower, what_is_learned_is_served};
 use wf_tape::Tape;
 use wf_timing::Ticker;
@@ -29,13 +29,13 @@ const TICK_MILLIS: u64 = 100;
 
 /// A replica with its clients, the source that it asks, and who only reads.
 #[derive(Drop)]
-pub struct Hub<T: Tape> {
+pub struct ReplicaHub<T: Tape> {
     poll: Poll,
     events: Events,
     operators: Visitors,
     readers: ReadersPort,
     asker: Asker,
-    clients: Clients<T>,
+    clients: ReplicaClients<T>,
     // the path of its tape
     tape: String,
     ticks: Ticker,
@@ -50,15 +50,15 @@ pub(crate) enum Turn {
     /// The replica goes on.
     On,
     /// It has to end: a source of another farm, or one whose history differs.
-    Ended(Rejection),
+    Ended(QuestionRejection),
 }
 
-impl<T: Tape + Drop> Hub<T> {
+impl<T: Tape + Drop> ReplicaHub<T> {
     /// Binds the addresses of a replica, which asks the source of this number first, counted round. Err: why it doesn't begin; the replica is
     /// dropped.
     pub(crate) fn new<R: Net + Clock + AllocGlobal>(
         rt: &R,
-        plan: Plan,
+        plan: ReplicaPlan,
         tape: String,
         first: usize,
         follower: Follower<T>,
@@ -68,7 +68,7 @@ impl<T: Tape + Drop> Hub<T> {
         let time = now(rt);
         match bind(rt, &plan) {
             Ok(begun) => {
-                let Plan { farm, sources, .. } = plan;
+                let ReplicaPlan { farm, sources, .. } = plan;
                 let is_new = follower.history().published().number() == 0;
                 let asker = Asker::new(sources, farm, first, is_new, time);
                 Ok(assemble(begun, asker, follower, tape, time))
@@ -138,7 +138,7 @@ impl<T: Tape + Drop> Hub<T> {
             let tick = self.ticks.due.saturating_sub(time).min(TICK_MILLIS);
             tick.min(self.asker.left(time))
         };
-        let Hub { poll, events, .. } = self;
+        let ReplicaHub { poll, events, .. } = self;
         let _ = poll.poll(events, Some(Duration::from_millis(millis)));
     }
 
@@ -155,7 +155,7 @@ impl<T: Tape + Drop> Hub<T> {
     }
 
     /// Does what the sockets that are ready ask for, and what the clock does. Returns whether there is more to do.
-    #[tactic(auto, using(crate::proofs::Going::goes_on_twice))]
+    #[tactic(auto, using(crate::proofs::Continuation::goes_on_twice))]
     fn act<'x, R: Net + Files + Clock + Eprint + AllocGlobal>(
         &mut self,
         rt: &'x R,
@@ -164,7 +164,7 @@ impl<T: Tape + Drop> Hub<T> {
     ) -> bool
         ensures { GoesOn (follower_of self.old) (follower_of self.new) }
     {
-        let Hub {
+        let ReplicaHub {
             poll,
             operators,
             readers,
@@ -203,24 +203,24 @@ impl<T: Tape + Drop> Hub<T> {
 
 /// A hub of these parts.
 fn assemble<T: Tape + Drop>(
-    begun: Begin,
+    begun: ReplicaStart,
     asker: Asker,
     follower: Follower<T>,
     tape: String,
     time: u64,
-) -> Hub<T>
-    requires { said_of begun.visitors ≡ [] }
+) -> ReplicaHub<T>
+    requires { responses_of begun.visitors ≡ [] }
     ensures { follower_of result ≡ follower }
 {
-    let Begin {
+    let ReplicaStart {
         poll,
         events,
         visitors,
         operators,
         readers,
     } = begun;
-    let clients = Clients::new(visitors, follower);
-    Hub {
+    let clients = ReplicaClients::new(visitors, follower);
+    ReplicaHub {
         poll,
         events,
         operators,
@@ -239,7 +239,7 @@ fn assemble<T: Tape + Drop>(
 fn act_on_each<R: Net + Clock + Eprint + AllocGlobal, T: Tape + Drop>(
     context: &Context<'_, '_, R>,
     asker: &Asker,
-    clients: &mut Clients<T>,
+    clients: &mut ReplicaClients<T>,
     operators: &mut Visitors,
     readers: &mut ReadersPort,
     ready: &[usize],
@@ -255,23 +255,23 @@ fn act_on_each<R: Net + Clock + Eprint + AllocGlobal, T: Tape + Drop>(
 fn act_on<R: Net + Clock + Eprint + AllocGlobal, T: Tape + Drop>(
     context: &Context<'_, '_, R>,
     asker: &Asker,
-    clients: &mut Clients<T>,
+    clients: &mut ReplicaClients<T>,
     operators: &mut Visitors,
     readers: &mut ReadersPort,
     token: usize,
 )
     ensures { clients.new.renderer ≡ clients.old.renderer }
 {
-    match Socket::of(token) {
-        Socket::Http => clients.accept(context),
-        Socket::Client(index) => clients.turn(context, index),
-        Socket::Admin => operators.accept(context),
-        Socket::Asker(index) => operators.turn(context, index),
-        Socket::Readers => readers.accept(context),
-        Socket::Reader(index) => {
+    match ReplicaSocket::of(token) {
+        ReplicaSocket::Http => clients.accept(context),
+        ReplicaSocket::Client(index) => clients.turn(context, index),
+        ReplicaSocket::Admin => operators.accept(context),
+        ReplicaSocket::Asker(index) => operators.turn(context, index),
+        ReplicaSocket::Readers => readers.accept(context),
+        ReplicaSocket::Reader(index) => {
             answer_reader(context, asker, &clients.renderer.follower, readers, index);
         }
-        Socket::Source => {}
+        ReplicaSocket::Source => {}
     }
 }
 
@@ -283,7 +283,7 @@ fn answer_reader<R: Net + Clock + Eprint + AllocGlobal, T: Tape + Drop>(
     readers: &mut ReadersPort,
     index: usize,
 ) {
-    let published = Published {
+    let published = PortView {
         own: &asker.answerer,
         history: follower.history(),
         digests: follower.digests(),
@@ -294,7 +294,7 @@ fn answer_reader<R: Net + Clock + Eprint + AllocGlobal, T: Tape + Drop>(
 /// Accepts whoever comes, and ends the phases whose time is over.
 fn tick<R: Net + Clock + Eprint + AllocGlobal, T: Tape + Drop>(
     context: &Context<'_, '_, R>,
-    clients: &mut Clients<T>,
+    clients: &mut ReplicaClients<T>,
     operators: &mut Visitors,
     readers: &mut ReadersPort,
 )
@@ -314,13 +314,13 @@ fn answer_operators<R: Files + Clock + Eprint + AllocGlobal, T: Tape + Drop>(
     operators: &mut Visitors,
     readers: &ReadersPort,
     asker: &Asker,
-    clients: &Clients<T>,
+    clients: &ReplicaClients<T>,
     tape: &str,
     behind: &mut Behind,
 ) {
     let follower = &clients.renderer.follower;
     let published = follower.history().published().number();
-    let mut operator = Operator::new(Facts {
+    let mut operator = Operator::new(ReplicaFacts {
         rt: context.rt,
         history: follower.history(),
         digests: follower.digests(),
@@ -331,7 +331,7 @@ fn answer_operators<R: Files + Clock + Eprint + AllocGlobal, T: Tape + Drop>(
         tape,
         has_tape: follower.has_tape(),
         reader_differs: readers.differs(context.time),
-        is_behind: behind.judge(published < asker.heard, context.time),
+        is_behind: behind.judge(published < asker.received, context.time),
         clients: clients.visitors.taken(),
         readers: readers.taken(),
     });

@@ -1,11 +1,12 @@
 //! `wfarm replica`: one thread that asks a farm's nodes for what is published, learns it, and serves the public.
 //!
 //! [`run`] runs a parsed command line and returns its error, whose `Display` is the line for standard error and whose
-//! [`ReplicaFault::status`] is the exit status. What a replica knows is `wf_replica`'s `Follower`; its clients, its operator's port and its
-//! readers' port are those of a node (`wf_visitors`, `wf_operator`, `wf_readers_port`).
+//! [`ReplicaFault::status`] is the exit status. What a replica knows is `wf_replica`'s `Follower`; its clients, its operator's port
+//! and its readers' port are those of a node (`wf_visitors`, `wf_operator`, `wf_readers_port`).
 //!
 //! **Promises** (`specs/Done.antt`), however many turns were taken, and however they ended.
-//! - The replica's list is what it heard, message after message. If it heard only answers of nodes of a farm or of replicas of it, that is
+//! - The replica's list is what it heard, message after message. If it heard only answers of nodes of a farm or of replicas of it,
+//! that is
 //!   one of the lists of which `wf_career`'s `replicas_agree` says that all are beginnings of one history (`wf_replica`'s
 //!   `what_is_learned_is_served`).
 //! - Each client that was answered was sent the response of `wf_replica` to exactly what had come of its request, over the list as it then

@@ -1,11 +1,11 @@
 //! The addresses of a replica, and what comes there.
 ghost use Rattle.std.specs.Prelude.{◌≡◌, [], IfErr, IfOk};
 ghost use Rattle.wf_replica_command.specs.Fault.{IsFromSystem};
-ghost use Rattle.wf_visitors.specs.Visitors.{said_of};
+ghost use Rattle.wf_visitors.specs.Visitors.{responses_of};
 
 use crate::fault::{AddressOption, ReplicaFault};
-use crate::plan::Plan;
-use crate::token::{ASKER, CLIENT, READER, Socket};
+use crate::plan::ReplicaPlan;
+use crate::token::{ASKER, CLIENT, READER, ReplicaSocket};
 use mio::net::TcpListener;
 use mio::{Events, Poll, Registry};
 use std::alloc::Global;
@@ -27,7 +27,7 @@ const READERS: usize = 64;
 
 /// All of a replica's sockets but its source's.
 #[derive(Drop)]
-pub(crate) struct Begin {
+pub(crate) struct ReplicaStart {
     pub(crate) poll: Poll,
     pub(crate) events: Events,
     pub(crate) visitors: Visitors,
@@ -37,7 +37,7 @@ pub(crate) struct Begin {
 
 /// A poll, and the listeners registered at it.
 #[derive(Drop)]
-struct Doors {
+struct ReplicaDoors {
     poll: Poll,
     http: TcpListener,
     admin: Option<TcpListener>,
@@ -49,7 +49,7 @@ fn listen_at<R: Net>(
     rt: &R,
     registry: &Registry,
     address: SocketAddr,
-    socket: Socket,
+    socket: ReplicaSocket,
     option: AddressOption,
 ) -> Result<TcpListener, ReplicaFault>
     ensures { IfErr result IsFromSystem }
@@ -65,7 +65,7 @@ fn listen_if<R: Net>(
     rt: &R,
     registry: &Registry,
     address: Option<SocketAddr>,
-    socket: Socket,
+    socket: ReplicaSocket,
     option: AddressOption,
 ) -> Result<Option<TcpListener>, ReplicaFault>
     ensures { IfErr result IsFromSystem }
@@ -80,7 +80,7 @@ fn listen_if<R: Net>(
 }
 
 /// Binds the addresses of a replica.
-fn doors_of<R: Net>(rt: &R, plan: &Plan) -> Result<Doors, ReplicaFault>
+fn doors_of<R: Net>(rt: &R, plan: &ReplicaPlan) -> Result<ReplicaDoors, ReplicaFault>
     ensures { IfErr result IsFromSystem }
 {
     match Poll::new(rt) {
@@ -90,26 +90,32 @@ fn doors_of<R: Net>(rt: &R, plan: &Plan) -> Result<Doors, ReplicaFault>
 }
 
 /// Binds the addresses of a replica, registered at a poll.
-fn doors_at<R: Net>(rt: &R, plan: &Plan, poll: Poll) -> Result<Doors, ReplicaFault>
+fn doors_at<R: Net>(rt: &R, plan: &ReplicaPlan, poll: Poll) -> Result<ReplicaDoors, ReplicaFault>
     ensures { IfErr result IsFromSystem }
 {
     let registry = poll.registry();
-    let http = listen_at(rt, registry, plan.http, Socket::Http, AddressOption::Http)?;
+    let http = listen_at(
+        rt,
+        registry,
+        plan.http,
+        ReplicaSocket::Http,
+        AddressOption::Http,
+    )?;
     let admin = listen_if(
         rt,
         registry,
         plan.admin,
-        Socket::Admin,
+        ReplicaSocket::Admin,
         AddressOption::Admin,
     )?;
     let readers = listen_if(
         rt,
         registry,
         plan.readers,
-        Socket::Readers,
+        ReplicaSocket::Readers,
         AddressOption::Readers,
     )?;
-    Ok(Doors {
+    Ok(ReplicaDoors {
         poll,
         http,
         admin,
@@ -118,11 +124,11 @@ fn doors_at<R: Net>(rt: &R, plan: &Plan, poll: Poll) -> Result<Doors, ReplicaFau
 }
 
 /// All of a replica's sockets but its source's, with these listeners. The only error is allocation failure.
-fn begin_at(alloc: Global, doors: Doors) -> Result<Begin, ReplicaFault>
-    ensures new { IfOk result (λ begun. said_of begun.visitors ≡ []) }
+fn begin_at(alloc: Global, doors: ReplicaDoors) -> Result<ReplicaStart, ReplicaFault>
+    ensures new { IfOk result (λ begun. responses_of begun.visitors ≡ []) }
     ensures memory { IfErr result (λ why. why ≡ ReplicaFault.Memory) }
 {
-    let Doors {
+    let ReplicaDoors {
         poll,
         http,
         admin,
@@ -132,7 +138,7 @@ fn begin_at(alloc: Global, doors: Doors) -> Result<Begin, ReplicaFault>
     let visitors = Visitors::new(alloc, CLIENTS, Some(http), CLIENT)?;
     let operators = Visitors::new(alloc, OPERATORS, admin, ASKER)?;
     let readers = ReadersPort::new(alloc, READERS, readers, READER)?;
-    Ok(Begin {
+    Ok(ReplicaStart {
         poll,
         events,
         visitors,
@@ -142,8 +148,11 @@ fn begin_at(alloc: Global, doors: Doors) -> Result<Begin, ReplicaFault>
 }
 
 /// Binds the addresses of a replica. Err: one of them is taken or not permitted, the system gives no poll, or an allocation fails.
-pub(crate) fn bind<R: Net + AllocGlobal>(rt: &R, plan: &Plan) -> Result<Begin, ReplicaFault>
-    ensures new { IfOk result (λ begun. said_of begun.visitors ≡ []) }
+pub(crate) fn bind<R: Net + AllocGlobal>(
+    rt: &R,
+    plan: &ReplicaPlan,
+) -> Result<ReplicaStart, ReplicaFault>
+    ensures new { IfOk result (λ begun. responses_of begun.visitors ≡ []) }
     ensures fault { IfErr result IsFromSystem }
 {
     match doors_of(rt, plan) {

@@ -11,7 +11,7 @@ use wf_line::replica_line::ReplicaLine;
 
 /// The farm of a replica, whom it asks, and where others come.
 #[derive(Drop)]
-pub(crate) struct Plan {
+pub(crate) struct ReplicaPlan {
     pub(crate) farm: FarmName,
     pub(crate) sources: Vec<SocketAddr>,
     pub(crate) http: SocketAddr,
@@ -21,7 +21,7 @@ pub(crate) struct Plan {
 
 /// What a command line asks for. Err: a word of it is bad, or an allocation fails.
 #[tactic(auto, using(crate::proofs::Faults::list_fault, crate::proofs::Faults::bad_http, crate::proofs::Faults::bad_admin, crate::proofs::Faults::bad_readers))]
-pub(crate) fn plan_of(alloc: Global, line: &ReplicaLine<'_>) -> Result<Plan, ReplicaFault>
+pub(crate) fn plan_of(alloc: Global, line: &ReplicaLine<'_>) -> Result<ReplicaPlan, ReplicaFault>
     ensures fault { IfErr result (IsReplicaFault line.now) }
 {
     let Some(farm) = FarmName::new(line.farm.as_bytes()) else {
@@ -37,7 +37,7 @@ pub(crate) fn plan_of(alloc: Global, line: &ReplicaLine<'_>) -> Result<Plan, Rep
         return Err(ReplicaFault::BadAddress(AddressOption::Readers));
     };
     match addresses(alloc, line.peers) {
-        Ok(sources) => Ok(Plan {
+        Ok(sources) => Ok(ReplicaPlan {
             farm,
             sources,
             http,

@@ -4,13 +4,13 @@ ghost use Rattle.wf_replica.specs.Follower.{IsSame};
 ghost use Rattle.wf_replica_command.specs.Answer.{IsResponse};
 
 use std::alloc::Global;
-use wf_client::incoming::Incoming;
-use wf_client::outgoing::Outgoing;
+use wf_client::partial_request::Incoming;
+use wf_client::response_buffer::Outgoing;
 use wf_edge::outcome::Outcome;
 use wf_operator::Pictures;
 use wf_replica::Follower;
 use wf_tape::Tape;
-use wf_visitors::{Reply, Server};
+use wf_visitors::{Server, ServerReply};
 
 /// A replica that answers clients, and which pictures it answered with.
 #[derive(Drop)]
@@ -25,16 +25,21 @@ impl<T: Tape + Drop> Server for Renderer<T> {
     ghost stays = { λ before after. IsSame before.follower after.follower };
 
     #[tactic(auto, using(crate::proofs::Answers::responded))]
-    fn answer(&mut self, alloc: Global, incoming: &Incoming, outgoing: &mut Outgoing) -> Reply {
+    fn answer(
+        &mut self,
+        alloc: Global,
+        incoming: &Incoming,
+        outgoing: &mut Outgoing,
+    ) -> ServerReply {
         self.follower.always_learned();
         let taken = self.follower.cache().taken();
         match self.follower.serve(alloc, incoming, outgoing) {
-            Outcome::ReadFailed => Reply::Lacks(1),
-            Outcome::NoRequest => Reply::Nothing,
+            Outcome::ReadFailed => ServerReply::Lacks(1),
+            Outcome::NoRequest => ServerReply::Nothing,
             Outcome::Sent(status, bytes) | Outcome::WriteFailed(status, bytes) => {
                 let is_cached = self.follower.cache().taken() != taken;
                 self.pictures.note(outgoing.bytes(), is_cached);
-                Reply::Sent { status, bytes }
+                ServerReply::Sent { status, bytes }
             }
         }
     }

@@ -1,12 +1,12 @@
 //! The connection to the source that is asked.
 
-use crate::event::Why;
-use crate::token::Socket;
+use crate::event::SourceEnd;
+use crate::token::ReplicaSocket;
 use mio::Registry;
 use mio::net::TcpStream;
 use std::alloc::Global;
 use std::net::{Net, SocketAddr};
-use wf_client::outgoing::Outgoing;
+use wf_client::response_buffer::Outgoing;
 use wf_reader::{Question, Reply, ReplyFault, decode_reply, encode_question, reply_length};
 use wf_stream::Sink;
 use wf_visitors::{Done, read, register, register_again, write};
@@ -19,7 +19,7 @@ const MOST_PIECES: usize = 64;
 
 /// The connection to a source: what is still to be written of a question, and what has come of its reply.
 #[derive(Drop)]
-pub(crate) struct Source {
+pub(crate) struct SourceConnection {
     stream: TcpStream,
     question: Outgoing,
     came: Vec<u8>,
@@ -27,29 +27,29 @@ pub(crate) struct Source {
 
 /// What came of a turn.
 #[derive(Drop)]
-pub(crate) enum Turned {
+pub(crate) enum SourceTurn {
     /// Nothing new.
     Same,
     /// A reply.
     Replied(Reply),
     /// The connection has ended.
-    Ended(Why),
+    Ended(SourceEnd),
 }
 
-impl Source {
-    /// A connection in progress, registered. None: the system refuses it.
+impl SourceConnection {
+    /// A connection in progress, registered. None: the system rejects it.
     pub(crate) fn connect<R: Net>(
         rt: &R,
         alloc: Global,
         registry: &Registry,
         address: SocketAddr,
-    ) -> Option<Source> {
+    ) -> Option<SourceConnection> {
         let Ok(mut stream) = TcpStream::connect(rt, address) else {
             return None;
         };
         let _ = stream.set_nodelay(true);
-        match register(registry, &mut stream, Socket::Source.token()) {
-            Ok(()) => Some(Source {
+        match register(registry, &mut stream, ReplicaSocket::Source.token()) {
+            Ok(()) => Some(SourceConnection {
                 stream,
                 question: Outgoing::new(alloc),
                 came: Vec::new(alloc),
@@ -70,9 +70,9 @@ impl Source {
     }
 
     /// Writes what is left of the question, and reads what came of the reply.
-    pub(crate) fn turn(&mut self, alloc: Global, registry: &Registry) -> Turned {
+    pub(crate) fn turn(&mut self, alloc: Global, registry: &Registry) -> SourceTurn {
         if let Some(why) = self.send() {
-            return Turned::Ended(why);
+            return SourceTurn::Ended(why);
         }
         let mut piece = [0u8; PIECE_BYTES];
         for _ in 0..MOST_PIECES {
@@ -80,21 +80,21 @@ impl Source {
                 Done::Bytes(count) => {
                     let count = count.min(PIECE_BYTES);
                     match self.take_in(alloc, &piece[..count]) {
-                        Turned::Same => {}
+                        SourceTurn::Same => {}
                         turned => return turned,
                     }
                 }
-                Done::Blocked => return Turned::Same,
-                Done::Closed => return Turned::Ended(Why::Closed),
-                Done::Failed => return Turned::Ended(Why::Failed),
+                Done::Blocked => return SourceTurn::Same,
+                Done::Closed => return SourceTurn::Ended(SourceEnd::Closed),
+                Done::Failed => return SourceTurn::Ended(SourceEnd::Failed),
             }
         }
-        register_again(registry, &mut self.stream, Socket::Source.token());
-        Turned::Same
+        register_again(registry, &mut self.stream, ReplicaSocket::Source.token());
+        SourceTurn::Same
     }
 
     /// Writes what is left of the question.
-    fn send(&mut self) -> Option<Why> {
+    fn send(&mut self) -> Option<SourceEnd> {
         for _ in 0..u64::MAX {
             if self.question.is_taken() {
                 return None;
@@ -105,25 +105,25 @@ impl Source {
                     self.question.advance(count);
                 }
                 Done::Blocked => return None,
-                Done::Closed => return Some(Why::Closed),
-                Done::Failed => return Some(Why::Failed),
+                Done::Closed => return Some(SourceEnd::Closed),
+                Done::Failed => return Some(SourceEnd::Failed),
             }
         }
         None
     }
 
     /// Takes in bytes of a reply.
-    fn take_in(&mut self, alloc: Global, piece: &[u8]) -> Turned {
+    fn take_in(&mut self, alloc: Global, piece: &[u8]) -> SourceTurn {
         if self.came.extend_from_slice(piece).is_err() {
-            return Turned::Ended(Why::BadReply(ReplyFault::Memory));
+            return SourceTurn::Ended(SourceEnd::BadReply(ReplyFault::Memory));
         }
         match reply_in(alloc, &self.came) {
             Ok(reply) => {
                 self.came = Vec::new(alloc);
-                Turned::Replied(reply)
+                SourceTurn::Replied(reply)
             }
-            Err(ReplyFault::Short) => Turned::Same,
-            Err(fault) => Turned::Ended(Why::BadReply(fault)),
+            Err(ReplyFault::Short) => SourceTurn::Same,
+            Err(fault) => SourceTurn::Ended(SourceEnd::BadReply(fault)),
         }
     }
 }

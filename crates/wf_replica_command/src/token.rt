@@ -11,7 +11,7 @@ pub(crate) const CLIENT: usize = 1_024;
 
 /// A socket.
 #[derive(Clone, Copy, Debug, PartialEq, Eq)]
-pub(crate) enum Socket {
+pub(crate) enum ReplicaSocket {
     /// The listener for clients.
     Http,
     /// The listener for the operator.
@@ -28,40 +28,40 @@ pub(crate) enum Socket {
     Client(usize),
 }
 
-impl Socket {
+impl ReplicaSocket {
     /// Its token.
     pub(crate) fn token(self) -> usize {
         match self {
-            Socket::Http => 0,
-            Socket::Admin => 1,
-            Socket::Readers => 2,
-            Socket::Source => 3,
-            Socket::Asker(index) => ASKER.saturating_add(index),
-            Socket::Reader(index) => READER.saturating_add(index),
-            Socket::Client(index) => CLIENT.saturating_add(index),
+            ReplicaSocket::Http => 0,
+            ReplicaSocket::Admin => 1,
+            ReplicaSocket::Readers => 2,
+            ReplicaSocket::Source => 3,
+            ReplicaSocket::Asker(index) => ASKER.saturating_add(index),
+            ReplicaSocket::Reader(index) => READER.saturating_add(index),
+            ReplicaSocket::Client(index) => CLIENT.saturating_add(index),
         }
     }
 
     /// The socket of a token.
-    pub(crate) fn of(token: usize) -> Socket {
+    pub(crate) fn of(token: usize) -> ReplicaSocket {
         match token {
-            0 => Socket::Http,
-            1 => Socket::Admin,
-            2 => Socket::Readers,
-            _ => Socket::of_connection(token),
+            0 => ReplicaSocket::Http,
+            1 => ReplicaSocket::Admin,
+            2 => ReplicaSocket::Readers,
+            _ => ReplicaSocket::of_connection(token),
         }
     }
 
     /// The connection of a token.
-    fn of_connection(token: usize) -> Socket {
+    fn of_connection(token: usize) -> ReplicaSocket {
         if token < ASKER {
-            Socket::Source
+            ReplicaSocket::Source
         } else if token < READER {
-            Socket::Asker(token - ASKER)
+            ReplicaSocket::Asker(token - ASKER)
         } else if token < CLIENT {
-            Socket::Reader(token - READER)
+            ReplicaSocket::Reader(token - READER)
         } else {
-            Socket::Client(token - CLIENT)
+            ReplicaSocket::Client(token - CLIENT)
         }
     }
 }

@@ -1,18 +1,18 @@
 -- Sessions that are one farm agree, go on and answer alike.
 use Rattle.std.proofs.Common.{◌≡◌, ◌≢◌, ℕ, List, length, Option, Result, Ok, Err, Vec, refl, sym, ap, subst, ◌∙◌, arith}
 use Rattle.std.specs.declared.alloc.Global.{Global}
-use Rattle.wf_career.specs.Laws as career
+use Rattle.wf_career.specs.Theorems as career
 use Rattle.wf_codec.specs.declared.message.Message.{Message}
 use Rattle.wf_def.specs.Definition.{Definition}
-use Rattle.wf_edge.specs.Notice.{response_of}
+use Rattle.wf_edge.specs.ErrorResponse.{response_of}
 use Rattle.wf_edge.specs.Page.{IsServiceGiven, IsServicePage, service_page}
 use Rattle.wf_edge.specs.Request.{Request}
-use Rattle.wf_edge.specs.Serving.{Gives, GivesTo, IsOutcome}
-use Rattle.wf_edge.specs.declared.notice.Notice.{Notice}
+use Rattle.wf_edge.specs.RequestEffect.{Gives, GivesTo, IsOutcome}
+use Rattle.wf_edge.specs.declared.error_response.ErrorResponse.{ErrorResponse}
 use Rattle.wf_edge.specs.declared.outcome.Outcome.{Outcome}
 use Rattle.wf_edge.specs.declared.outcome.Outcome.TheVariants as outcome
-use Rattle.wf_edge.specs.declared.resource.Asked.{Asked}
-use Rattle.wf_edge.specs.declared.resource.Asked.TheVariants.{Wms}
+use Rattle.wf_edge.specs.declared.resource.RequestedResource.{RequestedResource}
+use Rattle.wf_edge.specs.declared.resource.RequestedResource.TheVariants.{Wms}
 use Rattle.wf_http.specs.Response.{Response, response_bytes}
 use Rattle.wf_http.specs.Target.{query_of}
 use Rattle.wf_http.specs.declared.fault.RequestFault.{RequestFault}
@@ -21,67 +21,67 @@ use Rattle.wf_wms.specs.Answer.{IsAnswerOf}
 use Rattle.wf_tape.specs.declared.tape.Tape.{Ghosts as Tape}
 use Rattle.wf_runs.specs.Session.{Session}
 use Rattle.wf_runs.specs.Folder.{IsHeld}
-use Rattle.wf_runs.specs.Laws.{IsOneFarm, FolderIsOneFarm, HasOneHistory, HaveOneDefinition, NoneGoesBack, IsQueryTo, HasResponded, IsReply, AskedAlike, AtOneSequence, ForOneMap, RespondAlike, GetAlike, SessionsAreOneFarm}
+use Rattle.wf_runs.specs.Theorems.{IsOneFarm, FolderIsOneFarm, HasOneHistory, HaveOneDefinition, NoneGoesBack, IsQueryTo, HasResponded, IsReply, AskedAlike, AtOneSequence, ForOneMap, RespondAlike, GetAlike, SessionsAreOneFarm}
 
 -- ---- the page of a query
 
 module _ {T : Type 0} (tapes : Tape T) where
   -- the reply to a request to the map service is its page, unless an allocation failed
-  page_of_service : (history : List Definition) (query : List ℕ) (answer : Result Response Notice) → IsServiceGiven history query answer → (response_of answer).status ≢ 503 → IsServicePage history query (response_of answer)
+  page_of_service : (history : List Definition) (query : List ℕ) (answer : Result Response ErrorResponse) → IsServiceGiven history query answer → (response_of answer).status ≢ 503 → IsServicePage history query (response_of answer)
   page_of_service history query (Ok page) is fine = is
   page_of_service history query (Err why) is fine = absurd (fine (ap (λ w. (response_of (Err w)).status) is))
 
-  page_by : (asked : Asked) (request : Request) (node after : Node T) (answer : Result Response Notice) (sent : Vec Message Global) (query : List ℕ) → asked ≡ Wms → query_of request.head.target ≡ query →
+  page_by : (asked : RequestedResource) (request : Request) (node after : Node T) (answer : Result Response ErrorResponse) (sent : Vec Message Global) (query : List ℕ) → asked ≡ Wms → query_of request.head.target ≡ query →
       GivesTo tapes asked request node answer sent after → (response_of answer).status ≢ 503 → IsServicePage node.parts.history query (response_of answer)
   page_by asked request node after answer sent query service same gives fine =
       let given : GivesTo tapes Wms request node answer sent after = subst (λ a. GivesTo tapes a request node answer sent after) service gives in
       subst (λ q. IsServicePage node.parts.history q (response_of answer)) same (page_of_service node.parts.history (query_of request.head.target) answer given.0 fine)
 
-  page_heard : (heard : Result Request RequestFault) (node after : Node T) (answer : Result Response Notice) (sent : Vec Message Global) (query : List ℕ) → IsQueryTo heard query →
-      Gives tapes heard node answer sent after → (response_of answer).status ≢ 503 → IsServicePage node.parts.history query (response_of answer)
-  page_heard (Ok request) node after answer sent query asks gives fine = page_by request.asked request node after answer sent query asks.0 asks.1 gives fine
-  page_heard (Err why) node after answer sent query asks gives fine = absurd asks
+  page_arrived : (arrived : Result Request RequestFault) (node after : Node T) (answer : Result Response ErrorResponse) (sent : Vec Message Global) (query : List ℕ) → IsQueryTo arrived query →
+      Gives tapes arrived node answer sent after → (response_of answer).status ≢ 503 → IsServicePage node.parts.history query (response_of answer)
+  page_arrived (Ok request) node after answer sent query asks gives fine = page_by request.asked request node after answer sent query asks.0 asks.1 gives fine
+  page_arrived (Err why) node after answer sent query asks gives fine = absurd asks
 
   page_responded : (node : Node T) (query : List ℕ) (response : Response) → HasResponded tapes node query response → response.status ≢ 503 → IsServicePage node.parts.history query response
   page_responded node query response has fine =
       let r = has.responds in
       subst (IsServicePage node.parts.history query) (sym r.is)
-      (page_heard r.heard node has.after r.answer has.sent query has.asked r.gives (λ e. fine (ap (λ (x : Response). x.status) r.is ∙ e)))
+      (page_arrived r.arrived node has.after r.answer has.sent query has.asked r.gives (λ e. fine (ap (λ (x : Response). x.status) r.is ∙ e)))
 
 -- ---- what a connection was answered with
 
 module _ {T : Type 0} (tapes : Tape T) where
-  responded : (input old new : Option (List ℕ)) (before after : Node T) (said : Vec Message Global) (got : Outcome) (is : IsOutcome tapes input old new before said after got) (query : List ℕ) (response : Response) →
-      IsReply tapes input old new before after said got is query response → HasResponded tapes before query response
-  responded input old new before after said (outcome.Sent status count) is query response reply =
-      subst (HasResponded tapes before query) reply.0 (record { input = input; sent = said; after = after; responds = is.responds; asked = reply.1 })
-  responded input old new before after said (outcome.WriteFailed status count) is query response reply =
-      subst (HasResponded tapes before query) reply.0 (record { input = input; sent = said; after = after; responds = is.responds; asked = reply.1 })
-  responded input old new before after said outcome.ReadFailed is query response reply = absurd reply
-  responded input old new before after said outcome.NoRequest is query response reply = absurd reply
+  responded : (input old new : Option (List ℕ)) (before after : Node T) (outputs : Vec Message Global) (got : Outcome) (is : IsOutcome tapes input old new before outputs after got) (query : List ℕ) (response : Response) →
+      IsReply tapes input old new before after outputs got is query response → HasResponded tapes before query response
+  responded input old new before after outputs (outcome.Sent status count) is query response reply =
+      subst (HasResponded tapes before query) reply.0 (record { input = input; sent = outputs; after = after; responds = is.responds; asked = reply.1 })
+  responded input old new before after outputs (outcome.WriteFailed status count) is query response reply =
+      subst (HasResponded tapes before query) reply.0 (record { input = input; sent = outputs; after = after; responds = is.responds; asked = reply.1 })
+  responded input old new before after outputs outcome.ReadFailed is query response reply = absurd reply
+  responded input old new before after outputs outcome.NoRequest is query response reply = absurd reply
 
 -- ---- the theorems
 
 module _ {T : Type 0} (tapes : Tape T) (n : ℕ) (sessions : List (Session T)) (is : IsOneFarm tapes n sessions) where
   held : (node : Node T) → IsHeld sessions node → career.IsHeld n is.careers node
   held node h =
-      let same = is.order h.moment h.moment h.place node node (omega arith) h.at h.at in
-      record { process = h.place; is_member = same.is_member; moment = same.moment; at = same.at }
+      let same = is.order h.moment h.moment h.node_index node node (omega arith) h.at h.at in
+      record { process = h.node_index; is_member = same.is_member; moment = same.moment; at = same.at }
 
   history : career.OneHistory tapes → HasOneHistory sessions
-  history law =
-      let so = law n is.careers is.items is.farm in
+  history theorem =
+      let so = theorem n is.careers is.items is.farm in
       record { history = so.history; each = λ node h. so.each node (held node h) }
 
   definition : career.OneDefinition tapes → HaveOneDefinition sessions
   unfolding HaveOneDefinition
-  definition law = λ node other h also s c d at there. law n is.careers is.items is.farm node other (held node h) (held other also) s c d at there
+  definition theorem = λ node other h also s c d at there. theorem n is.careers is.items is.farm node other (held node h) (held other also) s c d at there
 
   grow : career.ListsGrow tapes → NoneGoesBack sessions
   unfolding NoneGoesBack
-  grow law = λ k l i node next order at then.
+  grow theorem = λ k l i node next order at then.
       let so = is.order k l i node next order at then in
-      law n i (is.careers i) so.moment so.later node next (is.farm.each i so.is_member) so.order so.at so.then
+      theorem n i (is.careers i) so.moment so.later node next (is.farm.each i so.is_member) so.order so.at so.then
 
   module _ (one : career.OneAnswer tapes) (one_map : career.OneMapAnswer tapes) where
     pages_alike : (node other : Node T) (query : List ℕ) (page another : Response) → IsHeld sessions node → IsHeld sessions other → AskedAlike query node.parts.history other.parts.history →
@@ -105,11 +105,11 @@ module _ {T : Type 0} (tapes : Tape T) (n : ℕ) (sessions : List (Session T)) (
     get = λ k l nodes others query response another at then one two alike fine fine_too.
         let before = one.connection.before in
         let other = two.connection.before in
-        let h : IsHeld sessions before = record { moment = k; place = one.place; at = record { nodes = nodes; then = at; there = one.connection.changed.was } } in
-        let also : IsHeld sessions other = record { moment = l; place = two.place; at = record { nodes = others; then = then; there = two.connection.changed.was } } in
+        let h : IsHeld sessions before = record { moment = k; node_index = one.node_index; at = record { nodes = nodes; then = at; there = one.connection.changed.was } } in
+        let also : IsHeld sessions other = record { moment = l; node_index = two.node_index; at = record { nodes = others; then = then; there = two.connection.changed.was } } in
         respond before other query response another h also alike
-        (responded tapes one.input one.old one.new before one.connection.after one.said one.outcome one.connection.served query response one.reply)
-        (responded tapes two.input two.old two.new other two.connection.after two.said two.outcome two.connection.served query another two.reply) fine fine_too
+        (responded tapes one.input one.old one.new before one.connection.after one.outputs one.outcome one.connection.served query response one.reply)
+        (responded tapes two.input two.old two.new other two.connection.after two.outputs two.outcome two.connection.served query another two.reply) fine fine_too
 
 pub sessions_agree : {T : Type 0} (tapes : Tape T) → FolderIsOneFarm tapes → career.OneHistory tapes → career.OneDefinition tapes → career.ListsGrow tapes → career.OneAnswer tapes → career.OneMapAnswer tapes → SessionsAreOneFarm tapes
 sessions_agree tapes farms histories definitions grows answers maps = λ n sessions folder.

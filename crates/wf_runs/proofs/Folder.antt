@@ -4,13 +4,13 @@ use Rattle.std.proofs.lemmas.Bool.{cases_lt}
 use Rattle.std.proofs.lemmas.Option.{none-some, slice_get_within}
 use Rattle.wf_career.specs.Run.{Run}
 use Rattle.wf_career.specs.Career.{Career, Ended, AreRuns, IsCareer, items_of, items_in, values_of}
-use Rattle.wf_career.specs.Going.{unstarted}
+use Rattle.wf_career.specs.Continuation.{unstarted}
 use Rattle.wf_journal.specs.Records.{AreReadOneWay}
 use Rattle.wf_node.specs.Node.{Node}
 use Rattle.wf_tape.specs.declared.tape.Tape.{Ghosts as Tape}
 use Rattle.wf_runs.specs.Session.{Session}
 use Rattle.wf_runs.specs.Folder.{IsNewTape, IsFolder, moments, IsAt}
-use Rattle.wf_runs.specs.Laws.{IsOneFarm, FolderIsOneFarm}
+use Rattle.wf_runs.specs.Theorems.{IsOneFarm, FolderIsOneFarm}
 use Rattle.wf_runs.proofs.Careers.{Lived, lived}
 use Rattle.wf_runs.proofs.Items.{all_items}
 use Rattle.wf_runs.proofs.Left.{opened_empty}
@@ -37,7 +37,7 @@ no_sessions {T} tapes n = record {
 
 -- ---- some
 
-module _ {T : Type 0} (law : AreReadOneWay) (tapes : Tape T) (n : ℕ) (session : Session T) (later : List (Session T)) (are : IsFolder tapes n (session ∷ later)) where
+module _ {T : Type 0} (theorem : AreReadOneWay) (tapes : Tape T) (n : ℕ) (session : Session T) (later : List (Session T)) (are : IsFolder tapes n (session ∷ later)) where
   life : (i : ℕ) → i < n → Lived tapes n i IsNewTape (session ∷ later)
   life i less = lived tapes n i less IsNewTape session later are
 
@@ -47,9 +47,9 @@ module _ {T : Type 0} (law : AreReadOneWay) (tapes : Tape T) (n : ℕ) (session 
     where
       begins : (ended : List (Ended T)) (now : Option (Run T)) → AreRuns tapes n i is.bytes ended now → AreRuns tapes n i [] ended now
       begins [] None runs = tt
-      begins [] (Some run) runs = record { opened = opened_empty law n i is.bytes run.first is.may_be runs.opened; done = runs.done }
+      begins [] (Some run) runs = record { opened = opened_empty theorem n i is.bytes run.first is.may_be runs.opened; done = runs.done }
       begins (ended ∷ more) now runs =
-          (record { run = record { opened = opened_empty law n i is.bytes ended.run.first is.may_be runs.0.run.opened; done = runs.0.run.done }; left = runs.0.left }, runs.1)
+          (record { run = record { opened = opened_empty theorem n i is.bytes ended.run.first is.may_be runs.0.run.opened; done = runs.0.run.done }; left = runs.0.left }, runs.1)
 
   career_by : (i : ℕ) → (i < n) ⊎ (n ≤ i) → Career T
   career_by i (inl less) = record { ended = (life i less).ended; now = (life i less).now }
@@ -99,8 +99,8 @@ module _ {T : Type 0} (law : AreReadOneWay) (tapes : Tape T) (n : ℕ) (session 
   }
 
 pub folder_is_one_farm : AreReadOneWay → {T : Type 0} (tapes : Tape T) → FolderIsOneFarm tapes
-folder_is_one_farm law {T} tapes = farm
+folder_is_one_farm theorem {T} tapes = farm
   where
     farm : (n : ℕ) (sessions : List (Session T)) → IsFolder tapes n sessions → IsOneFarm tapes n sessions
     farm n [] are = no_sessions tapes n
-    farm n (session ∷ later) are = one_farm law tapes n session later are
+    farm n (session ∷ later) are = one_farm theorem tapes n session later are

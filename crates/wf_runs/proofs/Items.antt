@@ -37,16 +37,16 @@ by_none T i = refl
 -- ---- the acts of one node
 
 module _ {T : Type 0} where
-  pub acts_own : (i : ℕ) (step : Step T) (steps : List (Step T)) → step.place ≡ i → acts_at i (step ∷ steps) ≡ step.act ∷ acts_at i steps
+  pub acts_own : (i : ℕ) (step : Step T) (steps : List (Step T)) → step.node_index ≡ i → acts_at i (step ∷ steps) ≡ step.act ∷ acts_at i steps
   unfolding acts_at
-  acts_own i step steps same = rw (eq-eqb step.place i same) refl
+  acts_own i step steps same = rw (eq-eqb step.node_index i same) refl
 
-  pub acts_other : (i : ℕ) (step : Step T) (steps : List (Step T)) → step.place ≢ i → acts_at i (step ∷ steps) ≡ acts_at i steps
+  pub acts_other : (i : ℕ) (step : Step T) (steps : List (Step T)) → step.node_index ≢ i → acts_at i (step ∷ steps) ≡ acts_at i steps
   unfolding acts_at
-  acts_other i step steps differs = rw (ne_eqb step.place i differs) refl
+  acts_other i step steps differs = rw (ne_eqb step.node_index i differs) refl
 
   abbrev item_by : ℕ → Act T → Item
-  item_by i act = record { process = i; takes = act.input; said = act.said }
+  item_by i act = record { process = i; takes = act.input; outputs = act.outputs }
 
   by_one_more : (i : ℕ) (act : Act T) (acts : List (Act T)) → items_by i (act ∷ acts) ≡ item_by i act ∷ items_by i acts
   unfolding items_by
@@ -55,18 +55,18 @@ module _ {T : Type 0} where
   -- the items of these steps
   abbrev pub made : List (Step T) → List Item
   made [] = []
-  made (step ∷ steps) = item_by step.place step.act ∷ made steps
+  made (step ∷ steps) = item_by step.node_index step.act ∷ made steps
 
   pub made_own : (i : ℕ) (steps : List (Step T)) → items_of i (made steps) ≡ items_by i (acts_at i steps)
   made_own i [] = none_of i ∙ sym (ap (items_by i) (no_acts T i) ∙ by_none T i)
-  made_own i (step ∷ steps) = elim (cases_eq step.place i) [
+  made_own i (step ∷ steps) = elim (cases_eq step.node_index i) [
     | inl own ↦
-        own_item i (item_by step.place step.act) (made steps) own
+        own_item i (item_by step.node_index step.act) (made steps) own
         ∙ ap (λ k. item_by k step.act ∷ items_of i (made steps)) own
         ∙ ap (λ xs. item_by i step.act ∷ xs) (made_own i steps)
         ∙ sym (ap (items_by i) (acts_own i step steps own) ∙ by_one_more i step.act (acts_at i steps))
     | inr other ↦
-        other_item i (item_by step.place step.act) (made steps) other ∙ made_own i steps ∙ sym (ap (items_by i) (acts_other i step steps other))
+        other_item i (item_by step.node_index step.act) (made steps) other ∙ made_own i steps ∙ sym (ap (items_by i) (acts_other i step steps other))
   ]
 
 -- ---- what was cut when a session ended
@@ -78,12 +78,12 @@ cuts (suc k) ends = cuts k ends ++ items_at k (ends k)
 
 cut_own : (i : ℕ) (end : End) → items_of i (items_at i end) ≡ items_at i end
 cut_own i Between = none_of i
-cut_own i (Within input) = own_item i (record { process = i; takes = input; said = [] }) [] refl ∙ ap (λ xs. record { process = i; takes = input; said = [] } ∷ xs) (none_of i)
+cut_own i (Within input) = own_item i (record { process = i; takes = input; outputs = [] }) [] refl ∙ ap (λ xs. record { process = i; takes = input; outputs = [] } ∷ xs) (none_of i)
 cut_own i (Failed input) = none_of i
 
 cut_other : (i k : ℕ) (end : End) → k ≢ i → items_of i (items_at k end) ≡ []
 cut_other i k Between differs = none_of i
-cut_other i k (Within input) differs = other_item i (record { process = k; takes = input; said = [] }) [] differs ∙ none_of i
+cut_other i k (Within input) differs = other_item i (record { process = k; takes = input; outputs = [] }) [] differs ∙ none_of i
 cut_other i k (Failed input) differs = none_of i
 
 module _ (i : ℕ) (ends : ℕ → End) where

@@ -5,9 +5,9 @@ use Rattle.wf_ballot.specs.Frame.{frame}
 use Rattle.wf_career.specs.Run.{Input, Run, last, End, Between, Within, Failed, HasLeft, IsOpenedFrom, StandForEither}
 use Rattle.wf_def.specs.Definition.{Definition}
 use Rattle.wf_journal.specs.Records.{AreReadOneWay, BeginsWithNone}
-use Rattle.wf_journal.specs.Spelling.{spelling, text_spelling}
-use Rattle.wf_journal.specs.SpellingLaws.{length_of_encoding}
-use Rattle.wf_model.specs.Stored.{Stored, Record, fold, fold_from, nothing_stored}
+use Rattle.wf_journal.specs.Encoding.{spelling, text_spelling}
+use Rattle.wf_journal.specs.EncodingTheorems.{length_of_encoding}
+use Rattle.wf_model.specs.DurableState.{DurableState, Record, fold, fold_from, nothing_stored}
 use Rattle.wf_node.specs.Images.{StandsFor}
 use Rattle.wf_node.specs.Node.{Node, stored_of}
 use Rattle.wf_runs.specs.Folder.{ReadsAlike}
@@ -40,18 +40,18 @@ folds_nothing = refl
 pub nothing_stands : StandsFor nothing_stored []
 nothing_stands = record { records = []; reads = ([], record { splits = refl; longest = none_begins_nothing }); folds = folds_nothing }
 
-pub stands_once : AreReadOneWay → (one other : Stored Definition) (bytes : List ℕ) → StandsFor one bytes → StandsFor other bytes → one ≡ other
-stands_once law one other bytes stands also =
-    let same = law bytes stands.records also.records stands.reads also.reads in
+pub stands_once : AreReadOneWay → (one other : DurableState Definition) (bytes : List ℕ) → StandsFor one bytes → StandsFor other bytes → one ≡ other
+stands_once theorem one other bytes stands also =
+    let same = theorem bytes stands.records also.records stands.reads also.reads in
     same_Some one other (sym stands.folds ∙ ap (λ (rs : List (Record Definition)). fold rs) same ∙ also.folds)
 
 -- a node that was opened from a new tape was opened from an empty one
 pub opened_empty : AreReadOneWay → {T : Type 0} (n i : ℕ) (bytes : List ℕ) (node : Node T) → ReadsAlike [] bytes → IsOpenedFrom n i bytes node → IsOpenedFrom n i [] node
-opened_empty law n i bytes node alike opened = record {
+opened_empty theorem n i bytes node alike opened = record {
   id = opened.id;
   among = opened.among;
   runs = opened.runs;
-  stored = subst (λ (s : Stored Definition). StandsFor s [])
-      (stands_once law nothing_stored (stored_of node) bytes (alike nothing_stored nothing_stands) opened.stored) nothing_stands;
+  stored = subst (λ (s : DurableState Definition). StandsFor s [])
+      (stands_once theorem nothing_stored (stored_of node) bytes (alike nothing_stored nothing_stands) opened.stored) nothing_stands;
   idle = opened.idle;
 }

@@ -5,8 +5,8 @@ mod Moments
 mod Careers
 mod Folder
 mod Answers
-mod Leaving
+mod CrashImages
 mod Twice
 mod Steps
-mod Serving
+mod ServedSteps
 mod Runs

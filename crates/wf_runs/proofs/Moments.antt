@@ -6,7 +6,7 @@ use Rattle.std.proofs.lemmas.Option.{none-some, same_Some}
 use Rattle.wf_career.specs.Career.{values_after}
 use Rattle.wf_career.specs.Run.{IsAct, AreDone}
 use Rattle.wf_codec.specs.declared.message.Message.{Message}
-use Rattle.wf_farm.specs.PlaceLaws.{get_set_other, set_there}
+use Rattle.wf_farm.specs.IndexTheorems.{get_set_other, set_there}
 use Rattle.wf_node.specs.Node.{Node}
 use Rattle.wf_tape.specs.declared.tape.Tape.{Ghosts as Tape}
 use Rattle.wf_runs.specs.Session.{Session, Step, stepped, moments_from, acts_at, AreTaken}
@@ -22,16 +22,16 @@ module _ {T : Type 0} (tapes : Tape T) (i : ℕ) where
 
   pub acts_done : (sent : List Message) (nodes : List (Node T)) (steps : List (Step T)) (first : Node T) → slice_get nodes i ≡ Some first → AreTaken tapes sent nodes steps → AreDone tapes first (acts_at i steps)
   acts_done sent nodes [] first at taken = no_acts_done first
-  acts_done sent nodes (step ∷ steps) first at taken = elim (cases_eq step.place i) [
+  acts_done sent nodes (step ∷ steps) first at taken = elim (cases_eq step.node_index i) [
     | inl own ↦
         let one = taken.0 in
         let same : one.before ≡ first = same_Some one.before first (sym one.at ∙ ap (slice_get nodes) own ∙ at) in
         let there : slice_get (stepped nodes step) i ≡ Some step.act.after = subst (λ k. slice_get (slice_set nodes k step.act.after) i ≡ Some step.act.after) (sym own) (set_there nodes i step.act.after first at) in
         subst (AreDone tapes first) (sym (acts_own i step steps own))
-        (subst (λ (x : Node T). IsAct tapes x step.act) same one.is, acts_done (sent ++ step.act.said) (stepped nodes step) steps step.act.after there taken.1)
+        (subst (λ (x : Node T). IsAct tapes x step.act) same one.is, acts_done (sent ++ step.act.outputs) (stepped nodes step) steps step.act.after there taken.1)
     | inr other ↦
         subst (AreDone tapes first) (sym (acts_other i step steps other))
-        (acts_done (sent ++ step.act.said) (stepped nodes step) steps first (get_set_other nodes step.place i step.act.after (λ e. other (sym e)) ∙ at) taken.1)
+        (acts_done (sent ++ step.act.outputs) (stepped nodes step) steps first (get_set_other nodes step.node_index i step.act.after (λ e. other (sym e)) ∙ at) taken.1)
   ]
 
 -- ---- moments that show values
@@ -85,11 +85,11 @@ module _ {T : Type 0} (tapes : Tape T) (i : ℕ) where
   unfolding values_after
   after_none = refl
 
-  after_own : (step : Step T) (steps : List (Step T)) → step.place ≡ i → values_after (acts_at i (step ∷ steps)) ≡ step.act.after ∷ values_after (acts_at i steps)
+  after_own : (step : Step T) (steps : List (Step T)) → step.node_index ≡ i → values_after (acts_at i (step ∷ steps)) ≡ step.act.after ∷ values_after (acts_at i steps)
   unfolding values_after
   after_own step steps own = ap values_after (acts_own i step steps own)
 
-  after_other : (step : Step T) (steps : List (Step T)) → step.place ≢ i → values_after (acts_at i (step ∷ steps)) ≡ values_after (acts_at i steps)
+  after_other : (step : Step T) (steps : List (Step T)) → step.node_index ≢ i → values_after (acts_at i (step ∷ steps)) ≡ values_after (acts_at i steps)
   after_other step steps other = ap values_after (acts_other i step steps other)
 
   shows_none : (nodes : List (Node T)) (first : Node T) (times : List (List (Node T))) (vs : List (Node T)) → slice_get nodes i ≡ Some first → Show i times vs →
@@ -101,18 +101,18 @@ module _ {T : Type 0} (tapes : Tape T) (i : ℕ) where
       AreTaken tapes sent nodes steps → Show i times vs → Show i (moments_from nodes steps ++ times) (first ∷ (values_after (acts_at i steps) ++ vs))
   unfolding moments_from
   session_shows sent nodes [] first times vs at taken show = shows_none nodes first times vs at show
-  session_shows sent nodes (step ∷ steps) first times vs at taken show = elim (cases_eq step.place i) [
+  session_shows sent nodes (step ∷ steps) first times vs at taken show = elim (cases_eq step.node_index i) [
     | inl own ↦
         let there : slice_get (stepped nodes step) i ≡ Some step.act.after = subst (λ k. slice_get (slice_set nodes k step.act.after) i ≡ Some step.act.after) (sym own) (set_there nodes i step.act.after first at) in
         let more = moments_from (stepped nodes step) steps ++ times in
-        let rest = session_shows (sent ++ step.act.said) (stepped nodes step) steps step.act.after times vs there taken.1 show in
+        let rest = session_shows (sent ++ step.act.outputs) (stepped nodes step) steps step.act.after times vs there taken.1 show in
         subst (λ after. Show i (nodes ∷ more) (first ∷ (after ++ vs))) (sym (after_own step steps own))
         (Stays nodes more first (step.act.after ∷ (values_after (acts_at i steps) ++ vs)) at (Passes more first (step.act.after ∷ (values_after (acts_at i steps) ++ vs)) rest))
     | inr other ↦
-        let there : slice_get (stepped nodes step) i ≡ Some first = get_set_other nodes step.place i step.act.after (λ e. other (sym e)) ∙ at in
+        let there : slice_get (stepped nodes step) i ≡ Some first = get_set_other nodes step.node_index i step.act.after (λ e. other (sym e)) ∙ at in
         let more = moments_from (stepped nodes step) steps ++ times in
         subst (λ after. Show i (nodes ∷ more) (first ∷ (after ++ vs))) (sym (after_other step steps other))
-        (Stays nodes more first (values_after (acts_at i steps) ++ vs) at (session_shows (sent ++ step.act.said) (stepped nodes step) steps first times vs there taken.1 show))
+        (Stays nodes more first (values_after (acts_at i steps) ++ vs) at (session_shows (sent ++ step.act.outputs) (stepped nodes step) steps first times vs there taken.1 show))
   ]
 
 -- ---- there are as many nodes at each moment
@@ -134,7 +134,7 @@ module _ {T : Type 0} where
   long_from : (n : ℕ) (nodes : List (Node T)) (steps : List (Step T)) → length nodes ≡ n → AllLong n (moments_from nodes steps)
   unfolding moments_from
   long_from n nodes [] long = (long, tt)
-  long_from n nodes (step ∷ steps) long = (long, long_from n (stepped nodes step) steps (length-set nodes step.place step.act.after ∙ long))
+  long_from n nodes (step ∷ steps) long = (long, long_from n (stepped nodes step) steps (length-set nodes step.node_index step.act.after ∙ long))
 
   pub all_long : (tapes : Tape T) (n : ℕ) (found : ℕ → List ℕ → Type 0) (sessions : List (Session T)) → AreSessions tapes n found sessions → AllLong n (moments sessions)
   unfolding moments

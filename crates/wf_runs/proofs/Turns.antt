@@ -2,7 +2,7 @@
 use Rattle.std.proofs.Common.{◌≡◌, ◌⊎◌, ℕ, zero, suc, ◌<◌, ◌≤◌, List, [], ◌∷◌, ◌++◌, length, slice_get, Some, refl, sym, ap, subst, ◌∙◌, inl, inr, arith, append-nil, append_assoc, length-set}
 use Rattle.std.proofs.lemmas.Option.{slice_get_within, slice_get_cases}
 use Rattle.wf_career.specs.Career.{Item, items_at, IsOneOf, AreInTurn}
-use Rattle.wf_career.specs.Laws.{said_in}
+use Rattle.wf_career.specs.Theorems.{outputs_in}
 use Rattle.wf_career.specs.Run.{Input, End, Between, Within, Failed}
 use Rattle.wf_codec.specs.declared.message.Message.{Message}
 use Rattle.wf_model.specs.Chosen.{IsIn}
@@ -41,47 +41,47 @@ among_more xs ys more are = λ m is. elim (in_either m xs more is) [
   | inr back ↦ in_second m ys more back
 ]
 
-pub heard_among : (xs ys : List Message) → AreAmong xs ys → (input : Input) → IsOneOf xs input → IsOneOf ys input
-heard_among xs ys are (action.Propose d) is = tt
-heard_among xs ys are action.Retry is = tt
-heard_among xs ys are action.CatchUp is = tt
-heard_among xs ys are (action.Deliver m) is = are m is
+pub arrived_among : (xs ys : List Message) → AreAmong xs ys → (input : Input) → IsOneOf xs input → IsOneOf ys input
+arrived_among xs ys are (action.Propose d) is = tt
+arrived_among xs ys are action.Retry is = tt
+arrived_among xs ys are action.CatchUp is = tt
+arrived_among xs ys are (action.Deliver m) is = are m is
 
 -- ---- items in turn
 
-pub turn_both : (n : ℕ) (sent : List Message) (items more : List Item) → AreInTurn n sent items → AreInTurn n (sent ++ said_in items) more → AreInTurn n sent (items ++ more)
-unfolding said_in
+pub turn_both : (n : ℕ) (sent : List Message) (items more : List Item) → AreInTurn n sent items → AreInTurn n (sent ++ outputs_in items) more → AreInTurn n sent (items ++ more)
+unfolding outputs_in
 turn_both n sent [] more are later = subst (λ ms. AreInTurn n ms more) (append-nil sent) later
 turn_both n sent (item ∷ items) more are later =
-    (are.0, are.1, turn_both n (sent ++ item.said) items more are.2 (subst (λ ms. AreInTurn n ms more) (sym (append_assoc sent item.said (said_in items))) later))
+    (are.0, are.1, turn_both n (sent ++ item.outputs) items more are.2 (subst (λ ms. AreInTurn n ms more) (sym (append_assoc sent item.outputs (outputs_in items))) later))
 
 module _ {T : Type 0} (tapes : Tape T) (n : ℕ) where
-  pub said_made : (steps : List (Step T)) → said_in (made steps) ≡ returned steps
-  unfolding said_in returned
-  said_made [] = refl
-  said_made (step ∷ steps) = ap (λ ms. step.act.said ++ ms) (said_made steps)
+  pub outputs_made : (steps : List (Step T)) → outputs_in (made steps) ≡ returned steps
+  unfolding outputs_in returned
+  outputs_made [] = refl
+  outputs_made (step ∷ steps) = ap (λ ms. step.act.outputs ++ ms) (outputs_made steps)
 
   pub made_turn : (sent among : List Message) (nodes : List (Node T)) (steps : List (Step T)) → length nodes ≡ n → AreAmong sent among → AreTaken tapes sent nodes steps → AreInTurn n among (made steps)
   made_turn sent among nodes [] long are taken = tt
   made_turn sent among nodes (step ∷ steps) long are taken =
       let one = taken.0 in (
-        subst (λ k. step.place < k) long (slice_get_within nodes step.place one.before one.at),
-        heard_among sent among are step.act.input one.heard,
-        made_turn (sent ++ step.act.said) (among ++ step.act.said) (stepped nodes step) steps (length-set nodes step.place step.act.after ∙ long) (among_more sent among step.act.said are) taken.1,
+        subst (λ k. step.node_index < k) long (slice_get_within nodes step.node_index one.before one.at),
+        arrived_among sent among are step.act.input one.arrived,
+        made_turn (sent ++ step.act.outputs) (among ++ step.act.outputs) (stepped nodes step) steps (length-set nodes step.node_index step.act.after ∙ long) (among_more sent among step.act.outputs are) taken.1,
       )
 
 -- ---- cuts
 
 cut_turn : (n i : ℕ) (sent among : List Message) (end : End) → i < n → AreAmong sent among → IsEndBy sent end → AreInTurn n among (items_at i end)
 cut_turn n i sent among Between less are by = tt
-cut_turn n i sent among (Within input) less are by = (less, heard_among sent among are input by, tt)
+cut_turn n i sent among (Within input) less are by = (less, arrived_among sent among are input by, tt)
 cut_turn n i sent among (Failed input) less are by = tt
 
 cuts_turn : (n k : ℕ) (sent among : List Message) (ends : ℕ → End) → k ≤ n → AreAmong sent among → ((i : ℕ) → i < k → IsEndBy sent (ends i)) → AreInTurn n among (cuts k ends)
 cuts_turn n zero sent among ends most are by = tt
 cuts_turn n (suc k) sent among ends most are by =
     turn_both n among (cuts k ends) (items_at k (ends k)) (cuts_turn n k sent among ends (omega (arith, most)) are (λ i less. by i (omega (arith, less))))
-    (cut_turn n k sent (among ++ said_in (cuts k ends)) (ends k) (omega (arith, most)) (λ m is. in_first m among (said_in (cuts k ends)) (are m is)) (by k (omega arith)))
+    (cut_turn n k sent (among ++ outputs_in (cuts k ends)) (ends k) (omega (arith, most)) (λ m is. in_first m among (outputs_in (cuts k ends)) (are m is)) (by k (omega arith)))
 
 -- ---- all sessions
 
@@ -104,8 +104,8 @@ module _ {T : Type 0} (tapes : Tape T) (n : ℕ) where
   all_turn found sent (session ∷ (next ∷ later)) are =
       turn_both n sent (made session.steps) (cuts n session.ends ++ all_items n (next ∷ later))
       (made_turn tapes n [] sent session.nodes session.steps are.0.as_many (λ m is. absurd is) are.0.taken)
-      (turn_both n (sent ++ said_in (made session.steps)) (cuts n session.ends) (all_items n (next ∷ later))
-      (cuts_turn n n (returned session.steps) (sent ++ said_in (made session.steps)) session.ends (omega arith)
-      (λ m is. in_second m sent (said_in (made session.steps)) (subst (IsIn m) (sym (said_made tapes n session.steps)) is))
+      (turn_both n (sent ++ outputs_in (made session.steps)) (cuts n session.ends) (all_items n (next ∷ later))
+      (cuts_turn n n (returned session.steps) (sent ++ outputs_in (made session.steps)) session.ends (omega arith)
+      (λ m is. in_second m sent (outputs_in (made session.steps)) (subst (IsIn m) (sym (outputs_made tapes n session.steps)) is))
       (λ i less. ended_by session next are.1.0 i less))
-      (all_turn (IsLeftAt session) ((sent ++ said_in (made session.steps)) ++ said_in (cuts n session.ends)) (next ∷ later) are.1))
+      (all_turn (IsLeftAt session) ((sent ++ outputs_in (made session.steps)) ++ outputs_in (cuts n session.ends)) (next ∷ later) are.1))

@@ -3,11 +3,11 @@ use Rattle.std.proofs.Common.{◌≡◌, ℕ, zero, suc, false, List, [], ◌∷
 use Rattle.std.specs.Prelude.{Result}
 use Rattle.wf_codec.specs.declared.message.Message.{Message}
 use Rattle.wf_def.specs.Definition.{Definition}
-use Rattle.wf_farm.specs.Giving.{Steps}
+use Rattle.wf_farm.specs.NodeInput.{Steps}
 use Rattle.wf_model.specs.declared.action.Action.TheVariants as action
 use Rattle.wf_node.specs.Input.{view}
-use Rattle.wf_node.specs.Step.{IsRow, entry_of, refusal_at, row_of}
-use Rattle.wf_node.specs.Storing.{bytes_of}
+use Rattle.wf_node.specs.Step.{IsTransition, entry_of, step_rejection_at, transition_of}
+use Rattle.wf_node.specs.TapeWrites.{bytes_of}
 use Rattle.std.proofs.lemmas.Option.{none-some, same_Some}
 use Rattle.wf_career.specs.Career.{IsOneOf}
 use Rattle.wf_career.specs.Run.{Act, Between, HasLeft, IsAct, IsOpenedFrom, last_of}
@@ -19,7 +19,7 @@ use Rattle.wf_runs.specs.Twice.{AreTwoSessions, IsOpenedAgain}
 
 module _ {T : Type 0} (tapes : Tape T) (first : Node T) (act : Act T) (opened : IsOpenedFrom 1 0 [] first) (is : IsAct tapes first act) (own : IsOneOf [] act.input) where
   step : Step T
-  step = record { place = 0; act = act }
+  step = record { node_index = 0; act = act }
 
   before : Session T
   before = record { nodes = first ∷ []; steps = step ∷ []; ends = λ i. Between }
@@ -33,7 +33,7 @@ module _ {T : Type 0} (tapes : Tape T) (first : Node T) (act : Act T) (opened : 
   first_session = record {
     as_many = refl;
     opened = first_found;
-    taken = (record { before = first; at = refl; is = is; heard = own }, tt);
+    taken = (record { before = first; at = refl; is = is; arrived = own }, tt);
   }
 
   module _ (again : Node T) (runs : act.after.halted ≡ false) (after : IsOpenedAgain 1 0 act.after again) where
@@ -60,11 +60,11 @@ module _ {T : Type 0} (tapes : Tape T) (first : Node T) (act : Act T) (opened : 
     }
 
 -- A node that was opened on an empty tape proposed a map, and was opened again.
-pub twice : {T E : Type 0} (tapes : Tape T) (first after : Node T) (map : Definition) (said : List Message) (id : ℕ) (bytes : List ℕ) (result : Result (Node T) E) → id ≡ 0 → bytes ≡ [] → IsOpenedFrom 1 id bytes first →
-    None ≡ refusal_at first (view (action.Propose map)) → IsRow first (row_of first (view (action.Propose map))) said after →
-    (tapes.honest → tapes.content after.tape ≡ tapes.content first.tape ++ bytes_of (entry_of first (view (action.Propose map)))) → IfOk result (IsOpenedAgain 1 id after) → IfOk result (AreTwoSessions tapes)
-twice tapes first after map said id bytes (Err why) own empty opened none row content again = tt
-twice tapes first after map said id bytes (Ok next) own empty opened none row content again =
-    let act : Act _ = record { input = action.Propose map; said = said; after = after } in
+pub twice : {T E : Type 0} (tapes : Tape T) (first after : Node T) (map : Definition) (outputs : List Message) (id : ℕ) (bytes : List ℕ) (result : Result (Node T) E) → id ≡ 0 → bytes ≡ [] → IsOpenedFrom 1 id bytes first →
+    None ≡ step_rejection_at first (view (action.Propose map)) → IsTransition first (transition_of first (view (action.Propose map))) outputs after →
+    (tapes.durable → tapes.content after.tape ≡ tapes.content first.tape ++ bytes_of (entry_of first (view (action.Propose map)))) → IfOk result (IsOpenedAgain 1 id after) → IfOk result (AreTwoSessions tapes)
+twice tapes first after map outputs id bytes (Err why) own empty opened none transition content again = tt
+twice tapes first after map outputs id bytes (Ok next) own empty opened none transition content again =
+    let act : Act _ = record { input = action.Propose map; outputs = outputs; after = after } in
     two_sessions tapes first act (subst (λ i. IsOpenedFrom 1 i [] first) own (subst (λ bs. IsOpenedFrom 1 id bs first) empty opened))
-    (record { lost = false; takes = Steps opened.runs (sym none) row content }) tt next row.running (subst (λ i. IsOpenedAgain 1 i after next) own again)
+    (record { lost = false; takes = Steps opened.runs (sym none) transition content }) tt next transition.running (subst (λ i. IsOpenedAgain 1 i after next) own again)

@@ -4,7 +4,7 @@ use Rattle.wf_career.specs.Career.{IsOneOf}
 use Rattle.wf_career.specs.Run.{End, Between, Within, Failed, HasLeft, IsOpenedFrom}
 use Rattle.wf_codec.specs.declared.message.Message.{Message}
 use Rattle.wf_def.specs.Definition.{Definition}
-use Rattle.wf_model.specs.Stored.{Stored}
+use Rattle.wf_model.specs.DurableState.{DurableState}
 use Rattle.wf_node.specs.Images.{StandsFor}
 use Rattle.wf_node.specs.Node.{Node}
 use Rattle.wf_tape.specs.declared.tape.Tape.{Ghosts as Tape}
@@ -12,10 +12,10 @@ use Rattle.wf_runs.specs.Session.{Session, AreTaken, moments_from, returned, run
 
 -- ---- what a session leaves
 
--- What openings that were cut off make of the bytes of a tape: whatever stored part the bytes stood for, they stand for it still. The file is
--- the old one, or a new one with its whole records or those of a shortened tape.
+-- What openings that were cut off make of the bytes of a tape: whatever durable state the bytes stood for, they stand for it still.
+-- The file is the old one, or a new one with its whole records or those of a shortened tape.
 abbrev pub ReadsAlike : List ℕ → List ℕ → Type 0
-ReadsAlike old new = (stored : Stored Definition) → StandsFor stored old → StandsFor stored new
+ReadsAlike old new = (stored : DurableState Definition) → StandsFor stored old → StandsFor stored new
 
 -- a message within whose delivery the session ended is one of these
 abbrev pub IsEndBy : List Message → End → Type 0
@@ -24,8 +24,8 @@ IsEndBy sent (Within input) = IsOneOf sent input
 IsEndBy sent (Failed input) = ⊤
 
 -- These bytes may be read of the tape at an index after the session: its node's run left them, as it ended for that node (`HasLeft`: between two
--- steps the bytes stand for what the node has stored; within one, and after its tape failed within one, for what it had stored before it
--- or has after it), or openings that were cut off since then made them of what that left.
+-- steps the bytes stand for what the node has stored; within one, and after its tape failed within one, for what it had stored
+-- before it or has after it), or openings that were cut off since then made them of what that left.
 pub record IsLeftAt {T : Type 0} (session : Session T) (i : ℕ) (bytes : List ℕ) : Type 0 where
   pub first : Node T
   pub at : slice_get session.nodes i ≡ Some first
@@ -67,13 +67,13 @@ moments [] = []
 moments (session ∷ later) = moments_from session.nodes session.steps ++ moments later
 
 -- At this moment the node at that index was this one.
-pub record IsAt {T : Type 0} (sessions : List (Session T)) (moment place : ℕ) (node : Node T) : Type 0 where
+pub record IsAt {T : Type 0} (sessions : List (Session T)) (moment node_index : ℕ) (node : Node T) : Type 0 where
   pub nodes : List (Node T)
   pub then : slice_get (moments sessions) moment ≡ Some nodes
-  pub there : slice_get nodes place ≡ Some node
+  pub there : slice_get nodes node_index ≡ Some node
 
 -- it was so at some moment
 pub record IsHeld {T : Type 0} (sessions : List (Session T)) (node : Node T) : Type 0 where
   pub moment : ℕ
-  pub place : ℕ
-  pub at : IsAt sessions moment place node
+  pub node_index : ℕ
+  pub at : IsAt sessions moment node_index node

@@ -1,6 +1,6 @@
 pub mod Session
 pub mod Folder
-pub mod Laws
-pub mod Serving
-pub mod Leaving
+pub mod Theorems
+pub mod ServedSteps
+pub mod CrashImages
 pub mod Twice

@@ -8,7 +8,7 @@ use Rattle.wf_tape.specs.declared.tape.Tape.{Ghosts as Tape}
 
 -- a step of the node at an index
 pub record Step (T : Type 0) : Type 0 where
-  pub place : ℕ
+  pub node_index : ℕ
   pub act : Act T
 
 -- the nodes as they were opened, their steps since then, and how the session ended for the node at each index
@@ -20,7 +20,7 @@ pub record Session (T : Type 0) : Type 0 where
 -- ---- the nodes at each moment
 
 abbrev pub stepped : {T : Type 0} → List (Node T) → Step T → List (Node T)
-stepped nodes step = slice_set nodes step.place step.act.after
+stepped nodes step = slice_set nodes step.node_index step.act.after
 
 unfoldable pub after_steps : {T : Type 0} → List (Node T) → List (Step T) → List (Node T)
 after_steps nodes [] = nodes
@@ -36,12 +36,12 @@ moments_from nodes (step ∷ steps) = nodes ∷ moments_from (stepped nodes step
 -- the messages that the steps returned
 unfoldable pub returned : {T : Type 0} → List (Step T) → List Message
 returned [] = []
-returned (step ∷ steps) = step.act.said ++ returned steps
+returned (step ∷ steps) = step.act.outputs ++ returned steps
 
 -- the steps of the node at an index, in their order
 unfoldable pub acts_at : {T : Type 0} → ℕ → List (Step T) → List (Act T)
 acts_at i [] = []
-acts_at i (step ∷ steps) = if step.place == i then step.act ∷ acts_at i steps else acts_at i steps
+acts_at i (step ∷ steps) = if step.node_index == i then step.act ∷ acts_at i steps else acts_at i steps
 
 -- the run of the node at an index, which was opened as this one
 abbrev pub run_at : {T : Type 0} → ℕ → Node T → Session T → Run T
@@ -53,11 +53,11 @@ module _ {T : Type 0} (tapes : Tape T) where
   -- One of the nodes did what a step promises. A message that was delivered to it is one of these.
   pub record IsTaken (sent : List Message) (nodes : List (Node T)) (step : Step T) : Type 0 where
     pub before : Node T
-    pub at : slice_get nodes step.place ≡ Some before
+    pub at : slice_get nodes step.node_index ≡ Some before
     pub is : IsAct tapes before step.act
-    pub heard : IsOneOf sent step.act.input
+    pub arrived : IsOneOf sent step.act.input
 
   -- The nodes took these steps, one after the other. Each message that was delivered is one of these, or an earlier step returned it.
   abbrev pub AreTaken : List Message → List (Node T) → List (Step T) → Type 0
   AreTaken sent nodes [] = ⊤
-  AreTaken sent nodes (step ∷ steps) = IsTaken sent nodes step × AreTaken (sent ++ step.act.said) (stepped nodes step) steps
+  AreTaken sent nodes (step ∷ steps) = IsTaken sent nodes step × AreTaken (sent ++ step.act.outputs) (stepped nodes step) steps

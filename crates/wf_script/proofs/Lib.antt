@@ -1,10 +1,10 @@
-mod Counting
-mod Cutting
+mod LineCount
+mod LineCuts
 mod Faults
-mod Going
-mod Judging
-mod Listing
-mod Naming
+mod LineSteps
+mod WholeInput
+mod NumberList
+mod MapNames
 mod Numbers
-mod Parting
+mod WordSplits
 mod Whole

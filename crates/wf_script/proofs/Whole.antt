@@ -3,9 +3,9 @@ use Rattle.std.proofs.Common.{◌≡◌, ◌∙◌, ℕ, List, Some, None, sym, 
 use Rattle.std.specs.Prelude.{Result, Ok, Err, false}
 use Rattle.wf_script.specs.Fault.{is_memory}
 use Rattle.wf_script.specs.Lines.{Lines, lines, over_limit}
-use Rattle.wf_script.specs.Reading.{◌>>=◌, Tells}
+use Rattle.wf_script.specs.ReadContract.{◌>>=◌, Reports}
 use Rattle.wf_script.specs.Script.{Script}
-use Rattle.wf_script.specs.Text.{State, ended, head_from, nothing_said, on_from, script, script_of, unless_over}
+use Rattle.wf_script.specs.Text.{State, ended, head_from, nothing_meant, on_from, script, script_of, unless_over}
 use Rattle.wf_script.specs.declared.fault.ScriptFault.{ScriptFault}
 use Rattle.wf_script.specs.declared.fault.ScriptFault.TheVariants.{OverLimit}
 
@@ -20,26 +20,26 @@ from_first text ls are =
     ∙ ap (λ left. script (record { number = ls.number; left = left })) (sym are.left)
 
 behind_head : (ls : Lines) (head : Result (ℕ × Lines) ScriptFault) → head_from ls ≡ head →
-    script ls ≡ head >>= (λ first. on_from None (nothing_said first.0) first.1 >>= (λ s. ended first.0 s))
+    script ls ≡ head >>= (λ first. on_from None (nothing_meant first.0) first.1 >>= (λ s. ended first.0 s))
 unfolding script
-behind_head ls head is = ap (λ h. h >>= (λ first. on_from None (nothing_said first.0) first.1 >>= (λ s. ended first.0 s))) is
+behind_head ls head is = ap (λ h. h >>= (λ first. on_from None (nothing_meant first.0) first.1 >>= (λ s. ended first.0 s))) is
 
-pub all_said : (text : List ℕ) (ls now : Lines) (nodes : ℕ) (s : State) → AreLinesOf text ls → head_from ls ≡ Ok (nodes, now) → on_from None (nothing_said nodes) now ≡ Ok s
+pub all_meant : (text : List ℕ) (ls now : Lines) (nodes : ℕ) (s : State) → AreLinesOf text ls → head_from ls ≡ Ok (nodes, now) → on_from None (nothing_meant nodes) now ≡ Ok s
     → script (record { number = 0; left = lines text }) ≡ Ok (record { nodes = nodes; names = s.names; maps = s.maps; orders = s.orders })
-all_said text ls now nodes s are head rest =
+all_meant text ls now nodes s are head rest =
     from_first text ls are ∙ behind_head ls (Ok (nodes, now)) head
     ∙ ap (λ (found : Result State ScriptFault). found >>= (λ t. ended nodes t)) rest
 
-pub none_said : (text : List ℕ) (ls now : Lines) (nodes : ℕ) (fault : ScriptFault) → AreLinesOf text ls → head_from ls ≡ Ok (nodes, now) → on_from None (nothing_said nodes) now ≡ Err fault
+pub none_meant : (text : List ℕ) (ls now : Lines) (nodes : ℕ) (fault : ScriptFault) → AreLinesOf text ls → head_from ls ≡ Ok (nodes, now) → on_from None (nothing_meant nodes) now ≡ Err fault
     → script (record { number = 0; left = lines text }) ≡ Err fault
-none_said text ls now nodes fault are head rest =
+none_meant text ls now nodes fault are head rest =
     from_first text ls are ∙ behind_head ls (Ok (nodes, now)) head
     ∙ ap (λ (found : Result State ScriptFault). found >>= (λ t. ended nodes t)) rest
 
-pub no_head_told : {X : Type 0} (view : X → Script) (result : Result X ScriptFault) (fault : ScriptFault) (text : List ℕ) (ls : Lines) → result ≡ Err fault → AreLinesOf text ls
-    → (is_memory fault ≡ false → head_from ls ≡ Err fault) → Tells view result (script (record { number = 0; left = lines text }))
-no_head_told view result fault text ls is are why =
-    subst (λ r. Tells view r (script (record { number = 0; left = lines text }))) (sym is) (λ isnt. from_first text ls are ∙ behind_head ls (Err fault) (why isnt))
+pub no_head_reported : {X : Type 0} (view : X → Script) (result : Result X ScriptFault) (fault : ScriptFault) (text : List ℕ) (ls : Lines) → result ≡ Err fault → AreLinesOf text ls
+    → (is_memory fault ≡ false → head_from ls ≡ Err fault) → Reports view result (script (record { number = 0; left = lines text }))
+no_head_reported view result fault text ls is are why =
+    subst (λ r. Reports view r (script (record { number = 0; left = lines text }))) (sym is) (λ isnt. from_first text ls are ∙ behind_head ls (Err fault) (why isnt))
 
 pub over_is_none : (text : List ℕ) (line : ℕ) → over_limit text ≡ Some line → script_of text ≡ Err (OverLimit line)
 unfolding script_of

@@ -5,7 +5,7 @@ pub mod Order
 pub mod Orders
 pub mod Script
 pub mod Text
-pub mod Drafting
-pub mod Naming
+pub mod Drafts
+pub mod MapNames
 pub mod Fault
-pub mod Reading
+pub mod ReadContract

@@ -50,8 +50,8 @@ abbrev pub most_script_bytes : ℕ
 most_script_bytes = 1048576
 
 -- what is read of an input: its beginning, up to a byte more than the longest script
-abbrev pub judged : List ℕ → List ℕ
-judged input = take (most_script_bytes + 1) input
+abbrev pub examined : List ℕ → List ℕ
+examined input = take (most_script_bytes + 1) input
 
 -- the most lines of a script
 abbrev pub most_lines : ℕ

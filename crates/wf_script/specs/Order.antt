@@ -2,7 +2,7 @@
 use Rattle.std.specs.Prelude.{ℕ, List}
 use Rattle.wf_model.specs.declared.action.Action.{Action}
 use Rattle.wf_model.specs.declared.kept.Kept.{Kept}
-use Rattle.wf_script.specs.declared.order.Question as question
+use Rattle.wf_script.specs.declared.order.FarmQuestion as question
 use Rattle.wf_script.specs.declared.order.Order as code
 use Rattle.wf_script.specs.declared.order.Order.TheVariants as order
 
@@ -17,7 +17,7 @@ pub data Order : Type 0 where
   Torn : (node : ℕ) (step : Action ℕ ℕ) (kept : Kept) → Order
   Pump : (nodes : List ℕ) → Order
   Skip : Order
-  Ask : (question : question.Question) → Order
+  Ask : (question : question.FarmQuestion) → Order
   Get : (node : ℕ) (query : List ℕ) → Order
   Equal : (node other : ℕ) (query : List ℕ) → Order
 

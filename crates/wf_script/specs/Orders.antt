@@ -9,12 +9,12 @@ use Rattle.wf_model.specs.declared.kept.Kept.{Kept}
 use Rattle.wf_model.specs.declared.kept.Kept.TheVariants as kept
 use Rattle.wf_script.specs.Order.{Order}
 use Rattle.wf_script.specs.Order as order
-use Rattle.wf_script.specs.Reading.{◌>>=◌}
+use Rattle.wf_script.specs.ReadContract.{◌>>=◌}
 use Rattle.wf_script.specs.Verb.{verb_of}
 use Rattle.wf_script.specs.Words.{a_number, a_text, a_word, no_word, number}
 use Rattle.wf_script.specs.declared.fault.Wrong.{Wrong}
 use Rattle.wf_script.specs.declared.fault.Wrong.TheVariants.{BadLine}
-use Rattle.wf_script.specs.declared.order.Question.TheVariants as question
+use Rattle.wf_script.specs.declared.order.FarmQuestion.TheVariants as question
 use Rattle.wf_script.specs.declared.verb.Verb.{Verb}
 use Rattle.wf_script.specs.declared.verb.Verb.TheVariants as verb
 

@@ -8,12 +8,12 @@ use Rattle.wf_ballot.specs.Node.{most_nodes}
 use Rattle.wf_spelling.specs.Canon.{canon, most_canon_bytes}
 use Rattle.wf_def.specs.Definition.{Definition}
 use Rattle.wf_mapfile.specs.Meaning.{meaning}
-use Rattle.wf_script.specs.Lines.{Lines, judged, lines, most_maps, over_limit}
-use Rattle.wf_script.specs.Naming.{name}
+use Rattle.wf_script.specs.Lines.{Lines, examined, lines, most_maps, over_limit}
+use Rattle.wf_script.specs.MapNames.{name}
 use Rattle.wf_script.specs.Order as order
 use Rattle.wf_script.specs.Order.{Order}
 use Rattle.wf_script.specs.Orders.{order_of, place_of}
-use Rattle.wf_script.specs.Reading.{◌>>=◌, at_line}
+use Rattle.wf_script.specs.ReadContract.{◌>>=◌, at_line}
 use Rattle.wf_script.specs.Script.{Numbered, Script, definition, numbered}
 use Rattle.wf_script.specs.Verb.{verb_of}
 use Rattle.wf_script.specs.Words.{a_number, a_text, ends_map, is_skipped, no_word, words}
@@ -129,23 +129,23 @@ abbrev pub outside : {E : Type 0} → State → Result (Option Begun × State) E
 outside s = Ok (None, s)
 
 -- what the words after a verb mean, on a line of this number: a map begins, or there is an order
-unfoldable pub said_by : ℕ → State → Verb → List (List ℕ) → Result (Option Begun × State) Wrong
-said_by n s verb.Map words = do
+unfoldable pub meant_by : ℕ → State → Verb → List (List ℕ) → Result (Option Begun × State) Wrong
+meant_by n s verb.Map words = do
   name ← a_new_name s.names words
   Ok (Some (begins n name), s)
-said_by n s verb words = with_order n s verb words >>= outside
+meant_by n s verb words = with_order n s verb words >>= outside
 
-unfoldable pub said : ℕ → State → List (List ℕ) → Result (Option Begun × State) Wrong
-said n s words = do
+unfoldable pub line_meaning : ℕ → State → List (List ℕ) → Result (Option Begun × State) Wrong
+line_meaning n s words = do
   word ← a_text words
   verb ← ok_or (verb_of word.0) wrongs.BadLine
-  said_by n s verb word.1
+  meant_by n s verb word.1
 
 -- What a line of this number means, outside of a map and within one. Nothing is skipped within a map: each of its lines is a line
 -- of its text, followed by a line feed. An error of a map is reported at the line where it begins.
-unfoldable pub line_says : Option Begun → ℕ → State → List ℕ → Result (Option Begun × State) ScriptFault
-line_says None n s line = if is_skipped line then outside s else at_line n (said n s (words line))
-line_says (Some begun) n s line =
+unfoldable pub line_means : Option Begun → ℕ → State → List ℕ → Result (Option Begun × State) ScriptFault
+line_means None n s line = if is_skipped line then outside s else at_line n (line_meaning n s (words line))
+line_means (Some begun) n s line =
     if ends_map line then at_line begun.line (closed begun.name begun.text s) >>= outside
     else Ok (Some (record { line = begun.line; name = begun.name; text = begun.text ++ line ++ 10 ∷ [] }), s)
 
@@ -153,7 +153,7 @@ line_says (Some begun) n s line =
 unfoldable pub read_on : Option Begun → ℕ → State → List (List ℕ) → Result State ScriptFault
 read_on None n s [] = Ok s
 read_on (Some begun) n s [] = Err (fault.BadLine begun.line)
-read_on begun n s (line ∷ rest) = line_says begun n s line >>= (λ t. read_on t.0 (n + 1) t.1 rest)
+read_on begun n s (line ∷ rest) = line_means begun n s line >>= (λ t. read_on t.0 (n + 1) t.1 rest)
 
 -- what the lines that are left mean
 unfoldable pub on_from : Option Begun → State → Lines → Result State ScriptFault
@@ -161,7 +161,7 @@ on_from begun s ls = read_on begun (ls.number + 1) s ls.left
 
 -- what the line that was returned means, and those that are left
 unfoldable pub line_on : Option Begun → State → List ℕ → Lines → Result State ScriptFault
-line_on begun s line ls = line_says begun ls.number s line >>= (λ t. on_from t.0 t.1 ls)
+line_on begun s line ls = line_means begun ls.number s line >>= (λ t. on_from t.0 t.1 ls)
 
 -- a map begins with the words after its verb, on the line that was returned, and continues in the lines that are left
 unfoldable pub map_on : State → List (List ℕ) → Lines → Result State ScriptFault
@@ -185,8 +185,8 @@ unfoldable pub head_from : Lines → Result (ℕ × Lines) ScriptFault
 head_from ls = head (ls.number + 1) ls.left
 
 -- nothing was read but the number of nodes
-abbrev pub nothing_said : ℕ → State
-nothing_said nodes = record { nodes = nodes; names = []; maps = []; orders = [] }
+abbrev pub nothing_meant : ℕ → State
+nothing_meant nodes = record { nodes = nodes; names = []; maps = []; orders = [] }
 
 -- the script that was read, for `nodes` nodes
 abbrev pub ended : ℕ → State → Result Script ScriptFault
@@ -196,7 +196,7 @@ ended nodes s = Ok (record { nodes = nodes; names = s.names; maps = s.maps; orde
 unfoldable pub script : Lines → Result Script ScriptFault
 script ls = do
   first ← head_from ls
-  s ← on_from None (nothing_said first.0) first.1
+  s ← on_from None (nothing_meant first.0) first.1
   ended first.0 s
 
 abbrev pub unless_over : Option ℕ → Result Script ScriptFault → Result Script ScriptFault
@@ -208,5 +208,5 @@ unfoldable pub script_of : List ℕ → Result Script ScriptFault
 script_of text = unless_over (over_limit text) (script (record { number = 0; left = lines text }))
 
 -- Of an input no more than a beginning is judged: that is judged as the whole is.
-abbrev pub JudgedAlike : Type 0
-JudgedAlike = (text : List ℕ) → script_of (judged text) ≡ script_of text
+abbrev pub ExaminedAlike : Type 0
+ExaminedAlike = (text : List ℕ) → script_of (examined text) ≡ script_of text

@@ -4,7 +4,7 @@ use Rattle.std.specs.Char.{is_ascii_digit}
 use Rattle.std.specs.List.{fold, list_all}
 use Rattle.std.specs.Str.{bytes_eq, is_utf8}
 use Rattle.wf_script.specs.Lines.{before}
-use Rattle.wf_script.specs.Reading.{◌>>=◌}
+use Rattle.wf_script.specs.ReadContract.{◌>>=◌}
 use Rattle.wf_script.specs.declared.fault.Wrong.{Wrong}
 use Rattle.wf_script.specs.declared.fault.Wrong.TheVariants.{BadLine}
 

@@ -1,15 +1,15 @@
 //! A script while it is read: its maps and orders so far.
 
 ghost use Rattle.std.specs.Prelude.{◌≡◌, ◌≤◌, ◌+◌, [], length, map, IfErr, Some, None};
-ghost use Rattle.wf_script.specs.Drafting.{Closes};
+ghost use Rattle.wf_script.specs.Drafts.{Closes};
 ghost use Rattle.wf_script.specs.Fault.{IsAtLine};
 ghost use Rattle.wf_script.specs.Lines.{total};
-ghost use Rattle.wf_script.specs.Naming.{name};
+ghost use Rattle.wf_script.specs.MapNames.{name};
 ghost use Rattle.wf_script.specs.Order.{view};
 ghost use Rattle.wf_script.specs.Script.{numbered};
 ghost use Rattle.std.specs.List.{list_all};
-ghost use Rattle.wf_script.specs.Reading.{Gives, GoesOn, Tells};
-ghost use Rattle.wf_script.specs.Text.{a_new_name, added, closed, is_question, line_on, map_on, may_follow, nothing_said, on_from, state, with_order};
+ghost use Rattle.wf_script.specs.ReadContract.{Gives, GoesOn, Reports};
+ghost use Rattle.wf_script.specs.Text.{a_new_name, added, closed, is_question, line_on, map_on, may_follow, nothing_meant, on_from, state, with_order};
 
 use crate::fault::{ScriptFault, Wrong};
 use crate::lines::Lines;
@@ -21,18 +21,18 @@ use std::alloc::Global;
 
 /// How many nodes there are, the maps so far, and the orders with their lines.
 #[derive(Drop)]
-pub(crate) struct Draft {
+pub(crate) struct ScriptDraft {
     pub(crate) nodes: u8,
     pub(crate) maps: Maps,
     pub(crate) orders: Vec<Numbered>,
 }
 
-impl Draft {
-    pub(crate) fn new(alloc: Global, nodes: u8) -> Draft
+impl ScriptDraft {
+    pub(crate) fn new(alloc: Global, nodes: u8) -> ScriptDraft
         ensures { state result.nodes result.maps.named.items result.orders.items
-            ≡ nothing_said nodes }
+            ≡ nothing_meant nodes }
     {
-        Draft {
+        ScriptDraft {
             nodes,
             maps: Maps::new(alloc),
             orders: Vec::new(alloc),
@@ -40,13 +40,13 @@ impl Draft {
     }
 
     /// Reads the lines that are left.
-    #[tactic(auto, using(crate::proofs::Faults::wrong_at, crate::proofs::Going::same_want, crate::proofs::Going::one_line, crate::proofs::Going::no_line))]
+    #[tactic(auto, using(crate::proofs::Faults::wrong_at, crate::proofs::LineSteps::same_want, crate::proofs::LineSteps::one_line, crate::proofs::LineSteps::no_line))]
     pub(crate) fn take_lines(
         &mut self,
         alloc: Global,
         lines: &mut Lines<'_>,
     ) -> Result<(), ScriptFault>
-        ensures value { Tells
+        ensures value { Reports
             (λ _. state self.new.nodes self.new.maps.named.items self.new.orders.items) result
             (on_from None
             (state self.old.nodes self.old.maps.named.items self.old.orders.items) lines.old) }
@@ -64,7 +64,7 @@ impl Draft {
     }
 
     /// Reads the line that was returned last; where a map begins there, the lines of the map too.
-    #[tactic(auto, unfolding(crate::specs::Text::line_on, crate::specs::Text::line_says, crate::specs::Text::said, crate::specs::Text::said_by, crate::specs::Text::map_on))]
+    #[tactic(auto, unfolding(crate::specs::Text::line_on, crate::specs::Text::line_means, crate::specs::Text::line_meaning, crate::specs::Text::meant_by, crate::specs::Text::map_on))]
     fn take_line(&mut self, alloc: Global, line: &[u8], lines: &mut Lines<'_>) -> Result<(), Wrong>
         ensures value { GoesOn lines.old.number result
             (line_on None
@@ -129,7 +129,7 @@ impl Draft {
     }
 
     /// May the order follow those so far? A fuse is of a node of the farm, and comes once, before any event.
-    #[tactic(auto, using(crate::proofs::Listing::all_numbered))]
+    #[tactic(auto, using(crate::proofs::NumberList::all_numbered))]
     fn may_follow(&self, order: &Order) -> bool
         ensures { result
             ≡ may_follow self.now.nodes (map numbered self.now.orders.items) (view order.now) }
@@ -224,7 +224,7 @@ fn is_question(order: &Order) -> bool
 }
 
 /// The lines up to `endmap`, each with a line feed.
-#[tactic(auto, using(crate::proofs::Going::one_line, crate::proofs::Going::map_ended, crate::proofs::Going::map_goes_on, crate::proofs::Going::never_ended))]
+#[tactic(auto, using(crate::proofs::LineSteps::one_line, crate::proofs::LineSteps::map_ended, crate::proofs::LineSteps::map_goes_on, crate::proofs::LineSteps::never_ended))]
 fn text_of_map(alloc: Global, lines: &mut Lines<'_>) -> Result<Vec<u8>, Wrong>
     ensures value { Closes (λ v. v.items) result lines.old lines.new }
     ensures total { total lines.new ≡ total lines.old }

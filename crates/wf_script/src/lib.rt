@@ -26,24 +26,24 @@
 //!
 //! [`Script::read`] returns exactly the script that the text is, or exactly the error for which it is none, with its line, unless
 //! allocation fails (`script_of` of `specs/Text.antt`). An allocation failure is reported at a line of the text, and never hides
-//! that a text is over a limit. [`a_beginning_is_judged_alike`]: the first bytes of a long input, one more than a script may have,
-//! are judged as the whole input is.
+//! that a text is over a limit. [`a_beginning_is_examined_alike`]: the first bytes of a long input, one more than a script may
+//! have, are judged as the whole input is.
 #![tactic(auto)]
 
 mod draft;
 mod fault;
-mod law;
 mod limit;
 mod lines;
 mod maps;
 mod order;
 mod script;
+mod theorem;
 mod verb;
 mod words;
 
 pub use fault::ScriptFault;
-pub use law::a_beginning_is_judged_alike;
 pub use limit::{MOST_LINES, MOST_SCRIPT_BYTES};
 pub use maps::MOST_MAPS;
-pub use order::{Numbered, Order, Question};
+pub use order::{FarmQuestion, Numbered, Order};
 pub use script::Script;
+pub use theorem::a_beginning_is_examined_alike;

@@ -55,7 +55,7 @@ fn line_over_most(bytes: &[u8]) -> Option<usize>
 }
 
 /// How many lines the bytes have; the last may end without a line feed.
-#[tactic(auto, using(crate::proofs::Counting::lines_counted, crate::proofs::Counting::no_lines))]
+#[tactic(auto, using(crate::proofs::LineCount::lines_counted, crate::proofs::LineCount::no_lines))]
 fn lines_begun(bytes: &[u8]) -> usize
     ensures { result ≡ length (lines bytes.now) }
 {

@@ -45,7 +45,7 @@ impl<'a> Lines<'a> {
     }
 
     /// The next line, without the line feed that ends it and the carriage return before that.
-    #[tactic(auto, using(crate::proofs::Cutting::none_left, crate::proofs::Cutting::ended_line, crate::proofs::Cutting::last_line, crate::proofs::Cutting::one_less))]
+    #[tactic(auto, using(crate::proofs::LineCuts::none_left, crate::proofs::LineCuts::ended_line, crate::proofs::LineCuts::last_line, crate::proofs::LineCuts::one_less))]
     pub(crate) fn next(&mut self) -> Option<&'a [u8]>
         ensures none { IfNone result (self.old.left ≡ []) }
         ensures end { IfNone result (self.new ≡ self.old) }
@@ -79,7 +79,7 @@ fn length_of_line(bytes: &[u8]) -> usize
     bytes.iter().take_while(|byte| **byte != b'\n').count()
 }
 
-#[tactic(auto, using(crate::proofs::Cutting::return_dropped, crate::proofs::Cutting::no_return, crate::proofs::Cutting::nothing_dropped))]
+#[tactic(auto, using(crate::proofs::LineCuts::return_dropped, crate::proofs::LineCuts::no_return, crate::proofs::LineCuts::nothing_dropped))]
 fn without_return(line: &[u8]) -> &[u8]
     ensures { result.now ≡ without_return line.now }
 {

@@ -5,8 +5,8 @@ ghost use Rattle.std.specs.List.{list_all, position};
 ghost use Rattle.std.specs.Option.{option_and_then};
 ghost use Rattle.std.specs.Prelude.{◌≡◌, ◌<◌, ◌≤◌, ◌↔◌, length, IsTrue, option_copied, option_map, slice_get};
 ghost use Rattle.wf_script.specs.Lines.{most_maps};
-ghost use Rattle.wf_script.specs.Reading.{Gives};
-ghost use Rattle.wf_script.specs.Naming.{name as name_of};
+ghost use Rattle.wf_script.specs.ReadContract.{Gives};
+ghost use Rattle.wf_script.specs.MapNames.{name as name_of};
 ghost use Rattle.wf_script.specs.Text.{is_name, map_of};
 ghost use Rattle.std.specs.Str.{bytes_eq};
 ghost use Rattle.wf_def.specs.Equality.{definition_eq};
@@ -79,7 +79,7 @@ impl Maps {
     }
 
     /// The number of the map of this name, counted from 0.
-    #[tactic(auto, using(crate::proofs::Naming::found_by_name))]
+    #[tactic(auto, using(crate::proofs::MapNames::found_by_name))]
     pub(crate) fn number_of(&self, name: &str) -> Option<usize>
         ensures { result ≡ place_of (map name_of self.now.named.items) name.now }
     {

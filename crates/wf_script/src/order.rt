@@ -1,10 +1,10 @@
 //! Orders: what a line of a script does or asks.
 
 ghost use Rattle.std.specs.Prelude.{◌≡◌, [], OnOk, map};
-ghost use Rattle.wf_script.specs.Naming.{name};
+ghost use Rattle.wf_script.specs.MapNames.{name};
 ghost use Rattle.wf_script.specs.Order.{view};
 ghost use Rattle.wf_script.specs.Orders.{a_kept, a_map, a_step, cut_order, definition_order, deliver_order, equal_order, fuse_order, get_order, numbers, order_by, order_of, proposal_order, pump_order, restart_order, some_numbers, step_by, step_order, stop_order, torn_order};
-ghost use Rattle.wf_script.specs.Reading.{Gives};
+ghost use Rattle.wf_script.specs.ReadContract.{Gives};
 ghost use Rattle.wf_script.specs.Words.{a_word};
 
 use crate::fault::Wrong;
@@ -25,7 +25,8 @@ pub struct Numbered {
 #[derive(Drop)]
 pub enum Order {
     /// The tape of the node of the first number will fail at the call of the second, counted from 1 from now; none fails for 0. A
-    /// failing append keeps the third number of bytes, and the crash after it the fourth number of those that aren't synced. No event.
+    /// failing append keeps the third number of bytes, and the crash after it the fourth number of those that aren't synced. No
+    /// event.
     Fuse(usize, usize, usize, usize),
     /// A step of the node.
     Step(usize, Action<usize, usize>),
@@ -44,7 +45,7 @@ pub enum Order {
     /// All messages so far count as pumped.
     Skip,
     /// A question about the farm, which doesn't change it.
-    Ask(Question),
+    Ask(FarmQuestion),
     /// What does the node answer to this query of a client? It changes nothing either.
     Get(usize, Vec<u8>),
     /// Do the two nodes answer this query equally?
@@ -53,7 +54,7 @@ pub enum Order {
 
 /// A question about a farm.
 #[derive(Clone, Copy)]
-pub enum Question {
+pub enum FarmQuestion {
     /// What did each node publish last?
     Published,
     /// How many messages were sent?
@@ -101,14 +102,14 @@ fn order_by(alloc: Global, maps: &Maps, verb: Verb, words: &mut Words<'_>) -> Re
         Verb::Cut => cut(words),
         Verb::Stop => stop(words),
         Verb::Restart => restart(words),
-        Verb::Torn => torn(maps, words),
+        Verb::Torn => read_torn(maps, words),
         Verb::Pump => pump(alloc, words),
         Verb::Skip => Ok(Order::Skip),
-        Verb::Published => Ok(Order::Ask(Question::Published)),
-        Verb::Sent => Ok(Order::Ask(Question::Sent)),
+        Verb::Published => Ok(Order::Ask(FarmQuestion::Published)),
+        Verb::Sent => Ok(Order::Ask(FarmQuestion::Sent)),
         Verb::Proposal => proposal(words),
         Verb::Definition => definition(words),
-        Verb::Same => Ok(Order::Ask(Question::Same)),
+        Verb::Same => Ok(Order::Ask(FarmQuestion::Same)),
         Verb::Get => get(alloc, words),
         Verb::Equal => equal(alloc, words),
     }
@@ -185,21 +186,21 @@ fn pump(alloc: Global, words: &mut Words<'_>) -> Result<Order, Wrong>
     Ok(Order::Pump(nodes))
 }
 
-/// `torn I before E` or `torn I after E`.
+/// `read_torn I before E` or `read_torn I after E`.
 #[tactic(auto, unfolding(crate::specs::Orders::torn_order))]
-fn torn(maps: &Maps, words: &mut Words<'_>) -> Result<Order, Wrong>
+fn read_torn(maps: &Maps, words: &mut Words<'_>) -> Result<Order, Wrong>
     ensures { Gives (λ o. (view o, words.new)) result
         (torn_order (map name maps.now.named.items) words.old) }
 {
     let node = words.number()?;
-    let kept = torn_kept(words)?;
+    let kept = read_torn_kept(words)?;
     let step = step_after(maps, words)?;
     Ok(Order::Torn(node, step, kept))
 }
 
 /// What the crash leaves: `before` or `after`.
 #[tactic(auto, unfolding(crate::specs::Orders::a_kept))]
-fn torn_kept(words: &mut Words<'_>) -> Result<Kept, Wrong>
+fn read_torn_kept(words: &mut Words<'_>) -> Result<Kept, Wrong>
     ensures { Gives (λ kept. (kept, words.new)) result (a_kept words.old) }
 {
     match words.text()? {
@@ -260,7 +261,7 @@ fn proposal(words: &mut Words<'_>) -> Result<Order, Wrong>
     ensures { Gives (λ o. (view o, words.new)) result (proposal_order words.old) }
 {
     let node = words.number()?;
-    Ok(Order::Ask(Question::Proposal(node)))
+    Ok(Order::Ask(FarmQuestion::Proposal(node)))
 }
 
 /// `definition I S`.
@@ -270,7 +271,7 @@ fn definition(words: &mut Words<'_>) -> Result<Order, Wrong>
 {
     let node = words.number()?;
     let sequence = words.number()?;
-    Ok(Order::Ask(Question::Definition(node, sequence)))
+    Ok(Order::Ask(FarmQuestion::Definition(node, sequence)))
 }
 
 /// `get I QUERY`.
@@ -295,7 +296,7 @@ fn equal(alloc: Global, words: &mut Words<'_>) -> Result<Order, Wrong>
 }
 
 /// The numbers that the words left are, one at least.
-#[tactic(auto, using(crate::proofs::Listing::none_at_all, crate::proofs::Listing::some_found, crate::proofs::Listing::not_even_one))]
+#[tactic(auto, using(crate::proofs::NumberList::none_at_all, crate::proofs::NumberList::some_found, crate::proofs::NumberList::not_even_one))]
 fn some_numbers(alloc: Global, words: &mut Words<'_>) -> Result<Vec<usize>, Wrong>
     ensures value { Gives (λ v. v.items) result (some_numbers words.old) }
     ensures end { OnOk result (words.new ≡ []) }
@@ -308,7 +309,7 @@ fn some_numbers(alloc: Global, words: &mut Words<'_>) -> Result<Vec<usize>, Wron
 }
 
 /// The numbers that the words left are.
-#[tactic(auto, using(crate::proofs::Listing::none_so_far, crate::proofs::Listing::no_words, crate::proofs::Listing::one_number))]
+#[tactic(auto, using(crate::proofs::NumberList::none_so_far, crate::proofs::NumberList::no_words, crate::proofs::NumberList::one_number))]
 fn numbers(alloc: Global, words: &mut Words<'_>) -> Result<Vec<usize>, Wrong>
     ensures value { Gives (λ v. v.items) result (numbers words.old) }
     ensures end { OnOk result (words.new ≡ []) }

@@ -4,10 +4,10 @@ ghost use Rattle.std.specs.Prelude.{◌≡◌, ◌≤◌, ◌<◌, ◌+◌, ◌�
 ghost use Rattle.wf_ballot.specs.Node.{most_nodes};
 ghost use Rattle.wf_script.specs.Fault.{IsAtLine};
 ghost use Rattle.wf_script.specs.Lines.{line_feeds, lines, most_script_bytes, most_lines, most_maps, over_limit, total};
-ghost use Rattle.wf_script.specs.Reading.{Gives, Tells};
+ghost use Rattle.wf_script.specs.ReadContract.{Gives, Reports};
 ghost use Rattle.wf_script.specs.Text.{head_from, nodes_of, script, script_of};
 
-use crate::draft::Draft;
+use crate::draft::ScriptDraft;
 use crate::fault::{ScriptFault, Wrong};
 use crate::limit::line_over;
 use crate::lines::Lines;
@@ -43,7 +43,7 @@ impl Drop for Script {
 impl Model for Script {
     ghost use Rattle.std.specs.Prelude.{map};
     ghost use Rattle.std.specs.Coded.{codes};
-    ghost use Rattle.wf_script.specs.Naming.{name};
+    ghost use Rattle.wf_script.specs.MapNames.{name};
     ghost use Rattle.wf_script.specs.Script.{Script, IsScript, definition, numbered};
 
     ghost Value = { Script };
@@ -74,9 +74,9 @@ impl Script {
     /// where it begins; on one line S2 comes before S3 before S4. A script without a line that isn't skipped is S2 at line 1.
     /// Allocation failure is S1, at the line where it happens, whatever the text is otherwise. Each error is at a line of the
     /// bytes, or at line 1 where they have none.
-    #[tactic(auto, using(crate::proofs::Counting::over_at, crate::proofs::Counting::bytes_fit, crate::proofs::Counting::lines_fit))]
+    #[tactic(auto, using(crate::proofs::LineCount::over_at, crate::proofs::LineCount::bytes_fit, crate::proofs::LineCount::lines_fit))]
     pub fn read(alloc: Global, bytes: &[u8]) -> Result<Script, ScriptFault>
-        ensures value { Tells (λ s. s) result (script_of bytes.now) }
+        ensures value { Reports (λ s. s) result (script_of bytes.now) }
         ensures bytes { OnOk result (length bytes.now ≤ most_script_bytes) }
         ensures lines { OnOk result (line_feeds bytes.now ≤ most_lines) }
         ensures over { IfSome
@@ -142,15 +142,15 @@ impl Script {
 #[tactic(auto, using(crate::proofs::Faults::at_line_of))]
 fn read_lines(alloc: Global, bytes: &[u8]) -> Result<Script, ScriptFault>
     requires { length (lines bytes.now) ≤ most_lines }
-    ensures value { Tells (λ s. s) result (script (record { number = 0; left = lines bytes.now })) }
+    ensures value { Reports (λ s. s) result (script (record { number = 0; left = lines bytes.now })) }
     ensures at { IfErr result (IsAtLine (length (lines bytes.now))) }
 {
     let mut lines = Lines::new(bytes);
     let nodes = first_line(&mut lines)?;
-    let mut draft = Draft::new(alloc, nodes);
+    let mut draft = ScriptDraft::new(alloc, nodes);
     match draft.take_lines(alloc, &mut lines) {
         Ok(()) => {
-            let Draft {
+            let ScriptDraft {
                 nodes: _,
                 maps,
                 orders,
@@ -169,9 +169,9 @@ fn read_lines(alloc: Global, bytes: &[u8]) -> Result<Script, ScriptFault>
 }
 
 /// The number of nodes, from the first line that isn't skipped.
-#[tactic(auto, using(crate::proofs::Faults::wrong_at, crate::proofs::Going::same_want, crate::proofs::Going::head_line, crate::proofs::Going::head_skipped, crate::proofs::Going::no_head))]
+#[tactic(auto, using(crate::proofs::Faults::wrong_at, crate::proofs::LineSteps::same_want, crate::proofs::LineSteps::head_line, crate::proofs::LineSteps::head_skipped, crate::proofs::LineSteps::no_head))]
 fn first_line(lines: &mut Lines<'_>) -> Result<u8, ScriptFault>
-    ensures value { Tells (λ nodes. (nodes, lines.new)) result (head_from lines.old) }
+    ensures value { Reports (λ nodes. (nodes, lines.new)) result (head_from lines.old) }
     ensures nodes { IfOk result (λ nodes. (1 ≤ nodes) × (nodes ≤ most_nodes)) }
     ensures at { IfErr result (IsAtLine (total lines.old)) }
     ensures total { total lines.new ≡ total lines.old }

@@ -3,7 +3,7 @@
 ghost use Rattle.std.specs.Prelude.{◌≡◌, ◌≤◌, ◌∷◌, [], length, not, ◌==◌, IfSome, IfNone, min, ◌-◌, ◌^◌};
 ghost use Rattle.std.specs.Char.{is_ascii_digit};
 ghost use Rattle.std.specs.List.{list_all, prefix_len};
-ghost use Rattle.wf_script.specs.Reading.{Gives};
+ghost use Rattle.wf_script.specs.ReadContract.{Gives};
 ghost use Rattle.wf_script.specs.Words.{a_number, a_text, a_word, ends_map, is_in_word, is_skipped, is_space, no_word, number, text_of, value, words};
 
 use crate::fault::Wrong;

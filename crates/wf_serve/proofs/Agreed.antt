@@ -2,13 +2,13 @@
 use Rattle.std.proofs.Common.{◌≡◌, ℕ, zero, suc, List, [], ◌∷◌, length, slice_get, Some, refl, ap, ◌∙◌, arith}
 use Rattle.std.specs.declared.alloc.Global.{Global}
 use Rattle.wf_def.specs.Definition.{Definition}
-use Rattle.wf_edge.specs.Law.{stand_alike, EqualRequestsHaveEqualResponses}
-use Rattle.wf_farm.specs.Leading.{HaveOneHistory}
+use Rattle.wf_edge.specs.Theorem.{stand_alike, EqualRequestsHaveEqualResponses}
+use Rattle.wf_farm.specs.Reachability.{HaveOneHistory}
 use Rattle.wf_learner.specs.History.{map_at}
-use Rattle.wf_model.specs.Stored.{definition_at}
+use Rattle.wf_model.specs.DurableState.{definition_at}
 use Rattle.wf_node.specs.Node.{Node}
 use Rattle.wf_wms.specs.Answer.{subject}
-use Rattle.wf_serve.specs.Agreeing.{RespondAlike}
+use Rattle.wf_serve.specs.Agreement.{RespondAlike}
 use Rattle.wf_tape.specs.declared.tape.Tape.{Ghosts as Tape}
 
 -- lists of one length whose elements agree are equal
@@ -29,9 +29,9 @@ same_history nodes i j node other one here there long =
 
 module _ {T : Type 0} (tapes : Tape T) where
   pub respond_alike : EqualRequestsHaveEqualResponses Global tapes → (nodes : List (Node T)) → HaveOneHistory nodes → RespondAlike tapes nodes
-  respond_alike law nodes one = record {
+  respond_alike theorem nodes one = record {
     bytes = λ i j input query node node_after other other_after sent other_sent response another here there long asks responds served also served_too.
         let same = same_history nodes i j node other one here there long in
-        law input query node node_after other other_after sent other_sent response another asks
+        theorem input query node node_after other other_after sent other_sent response another asks
         (stand_alike long (ap (λ (h : List Definition). map_at h (subject (length node.parts.history) query)) same)) responds served also served_too;
   }

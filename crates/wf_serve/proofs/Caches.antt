@@ -3,12 +3,12 @@ use Rattle.std.proofs.Common.{◌≡◌, ◌∙◌, ◌<◌, ◌⊎◌, ℕ, zer
 use Rattle.std.proofs.lemmas.Bool.{cases_eq}
 use Rattle.std.proofs.lemmas.Option.{none-some, same_Some, slice_get_within}
 use Rattle.wf_def.specs.Definition.{Definition}
-use Rattle.wf_edge.specs.Growth.{kept_on}
-use Rattle.wf_farm.specs.Delivering.{EachGrows}
-use Rattle.wf_farm.specs.PlaceLaws.{get_set_same, get_set_other}
+use Rattle.wf_edge.specs.Growth.{cached_on}
+use Rattle.wf_farm.specs.Delivery.{EachGrows}
+use Rattle.wf_farm.specs.IndexTheorems.{get_set_same, get_set_other}
 use Rattle.wf_node.specs.Node.{Node}
-use Rattle.wf_wms.specs.KeptPictures.{AllKept, CacheValue, GrowthKeepsAll}
-use Rattle.wf_serve.specs.Caching.{AreEmpty, AreKept, HaveRoom, IsKeptAt, KeepRoom}
+use Rattle.wf_wms.specs.CachedPictures.{AllCached, CacheValue, GrowthKeepsAll}
+use Rattle.wf_serve.specs.CacheSet.{AreEmpty, AreCached, HaveRoom, IsCachedAt, KeepRoom}
 
 -- the element at an index of a list
 pub there_is : {A : Type 0} (xs : List A) (i : ℕ) → i < length xs → (x : A) × (slice_get xs i ≡ Some x)
@@ -17,31 +17,31 @@ there_is (x ∷ xs) zero within = (x, refl)
 there_is (x ∷ xs) (suc i) within = there_is xs i (omega arith)
 
 -- if the nodes' lists have grown
-pub kept_grown : {T : Type 0} → GrowthKeepsAll → (nodes after : List (Node T)) (caches : List CacheValue) → length after ≡ length nodes → EachGrows nodes after →
-    AreKept nodes caches → AreKept after caches
+pub cached_grown : {T : Type 0} → GrowthKeepsAll → (nodes after : List (Node T)) (caches : List CacheValue) → length after ≡ length nodes → EachGrows nodes after →
+    AreCached nodes caches → AreCached after caches
 unfolding EachGrows
-kept_grown law nodes after caches long grows are = record {
+cached_grown theorem nodes after caches long grows are = record {
   as_many = are.as_many ∙ sym long;
-  kept = λ i node cache at there.
+  cached = λ i node cache at there.
       let within = slice_get_within after i node at in
       let old = there_is nodes i (omega (arith, within, long)) in
       let new = grows i old.0 old.1 in
       let it = same_Some new.0 node (sym new.1 ∙ at) in
-      subst (λ n. AllKept n.parts.history cache) it (kept_on law old.0.parts.history new.0.parts.history cache new.2 (are.kept i old.0 cache old.1 there));
+      subst (λ n. AllCached n.parts.history cache) it (cached_on theorem old.0.parts.history new.0.parts.history cache new.2 (are.cached i old.0 cache old.1 there));
 }
 
 -- if the nodes' lists have grown, and one cache has changed, and is its node's still
-pub kept_with : {T : Type 0} → GrowthKeepsAll → (nodes after : List (Node T)) (caches : List CacheValue) (place : ℕ) (cache next : CacheValue) → length after ≡ length nodes → EachGrows nodes after →
-    slice_get caches place ≡ Some cache → IsKeptAt after place next → AreKept nodes caches → AreKept after (slice_set caches place next)
-kept_with law nodes after caches place cache next long grows there own are =
-    let grown = kept_grown law nodes after caches long grows are in
+pub cached_with : {T : Type 0} → GrowthKeepsAll → (nodes after : List (Node T)) (caches : List CacheValue) (node_index : ℕ) (cache next : CacheValue) → length after ≡ length nodes → EachGrows nodes after →
+    slice_get caches node_index ≡ Some cache → IsCachedAt after node_index next → AreCached nodes caches → AreCached after (slice_set caches node_index next)
+cached_with theorem nodes after caches node_index cache next long grows there own are =
+    let grown = cached_grown theorem nodes after caches long grows are in
     record {
-      as_many = length-set caches place next ∙ grown.as_many;
-      kept = λ i node kept at cache_at. elim (cases_eq i place) [
+      as_many = length-set caches node_index next ∙ grown.as_many;
+      cached = λ i node cached at cache_at. elim (cases_eq i node_index) [
         | inl same ↦
-            let its = get_set_same caches place next cache kept there (subst (λ k. slice_get (slice_set caches place next) k ≡ Some kept) same cache_at) in
-            subst (AllKept node.parts.history) its (own node (subst (λ k. slice_get after k ≡ Some node) same at))
-        | inr differs ↦ grown.kept i node kept at (sym (get_set_other caches place i next differs) ∙ cache_at)
+            let its = get_set_same caches node_index next cache cached there (subst (λ k. slice_get (slice_set caches node_index next) k ≡ Some cached) same cache_at) in
+            subst (AllCached node.parts.history) its (own node (subst (λ k. slice_get after k ≡ Some node) same at))
+        | inr differs ↦ grown.cached i node cached at (sym (get_set_other caches node_index i next differs) ∙ cache_at)
       ];
     }
 
@@ -58,16 +58,16 @@ last_at [] y (suc i) x e = absurd (none-some x e)
 last_at (z ∷ xs) y zero x e = inl e
 last_at (z ∷ xs) y (suc i) x e = last_at xs y i x e
 
-pub one_more_empty : (caches : List CacheValue) (cache : CacheValue) → AreEmpty caches → ((history : List Definition) → AllKept history cache) → AreEmpty (caches ++ cache ∷ [])
+pub one_more_empty : (caches : List CacheValue) (cache : CacheValue) → AreEmpty caches → ((history : List Definition) → AllCached history cache) → AreEmpty (caches ++ cache ∷ [])
 unfolding AreEmpty
 one_more_empty caches cache are is = λ i other at. elim (last_at caches cache i other at) [
   | inl before ↦ are i other before
-  | inr last ↦ λ history. subst (AllKept history) last (is history)
+  | inr last ↦ λ history. subst (AllCached history) last (is history)
 ]
 
-pub kept_empty : {T : Type 0} (nodes : List (Node T)) (caches : List CacheValue) → length caches ≡ length nodes → AreEmpty caches → AreKept nodes caches
+pub cached_empty : {T : Type 0} (nodes : List (Node T)) (caches : List CacheValue) → length caches ≡ length nodes → AreEmpty caches → AreCached nodes caches
 unfolding AreEmpty
-kept_empty nodes caches long are = record { as_many = long; kept = λ i node cache at there. are i cache there node.parts.history }
+cached_empty nodes caches long are = record { as_many = long; cached = λ i node cache at there. are i cache there node.parts.history }
 
 -- ---- the room of caches
 
@@ -83,11 +83,11 @@ one_more_room room caches cache have is = λ i other at. elim (last_at caches ca
 ]
 
 -- one cache has changed, and has the room that it had
-pub room_with : (caches : List CacheValue) (place : ℕ) (cache next : CacheValue) → slice_get caches place ≡ Some cache → next.cap ≡ cache.cap → KeepRoom caches (slice_set caches place next)
+pub room_with : (caches : List CacheValue) (node_index : ℕ) (cache next : CacheValue) → slice_get caches node_index ≡ Some cache → next.cap ≡ cache.cap → KeepRoom caches (slice_set caches node_index next)
 unfolding HaveRoom
-room_with caches place cache next there same = λ room have i kept at. elim (cases_eq i place) [
+room_with caches node_index cache next there same = λ room have i cached at. elim (cases_eq i node_index) [
   | inl is ↦
-      let its = get_set_same caches place next cache kept there (subst (λ k. slice_get (slice_set caches place next) k ≡ Some kept) is at) in
-      subst (λ (c : CacheValue). c.cap ≡ room) its (same ∙ have place cache there)
-  | inr differs ↦ have i kept (sym (get_set_other caches place i next differs) ∙ at)
+      let its = get_set_same caches node_index next cache cached there (subst (λ k. slice_get (slice_set caches node_index next) k ≡ Some cached) is at) in
+      subst (λ (c : CacheValue). c.cap ≡ room) its (same ∙ have node_index cache there)
+  | inr differs ↦ have i cached (sym (get_set_other caches node_index i next differs) ∙ at)
 ]

@@ -14,9 +14,9 @@ module _ {T : Type 0} (tapes : Tape T) where
   unfolding HaveCome
   next_came count connection nodes middle after so_far next = (middle, so_far, next)
 
-  pub one_more_came : (count connection place : ℕ) (nodes middle after : List (Node T)) → place ≡ connection % count → HaveCome tapes count connection nodes middle →
-      MayBeAnswered tapes place middle after → HaveCome tapes count (connection + 1) nodes after
-  one_more_came count connection place nodes middle after turn so_far next =
+  pub one_more_came : (count connection node_index : ℕ) (nodes middle after : List (Node T)) → node_index ≡ connection % count → HaveCome tapes count connection nodes middle →
+      MayBeAnswered tapes node_index middle after → HaveCome tapes count (connection + 1) nodes after
+  one_more_came count connection node_index nodes middle after turn so_far next =
       let behind : suc connection ≡ connection + 1 = omega arith in
       subst (λ k. HaveCome tapes count k nodes after) behind
       (next_came count connection nodes middle after so_far (subst (λ p. MayBeAnswered tapes p middle after) turn next))

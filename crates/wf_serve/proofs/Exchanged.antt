@@ -5,29 +5,29 @@ use Rattle.std.proofs.lemmas.Option.{same_Some}
 use Rattle.std.specs.declared.alloc.Global.{Global}
 use Rattle.wf_codec.specs.declared.message.Message.{Message}
 use Rattle.wf_def.specs.Definition.{Definition}
-use Rattle.wf_edge.specs.Growth.{kept_on}
-use Rattle.wf_edge.specs.Serving.{IsServed}
+use Rattle.wf_edge.specs.Growth.{cached_on}
+use Rattle.wf_edge.specs.RequestEffect.{IsServed}
 use Rattle.wf_edge.specs.declared.outcome.Outcome.{Outcome}
-use Rattle.wf_farm.specs.Delivering.{AnyPart, AreDelivered, AreDeliveries, AreHandedOut, EachGrows, First, IsDelivered, Lead, StandFor}
-use Rattle.wf_farm.specs.DeliveringLaws.{halted_itself, keeps_turn_itself}
+use Rattle.wf_farm.specs.Delivery.{AnyPart, AreDelivered, AreDeliveries, AreHandedOut, EachGrows, First, IsDelivered, ReachByDeliveries, StandFor}
+use Rattle.wf_farm.specs.DeliveryTheorems.{halted_itself, keeps_turn_itself}
 use Rattle.wf_farm.specs.Exchange.{IsExchange}
-use Rattle.wf_farm.specs.declared.delivering.Pumped.{Pumped}
+use Rattle.wf_farm.specs.declared.delivery.Pumped.{Pumped}
 use Rattle.wf_edge.specs.Request.{Request}
-use Rattle.wf_model.specs.Stored.{Stored}
+use Rattle.wf_model.specs.DurableState.{DurableState}
 use Rattle.wf_model.specs.Table.{Input}
 use Rattle.wf_model.specs.World.{steps}
 use Rattle.wf_node.specs.Node.{Node}
-use Rattle.wf_serve.specs.Caching.{IsKeptAt}
-use Rattle.wf_serve.specs.Serving.{AreHeard, IsAsked, IsAskedAndHeard}
-use Rattle.wf_serve.specs.Visiting.{IsAnsweredAt}
+use Rattle.wf_serve.specs.CacheSet.{IsCachedAt}
+use Rattle.wf_serve.specs.ConnectionEffect.{AreArrived, IsAsked, IsAskedAndArrived}
+use Rattle.wf_serve.specs.NodeRequest.{IsAnsweredAt}
 use Rattle.wf_stream.specs.declared.stream.Sink.{Ghosts as Sink}
 use Rattle.wf_tape.specs.declared.tape.Tape.{Ghosts as Tape}
-use Rattle.wf_wms.specs.KeptPictures.{AllKept, CacheValue, GrowthKeepsAll}
+use Rattle.wf_wms.specs.CachedPictures.{AllCached, CacheValue, GrowthKeepsAll}
 
-module _ {T C : Type 0} (tapes : Tape T) (asks : C → Node T → Vec Message Global → Node T → C → Type 0) (place : ℕ) (client next : C) (nodes after : List (Node T)) (pumped : Pumped)
-    (exchange : IsExchange tapes asks place client nodes pumped next after) where
-  heard : AreHeard tapes exchange.middle exchange.said after
-  heard = record {
+module _ {T C : Type 0} (tapes : Tape T) (asks : C → Node T → Vec Message Global → Node T → C → Type 0) (node_index : ℕ) (client next : C) (nodes after : List (Node T)) (pumped : Pumped)
+    (exchange : IsExchange tapes asks node_index client nodes pumped next after) where
+  arrived : AreArrived tapes exchange.middle exchange.outputs after
+  arrived = record {
     deliveries = pumped.deliveries;
     lost = pumped.lost;
     delivered = exchange.delivered;
@@ -36,55 +36,55 @@ module _ {T C : Type 0} (tapes : Tape T) (asks : C → Node T → Vec Message Gl
   }
 
   -- The node was asked for a step of its own.
-  pub asked_and_heard : (input : Input Definition) → ((before after : Node T) (said : Vec Message Global) → asks client before said after next → IsAsked tapes input before said after) →
-      IsAskedAndHeard tapes place input nodes after
-  asked_and_heard input is = record {
-    said = exchange.said;
+  pub asked_and_arrived : (input : Input Definition) → ((before after : Node T) (outputs : Vec Message Global) → asks client before outputs after next → IsAsked tapes input before outputs after) →
+      IsAskedAndArrived tapes node_index input nodes after
+  asked_and_arrived input is = record {
+    outputs = exchange.outputs;
     asked = exchange.middle;
     step = record {
       before = exchange.asked.before;
       after = exchange.asked.after;
       changed = record { was = exchange.asked.was; is = exchange.asked.is };
-      asked = is exchange.asked.before exchange.asked.after exchange.said exchange.asked.asked;
+      asked = is exchange.asked.before exchange.asked.after exchange.outputs exchange.asked.asked;
     };
-    heard = heard;
+    arrived = arrived;
   }
 
   -- The node answered a request.
   pub answered : {K : Type 0} (sinks : Sink K) (request : Request) (sink sink_after : K) (outcome : Outcome) →
-      ((before after : Node T) (said : Vec Message Global) → asks client before said after next → IsServed tapes sinks request sink sink_after before said after outcome) →
-      IsAnsweredAt tapes sinks place request sink sink_after nodes outcome pumped after
-  unfolding heard
+      ((before after : Node T) (outputs : Vec Message Global) → asks client before outputs after next → IsServed tapes sinks request sink sink_after before outputs after outcome) →
+      IsAnsweredAt tapes sinks node_index request sink sink_after nodes outcome pumped after
+  unfolding arrived
   answered sinks request sink sink_after outcome is = record {
-    said = exchange.said;
+    outputs = exchange.outputs;
     answered = exchange.middle;
     before = exchange.asked.before;
     after = exchange.asked.after;
     changed = record { was = exchange.asked.was; is = exchange.asked.is };
-    served = is exchange.asked.before exchange.asked.after exchange.said exchange.asked.asked;
-    hearing = heard;
+    served = is exchange.asked.before exchange.asked.after exchange.outputs exchange.asked.asked;
+    receiving = arrived;
     lost = refl;
     stopped = refl;
   }
 
 -- Nothing was sent, so nothing is delivered.
-pub nothing_led : {T : Type 0} (stands : ℕ → Stored Definition → Type 0) (nodes : List (Node T)) → AreDelivered stands 0 nodes [] nodes
-unfolding Lead AreDeliveries steps
-nothing_led stands nodes = record { sent = []; lead = λ w shows. record { events = []; deliveries = tt; at_most = omega arith; shows = shows } }
+pub nothing_reachable : {T : Type 0} (stands : ℕ → DurableState Definition → Type 0) (nodes : List (Node T)) → AreDelivered stands 0 nodes [] nodes
+unfolding ReachByDeliveries AreDeliveries steps
+nothing_reachable stands nodes = record { sent = []; reach = λ w refines. record { events = []; deliveries = tt; at_most = omega arith; refines = refines } }
 
-unfoldable pub nothing_heard : {T : Type 0} (tapes : Tape T) (nodes nodes_after : List (Node T)) (said : Vec Message Global) → said.items ≡ [] → nodes_after ≡ nodes → AreHeard tapes nodes said nodes_after
-nothing_heard tapes nodes nodes_after said silent same = record {
+unfoldable pub nothing_arrived : {T : Type 0} (tapes : Tape T) (nodes nodes_after : List (Node T)) (outputs : Vec Message Global) → outputs.items ≡ [] → nodes_after ≡ nodes → AreArrived tapes nodes outputs nodes_after
+nothing_arrived tapes nodes nodes_after outputs silent same = record {
   deliveries = 0;
   lost = 0;
-  delivered = subst (λ ns. IsDelivered tapes nodes said.items 0 ns) (sym same) (subst (λ ms. IsDelivered tapes nodes ms 0 nodes) (sym silent) (record {
-    any = nothing_led AnyPart nodes;
-    on_tape = λ honest left may. nothing_led (StandFor left) nodes;
+  delivered = subst (λ ns. IsDelivered tapes nodes outputs.items 0 ns) (sym same) (subst (λ ms. IsDelivered tapes nodes ms 0 nodes) (sym silent) (record {
+    any = nothing_reachable AnyPart nodes;
+    on_tape = λ durable left may. nothing_reachable (StandFor left) nodes;
     halted = halted_itself nodes;
     turn = keeps_turn_itself nodes;
     most = omega arith;
   }));
   stopped = false;
-  handed = λ some. subst (λ ns. AreHandedOut tapes nodes said.items 0 0 false ns) (sym same) (subst (λ ms. AreHandedOut tapes nodes ms 0 0 false nodes) (sym silent) (record {
+  handed = λ some. subst (λ ns. AreHandedOut tapes nodes outputs.items 0 0 false ns) (sym same) (subst (λ ms. AreHandedOut tapes nodes ms 0 0 false nodes) (sym silent) (record {
     come = record { whole = 0; some = 0; done = 0 };
     sent = [];
     handed = First;
@@ -94,10 +94,10 @@ nothing_heard tapes nodes nodes_after said silent same = record {
 }
 
 -- The pictures of the node at an index are still of its maps when these have grown.
-pub kept_at_on : {T : Type 0} → GrowthKeepsAll → (nodes after : List (Node T)) (place : ℕ) (cache : CacheValue) (before : Node T) → slice_get nodes place ≡ Some before →
-    EachGrows nodes after → IsKeptAt nodes place cache → IsKeptAt after place cache
+pub cached_at_on : {T : Type 0} → GrowthKeepsAll → (nodes after : List (Node T)) (node_index : ℕ) (cache : CacheValue) (before : Node T) → slice_get nodes node_index ≡ Some before →
+    EachGrows nodes after → IsCachedAt nodes node_index cache → IsCachedAt after node_index cache
 unfolding EachGrows
-kept_at_on law nodes after place cache before was grows kept = λ node at.
-    let new = grows place before was in
-    subst (λ n. AllKept n.parts.history cache) (same_Some new.0 node (sym new.1 ∙ at))
-    (kept_on law before.parts.history new.0.parts.history cache new.2 (kept before was))
+cached_at_on theorem nodes after node_index cache before was grows cached = λ node at.
+    let new = grows node_index before was in
+    subst (λ n. AllCached n.parts.history cache) (same_Some new.0 node (sym new.1 ∙ at))
+    (cached_on theorem before.parts.history new.0.parts.history cache new.2 (cached before was))

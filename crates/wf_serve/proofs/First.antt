@@ -2,20 +2,20 @@
 use Rattle.std.proofs.Common.{◌≡◌, ◌++◌, ◌%◌, ℕ, zero, suc, List, [], ◌∷◌, length, slice_get, Some, sym, ap, subst, ◌∙◌, inl, inr, arith}
 use Rattle.std.proofs.lemmas.Option.{same_Some, slice_get_cases, slice_get_within}
 use Rattle.wf_def.specs.Definition.{Definition}
-use Rattle.wf_model.specs.Stored.{definition_at}
+use Rattle.wf_model.specs.DurableState.{definition_at}
 use Rattle.wf_model.specs.Table.{Retry}
-use Rattle.wf_farm.specs.CatchUp.{CatchUpLeadsOn, LevelRests}
-use Rattle.wf_farm.specs.Delivering.{EachGrows, KeepTurn, StandInTurn}
-use Rattle.wf_farm.specs.DeliveringLaws.{keeps_turn_itself, keeps_turn_twice}
-use Rattle.wf_farm.specs.Leading.{AreFresh, NothingIsSaid, StepLeadsOn}
-use Rattle.wf_farm.specs.Publishing.{AllPublish, PublishedOnAll}
+use Rattle.wf_farm.specs.CatchUp.{CatchUpIsReachable, LevelRests}
+use Rattle.wf_farm.specs.Delivery.{EachGrows, KeepTurn, StandInTurn}
+use Rattle.wf_farm.specs.DeliveryTheorems.{keeps_turn_itself, keeps_turn_twice}
+use Rattle.wf_farm.specs.Reachability.{AreFresh, NothingIsOutput, StepIsReachable}
+use Rattle.wf_farm.specs.Publication.{AllPublish, PublishedOnAll}
 use Rattle.wf_node.specs.Growth.{IsGrown}
 use Rattle.wf_node.specs.Node.{Node}
 use Rattle.wf_serve.specs.Connections.{HaveCome, IsAnswered, MayBeAnswered}
 use Rattle.wf_serve.specs.First.{FirstIsPublished, IfAccepted}
-use Rattle.wf_serve.specs.Publishing.{HavePublished}
-use Rattle.wf_serve.specs.Serving.{IsRetried}
-use Rattle.wf_serve.proofs.Led.{asked_turn, moved_leads}
+use Rattle.wf_serve.specs.Publication.{HavePublished}
+use Rattle.wf_serve.specs.ConnectionEffect.{IsRetried}
+use Rattle.wf_serve.proofs.Reachable.{asked_turn, moved_reaches}
 use Rattle.wf_serve.proofs.Published.{accepted_is_published}
 use Rattle.wf_tape.specs.declared.tape.Tape.{Ghosts as Tape}
 
@@ -41,23 +41,23 @@ module _ {T : Type 0} (first after : List (Node T)) (keeps : KeepTurn first afte
 
 -- ---- connections
 
-module _ {T : Type 0} (tapes : Tape T) (catches : CatchUpLeadsOn tapes) (leads : StepLeadsOn tapes) (quiet : NothingIsSaid tapes) where
-  retry_keeps : (place : ℕ) (heard after : List (Node T)) → StandInTurn heard → IsRetried tapes place heard after → KeepTurn heard after
-  retry_keeps place heard after turns (inl anew) = asked_turn tapes leads place Retry tt heard after turns anew.anew
-  retry_keeps place heard after turns (inr rests) = subst (KeepTurn heard) (sym rests.1) (keeps_turn_itself heard)
+module _ {T : Type 0} (tapes : Tape T) (catches : CatchUpIsReachable tapes) (reaches : StepIsReachable tapes) (quiet : NothingIsOutput tapes) where
+  retry_keeps : (node_index : ℕ) (arrived after : List (Node T)) → StandInTurn arrived → IsRetried tapes node_index arrived after → KeepTurn arrived after
+  retry_keeps node_index arrived after turns (inl anew) = asked_turn tapes reaches node_index Retry tt arrived after turns anew.anew
+  retry_keeps node_index arrived after turns (inr rests) = subst (KeepTurn arrived) (sym rests.1) (keeps_turn_itself arrived)
 
-  answer_keeps : (place : ℕ) (nodes after : List (Node T)) → StandInTurn nodes → IsAnswered tapes place nodes after → KeepTurn nodes after
-  answer_keeps place nodes after turns answered =
+  answer_keeps : (node_index : ℕ) (nodes after : List (Node T)) → StandInTurn nodes → IsAnswered tapes node_index nodes after → KeepTurn nodes after
+  answer_keeps node_index nodes after turns answered =
       let c = answered.connection in
-      let led = moved_leads tapes leads nodes place c.request.before c.request.after c.request.changed.was turns c.said quiet c.request.moves in
-      let served : KeepTurn nodes c.served = subst (KeepTurn nodes) (sym c.request.changed.is) led.turn in
-      let heard : KeepTurn nodes c.heard = keeps_turn_twice nodes c.served c.heard served c.hearing.delivered.turn in
-      let retried : KeepTurn nodes c.retried = keeps_turn_twice nodes c.heard c.retried heard (retry_keeps place c.heard c.retried (heard.in_turn turns) c.retry) in
+      let reachable = moved_reaches tapes reaches nodes node_index c.request.before c.request.after c.request.changed.was turns c.outputs quiet c.request.moves in
+      let served : KeepTurn nodes c.served = subst (KeepTurn nodes) (sym c.request.changed.is) reachable.turn in
+      let arrived : KeepTurn nodes c.arrived = keeps_turn_twice nodes c.served c.arrived served c.receiving.delivered.turn in
+      let retried : KeepTurn nodes c.retried = keeps_turn_twice nodes c.arrived c.retried arrived (retry_keeps node_index c.arrived c.retried (arrived.in_turn turns) c.retry) in
       keeps_turn_twice nodes c.retried after retried (catches c.retried after c.catch_up.lost (retried.in_turn turns) c.catch_up.caught).turn
 
-  connection_keeps : (place : ℕ) (nodes after : List (Node T)) → StandInTurn nodes → MayBeAnswered tapes place nodes after → KeepTurn nodes after
-  connection_keeps place nodes after turns (inl answered) = answer_keeps place nodes after turns answered
-  connection_keeps place nodes after turns (inr same) = subst (KeepTurn nodes) (sym same) (keeps_turn_itself nodes)
+  connection_keeps : (node_index : ℕ) (nodes after : List (Node T)) → StandInTurn nodes → MayBeAnswered tapes node_index nodes after → KeepTurn nodes after
+  connection_keeps node_index nodes after turns (inl answered) = answer_keeps node_index nodes after turns answered
+  connection_keeps node_index nodes after turns (inr same) = subst (KeepTurn nodes) (sym same) (keeps_turn_itself nodes)
 
   -- The first connection, and what the others keep.
   record IsFirst (count : ℕ) (nodes after : List (Node T)) : Type 0 where
@@ -81,16 +81,16 @@ module _ {T : Type 0} (tapes : Tape T) (catches : CatchUpLeadsOn tapes) (leads :
         keeps = keeps_turn_twice so_far.first come.0 after so_far.keeps (connection_keeps (suc later % count) come.0 after middle_turns come.2);
       }
 
-  module _ (rests : LevelRests tapes) (law : PublishedOnAll tapes) (nodes first after : List (Node T)) (long : length nodes ≡ 3) (turns : StandInTurn nodes) (fresh : AreFresh nodes) (keeps : KeepTurn first after) where
+  module _ (rests : LevelRests tapes) (theorem : PublishedOnAll tapes) (nodes first after : List (Node T)) (long : length nodes ≡ 3) (turns : StandInTurn nodes) (fresh : AreFresh nodes) (keeps : KeepTurn first after) where
     if_accepted : (answer : MayBeAnswered tapes 0 nodes first) → IfAccepted tapes answer after
     if_accepted (inl answered) = λ accepted lost stopped none.
         let done : HavePublished answered.input first =
-        accepted_is_published tapes rests law 0 answered.input answered.written answered.written_after nodes first answered.outcome long turns fresh answered.connection accepted lost stopped none in
+        accepted_is_published tapes rests theorem 0 answered.input answered.written answered.written_after nodes first answered.outcome long turns fresh answered.connection accepted lost stopped none in
         record { request = done.request; received = done.received; map = done.map; is_map = done.is_map; published = still_published first after keeps done.map done.published }
     if_accepted (inr same) = tt
 
-pub first_is_published : {T : Type 0} (tapes : Tape T) → CatchUpLeadsOn tapes → LevelRests tapes → StepLeadsOn tapes → NothingIsSaid tapes → PublishedOnAll tapes → FirstIsPublished tapes
-first_is_published tapes catches rests leads quiet law = λ later nodes nodes_after long turns fresh come.
-    let found = first_of tapes catches leads quiet (length nodes) later nodes nodes_after turns come in
+pub first_is_published : {T : Type 0} (tapes : Tape T) → CatchUpIsReachable tapes → LevelRests tapes → StepIsReachable tapes → NothingIsOutput tapes → PublishedOnAll tapes → FirstIsPublished tapes
+first_is_published tapes catches rests reaches quiet theorem = λ later nodes nodes_after long turns fresh come.
+    let found = first_of tapes catches reaches quiet (length nodes) later nodes nodes_after turns come in
     let answer = subst (λ n. MayBeAnswered tapes (0 % n) nodes found.first) long found.answer in
-    (found.first, answer, if_accepted tapes catches leads quiet rests law nodes found.first nodes_after long turns fresh found.keeps answer)
+    (found.first, answer, if_accepted tapes catches reaches quiet rests theorem nodes found.first nodes_after long turns fresh found.keeps answer)

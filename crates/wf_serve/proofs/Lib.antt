@@ -1,13 +1,13 @@
 mod Agreed
 mod Caches
 mod Come
-mod Differing
+mod Difference
 mod Ended
-mod Led
+mod Reachable
 mod Exchanged
 mod First
 mod Opened
-mod Running
+mod RunningNodes
 mod New
 mod Published
 mod Responded

@@ -2,15 +2,15 @@
 use Rattle.std.proofs.Common.{◌≡◌, ◌∙◌, List, length, ap, subst, sym}
 use Rattle.wf_def.specs.Definition.{Definition}
 use Rattle.wf_farm.specs.CatchUp.{LevelRests, StandLevel}
-use Rattle.wf_farm.specs.Leading.{AreFresh, IsFresh}
-use Rattle.wf_model.specs.Stored.{Stored, nothing_stored}
+use Rattle.wf_farm.specs.Reachability.{AreFresh, IsFresh}
+use Rattle.wf_model.specs.DurableState.{DurableState, nothing_stored}
 use Rattle.wf_node.specs.Node.{Node}
-use Rattle.wf_serve.specs.Publishing.{CaughtUpAreNew}
+use Rattle.wf_serve.specs.Publication.{CaughtUpAreNew}
 use Rattle.wf_tape.specs.declared.tape.Tape.{Ghosts as Tape}
 
 none_published : {T : Type 0} (node : Node T) → IsFresh node → length node.parts.history ≡ 0
 unfolding nothing_stored
-none_published node fresh = ap (λ (x : Stored Definition). length x.history) fresh.stored
+none_published node fresh = ap (λ (x : DurableState Definition). length x.history) fresh.stored
 
 fresh_level : {T : Type 0} (nodes : List (Node T)) → AreFresh nodes → StandLevel nodes
 unfolding AreFresh StandLevel

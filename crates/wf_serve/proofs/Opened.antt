@@ -1,12 +1,12 @@
 -- The nodes that are served: each is at the index of its number.
 use Rattle.std.proofs.Common.{◌≡◌, ◌⊎◌, ℕ, zero, suc, List, [], ◌∷◌, ◌++◌, length, slice_get, Some, refl, sym, ap, subst, ◌∙◌, inl, inr}
 use Rattle.std.proofs.lemmas.Option.{none-some, same_Some}
-use Rattle.wf_farm.specs.Delivering.{StandAmong, StandInTurn}
-use Rattle.wf_farm.specs.declared.place.Place.{Place}
-use Rattle.wf_farm.specs.declared.place.Place.TheVariants.{Running}
+use Rattle.wf_farm.specs.Delivery.{StandAmong, StandInTurn}
+use Rattle.wf_farm.specs.declared.host.NodeHost.{NodeHost}
+use Rattle.wf_farm.specs.declared.host.NodeHost.TheVariants.{Running}
 use Rattle.wf_farm.specs.Nodes.{nodes_from, nodes_of}
-use Rattle.wf_farm.specs.NodesLaws.{length-nodes, long_from, none_run, one_more_node, one_more_runs}
-use Rattle.wf_serve.specs.Opening.{AreOpened, WasRead, WereRead}
+use Rattle.wf_farm.specs.NodesTheorems.{length-nodes, long_from, none_run, one_more_node, one_more_runs}
+use Rattle.wf_serve.specs.OpenedNodes.{AreOpened, WasRead, WereRead}
 use Rattle.wf_node.specs.Node.{Node}
 
 -- the element at an index of a list with one more at its end: the one that was there, or the last one
@@ -41,17 +41,17 @@ one_more_read nodes node were was = record {
 }
 
 -- One more is.
-pub one_more : {T : Type 0} (n : ℕ) (places : List (Place T)) (node : Node T) → AreOpened n places → node.id ≡ length places → node.n ≡ n → WasRead node → AreOpened n (places ++ Running node ∷ [])
-one_more n places node are next of was = record {
-  in_turn = subst (StandAmong n) (sym (one_more_node n 0 places node)) (one_more_among n (nodes_from n 0 places) node are.in_turn (next ∙ sym (long_from n 0 places)) of);
-  running = one_more_runs places node are.running;
-  read = subst WereRead (sym (one_more_node n 0 places node)) (one_more_read (nodes_from n 0 places) node are.read was);
+pub one_more : {T : Type 0} (n : ℕ) (hosts : List (NodeHost T)) (node : Node T) → AreOpened n hosts → node.id ≡ length hosts → node.n ≡ n → WasRead node → AreOpened n (hosts ++ Running node ∷ [])
+one_more n hosts node are next of was = record {
+  in_turn = subst (StandAmong n) (sym (one_more_node n 0 hosts node)) (one_more_among n (nodes_from n 0 hosts) node are.in_turn (next ∙ sym (long_from n 0 hosts)) of);
+  running = one_more_runs hosts node are.running;
+  read = subst WereRead (sym (one_more_node n 0 hosts node)) (one_more_read (nodes_from n 0 hosts) node are.read was);
 }
 
 -- Once there are n nodes, each is at the index of its number.
-pub in_place : {T : Type 0} (n : ℕ) (places : List (Place T)) → length places ≡ n → AreOpened n places → StandInTurn (nodes_of places)
-in_place n places long are =
-    subst (λ k. StandAmong k (nodes_of places)) (sym (length-nodes places)) (subst (λ k. StandAmong k (nodes_from k 0 places)) (sym long) are.in_turn)
+pub in_place : {T : Type 0} (n : ℕ) (hosts : List (NodeHost T)) → length hosts ≡ n → AreOpened n hosts → StandInTurn (nodes_of hosts)
+in_place n hosts long are =
+    subst (λ k. StandAmong k (nodes_of hosts)) (sym (length-nodes hosts)) (subst (λ k. StandAmong k (nodes_from k 0 hosts)) (sym long) are.in_turn)
 
-pub read_in_place : {T : Type 0} (n : ℕ) (places : List (Place T)) → length places ≡ n → AreOpened n places → WereRead (nodes_of places)
-read_in_place n places long are = subst (λ k. WereRead (nodes_from k 0 places)) (sym long) are.read
+pub read_in_place : {T : Type 0} (n : ℕ) (hosts : List (NodeHost T)) → length hosts ≡ n → AreOpened n hosts → WereRead (nodes_of hosts)
+read_in_place n hosts long are = subst (λ k. WereRead (nodes_from k 0 hosts)) (sym long) are.read

@@ -2,24 +2,24 @@
 use Rattle.std.proofs.Common.{◌≡◌, ℕ, List, false, true, length, sym}
 use Rattle.std.specs.Prelude.{Option, Some, None, IsSome, Result, Ok, Err, OnOk}
 use Rattle.std.proofs.lemmas.Option.{none-some}
-use Rattle.wf_farm.specs.Delivering.{AnyPart}
-use Rattle.wf_farm.specs.Leading.{AreFresh, AreLedOn, AreReached}
+use Rattle.wf_farm.specs.Delivery.{AnyPart}
+use Rattle.wf_farm.specs.Reachability.{AreFresh, AreReachableFrom, AreReachable}
 use Rattle.wf_node.specs.Node.{Node}
-use Rattle.wf_serve.specs.Agreeing.{AgreeStill, HaveGoneOn}
-use Rattle.wf_serve.specs.Opening.{WereRead}
+use Rattle.wf_serve.specs.Agreement.{AgreeStill, HaveGoneOn}
+use Rattle.wf_serve.specs.OpenedNodes.{WereRead}
 use Rattle.wf_serve.specs.Served.{HasServed, HaveServed}
 use Rattle.wf_serve.specs.declared.fault.ServeFault.{ServeFault}
 use Rattle.wf_service.specs.declared.service.Service.{Service}
 use Rattle.wf_tape.specs.declared.tape.Tape.{Ghosts as Tape}
 
 -- what holds of nodes that events led on
-pub gone_on : {T : Type 0} (tapes : Tape T) (nodes after : List (Node T)) → AgreeStill tapes after → AreLedOn tapes nodes after → HaveGoneOn tapes nodes after
-gone_on tapes nodes after agree led = record {
-  led = led;
-  reached = λ reached. (agree nodes reached led).reached;
-  agree = λ reached. (agree nodes reached led).history;
-  alike = λ reached. (agree nodes reached led).alike;
-  grows = led.turn.lists;
+pub gone_on : {T : Type 0} (tapes : Tape T) (nodes after : List (Node T)) → AgreeStill tapes after → AreReachableFrom tapes nodes after → HaveGoneOn tapes nodes after
+gone_on tapes nodes after agree reachable = record {
+  reachable = reachable;
+  reached = λ reached. (agree nodes reached reachable).reached;
+  agree = λ reached. (agree nodes reached reachable).history;
+  alike = λ reached. (agree nodes reached reachable).alike;
+  grows = reachable.turn.lists;
 }
 
 none_is_some : {A : Type 0} (x : Option A) → x ≡ None → IsSome x → ⊥
@@ -27,7 +27,7 @@ none_is_some None is some = let clash : false ≡ true = some in cc
 none_is_some (Some x) is some = none-some x (sym is)
 
 module _ {M F : Type 0} (inside : Tape M) (outside : Tape F) (service : Service) where
-  in_memory : (nodes after : List (Node M)) → service.state ≡ None → length nodes ≡ service.nodes → AreFresh nodes → AreReached AnyPart nodes →
+  in_memory : (nodes after : List (Node M)) → service.state ≡ None → length nodes ≡ service.nodes → AreFresh nodes → AreReachable AnyPart nodes →
       HaveServed inside service.requests service.cache nodes after → HasServed inside outside service
   in_memory nodes after none many fresh reached have = record {
     memory = λ is. record { nodes = nodes; nodes_after = after; as_many = many; new = fresh; reached = reached; have = have };
@@ -40,7 +40,7 @@ module _ {M F : Type 0} (inside : Tape M) (outside : Tape F) (service : Service)
     files = λ is. record { nodes = nodes; nodes_after = after; as_many = many; read = read; have = have };
   }
 
-  pub served_in_memory : (nodes : List (Node M)) (result : Result (Unit {0}) ServeFault) → service.state ≡ None → length nodes ≡ service.nodes → AreFresh nodes → AreReached AnyPart nodes →
+  pub served_in_memory : (nodes : List (Node M)) (result : Result (Unit {0}) ServeFault) → service.state ≡ None → length nodes ≡ service.nodes → AreFresh nodes → AreReachable AnyPart nodes →
       OnOk result ((after : List (Node M)) × HaveServed inside service.requests service.cache nodes after) → OnOk result (HasServed inside outside service)
   served_in_memory nodes (Ok done) none many fresh reached have = in_memory nodes have.0 none many fresh reached have.1
   served_in_memory nodes (Err why) none many fresh reached have = tt

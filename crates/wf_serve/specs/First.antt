@@ -3,14 +3,14 @@ use Rattle.std.specs.Prelude.{◌≡◌, ℕ, suc, ⊤, false, List, length, sli
 use Rattle.std.proofs.Common.{inl, inr}
 use Rattle.wf_def.specs.Definition.{Definition}
 use Rattle.wf_edge.specs.Publish.{IsMapOf}
-use Rattle.wf_farm.specs.Delivering.{StandInTurn}
-use Rattle.wf_farm.specs.Leading.{AreFresh}
-use Rattle.wf_farm.specs.Publishing.{NoneHalted}
+use Rattle.wf_farm.specs.Delivery.{StandInTurn}
+use Rattle.wf_farm.specs.Reachability.{AreFresh}
+use Rattle.wf_farm.specs.Publication.{NoneHalted}
 use Rattle.wf_edge.specs.Request.{Request, BeginsWith}
-use Rattle.wf_model.specs.Stored.{definition_at}
+use Rattle.wf_model.specs.DurableState.{definition_at}
 use Rattle.wf_node.specs.Node.{Node}
 use Rattle.wf_serve.specs.Connections.{HaveCome, MayBeAnswered}
-use Rattle.wf_serve.specs.Publishing.{WasAccepted}
+use Rattle.wf_serve.specs.Publication.{WasAccepted}
 use Rattle.wf_tape.specs.declared.tape.Tape.{Ghosts as Tape}
 
 -- Under sequence 1 each node has published the map that the body of the request means.
@@ -25,8 +25,8 @@ pub record HavePublishedFirst {T : Type 0} (input : Option (List ℕ)) (nodes : 
 module _ {T : Type 0} (tapes : Tape T) where
   -- If the connection was answered with the status of an accepted map, none of the deliveries was lost, they went on until none was
   -- left, and no tape failed by then, the nodes have published it.
-  abbrev pub IfAccepted : {place : ℕ} {nodes first : List (Node T)} → MayBeAnswered tapes place nodes first → List (Node T) → Type 0
-  IfAccepted (inl answered) nodes_after = WasAccepted answered.outcome → answered.connection.hearing.lost ≡ 0 → answered.connection.hearing.stopped ≡ false → NoneHalted answered.connection.heard →
+  abbrev pub IfAccepted : {node_index : ℕ} {nodes first : List (Node T)} → MayBeAnswered tapes node_index nodes first → List (Node T) → Type 0
+  IfAccepted (inl answered) nodes_after = WasAccepted answered.outcome → answered.connection.receiving.lost ≡ 0 → answered.connection.receiving.stopped ≡ false → NoneHalted answered.connection.arrived →
       HavePublishedFirst answered.input nodes_after
   IfAccepted (inr same) nodes_after = ⊤
 

@@ -1,12 +1,12 @@
 -- What the nodes of a farm did, from the moment that they are open to the last connection.
 use Rattle.std.specs.Prelude.{◌≡◌, ℕ, List, length, IsSome, None, Ok}
-use Rattle.wf_farm.specs.Delivering.{AnyPart, StandInTurn}
-use Rattle.wf_farm.specs.Leading.{AreFresh, AreReached}
+use Rattle.wf_farm.specs.Delivery.{AnyPart, StandInTurn}
+use Rattle.wf_farm.specs.Reachability.{AreFresh, AreReachable}
 use Rattle.wf_node.specs.Node.{Node}
-use Rattle.wf_serve.specs.Agreeing.{HaveGoneOn}
-use Rattle.wf_serve.specs.Caching.{HaveCaches}
+use Rattle.wf_serve.specs.Agreement.{HaveGoneOn}
+use Rattle.wf_serve.specs.CacheSet.{HaveCaches}
 use Rattle.wf_serve.specs.Connections.{IsServing}
-use Rattle.wf_serve.specs.Opening.{WereRead}
+use Rattle.wf_serve.specs.OpenedNodes.{WereRead}
 use Rattle.wf_service.specs.declared.service.Service.{Service}
 use Rattle.wf_tape.specs.declared.tape.Tape.{Ghosts as Tape}
 
@@ -35,7 +35,7 @@ module _ {T : Type 0} (tapes : Tape T) where
     pub nodes_after : List (Node T)
     pub as_many : length nodes ≡ service.nodes
     pub new : AreFresh nodes
-    pub reached : AreReached AnyPart nodes
+    pub reached : AreReachable AnyPart nodes
     pub have : HaveServed service.requests service.cache nodes nodes_after
 
 -- What was served of a service: new nodes on tapes in memory, if it has no folder; else nodes on tapes in files.

@@ -1,8 +1,8 @@
 //! The tapes of a folder are read before any of them is opened: none changes if one is bad, or two differ.
 ghost use Rattle.std.specs.Prelude.{◌≡◌, ◌≢◌, ◌+◌, ◌<◌, ◌≤◌, false, true, length, IfErr, IfNone, IfOk, IfSome};
 ghost use Rattle.wf_node.specs.Node.{stored_of};
-ghost use Rattle.wf_node.specs.Opening.{IsFoldOf, IsWhyBad};
-ghost use Rattle.wf_serve.specs.Differing.{Agree, AgreeAt, DifferAt};
+ghost use Rattle.wf_node.specs.OpenedNode.{IsFoldOf, IsWhyBad};
+ghost use Rattle.wf_serve.specs.Difference.{Agree, AgreeAt, DifferAt};
 
 use crate::event::Cause;
 use crate::survey::{Survey, tape_path};
@@ -11,7 +11,7 @@ use std::fs;
 use std::rt::Files;
 use wf_ballot::{NODES, NodeId, Slot};
 use wf_canon::Canon;
-use wf_folder::{Found, Presence, Rejection, Start, admit};
+use wf_folder::{FoundFile, Presence, Start, StartRejection, admit};
 use wf_journal::OpenFault;
 use wf_learner::History;
 use wf_listing::{TapeReadFault, read_tape};
@@ -76,12 +76,12 @@ fn nodes_of(survey: &Survey) -> u8
     ensures { result ≤ 64 }
 {
     match survey.found {
-        Found::File(file) => if file.nodes <= NODES {
+        FoundFile::File(file) => if file.nodes <= NODES {
             file.nodes
         } else {
             NODES
         },
-        Found::Nothing | Found::Bad(_) => count_of(survey.tapes.as_slice()),
+        FoundFile::Nothing | FoundFile::Bad(_) => count_of(survey.tapes.as_slice()),
     }
 }
 
@@ -100,12 +100,12 @@ fn count_of(tapes: &[Presence]) -> u8
 }
 
 /// The cause of a rejected start.
-pub(crate) fn cause_of_rejection(why: Rejection) -> Cause {
+pub(crate) fn cause_of_rejection(why: StartRejection) -> Cause {
     match why {
-        Rejection::BadFile(fault) => Cause::BadFile(fault),
-        Rejection::OtherNodes(nodes) => Cause::OtherNodes(nodes),
-        Rejection::SurplusTape(tape) => Cause::TapeSurplus(tape),
-        Rejection::MissingTape(tape) => Cause::TapeMissing(tape),
+        StartRejection::BadFile(fault) => Cause::BadFile(fault),
+        StartRejection::OtherNodes(nodes) => Cause::OtherNodes(nodes),
+        StartRejection::SurplusTape(tape) => Cause::TapeSurplus(tape),
+        StartRejection::MissingTape(tape) => Cause::TapeMissing(tape),
     }
 }
 
@@ -208,7 +208,7 @@ fn cause_of(number: u8, fault: OpenFault) -> Cause {
 }
 
 /// The first sequence under which two histories have different definitions.
-#[tactic(auto, using(crate::proofs::Differing::at_zero, crate::proofs::Differing::one_further, crate::proofs::Differing::all_agree))]
+#[tactic(auto, using(crate::proofs::Difference::at_zero, crate::proofs::Difference::one_further, crate::proofs::Difference::all_agree))]
 pub fn first_difference(first: &History, second: &History) -> Option<Slot>
     ensures some { IfSome result (DifferAt first.now.definitions second.now.definitions) }
     ensures none { IfNone result (Agree first.now.definitions second.now.definitions) }
@@ -222,7 +222,7 @@ pub fn first_difference(first: &History, second: &History) -> Option<Slot>
 }
 
 /// The slot after this number, if two histories have different definitions there.
-#[tactic(auto, using(crate::proofs::Differing::same_here, crate::proofs::Differing::other_here))]
+#[tactic(auto, using(crate::proofs::Difference::same_here, crate::proofs::Difference::other_here))]
 fn difference_at(first: &History, second: &History, number: u16) -> Option<Slot>
     requires { number < 4096 }
     ensures some { IfSome result (DifferAt first.now.definitions second.now.definitions) }

@@ -1,21 +1,21 @@
 //! Connections accepted at a listener, each served by the node whose turn it is.
 ghost use Rattle.std.specs.Prelude.{◌≡◌, ◌<◌, ◌%◌};
 ghost use Rattle.wf_farm.specs.Farm.{size};
-ghost use Rattle.wf_farm.specs.Leading.{AreLedOn};
+ghost use Rattle.wf_farm.specs.Reachability.{AreReachableFrom};
 ghost use Rattle.wf_farm.specs.Nodes.{AllRun, nodes_in};
-ghost use Rattle.wf_serve.specs.Agreeing.{HaveGoneOn};
-ghost use Rattle.wf_serve.specs.Caching.{AreKept, KeepRoom};
+ghost use Rattle.wf_serve.specs.Agreement.{HaveGoneOn};
+ghost use Rattle.wf_serve.specs.CacheSet.{AreCached, KeepRoom};
 ghost use Rattle.wf_serve.specs.Connections.{HaveCome, MayBeAnswered};
 
-use crate::incoming::Incoming;
+use crate::connection_effect::{agree_still, serve_connection};
+use crate::linger_close::part;
 use crate::log::Log;
-use crate::outgoing::Outgoing;
-use crate::parting::part;
-use crate::serving::{agree_still, serve_connection};
+use crate::timed_reader::TimedReader;
+use crate::timed_writer::TimedWriter;
 use crate::watch::Watch;
 use std::net::{TcpListener, TcpStream};
 use std::time::{Clock, Duration};
-use wf_farm::{Farm, leading_goes_on};
+use wf_farm::{Farm, reachability_goes_on};
 use wf_tape::Tape;
 use wf_wms::cache::Cache;
 
@@ -39,16 +39,16 @@ pub fn serve_connections<R: Clock + Eprint + AllocGlobal, T: Tape>(
     caches: &mut [Cache],
     requests: u32,
 )
-    requires running { AllRun farm.old.places }
-    requires kept { AreKept (nodes_in farm.old) caches.old }
+    requires running { AllRun farm.old.hosts }
+    requires cached { AreCached (nodes_in farm.old) caches.old }
     ensures come { HaveCome T.Tape (size farm.old) requests
         (nodes_in farm.old) (nodes_in farm.new) }
     ensures headline { HaveGoneOn T.Tape (nodes_in farm.old) (nodes_in farm.new) }
-    ensures running { AllRun farm.new.places }
-    ensures kept { AreKept (nodes_in farm.new) caches.new }
+    ensures running { AllRun farm.new.hosts }
+    ensures cached { AreCached (nodes_in farm.new) caches.new }
     ensures room { KeepRoom caches.old caches.new }
 {
-    leading_goes_on::<T>();
+    reachability_goes_on::<T>();
     let count = farm.size();
     let mut watch = Watch::new(rt.alloc(), log, farm);
     for connection in 0..requests {
@@ -81,26 +81,26 @@ fn serve_next<R: Clock + Eprint + AllocGlobal, T: Tape>(
     listener: &TcpListener,
     farm: &mut Farm<T>,
     caches: &mut [Cache],
-    place: usize,
+    node_index: usize,
 )
-    requires within { place < size farm.old }
-    requires running { AllRun farm.old.places }
-    requires kept { AreKept (nodes_in farm.old) caches.old }
-    ensures answered { MayBeAnswered T.Tape place (nodes_in farm.old) (nodes_in farm.new) }
-    ensures led { AreLedOn T.Tape (nodes_in farm.old) (nodes_in farm.new) }
-    ensures running { AllRun farm.new.places }
-    ensures kept { AreKept (nodes_in farm.new) caches.new }
+    requires within { node_index < size farm.old }
+    requires running { AllRun farm.old.hosts }
+    requires cached { AreCached (nodes_in farm.old) caches.old }
+    ensures answered { MayBeAnswered T.Tape node_index (nodes_in farm.old) (nodes_in farm.new) }
+    ensures reachable { AreReachableFrom T.Tape (nodes_in farm.old) (nodes_in farm.new) }
+    ensures running { AllRun farm.new.hosts }
+    ensures cached { AreCached (nodes_in farm.new) caches.new }
     ensures room { KeepRoom caches.old caches.new }
 {
-    leading_goes_on::<T>();
+    reachability_goes_on::<T>();
     let Ok((stream, _)) = listener.accept() else {
         return;
     };
     let time = Duration::from_secs(PEER_SECONDS);
-    let mut source = Incoming::new(rt, &stream, time);
-    let mut sink = Outgoing::new(rt, &stream, time);
-    let outcome = serve_connection(rt.alloc(), &mut source, &mut sink, farm, caches, place);
-    watch.hear(place, outcome.request, source.first(), sink.first());
+    let mut source = TimedReader::new(rt, &stream, time);
+    let mut sink = TimedWriter::new(rt, &stream, time);
+    let outcome = serve_connection(rt.alloc(), &mut source, &mut sink, farm, caches, node_index);
+    watch.receive(node_index, outcome.request, source.first(), sink.first());
     watch.look(farm);
     part(rt, &stream, outcome.request);
     drop(stream);

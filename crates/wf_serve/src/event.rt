@@ -26,7 +26,7 @@ impl fmt::Display for Level {
 
 /// An event. Nodes are named by their numbers.
 #[derive(Clone, Copy)]
-pub enum Event<'a> {
+pub enum ServeEvent<'a> {
     /// The port is bound.
     Port {
         port: u16,
@@ -50,7 +50,7 @@ pub enum Event<'a> {
         published: u16,
     },
     /// Nodes don't start.
-    Fault(Fault<'a>),
+    Fault(StartFault<'a>),
     /// A node proposes a map, by its answer.
     Proposed {
         node: usize,
@@ -84,7 +84,7 @@ pub enum Event<'a> {
 
 /// Why nodes don't start: a cause, in a folder if there is one.
 #[derive(Clone, Copy)]
-pub struct Fault<'a> {
+pub struct StartFault<'a> {
     pub cause: Cause,
     pub folder: Option<&'a str>,
 }
@@ -131,28 +131,28 @@ pub enum Cause {
     Memory,
 }
 
-impl Event<'_> {
+impl ServeEvent<'_> {
     /// How much the event matters.
     pub fn level(&self) -> Level {
         match self {
-            Event::Fault(_) | Event::Halted { .. } => Level::Error,
-            Event::Rejected { .. } | Event::Overtaken { .. } => Level::Warn,
-            Event::Port { .. }
-            | Event::Folder { .. }
-            | Event::Tape { .. }
-            | Event::CaughtUp { .. }
-            | Event::Proposed { .. }
-            | Event::Published { .. }
-            | Event::Ended { .. } => Level::Info,
+            ServeEvent::Fault(_) | ServeEvent::Halted { .. } => Level::Error,
+            ServeEvent::Rejected { .. } | ServeEvent::Overtaken { .. } => Level::Warn,
+            ServeEvent::Port { .. }
+            | ServeEvent::Folder { .. }
+            | ServeEvent::Tape { .. }
+            | ServeEvent::CaughtUp { .. }
+            | ServeEvent::Proposed { .. }
+            | ServeEvent::Published { .. }
+            | ServeEvent::Ended { .. } => Level::Info,
         }
     }
 }
 
-impl fmt::Display for Event<'_> {
+impl fmt::Display for ServeEvent<'_> {
     fn fmt<W: fmt::Write>(&self, f: &mut fmt::Formatter<W>) -> fmt::Result {
         match self {
-            Event::Port { port } => write!(f, "listening port={port}"),
-            Event::Folder {
+            ServeEvent::Port { port } => write!(f, "listening port={port}"),
+            ServeEvent::Folder {
                 folder,
                 nodes,
                 beginning,
@@ -163,7 +163,7 @@ impl fmt::Display for Event<'_> {
                 };
                 write!(f, "folder path={folder:?} nodes={nodes} began={began}")
             }
-            Event::Tape {
+            ServeEvent::Tape {
                 path,
                 before,
                 after,
@@ -174,24 +174,27 @@ impl fmt::Display for Event<'_> {
                 write_count(f, "after", *after)?;
                 write!(f, " shortened={is_short}")
             }
-            Event::CaughtUp { node, published } => {
+            ServeEvent::CaughtUp { node, published } => {
                 write!(f, "caught-up node={node} published={published}")
             }
-            Event::Fault(fault) => write!(f, "fault {fault}"),
-            Event::Proposed { node, answer } => write!(f, "proposed node={node} answer={answer:?}"),
-            Event::Rejected {
+            ServeEvent::Fault(fault) => write!(f, "fault {fault}"),
+            ServeEvent::Proposed { node, answer } => write!(
+                f,
+                "proposed node={node} answer={answer:?}"
+            ),
+            ServeEvent::Rejected {
                 node,
                 status,
                 answer,
             } => write!(f, "rejected node={node} status={status} answer={answer:?}"),
-            Event::Published { node, sequence } => {
+            ServeEvent::Published { node, sequence } => {
                 write!(f, "published node={node} sequence={sequence}")
             }
-            Event::Overtaken { node, sequence } => {
+            ServeEvent::Overtaken { node, sequence } => {
                 write!(f, "overtaken node={node} sequence={sequence}")
             }
-            Event::Halted { node } => write!(f, "tape-failed node={node}"),
-            Event::Ended { connections } => write!(f, "end connections={connections}"),
+            ServeEvent::Halted { node } => write!(f, "tape-failed node={node}"),
+            ServeEvent::Ended { connections } => write!(f, "end connections={connections}"),
         }
     }
 }
@@ -208,19 +211,23 @@ fn write_count<W: fmt::Write>(
     }
 }
 
-impl fmt::Display for Fault<'_> {
+impl fmt::Display for StartFault<'_> {
     fn fmt<W: fmt::Write>(&self, f: &mut fmt::Formatter<W>) -> fmt::Result {
         write!(f, "cause=\"{}\"", self.cause)?;
         match self.folder {
-            Some(folder) => self.write_place(f, folder),
+            Some(folder) => self.write_node_index(f, folder),
             None => Ok(()),
         }
     }
 }
 
-impl Fault<'_> {
+impl StartFault<'_> {
     /// Writes the file that the fault is about, or the folder.
-    fn write_place<W: fmt::Write>(&self, f: &mut fmt::Formatter<W>, folder: &str) -> fmt::Result {
+    fn write_node_index<W: fmt::Write>(
+        &self,
+        f: &mut fmt::Formatter<W>,
+        folder: &str,
+    ) -> fmt::Result {
         match self.cause {
             Cause::TapeMissing(tape)
             | Cause::TapeSurplus(tape)

@@ -1,46 +1,47 @@
 //! A farm's nodes served over HTTP on one machine, one connection after the other.
 //!
 //! A [`Service`] gives the number of nodes, the port, the number of connections, the number of pictures cached for each node, and
-//! the folder of the nodes' tapes. [`serve`] binds the port, opens the nodes, and goes on in steps that a caller can also take alone:
+//! the folder of the nodes' tapes. [`serve`] binds the port, opens the nodes, and goes on in steps that a caller can also take
+//! alone:
 //! - [`listen`] returns a listener at 127.0.0.1.
 //! - [`serve_nodes`] lets a farm's nodes catch up ([`catch_up`]), prints the port and serves them.
 //! - [`serve_connections`] serves a number of connections.
 //! - [`serve_connection`] serves one, over any reader and writer.
 //!
 //! [`inspect`] looks what is in a folder, [`check_tapes`] reads its tapes, [`examine`] says whether the nodes of its farm would start on
-//! it. A [`Log`] writes each [`Event`] on standard error, a [`Fault`] with its [`Cause`].
+//! it. A [`Log`] writes each [`ServeEvent`] on standard error, a [`StartFault`] with its [`Cause`].
 //!
 //! **Promises.**
 //! - A connection is served by the farm's node at the given index with its cache, as by `wf_edge`'s `serve_one_cached`: the request is
 //!   read first; one that only reads is answered from what the node has published, and a publish is an exchange (`Farm::exchange` of
-//!   `wf_farm`; `specs/Visiting.antt`). Each other node is unchanged, and each cache's pictures are of its node's maps throughout
-//!   (`specs/Caching.antt`). Then exactly the messages that the node sent are delivered to all nodes, and those sent in reply. Then, if
+//!   `wf_farm`; `specs/NodeRequest.antt`). Each other node is unchanged, and each cache's pictures are of its node's maps throughout
+//!   (`specs/CacheSet.antt`). Then exactly the messages that the node sent are delivered to all nodes, and those sent in reply. Then, if
 //!   a proposal of that node still runs, the node is asked once to restart it, and the messages that it sends are delivered likewise;
-//!   otherwise nothing happens. Then the nodes catch up (`specs/Serving.antt`).
+//!   otherwise nothing happens. Then the nodes catch up (`specs/ConnectionEffect.antt`).
 //! - Many connections: connection c, counted from 0, is served so by node c mod n, or changes nothing if it can't be accepted
 //!   (`specs/Connections.antt`).
 //! - Catching up: each node that is behind asks one that has published the most, which answers to it alone. If no delivery was lost,
 //!   all nodes that run have published equally many maps afterwards.
-//! - A tape: [`open_shortened`] opens a node on its tape and shortens it. On an honest tape the node has stored what the tape's
+//! - A tape: [`open_shortened`] opens a node on its tape and shortens it. On a durable tape the node has stored what the tape's
 //!   records fold to, and the tape holds exactly the records of a shortened one, or is as it was if an allocation failed. If the
-//!   tape fails meanwhile, what a crash leaves of it reads as before, or stands for the same (`specs/Shortening.antt`).
+//!   tape fails meanwhile, what a crash leaves of it reads as before, or stands for the same (`specs/Compaction.antt`).
 //! - Node i of n is at index i throughout, and its tape in a folder is `node-i.tape` (`specs/Folder.antt`). Tapes in a folder are
 //!   opened only for a start that `admit` of `wf_folder` returned for what was found in it.
 //! - [`first_difference`] of two histories: the sequence under which they have different definitions, none only if they have no
-//!   different ones (`specs/Differing.antt`).
+//!   different ones (`specs/Difference.antt`).
 //! - The port: the line that is written names it, and it is the requested one unless that is 0. An error reports why the nodes
-//!   aren't served, and what is written of that line by then (`specs/Listening.antt`).
+//!   aren't served, and what is written of that line by then (`specs/PortLine.antt`).
 //! - Of that line and of each response a failed write is the last call of its writer.
 //! - All of this is one run of the farm's model: whatever world of it the nodes were, some of its events lead to what they are
 //!   afterwards, and no node's published sequence goes back. If they are reached from its start, as those of a farm in memory are, no two
 //!   of them have published different maps under one sequence, whatever the connections sent, and two that stand at one sequence
 //!   respond to equal requests for maps with equal bytes (`headline` of [`serve_nodes`], [`serve_connections`] and
-//!   [`serve_connection`]; `HaveGoneOn` of `specs/Agreeing.antt`).
+//!   [`serve_connection`]; `HaveGoneOn` of `specs/Agreement.antt`).
 //! - [`serve`] promises all of it of the nodes that it opens: there are as many as the service has, each at its own index, new ones if it
 //!   has no folder; they served its number of connections, each with a cache for its number of pictures (`specs/Served.antt`).
 //! - A map that one of three new nodes accepted over a connection is published on all three, if no delivery was lost, the deliveries
 //!   didn't stop early and no tape failed (`published` of [`serve_connection`], whose [`ConnectionOutcome`] tells of the deliveries;
-//!   [`an_accepted_map_is_published`], `specs/Publishing.antt`). New nodes that caught up before are new still
+//!   [`an_accepted_map_is_published`], `specs/Publication.antt`). New nodes that caught up before are new still
 //!   ([`caught_up_nodes_stay_new`]), and what the first connection published all of them have published after any later ones
 //!   ([`the_first_map_is_published`], `specs/First.antt`).
 //!
@@ -50,42 +51,42 @@
 //! built program that aren't in CI.
 #![tactic(auto)]
 
-mod caching;
+mod cache_set;
 mod check;
+mod compaction;
+mod connection_effect;
 mod connections;
 mod event;
+mod farm_file;
 mod fault;
-mod holding;
-mod incoming;
+mod folder_lock;
 mod limited;
-mod listening;
+mod linger_close;
 mod log;
-mod marking;
+mod node_request;
+mod node_start;
 mod noted;
-mod opening;
 mod outcome;
-mod outgoing;
-mod parting;
 mod port;
-mod publishing;
-mod serving;
-mod shortening;
+mod port_listener;
+mod publication;
 mod survey;
-mod visiting;
+mod timed_reader;
+mod timed_writer;
 mod watch;
 
 pub use check::{check_tapes, examine, first_difference};
+pub use compaction::open_shortened;
+pub use connection_effect::{catch_up, serve_connection};
 pub use connections::serve_connections;
-pub use event::{Cause, Event, Fault, Level};
+pub use event::{Cause, Level, ServeEvent, StartFault};
 pub use fault::ServeFault;
-pub use listening::{serve, serve_nodes};
 pub use log::Log;
 pub use outcome::ConnectionOutcome;
 pub use port::listen;
-pub use publishing::{
+pub use port_listener::{serve, serve_nodes};
+pub use publication::{
     an_accepted_map_is_published, caught_up_nodes_stay_new, the_first_map_is_published,
 };
-pub use serving::{catch_up, serve_connection};
-pub use shortening::open_shortened;
 pub use survey::{Survey, inspect};
 pub use wf_service::Service;

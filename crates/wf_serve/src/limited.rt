@@ -11,17 +11,17 @@ use std::time::{Clock, Duration, Instant};
 /// One direction of a connection, with one time limit for all its reads or writes together. The time starts with the first call,
 /// and a call still waiting at its end is given up.
 #[derive(Drop)]
-pub(crate) struct Limited<'a, R: Clock> {
+pub(crate) struct TimeLimited<'a, R: Clock> {
     clock: &'a R,
     stream: &'a TcpStream,
     time: Duration,
     end: Option<Instant>,
 }
 
-impl<'a, R: Clock> Limited<'a, R> {
+impl<'a, R: Clock> TimeLimited<'a, R> {
     /// A direction not used yet.
     pub(crate) fn new(clock: &'a R, stream: &'a TcpStream, time: Duration) -> Self {
-        Limited {
+        TimeLimited {
             clock,
             stream,
             time,

@@ -1,6 +1,6 @@
 //! The log of a farm that is served.
 
-use crate::event::{Event, Level};
+use crate::event::{Level, ServeEvent};
 use jiff::Timestamp;
 use std::time::Clock;
 
@@ -24,7 +24,7 @@ impl<'a, R: Clock + Eprint> Log<'a, R> {
     }
 
     /// Writes the line of an event.
-    pub fn write(&self, event: &Event<'_>) {
+    pub fn write(&self, event: &ServeEvent<'_>) {
         if self.is_on {
             put(self.rt, event);
         }
@@ -32,7 +32,7 @@ impl<'a, R: Clock + Eprint> Log<'a, R> {
 }
 
 /// Writes the line of an event.
-fn put<R: Clock + Eprint>(rt: &R, event: &Event<'_>) {
+fn put<R: Clock + Eprint>(rt: &R, event: &ServeEvent<'_>) {
     let level = event.level();
     match now(rt) {
         Some(time) => {

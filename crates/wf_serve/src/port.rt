@@ -2,8 +2,8 @@
 ghost use Rattle.std.specs.Prelude.{◌≡◌, ◌≢◌, ◌≤◌, IfSome, None};
 ghost use Rattle.std.specs.Net.Socket.{socket_port};
 ghost use Rattle.std.specs.String.{string_bytes};
-ghost use Rattle.wf_serve.specs.Fault.{CountsWrites};
-ghost use Rattle.wf_serve.specs.Listening.{HasEnded, IsHere, IsPortFor, IsWriting, TellsPort, port_line};
+ghost use Rattle.wf_serve.specs.StartFault.{CountsWrites};
+ghost use Rattle.wf_serve.specs.PortLine.{HasEnded, IsHere, IsPortFor, IsWriting, PrintsPort, port_line};
 
 use crate::fault::ServeFault;
 use std::alloc::Global;
@@ -29,13 +29,13 @@ fn address_of(port: u16) -> SocketAddr
 
 /// Writes the line with the listener's port. Err: `Start`, with nothing written, if it isn't the requested port, the system
 /// doesn't report it, or an allocation fails.
-pub(crate) fn tell_port<K: Sink>(
+pub(crate) fn print_port<K: Sink>(
     alloc: Global,
     listener: &TcpListener,
     asked: u16,
     sink: &mut K,
 ) -> Result<(), ServeFault>
-    ensures { TellsPort K.Sink asked sink.old sink.new result }
+    ensures { PrintsPort K.Sink asked sink.old sink.new result }
 {
     let Ok(address) = listener.local_addr() else {
         return Err(ServeFault::Start);

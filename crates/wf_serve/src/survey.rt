@@ -8,7 +8,7 @@ use std::fs;
 use std::io::ErrorKind;
 use std::rt::Files;
 use wf_ballot::NODES;
-use wf_folder::{FarmFile, Found, Presence};
+use wf_folder::{FarmFile, FoundFile, Presence};
 use wf_stream::{Stream, read_up_to};
 
 /// More bytes than a file `farm` has.
@@ -18,7 +18,7 @@ const MOST_FILE_BYTES: usize = 256;
 #[derive(Clone, Copy)]
 pub struct Survey {
     /// Its file `farm`.
-    pub found: Found,
+    pub found: FoundFile,
     /// The tape of each node that a farm may have, that of node i at index i.
     pub tapes: [Presence; 64],
 }
@@ -27,7 +27,7 @@ pub struct Survey {
 pub fn inspect<R: Files + AllocGlobal>(rt: &R, folder: &str) -> Result<Survey, Cause>
     ensures { IfOk result (λ survey. length survey.tapes ≡ 64) }
 {
-    let found = found_in(rt, folder)?;
+    let found = find_in(rt, folder)?;
     let mut tapes = [Presence::Absent; 64];
     for number in 0..NODES {
         tapes[number as usize] = tape_in(rt, folder, number)?;
@@ -79,26 +79,26 @@ fn presence_at<R: Files>(rt: &R, path: &str) -> Option<Presence> {
 }
 
 /// The file `farm` of a folder.
-fn found_in<R: Files + AllocGlobal>(rt: &R, folder: &str) -> Result<Found, Cause> {
+fn find_in<R: Files + AllocGlobal>(rt: &R, folder: &str) -> Result<FoundFile, Cause> {
     let Ok(path) = format!(in rt.alloc(); "{folder}/farm") else {
         return Err(Cause::Memory);
     };
-    let found = found_at(rt, path.as_str());
+    let found = find_at(rt, path.as_str());
     drop(path);
     found
 }
 
 /// The file `farm` at a path.
-fn found_at<R: Files + AllocGlobal>(rt: &R, path: &str) -> Result<Found, Cause> {
+fn find_at<R: Files + AllocGlobal>(rt: &R, path: &str) -> Result<FoundFile, Cause> {
     match presence_at(rt, path) {
-        Some(Presence::Absent) => Ok(Found::Nothing),
+        Some(Presence::Absent) => Ok(FoundFile::Nothing),
         Some(_) => read_found(rt, path),
         None => Err(Cause::FileUnreadable),
     }
 }
 
 /// What the file at a path says.
-fn read_found<R: Files + AllocGlobal>(rt: &R, path: &str) -> Result<Found, Cause> {
+fn read_found<R: Files + AllocGlobal>(rt: &R, path: &str) -> Result<FoundFile, Cause> {
     let Ok(file) = fs::open(rt, path) else {
         return Err(Cause::FileUnreadable);
     };
@@ -119,9 +119,9 @@ fn read_found<R: Files + AllocGlobal>(rt: &R, path: &str) -> Result<Found, Cause
 }
 
 /// What a file with these bytes says.
-fn found_of(bytes: &[u8]) -> Found {
+fn found_of(bytes: &[u8]) -> FoundFile {
     match FarmFile::read(bytes) {
-        Ok(file) => Found::File(file),
-        Err(fault) => Found::Bad(fault),
+        Ok(file) => FoundFile::File(file),
+        Err(fault) => FoundFile::Bad(fault),
     }
 }

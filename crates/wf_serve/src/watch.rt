@@ -1,13 +1,13 @@
 //! What becomes of proposals and tapes, for the log.
 
-use crate::event::Event;
+use crate::event::ServeEvent;
 use crate::log::Log;
 use std::alloc::Global;
 use std::time::Clock;
 use wf_edge::outcome::Outcome;
 use wf_farm::Farm;
 use wf_node::{Node, NodeFault};
-use wf_proposer::Standing;
+use wf_proposer::ProposalState;
 use wf_tape::Tape;
 
 /// How a request to publish begins.
@@ -53,16 +53,16 @@ impl<'a, 'b, R: Clock + Eprint> Watch<'a, 'b, R> {
     }
 
     /// Writes how a request to publish was answered by a node, by the first bytes of the request and of the response.
-    pub(crate) fn hear(&self, node: usize, outcome: Outcome, request: &[u8], response: &[u8]) {
+    pub(crate) fn receive(&self, node: usize, outcome: Outcome, request: &[u8], response: &[u8]) {
         if !request.starts_with(PUBLISH) {
             return;
         }
         if let Outcome::Sent(status, _) | Outcome::WriteFailed(status, _) = outcome {
             let answer = body_of(response);
             if status == ACCEPTED {
-                self.log.write(&Event::Proposed { node, answer });
+                self.log.write(&ServeEvent::Proposed { node, answer });
             } else {
-                self.log.write(&Event::Rejected {
+                self.log.write(&ServeEvent::Rejected {
                     node,
                     status,
                     answer,
@@ -76,7 +76,7 @@ impl<'a, 'b, R: Clock + Eprint> Watch<'a, 'b, R> {
 pub(crate) fn write_caught_up<R: Clock + Eprint, T: Tape>(log: &Log<'_, R>, farm: &Farm<T>) {
     for number in 0..farm.size() {
         if let Some(node) = farm.node(number) {
-            log.write(&Event::CaughtUp {
+            log.write(&ServeEvent::CaughtUp {
                 node: number,
                 published: node.published().number(),
             });
@@ -97,11 +97,11 @@ fn look_at<R: Clock + Eprint, T: Tape>(log: &Log<'_, R>, seen: &mut [Seen], farm
 
 /// What is seen of a node.
 fn seen_of<T: Tape>(node: &Node<T>) -> Seen {
-    let is_halted = matches!(node.proposal_refusal(), Some(NodeFault::Halted));
+    let is_halted = matches!(node.proposal_step_rejection(), Some(NodeFault::Halted));
     let (published, overtaken) = match node.proposal() {
-        Standing::Published(slot) => (slot.number(), 0),
-        Standing::Overtaken(slot) => (0, slot.number()),
-        Standing::None | Standing::Running => (0, 0),
+        ProposalState::Published(slot) => (slot.number(), 0),
+        ProposalState::Overtaken(slot) => (0, slot.number()),
+        ProposalState::None | ProposalState::Running => (0, 0),
     };
     Seen {
         published,
@@ -113,16 +113,16 @@ fn seen_of<T: Tape>(node: &Node<T>) -> Seen {
 /// Writes what has become of a node.
 fn write_change<R: Clock + Eprint>(log: &Log<'_, R>, node: usize, before: &Seen, now: &Seen) {
     if now.is_halted && !before.is_halted {
-        log.write(&Event::Halted { node });
+        log.write(&ServeEvent::Halted { node });
     }
     if now.published != 0 && now.published != before.published {
-        log.write(&Event::Published {
+        log.write(&ServeEvent::Published {
             node,
             sequence: now.published,
         });
     }
     if now.overtaken != 0 && now.overtaken != before.overtaken {
-        log.write(&Event::Overtaken {
+        log.write(&ServeEvent::Overtaken {
             node,
             sequence: now.overtaken,
         });

@@ -12,8 +12,8 @@ last_port = 65535
 abbrev pub most_requests : ℕ
 most_requests = 1000000
 
-abbrev pub most_kept : ℕ
-most_kept = 64
+abbrev pub most_cached : ℕ
+most_cached = 64
 
 -- the numbers are within their ranges
 pub record IsService (service : Service) : Type 0 where
@@ -22,4 +22,4 @@ pub record IsService (service : Service) : Type 0 where
   pub port : service.port ≤ last_port
   pub requests : service.requests ≤ most_requests
   pub cache : 1 ≤ service.cache
-  pub cache_most : service.cache ≤ most_kept
+  pub cache_most : service.cache ≤ most_cached

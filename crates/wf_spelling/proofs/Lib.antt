@@ -1,4 +1,4 @@
 pub mod ScannedBlock
 pub mod ScannedNumber
-pub mod Scanning
-pub mod Writing
+pub mod ScanSequences
+pub mod WriteSequences

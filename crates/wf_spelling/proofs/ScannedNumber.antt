@@ -8,10 +8,10 @@ use Rattle.std.proofs.lemmas.Bool.{ne_eqb}
 use Rattle.std.proofs.lemmas.Nat.{div-mul-add, mod-mul-add}
 use Rattle.std.proofs.Math.Nat.{one-le-pow, pow-suc}
 use Rattle.wf_text.specs.NumberText.{fraction_digits, fraction_text, magnitude_text, number_text}
-use Rattle.wf_text.specs.NumberTextLaws.{fraction_digits-zero, fraction_digits-suc}
+use Rattle.wf_text.specs.NumberTextTheorems.{fraction_digits-zero, fraction_digits-suc}
 use Rattle.wf_spelling.specs.declared.scan.cursor.Cursor.{Cursor}
 use Rattle.wf_spelling.specs.Scan.{Scans}
-use Rattle.wf_spelling.proofs.Scanning.{both, same}
+use Rattle.wf_spelling.proofs.ScanSequences.{both, same}
 
 -- one digit behind an integer that isn't zero
 pub next_digit : (whole digit : ℕ) → 0 < whole → whole < 100000000 → digit < 10 → decimal (whole * 10 + digit) ≡ decimal whole ++ (48 + digit) ∷ []

@@ -1,6 +1,6 @@
 pub mod Canon
 pub mod Draft
-pub mod Refusal
+pub mod StepRejection
 pub mod Scan
 pub mod ScanLayer
 pub mod ScanMap

@@ -1,4 +1,4 @@
 pub mod Memory
-pub mod Reading
+pub mod Effects
 pub mod Stream
-pub mod KnownLaws
+pub mod KnownTheorems

@@ -1,6 +1,6 @@
 -- The state of a reader and of a writer over memory.
 use Rattle.std.specs.Prelude.{◌≡◌, ℕ, ◌-◌, ◌==◌, Bool, false, List, Option, Some, None}
-use Rattle.wf_stream.specs.Reading.{IsOneMore}
+use Rattle.wf_stream.specs.Effects.{IsOneMore}
 
 -- a reader: the bytes still to be read, the most bytes that a call returns, the number of calls before those that fail, if any
 -- do, and the number of failed calls

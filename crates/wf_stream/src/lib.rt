@@ -5,7 +5,7 @@
 //! the end or a limit, and [`write_all`] writes all of some bytes.
 //!
 //! **Model.** Of a source, the bytes still to be read and the most bytes that a call returns; of a sink, the bytes written; each
-//! if known. Of both, the number of failed calls. `specs/Reading.antt` states the effect of a call.
+//! if known. Of both, the number of failed calls. `specs/Effects.antt` states the effect of a call.
 //!
 //! **Promises.**
 //! - What is read is a prefix of what is left, of at most the requested length.

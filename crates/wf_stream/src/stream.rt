@@ -3,7 +3,7 @@ ghost use Rattle.std.specs.Prelude.{◌≡◌, ◌≢◌, ◌<◌, ◌≤◌, �
 ghost use Rattle.std.specs.Io.{ReadsAtMost, WritesAtMost};
 ghost use Rattle.std.specs.Io.KnownBytes.{Appends, Consumes, IsAtEnd, Keeps, ReadConsumes, WriteAppends};
 ghost use Rattle.std.specs.IoError.{error_kind};
-ghost use Rattle.wf_stream.specs.Reading.{Counts, EndsByFailing, GivesUpTo, IsMemoryAlone, IsOneMore, IsReadError, ReadsPiece, Rises, TakesUpTo};
+ghost use Rattle.wf_stream.specs.Effects.{Counts, EndsByFailing, GivesUpTo, IsMemoryAlone, IsOneMore, IsReadError, ReadsPiece, Rises, TakesUpTo};
 
 use std::alloc::Global;
 use std::io;
@@ -49,7 +49,7 @@ pub trait Sink {
 
     /// Writes some bytes from the front of two buffers, one after the other, and returns their number: at least one, unless both
     /// are empty. A writer that can write both in one call of the system does so.
-    #[tactic(auto, using(crate::specs::KnownLaws::writes_first, crate::specs::KnownLaws::writes_second, crate::specs::KnownLaws::most_first, crate::specs::KnownLaws::most_second))]
+    #[tactic(auto, using(crate::specs::KnownTheorems::writes_first, crate::specs::KnownTheorems::writes_second, crate::specs::KnownTheorems::most_first, crate::specs::KnownTheorems::most_second))]
     fn write_pair(&mut self, one: &[u8], two: &[u8]) -> io::Result<usize>
         ensures bound { WritesAtMost result (one.now ++ two.now) }
         ensures some { IfOk result (λ count. 0 < length (one.now ++ two.now) → 0 < count) }
@@ -93,7 +93,7 @@ impl<S> Stream<S> {
 }
 
 /// Reads once; repeats the read if a signal interrupted it, and after no other error.
-#[tactic(auto, using(crate::specs::KnownLaws::keeps_same, crate::specs::KnownLaws::keeps_twice, crate::specs::KnownLaws::reads_after))]
+#[tactic(auto, using(crate::specs::KnownTheorems::keeps_same, crate::specs::KnownTheorems::keeps_twice, crate::specs::KnownTheorems::reads_after))]
 fn read_again<R: Read>(reader: &mut R, buf: &mut [u8]) -> io::Result<usize>
     ensures bound { ReadsAtMost result buf.new }
     ensures bytes { ReadConsumes (R.remaining reader.old) (R.remaining reader.new) result buf.new }
@@ -125,7 +125,7 @@ impl<R: Read> Source for Stream<R> {
 }
 
 /// Writes once; repeats the write if a signal interrupted it. A writer that takes no byte has failed.
-#[tactic(auto, using(crate::specs::KnownLaws::keeps_same, crate::specs::KnownLaws::keeps_twice, crate::specs::KnownLaws::writes_after))]
+#[tactic(auto, using(crate::specs::KnownTheorems::keeps_same, crate::specs::KnownTheorems::keeps_twice, crate::specs::KnownTheorems::writes_after))]
 fn write_again<W: Write>(writer: &mut W, buf: &[u8]) -> io::Result<usize>
     ensures bound { WritesAtMost result buf.now }
     ensures some { IfOk result (λ count. 0 < length buf.now → 0 < count) }
@@ -200,7 +200,7 @@ pub fn read_piece<S: Source>(source: &mut S, bytes: &mut Vec<u8>, room: usize) -
 
 /// Reads to the end, or `limit` bytes, appends them, and returns their number: fewer than the limit only at the end. Err: the error
 /// of a failed read, or `OutOfMemory` if the buffer can't be grown; what was read before is appended.
-#[tactic(auto, using(crate::specs::KnownLaws::nothing_read, crate::specs::KnownLaws::reads_more, crate::specs::KnownLaws::takes_read))]
+#[tactic(auto, using(crate::specs::KnownTheorems::nothing_read, crate::specs::KnownTheorems::reads_more, crate::specs::KnownTheorems::takes_read))]
 pub fn read_onto<S: Source>(source: &mut S, bytes: &mut Vec<u8>, limit: usize) -> io::Result<usize>
     ensures read { IfOk result (λ count.
         ReadsPiece count (S.left source.old) (S.left source.new) bytes.old.items bytes.new.items) }
@@ -224,7 +224,7 @@ pub fn read_onto<S: Source>(source: &mut S, bytes: &mut Vec<u8>, limit: usize) -
 }
 
 /// Reads to the end, or `limit` bytes. Err: the error of a failed read, or `OutOfMemory` if the buffer can't be grown.
-#[tactic(auto, using(crate::specs::KnownLaws::first_read, crate::specs::KnownLaws::all_read))]
+#[tactic(auto, using(crate::specs::KnownTheorems::first_read, crate::specs::KnownTheorems::all_read))]
 pub fn read_up_to<S: Source>(alloc: Global, source: &mut S, limit: usize) -> io::Result<Vec<u8>>
     // If the bytes are known, the result is their prefix.
     ensures first { IfOk result (λ bytes.

@@ -6,7 +6,7 @@ use Rattle.std.proofs.lemmas.Result.{on_ok_weaker}
 use Rattle.wf_tape.specs.declared.fault.TapeFault.{TapeFault}
 use Rattle.wf_tape.specs.declared.fault.TapeFault.TheVariants.{Device, Memory}
 use Rattle.wf_tape.specs.declared.fuse.Fuse.{Fuse}
-use Rattle.wf_tape.specs.Fuse.{counted_down, burning}
+use Rattle.wf_tape.specs.Fuse.{count_down, burn}
 use Rattle.wf_tape.specs.Tape.{Call, Read, Append, Sync, Replace, error_of, IsOnlyImage, IsUnchanged, LeavesNoOther, IsExtended, LeavesOldOr, LeavesOldOrCut, LeavesOldOrNew, Elapses, HasRisen, HasCause, IsNotMemory, last_count}
 use Rattle.wf_tape.specs.MemoryTape.{TapeValue, IsImageOf, IsLeftSince, state_of, moment_of, NeverFails, counted, risen, failed_once, appended, replaced, settled, done, cut_short, IsLeft, IsCalled}
 use Rattle.wf_tape.proofs.Images.{content_is_image, only_synced, sync_leaves, append_leaves, not_extended, unchanged}
@@ -14,7 +14,7 @@ use Rattle.wf_tape.proofs.Noted.{time_changed, time_same, inside_changed, inside
 
 -- ---- which of the cases of a call it is: the tape is counted, and then changed
 
-pub called_done : (call : Call) (old mid new : TapeValue) → burning old.fuse ≡ None → mid ≡ counted old → new ≡ done call mid → IsCalled call old None new
+pub called_done : (call : Call) (old mid new : TapeValue) → burn old.fuse ≡ None → mid ≡ counted old → new ≡ done call mid → IsCalled call old None new
 unfolding IsCalled
 called_done call old mid new sound count is =
     subst (λ (at : Option ℕ). IsLeft call at (counted old) None new) (sym sound) (is ∙ ap (done call) count)
@@ -25,17 +25,17 @@ short_at call (Some kept) tape after is = is
 
 pub called_short : (call : Call) (old mid new : TapeValue) → mid ≡ counted old → new ≡ mid → IsCalled call old (Some Memory) new
 unfolding IsCalled
-called_short call old mid new count is = short_at call (burning old.fuse) (counted old) new (is ∙ count)
+called_short call old mid new count is = short_at call (burn old.fuse) (counted old) new (is ∙ count)
 
-pub called_cut : (call : Call) (kept : ℕ) (old mid left new : TapeValue) (fault : TapeFault) → burning old.fuse ≡ Some kept → mid ≡ counted old → left ≡ cut_short kept call mid → fault ≡ Device → new ≡ failed_once left →
+pub called_cut : (call : Call) (kept : ℕ) (old mid left new : TapeValue) (fault : TapeFault) → burn old.fuse ≡ Some kept → mid ≡ counted old → left ≡ cut_short kept call mid → fault ≡ Device → new ≡ failed_once left →
     IsCalled call old (Some fault) new
 unfolding IsCalled
 called_cut call kept old mid left new fault burns count cut device is =
-    subst (λ (f : TapeFault). IsLeft call (burning old.fuse) (counted old) (Some f) new) (sym device)
+    subst (λ (f : TapeFault). IsLeft call (burn old.fuse) (counted old) (Some f) new) (sym device)
     (subst (λ (at : Option ℕ). IsLeft call at (counted old) (Some Device) new) (sym burns) (is ∙ ap failed_once (cut ∙ ap (cut_short kept call) count)))
 
 -- a call that doesn't fail by the failure that is set, whatever it returns
-pub called_sound : {A : Type 0} (call : Call) (old mid new : TapeValue) (result : Result A TapeFault) → burning old.fuse ≡ None → mid ≡ counted old → OnOk result (new ≡ done call mid) → OnErr result (new ≡ mid) →
+pub called_sound : {A : Type 0} (call : Call) (old mid new : TapeValue) (result : Result A TapeFault) → burn old.fuse ≡ None → mid ≡ counted old → OnOk result (new ≡ done call mid) → OnErr result (new ≡ mid) →
     IfErr result (λ fault. fault ≡ Memory) → IsCalled call old (error_of result) new
 called_sound call old mid new (Ok x) sound count ok err memory = called_done call old mid new sound count ok
 called_sound call old mid new (Err Device) sound count ok err memory = absurd (cc memory)
@@ -46,7 +46,7 @@ pub called_lost : (call : Call) (old mid new : TapeValue) (fault : TapeFault) �
 called_lost call old mid new fault count is memory = subst (λ (f : TapeFault). IsCalled call old (Some f) new) (sym memory) (called_short call old mid new count is)
 
 -- an append that fails keeps the first of the bytes
-pub called_kept : (bytes piece : List ℕ) (kept : ℕ) (old mid left new : TapeValue) (fault : TapeFault) → burning old.fuse ≡ Some kept → mid ≡ counted old → piece ≡ take kept bytes → left ≡ appended mid piece → fault ≡ Device → new ≡ failed_once left →
+pub called_kept : (bytes piece : List ℕ) (kept : ℕ) (old mid left new : TapeValue) (fault : TapeFault) → burn old.fuse ≡ Some kept → mid ≡ counted old → piece ≡ take kept bytes → left ≡ appended mid piece → fault ≡ Device → new ≡ failed_once left →
     IsCalled (Append bytes) old (Some fault) new
 called_kept bytes piece kept old mid left new fault burns count piece_is longer device is =
     called_cut (Append bytes) kept old mid left new fault burns count (longer ∙ ap (appended mid) piece_is) device is
@@ -56,13 +56,13 @@ cut_replaced : (kept : ℕ) (bytes : List ℕ) (tape : TapeValue) → (kept ≡ 
 cut_replaced zero bytes tape some = absurd (some refl)
 cut_replaced (suc kept) bytes tape some = refl
 
-pub called_replaced : (bytes : List ℕ) (kept : ℕ) (old mid left new : TapeValue) (fault : TapeFault) → burning old.fuse ≡ Some kept → mid ≡ counted old → (kept ≡ 0 → ⊥) → left ≡ replaced mid bytes → fault ≡ Device → new ≡ failed_once left →
+pub called_replaced : (bytes : List ℕ) (kept : ℕ) (old mid left new : TapeValue) (fault : TapeFault) → burn old.fuse ≡ Some kept → mid ≡ counted old → (kept ≡ 0 → ⊥) → left ≡ replaced mid bytes → fault ≡ Device → new ≡ failed_once left →
     IsCalled (Replace bytes) old (Some fault) new
 called_replaced bytes kept old mid left new fault burns count some put device is =
     called_cut (Replace bytes) kept old mid left new fault burns count (put ∙ sym (cut_replaced kept bytes mid some)) device is
 
 -- one that keeps nothing has the old one
-pub called_unreplaced : (bytes : List ℕ) (kept : ℕ) (old mid new : TapeValue) (fault : TapeFault) → burning old.fuse ≡ Some kept → mid ≡ counted old → kept ≡ 0 → fault ≡ Device → new ≡ failed_once mid → IsCalled (Replace bytes) old (Some fault) new
+pub called_unreplaced : (bytes : List ℕ) (kept : ℕ) (old mid new : TapeValue) (fault : TapeFault) → burn old.fuse ≡ Some kept → mid ≡ counted old → kept ≡ 0 → fault ≡ Device → new ≡ failed_once mid → IsCalled (Replace bytes) old (Some fault) new
 called_unreplaced bytes kept old mid new fault burns count none device is =
     called_cut (Replace bytes) 0 old mid mid new fault (burns ∙ ap Some none) count refl device is
 
@@ -105,13 +105,13 @@ sturdy_at call tape after None none is = ap (λ (k : TapeValue). k.fuse) is ∙ 
 sturdy_at call tape after (Some Device) none is = absurd is
 sturdy_at call tape after (Some Memory) none is = ap (λ (k : TapeValue). k.fuse) is ∙ none
 
-none_burns : (fuse : Option Fuse) → fuse ≡ None → burning fuse ≡ None
-unfolding burning
-none_burns fuse none = ap burning none
+none_burns : (fuse : Option Fuse) → fuse ≡ None → burn fuse ≡ None
+unfolding burn
+none_burns fuse none = ap burn none
 
-none_counted : (fuse : Option Fuse) → fuse ≡ None → counted_down fuse ≡ None
-unfolding counted_down
-none_counted fuse none = ap counted_down none
+none_counted : (fuse : Option Fuse) → fuse ≡ None → count_down fuse ≡ None
+unfolding count_down
+none_counted fuse none = ap count_down none
 
 left_soundly : (call : Call) (old new : TapeValue) (fault : Option TapeFault) → NeverFails old → IsCalled call old fault new → IsLeft call None (counted old) fault new
 unfolding IsCalled
@@ -199,7 +199,7 @@ read_is (Some kept) tape new (Err Memory) is = record {
 pub reads : {A : Type 0} (old new : TapeValue) (result : Result A TapeFault) → IsCalled Read old (error_of result) new → IsRead old new result
 unfolding IsCalled
 reads old new result called =
-    let is = read_is (burning old.fuse) (counted old) new result called in
+    let is = read_is (burn old.fuse) (counted old) new result called in
     record { same = is.same; time = is.time; inside = is.inside; cause = is.cause }
 
 -- ---- appending
@@ -242,7 +242,7 @@ append_is (Some kept) tape new bytes (Err Memory) within is = append_short tape 
 pub appends : {A : Type 0} (old new : TapeValue) (bytes : List ℕ) (result : Result A TapeFault) → old.synced ≤ length old.bytes → IsCalled (Append bytes) old (error_of result) new → IsAppend old new bytes result
 unfolding IsCalled
 appends old new bytes result within called =
-    let is = append_is (burning old.fuse) (counted old) new bytes result within called in
+    let is = append_is (burn old.fuse) (counted old) new bytes result within called in
     record { ok = is.ok; err = is.err; images = is.images; memory = is.memory; time = is.time; inside = is.inside; cause = is.cause }
 
 -- ---- syncing
@@ -295,7 +295,7 @@ sync_is (Some kept) tape new (Err Memory) within is =
 pub syncs : {A : Type 0} (old new : TapeValue) (result : Result A TapeFault) → OnOk result (old.synced ≤ length old.bytes) → IsCalled Sync old (error_of result) new → IsSync old new result
 unfolding IsCalled
 syncs old new result within called =
-    let is = sync_is (burning old.fuse) (counted old) new result within called in
+    let is = sync_is (burn old.fuse) (counted old) new result within called in
     record { ok = is.ok; same = is.same; images = is.images; time = is.time; inside = is.inside; cause = is.cause }
 
 -- ---- replacing
@@ -373,7 +373,7 @@ replace_is (Some kept) tape new bytes (Err Memory) is = replace_short tape new b
 pub replaces : {A : Type 0} (old new : TapeValue) (bytes : List ℕ) (result : Result A TapeFault) → IsCalled (Replace bytes) old (error_of result) new → IsReplace old new bytes result
 unfolding IsCalled
 replaces old new bytes result called =
-    let is = replace_is (burning old.fuse) (counted old) new bytes result called in
+    let is = replace_is (burn old.fuse) (counted old) new bytes result called in
     record { ok = is.ok; synced = is.synced; err = is.err; images = is.images; memory = is.memory; time = is.time; inside = is.inside; cause = is.cause }
 
 -- ---- what is returned

@@ -1,7 +1,7 @@
 -- The failure that a tape in memory will have, counted down by its calls.
 use Rattle.std.proofs.Common.{◌≡◌, ℕ, ◌+◌, ◌-◌, zero, suc, nat_eq, Bool, true, false, Some, None, if◌then◌else◌, refl, ap, arith}
 use Rattle.std.proofs.lemmas.Bool.Decides.{nat_tests}
-use Rattle.wf_tape.specs.Fuse.{fuse_at, burning_at}
+use Rattle.wf_tape.specs.Fuse.{fuse_at, burn_at}
 use Rattle.wf_tape.specs.MemoryTape.{risen}
 use Rattle.wf_tape.specs.Tape.{last_count}
 
@@ -15,13 +15,13 @@ unfolding fuse_at
 fuse_later zero kept some = absurd (some refl)
 fuse_later (suc before) kept some = ap (λ (n : ℕ). fuse_at (suc n) kept) (omega arith)
 
-pub burns_now : (before kept : ℕ) → before ≡ 0 → burning_at before kept ≡ Some kept
-unfolding burning_at
+pub burns_now : (before kept : ℕ) → before ≡ 0 → burn_at before kept ≡ Some kept
+unfolding burn_at
 burns_now zero kept none = refl
 burns_now (suc before) kept none = absurd (omega (arith, none))
 
-pub burns_later : (before kept : ℕ) → (before ≡ 0 → ⊥) → burning_at before kept ≡ None
-unfolding burning_at
+pub burns_later : (before kept : ℕ) → (before ≡ 0 → ⊥) → burn_at before kept ≡ None
+unfolding burn_at
 burns_later zero kept some = absurd (some refl)
 burns_later (suc before) kept some = refl
 

@@ -9,7 +9,7 @@ use Rattle.wf_disk.specs.Call.{IsCounted}
 use Rattle.wf_tape.specs.declared.fault.TapeFault.{TapeFault}
 use Rattle.wf_tape.specs.declared.fault.TapeFault.TheVariants as tape
 use Rattle.wf_tape.specs.Tape.{HasCause}
-use Rattle.wf_tape.specs.MomentLaws.{time_stays, time_on}
+use Rattle.wf_tape.specs.MomentTheorems.{time_stays, time_on}
 use Rattle.wf_tape.specs.DiskTape.{Passes, tape_fault}
 
 -- one call

@@ -8,15 +8,15 @@ fuse_at zero kept = None
 fuse_at (suc before) kept = Some (record { before = before; kept = kept })
 
 -- the fuse after a call: it is one call nearer, and gone after the call that fails
-unfoldable pub counted_down : Option Fuse → Option Fuse
-counted_down None = None
-counted_down (Some fuse) = fuse_at fuse.before fuse.kept
+unfoldable pub count_down : Option Fuse → Option Fuse
+count_down None = None
+count_down (Some fuse) = fuse_at fuse.before fuse.kept
 
 -- how much is kept by the next call, if that one fails
-unfoldable pub burning_at : ℕ → ℕ → Option ℕ
-burning_at zero kept = Some kept
-burning_at (suc before) kept = None
+unfoldable pub burn_at : ℕ → ℕ → Option ℕ
+burn_at zero kept = Some kept
+burn_at (suc before) kept = None
 
-unfoldable pub burning : Option Fuse → Option ℕ
-burning None = None
-burning (Some fuse) = burning_at fuse.before fuse.kept
+unfoldable pub burn : Option Fuse → Option ℕ
+burn None = None
+burn (Some fuse) = burn_at fuse.before fuse.kept

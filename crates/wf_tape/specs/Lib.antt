@@ -1,8 +1,8 @@
 pub mod Tape
-pub mod TapeLaws
+pub mod TapeTheorems
 pub mod Fuse
 pub mod MemoryTape
 pub mod MemoryMoments
 pub mod Change
-pub mod MomentLaws
+pub mod MomentTheorems
 pub mod DiskTape

@@ -13,13 +13,13 @@ none_later (state ∷ older) moment image late left = elim left [
   | inr before ↦ none_later older moment image (le_of_lt late) before
 ]
 
-pub memory_now : (kept : TapeValue) → IsNow (IsImageOf kept) (IsLeftSince kept (moment_of kept))
+pub memory_now : (tape : TapeValue) → IsNow (IsImageOf tape) (IsLeftSince tape (moment_of tape))
 unfolding WasLeft
-memory_now kept = record {
-  counts = λ image is. inl (le_refl (length kept.past), is);
+memory_now tape = record {
+  counts = λ image is. inl (le_refl (length tape.past), is);
   nothing_else = λ image left. elim left [
     | inl now ↦ now.1
-    | inr before ↦ absurd (none_later kept.past (length kept.past) image (le_refl (length kept.past)) before)
+    | inr before ↦ absurd (none_later tape.past (length tape.past) image (le_refl (length tape.past)) before)
   ];
 }
 
@@ -31,5 +31,5 @@ left_earlier (state ∷ older) moment later image before left = elim left [
   | inr past ↦ inr (left_earlier older moment later image before past)
 ]
 
-pub memory_nested : (kept : TapeValue) → AreNested (IsLeftSince kept)
-memory_nested kept = left_earlier (state_of kept ∷ kept.past)
+pub memory_nested : (tape : TapeValue) → AreNested (IsLeftSince tape)
+memory_nested tape = left_earlier (state_of tape ∷ tape.past)

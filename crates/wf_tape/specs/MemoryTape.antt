@@ -5,7 +5,7 @@ use Rattle.wf_tape.specs.declared.earlier.Earlier.TheVariants.{Front, Replaced}
 use Rattle.wf_tape.specs.declared.fault.TapeFault.{TapeFault}
 use Rattle.wf_tape.specs.declared.fault.TapeFault.TheVariants.{Device, Memory}
 use Rattle.wf_tape.specs.declared.fuse.Fuse.{Fuse}
-use Rattle.wf_tape.specs.Fuse.{fuse_at, counted_down, burning}
+use Rattle.wf_tape.specs.Fuse.{fuse_at, count_down, burn}
 use Rattle.wf_tape.specs.Tape.{IsBeginning, Call, Read, Append, Sync, Replace, last_count}
 
 -- a state: the bytes, of which the first are synced
@@ -65,7 +65,7 @@ with_fuse call kept tape = record tape { fuse = fuse_at call kept }
 
 -- the tape with one more call counted
 abbrev pub counted : TapeValue → TapeValue
-counted tape = record tape { fuse = counted_down tape.fuse }
+counted tape = record tape { fuse = count_down tape.fuse }
 
 -- one more failure, unless the count is at its highest
 unfoldable pub risen : ℕ → ℕ
@@ -118,4 +118,4 @@ IsLeft call (Some kept) tape (Some Memory) after = after ≡ tape
 
 -- A call: the tape before it, the error that was returned, if one was, and the tape after it.
 unfoldable pub IsCalled : Call → TapeValue → Option TapeFault → TapeValue → Type 0
-IsCalled call tape fault after = IsLeft call (burning tape.fuse) (counted tape) fault after
+IsCalled call tape fault after = IsLeft call (burn tape.fuse) (counted tape) fault after

@@ -12,11 +12,11 @@ use wf_disk::{Disk, DiskFault, Name};
 
 /// Opens the own file, and syncs the names, since the file may be new.
 pub(crate) fn open<D: Disk>(disk: &mut D) -> Result<(), DiskFault>
-    ensures names { D.honest → OnOk result ((D.folder disk.new).earlier ≡ []) }
-    ensures content { D.honest → content_of D.Disk disk.new ≡ content_of D.Disk disk.old }
-    ensures images { D.honest →
+    ensures names { D.durable → OnOk result ((D.folder disk.new).earlier ≡ []) }
+    ensures content { D.durable → content_of D.Disk disk.new ≡ content_of D.Disk disk.old }
+    ensures images { D.durable →
         LeavesNoOther (images_of D.Disk disk.old) (images_of D.Disk disk.new) }
-    ensures passes { D.honest → Passes D.Disk (images_of D.Disk disk.old) disk.old disk.new }
+    ensures passes { D.durable → Passes D.Disk (images_of D.Disk disk.old) disk.old disk.new }
     ensures cause { IsCounted (D.failed disk.old) (D.failed disk.new) result }
 {
     match disk.open() {
@@ -27,15 +27,15 @@ pub(crate) fn open<D: Disk>(disk: &mut D) -> Result<(), DiskFault>
 
 /// Syncs the own file, and the names unless they are synced.
 pub(crate) fn sync<D: Disk>(disk: &mut D, are_names_synced: bool) -> Result<(), DiskFault>
-    ensures ok { D.honest → OnOk result (IsThere Own (D.folder disk.old)
+    ensures ok { D.durable → OnOk result (IsThere Own (D.folder disk.old)
         × ((D.folder disk.new).own ≡ (done (Sync Own) (D.folder disk.old)).own)) }
-    ensures names { D.honest → (are_names_synced ≡ true → (D.folder disk.old).earlier ≡ []) →
+    ensures names { D.durable → (are_names_synced ≡ true → (D.folder disk.old).earlier ≡ []) →
         OnOk result ((D.folder disk.new).earlier ≡ []) }
-    ensures stay { D.honest → (D.folder disk.old).earlier ≡ [] → (D.folder disk.new).earlier ≡ [] }
-    ensures content { D.honest → content_of D.Disk disk.new ≡ content_of D.Disk disk.old }
-    ensures images { D.honest →
+    ensures stay { D.durable → (D.folder disk.old).earlier ≡ [] → (D.folder disk.new).earlier ≡ [] }
+    ensures content { D.durable → content_of D.Disk disk.new ≡ content_of D.Disk disk.old }
+    ensures images { D.durable →
         LeavesNoOther (images_of D.Disk disk.old) (images_of D.Disk disk.new) }
-    ensures passes { D.honest → Passes D.Disk (images_of D.Disk disk.old) disk.old disk.new }
+    ensures passes { D.durable → Passes D.Disk (images_of D.Disk disk.old) disk.old disk.new }
     ensures memory { IsNotMemory result }
     ensures cause { IsCounted (D.failed disk.old) (D.failed disk.new) result }
 {
@@ -47,13 +47,13 @@ pub(crate) fn sync<D: Disk>(disk: &mut D, are_names_synced: bool) -> Result<(), 
 
 /// Syncs the names unless they are synced.
 fn sync_names<D: Disk>(disk: &mut D, are_names_synced: bool) -> Result<(), DiskFault>
-    ensures own { D.honest → (D.folder disk.new).own ≡ (D.folder disk.old).own }
-    ensures names { D.honest → (are_names_synced ≡ true → (D.folder disk.old).earlier ≡ []) →
+    ensures own { D.durable → (D.folder disk.new).own ≡ (D.folder disk.old).own }
+    ensures names { D.durable → (are_names_synced ≡ true → (D.folder disk.old).earlier ≡ []) →
         OnOk result ((D.folder disk.new).earlier ≡ []) }
-    ensures stay { D.honest → (D.folder disk.old).earlier ≡ [] → (D.folder disk.new).earlier ≡ [] }
-    ensures images { D.honest →
+    ensures stay { D.durable → (D.folder disk.old).earlier ≡ [] → (D.folder disk.new).earlier ≡ [] }
+    ensures images { D.durable →
         LeavesNoOther (images_of D.Disk disk.old) (images_of D.Disk disk.new) }
-    ensures passes { D.honest → Passes D.Disk (images_of D.Disk disk.old) disk.old disk.new }
+    ensures passes { D.durable → Passes D.Disk (images_of D.Disk disk.old) disk.old disk.new }
     ensures memory { IsNotMemory result }
     ensures cause { IsCounted (D.failed disk.old) (D.failed disk.new) result }
 {
@@ -65,14 +65,14 @@ fn sync_names<D: Disk>(disk: &mut D, are_names_synced: bool) -> Result<(), DiskF
 
 /// Makes the bytes the content: writes them to the second file, syncs it, and gives it the own name.
 pub(crate) fn replace<D: Disk>(disk: &mut D, bytes: &[u8]) -> Result<(), DiskFault>
-    ensures ok { D.honest → OnOk result (IsSynced (D.folder disk.new) bytes.now) }
-    ensures err { D.honest → ((D.folder disk.new).own ≡ (D.folder disk.old).own)
+    ensures ok { D.durable → OnOk result (IsSynced (D.folder disk.new) bytes.now) }
+    ensures err { D.durable → ((D.folder disk.new).own ≡ (D.folder disk.old).own)
         ⊎ ((D.folder disk.new).own ≡ Some (whole bytes.now)) }
-    ensures images { D.honest →
+    ensures images { D.durable →
         LeavesOldOr bytes.now (images_of D.Disk disk.old) (images_of D.Disk disk.new) }
-    ensures memory { D.honest → IsErrOf result Memory →
+    ensures memory { D.durable → IsErrOf result Memory →
         IsButSecond (D.folder disk.old) (D.folder disk.new) }
-    ensures passes { D.honest → Passes D.Disk
+    ensures passes { D.durable → Passes D.Disk
         (λ image. images_of D.Disk disk.old image ⊎ (image ≡ bytes.now)) disk.old disk.new }
     ensures cause { IsCounted (D.failed disk.old) (D.failed disk.new) result }
 {
@@ -84,9 +84,9 @@ pub(crate) fn replace<D: Disk>(disk: &mut D, bytes: &[u8]) -> Result<(), DiskFau
 
 /// Writes the bytes to the second file, and syncs it.
 fn put_second<D: Disk>(disk: &mut D, bytes: &[u8]) -> Result<(), DiskFault>
-    ensures ok { D.honest → OnOk result ((D.folder disk.new).second ≡ Some (whole bytes.now)) }
-    ensures kept { D.honest → IsButSecond (D.folder disk.old) (D.folder disk.new) }
-    ensures passes { D.honest → Passes D.Disk (images_of D.Disk disk.old) disk.old disk.new }
+    ensures ok { D.durable → OnOk result ((D.folder disk.new).second ≡ Some (whole bytes.now)) }
+    ensures kept { D.durable → IsButSecond (D.folder disk.old) (D.folder disk.new) }
+    ensures passes { D.durable → Passes D.Disk (images_of D.Disk disk.old) disk.old disk.new }
     ensures cause { IsCounted (D.failed disk.old) (D.failed disk.new) result }
 {
     match write_second(disk, bytes) {
@@ -97,9 +97,9 @@ fn put_second<D: Disk>(disk: &mut D, bytes: &[u8]) -> Result<(), DiskFault>
 
 /// Writes the bytes to the second file, which is made, or emptied if it is left over.
 fn write_second<D: Disk>(disk: &mut D, bytes: &[u8]) -> Result<(), DiskFault>
-    ensures ok { D.honest → OnOk result ((D.folder disk.new).second ≡ Some (unsynced bytes.now)) }
-    ensures kept { D.honest → IsButSecond (D.folder disk.old) (D.folder disk.new) }
-    ensures passes { D.honest → Passes D.Disk (images_of D.Disk disk.old) disk.old disk.new }
+    ensures ok { D.durable → OnOk result ((D.folder disk.new).second ≡ Some (unsynced bytes.now)) }
+    ensures kept { D.durable → IsButSecond (D.folder disk.old) (D.folder disk.new) }
+    ensures passes { D.durable → Passes D.Disk (images_of D.Disk disk.old) disk.old disk.new }
     ensures cause { IsCounted (D.failed disk.old) (D.failed disk.new) result }
 {
     match disk.make() {
@@ -110,11 +110,11 @@ fn write_second<D: Disk>(disk: &mut D, bytes: &[u8]) -> Result<(), DiskFault>
 
 /// Gives the second file the own name, and syncs the names.
 fn place_second<D: Disk>(disk: &mut D) -> Result<(), DiskFault>
-    ensures ok { D.honest → OnOk result (D.folder disk.new ≡ placed (D.folder disk.old)) }
-    ensures err { D.honest → OnErr result ((D.folder disk.new ≡ D.folder disk.old)
+    ensures ok { D.durable → OnOk result (D.folder disk.new ≡ placed (D.folder disk.old)) }
+    ensures err { D.durable → OnErr result ((D.folder disk.new ≡ D.folder disk.old)
         ⊎ (D.folder disk.new ≡ done Rename (D.folder disk.old))) }
-    ensures memory { D.honest → IsErrOf result Memory → D.folder disk.new ≡ D.folder disk.old }
-    ensures passes { D.honest → Passes D.Disk (λ image. MayLeave (D.folder disk.old) image
+    ensures memory { D.durable → IsErrOf result Memory → D.folder disk.new ≡ D.folder disk.old }
+    ensures passes { D.durable → Passes D.Disk (λ image. MayLeave (D.folder disk.old) image
         ⊎ IsLeftOf (D.folder disk.old).second image) disk.old disk.new }
     ensures cause { IsCounted (D.failed disk.old) (D.failed disk.new) result }
 {

@@ -12,11 +12,11 @@ use std::marker::Model;
 use std::rt::Files;
 use wf_disk::{Disk, DiskFault, Name, SystemDisk};
 
-/// A tape in a file of the system. What such a disk holds is an assumption, so the tape isn't honest.
+/// A tape in a file of the system. What such a disk holds is an assumption, so the tape isn't durable.
 pub type FileTape<R> = DiskTape<SystemDisk<R>>;
 
-/// A tape on a disk: its content is that of the disk's own file, and a replacement writes the second one. It is honest where the disk
-/// is. Model: the disk, whether its names are synced, and whether a sync of its file can't be relied on.
+/// A tape on a disk: its content is that of the disk's own file, and a replacement writes the second one. It is durable where the
+/// disk is. Model: the disk, whether its names are synced, and whether a sync of its file can't be relied on.
 #[derive(Drop)]
 pub struct DiskTape<D: Disk> {
     disk: D,
@@ -31,7 +31,7 @@ impl<D: Disk> Model for DiskTape<D> {
 
     ghost view = { λ t. record { disk = t.disk; are_names_synced = t.are_names_synced; doubtful = t.doubtful } };
 
-    ghost invariant = { λ t. D.honest → IsKnown t.are_names_synced t.doubtful (D.folder t.disk) };
+    ghost invariant = { λ t. D.durable → IsKnown t.are_names_synced t.doubtful (D.folder t.disk) };
 }
 
 impl<R: Files + Drop> DiskTape<SystemDisk<R>> {
@@ -58,18 +58,18 @@ impl<D: Disk> DiskTape<D> {
     /// so the tape is doubtful until its content is replaced. An error returns the disk.
     pub fn over(disk: D) -> Result<DiskTape<D>, (D, TapeFault)>
         ensures doubtful { IfOk result (λ tape. tape.doubtful ≡ true) }
-        ensures names { D.honest → IfOk result (λ tape. (D.folder tape.disk).earlier ≡ []) }
-        ensures content { D.honest →
+        ensures names { D.durable → IfOk result (λ tape. (D.folder tape.disk).earlier ≡ []) }
+        ensures content { D.durable →
             IfOk result (λ tape. content_of D.Disk tape.disk ≡ content_of D.Disk disk) }
-        ensures content_err { D.honest →
+        ensures content_err { D.durable →
             IfErr result (λ e. content_of D.Disk e.0 ≡ content_of D.Disk disk) }
-        ensures images { D.honest → IfOk result
+        ensures images { D.durable → IfOk result
             (λ tape. LeavesNoOther (images_of D.Disk disk) (images_of D.Disk tape.disk)) }
-        ensures images_err { D.honest → IfErr result
+        ensures images_err { D.durable → IfErr result
             (λ e. LeavesNoOther (images_of D.Disk disk) (images_of D.Disk e.0)) }
-        ensures passes { D.honest → IfOk result
+        ensures passes { D.durable → IfOk result
             (λ tape. Passes D.Disk (images_of D.Disk disk) disk tape.disk) }
-        ensures passes_err { D.honest → IfErr result
+        ensures passes_err { D.durable → IfErr result
             (λ e. Passes D.Disk (images_of D.Disk disk) disk e.0) }
         ensures failed { IfOk result (λ tape. D.failed tape.disk ≡ D.failed disk) }
         ensures cause { IfErr result
@@ -108,7 +108,7 @@ fn tape_fault(fault: DiskFault) -> TapeFault
 impl<D: Disk> Tape for DiskTape<D> {
     ghost use Rattle.wf_disk.specs.Folder.{MayLeave, bytes_in};
 
-    ghost honest = { D.honest };
+    ghost durable = { D.durable };
 
     ghost content = { λ t. bytes_in (D.folder t.disk).own };
 
@@ -122,11 +122,11 @@ impl<D: Disk> Tape for DiskTape<D> {
 
     ghost left_since = { λ t. D.left_since t.disk };
 
-    ghost certain_is_honest = { λ no. absurd no };
+    ghost certain_is_durable = { λ no. absurd no };
 
-    ghost is_now = { λ honest t. D.is_now honest t.disk };
+    ghost is_now = { λ durable t. D.is_now durable t.disk };
 
-    ghost nested = { λ honest t. D.nested honest t.disk };
+    ghost nested = { λ durable t. D.nested durable t.disk };
 
     fn read(&mut self, alloc: Global) -> Result<Vec<u8>, TapeFault> {
         match self.disk.read(alloc) {

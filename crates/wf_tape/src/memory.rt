@@ -1,5 +1,5 @@
 ghost use Rattle.std.specs.Prelude.{◌≡◌, ◌+◌, ◌≤◌, [], length, take, None, IfOk, IfErr, OnOk, OnErr, ◌-◌, ◌^◌, min, IfSome};
-ghost use Rattle.wf_tape.specs.Fuse.{fuse_at, counted_down, burning, burning_at};
+ghost use Rattle.wf_tape.specs.Fuse.{fuse_at, count_down, burn, burn_at};
 ghost use Rattle.wf_tape.specs.MemoryTape.{IsCalled, risen, with_fuse, counted, failed_once, appended, replaced, settled};
 ghost use Rattle.wf_tape.specs.Tape.{Read, Append, Sync, Replace, error_of};
 
@@ -11,7 +11,7 @@ use std::alloc::Global;
 use std::marker::Model;
 use std::mem;
 
-/// A tape in memory. It is honest, and its device fails only where a failure was set (`set_fuse`). It keeps notes on its changes
+/// A tape in memory. It is durable, and its device fails only where a failure was set (`set_fuse`). It keeps notes on its changes
 /// since it was made or crashed, so that what a crash at each earlier moment could have left is known.
 pub struct MemoryTape {
     bytes: Vec<u8>,
@@ -120,12 +120,12 @@ impl MemoryTape {
 
     /// Counts a call. If the failure that is set is this call's, returns how much it keeps.
     fn count_call(&mut self) -> Option<usize>
-        ensures kept { result ≡ burning self.old.fuse }
+        ensures kept { result ≡ burn self.old.fuse }
         ensures counted { self.new ≡ counted self.old }
     {
         let fuse = self.fuse;
-        self.fuse = counted_down(fuse);
-        burning(fuse)
+        self.fuse = count_down(fuse);
+        burn(fuse)
     }
 
     /// Counts a failure of the device.
@@ -262,8 +262,8 @@ fn fuse_at(call: usize, kept: usize) -> Option<Fuse>
 }
 
 /// The failure that is set after a call.
-fn counted_down(fuse: Option<Fuse>) -> Option<Fuse>
-    ensures { result ≡ counted_down fuse }
+fn count_down(fuse: Option<Fuse>) -> Option<Fuse>
+    ensures { result ≡ count_down fuse }
 {
     match fuse {
         Some(fuse) => fuse_at(fuse.before, fuse.kept),
@@ -272,18 +272,18 @@ fn counted_down(fuse: Option<Fuse>) -> Option<Fuse>
 }
 
 /// How much the next call keeps, if the failure that is set is that call's.
-fn burning(fuse: Option<Fuse>) -> Option<usize>
-    ensures { result ≡ burning fuse }
+fn burn(fuse: Option<Fuse>) -> Option<usize>
+    ensures { result ≡ burn fuse }
 {
     match fuse {
-        Some(fuse) => burning_at(fuse.before, fuse.kept),
+        Some(fuse) => burn_at(fuse.before, fuse.kept),
         None => None,
     }
 }
 
-/// The same of a failure that comes after so many calls.
-fn burning_at(before: usize, kept: usize) -> Option<usize>
-    ensures { result ≡ burning_at before kept }
+/// How much the next call keeps, if a failure that comes after so many calls is that call's.
+fn burn_at(before: usize, kept: usize) -> Option<usize>
+    ensures { result ≡ burn_at before kept }
 {
     if before == 0 { Some(kept) } else { None }
 }
@@ -310,7 +310,7 @@ impl Tape for MemoryTape {
     ghost use Rattle.wf_tape.specs.MemoryTape.{IsImageOf, moment_of, IsLeftSince, NeverFails, IsCalled};
     ghost use Rattle.wf_tape.specs.MemoryMoments.{memory_now, memory_nested};
 
-    ghost honest = { Unit {0} };
+    ghost durable = { Unit {0} };
 
     ghost certain = { Unit {0} };
 
@@ -328,7 +328,7 @@ impl Tape for MemoryTape {
 
     ghost leaves = { IsCalled };
 
-    ghost certain_is_honest = { λ certain. certain };
+    ghost certain_is_durable = { λ certain. certain };
 
     ghost is_now = { λ _. memory_now };
 

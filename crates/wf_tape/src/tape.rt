@@ -9,14 +9,14 @@ use std::alloc::Global;
 /// A tape: bytes that are appended to, synced and replaced as a whole. A crash may lose what isn't synced yet.
 ///
 /// Model: its content, its images (what a crash now may leave), what a crash at each earlier moment could have left, those inside
-/// a call included, and the count of its failures. The contracts about content, images and moments hold of an honest tape. Honesty
-/// is a property of the type, so no call changes it. A tape may be doubtful (`is_doubtful`). Any tape has counted a failure if a call returns `Device`. A tape may promise
-/// that its device won't fail (`never_fails`), and then no call returns `Device`.
+/// a call included, and the count of its failures. The contracts about content, images and moments hold of a durable tape. Honesty
+/// is a property of the type, so no call changes it. A tape may be doubtful (`is_doubtful`). Any tape has counted a failure if a
+/// call returns `Device`. A tape may promise that its device won't fail (`never_fails`), and then no call returns `Device`.
 pub trait Tape {
     /// The tape holds what was written.
-    ghost honest: { Type 0 };
+    ghost durable: { Type 0 };
 
-    /// The tape is honest, and its device fails only where a failure was set. Of a tape that can't promise this it never holds.
+    /// The tape is durable, and its device fails only where a failure was set. Of a tape that can't promise this it never holds.
     ghost certain: { Type 0 } = { ⊥ };
 
     /// The bytes that a read returns.
@@ -46,13 +46,13 @@ pub trait Tape {
 
     /// The content, which is one of the images. Changes nothing, at no moment.
     fn read(&mut self, alloc: Global) -> Result<Vec<u8>, TapeFault>
-        ensures ok { honest → IfOk result (λ bytes. bytes.items ≡ content self.old) }
-        ensures image { honest → OnOk result (images self.old (content self.old)) }
-        ensures same { honest →
+        ensures ok { durable → IfOk result (λ bytes. bytes.items ≡ content self.old) }
+        ensures image { durable → OnOk result (images self.old (content self.old)) }
+        ensures same { durable →
             IsUnchanged (content self.old) (content self.new) (images self.old) (images self.new) }
-        ensures time { honest → Elapses
+        ensures time { durable → Elapses
             (moment self.old) (moment self.new) (left_since self.old) (left_since self.new) }
-        ensures inside { honest →
+        ensures inside { durable →
             LeavesNoOther (images self.old) (left_since self.new (moment self.old)) }
         ensures cause { HasCause (failed self.old) (failed self.new) result }
         ensures sturdy { never_fails self.old → never_fails self.new }
@@ -63,16 +63,16 @@ pub trait Tape {
     /// Appends the bytes. Until they are synced a crash may leave any prefix of them, or what it could leave before; after `Device` a
     /// prefix of them may be there, and no more. A crash inside the call leaves what one could before it, or what one can after it.
     fn append(&mut self, bytes: &[u8]) -> Result<(), TapeFault>
-        ensures ok { honest → OnOk result (content self.new ≡ content self.old ++ bytes.now) }
-        ensures err { honest →
+        ensures ok { durable → OnOk result (content self.new ≡ content self.old ++ bytes.now) }
+        ensures err { durable →
             OnErr result (IsExtended (content self.old) bytes.now (content self.new)) }
-        ensures images { honest → IsNotMemory result →
+        ensures images { durable → IsNotMemory result →
             LeavesOldOrCut (content self.new) (images self.old) (images self.new) }
-        ensures memory { honest → IsErrOf result Memory →
+        ensures memory { durable → IsErrOf result Memory →
             IsUnchanged (content self.old) (content self.new) (images self.old) (images self.new) }
-        ensures time { honest → Elapses
+        ensures time { durable → Elapses
             (moment self.old) (moment self.new) (left_since self.old) (left_since self.new) }
-        ensures inside { honest → LeavesOldOrNew
+        ensures inside { durable → LeavesOldOrNew
             (images self.old) (images self.new) (left_since self.new (moment self.old)) }
         ensures cause { HasCause (failed self.old) (failed self.new) result }
         ensures sturdy { never_fails self.old → never_fails self.new }
@@ -82,14 +82,14 @@ pub trait Tape {
 
     /// After it a crash leaves exactly the content, unless the tape is doubtful; inside it, what one could before. Doesn't allocate.
     fn sync(&mut self) -> Result<(), TapeFault>
-        ensures ok { honest → doubtful self.old ≡ false →
+        ensures ok { durable → doubtful self.old ≡ false →
             OnOk result (IsOnlyImage (content self.new) (images self.new)) }
-        ensures same { honest → content self.new ≡ content self.old }
-        ensures images { honest → LeavesNoOther (images self.old) (images self.new) }
+        ensures same { durable → content self.new ≡ content self.old }
+        ensures images { durable → LeavesNoOther (images self.old) (images self.new) }
         ensures memory { IsNotMemory result }
-        ensures time { honest → Elapses
+        ensures time { durable → Elapses
             (moment self.old) (moment self.new) (left_since self.old) (left_since self.new) }
-        ensures inside { honest →
+        ensures inside { durable →
             LeavesNoOther (images self.old) (left_since self.new (moment self.old)) }
         ensures cause { HasCause (failed self.old) (failed self.new) result }
         ensures sturdy { never_fails self.old → never_fails self.new }
@@ -100,17 +100,17 @@ pub trait Tape {
     /// Replaces the content by the bytes, all of them synced. After `Device` the content is the bytes, or that of before. A crash
     /// inside the call leaves what one could before it, or exactly the bytes.
     fn replace(&mut self, bytes: &[u8]) -> Result<(), TapeFault>
-        ensures ok { honest → OnOk result (content self.new ≡ bytes.now) }
-        ensures synced { honest → OnOk result (IsOnlyImage bytes.now (images self.new)) }
-        ensures err { honest →
+        ensures ok { durable → OnOk result (content self.new ≡ bytes.now) }
+        ensures synced { durable → OnOk result (IsOnlyImage bytes.now (images self.new)) }
+        ensures err { durable →
             OnErr result ((content self.new ≡ content self.old) ⊎ (content self.new ≡ bytes.now)) }
-        ensures images { honest →
+        ensures images { durable →
             OnErr result (LeavesOldOr bytes.now (images self.old) (images self.new)) }
-        ensures memory { honest → IsErrOf result Memory →
+        ensures memory { durable → IsErrOf result Memory →
             IsUnchanged (content self.old) (content self.new) (images self.old) (images self.new) }
-        ensures time { honest → Elapses
+        ensures time { durable → Elapses
             (moment self.old) (moment self.new) (left_since self.old) (left_since self.new) }
-        ensures inside { honest →
+        ensures inside { durable →
             LeavesOldOr bytes.now (images self.old) (left_since self.new (moment self.old)) }
         ensures cause { HasCause (failed self.old) (failed self.new) result }
         ensures sturdy { never_fails self.old → never_fails self.new }
@@ -127,12 +127,12 @@ pub trait Tape {
     fn is_doubtful(&self) -> bool
         ensures { result ≡ doubtful self.now };
 
-    /// What is certain is honest.
-    ghost certain_is_honest: { certain → honest };
+    /// What is certain is durable.
+    ghost certain_is_durable: { certain → durable };
 
     /// Since this moment there was no other.
-    ghost is_now: { honest → (tape : Self) → IsNow (images tape) (left_since tape (moment tape)) };
+    ghost is_now: { durable → (tape : Self) → IsNow (images tape) (left_since tape (moment tape)) };
 
     /// What could have been left since a moment, could since an earlier one.
-    ghost nested: { honest → (tape : Self) → AreNested (left_since tape) };
+    ghost nested: { durable → (tape : Self) → AreNested (left_since tape) };
 }

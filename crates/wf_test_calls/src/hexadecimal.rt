@@ -1,9 +1,9 @@
 //! Bytes in hexadecimal.
 use wf_test_table::escape::digit;
-use wf_test_table::{Answer, Answered, Unanswered};
+use wf_test_table::{Answered, Transcript, Unanswered};
 
 /// Appends the bytes that the digits spell, two digits a byte.
-pub fn push_hexadecimal(digits: &str, bytes: &mut Answer) -> Answered {
+pub fn push_hexadecimal(digits: &str, bytes: &mut Transcript) -> Answered {
     let mut high = None;
     for byte in digits.as_bytes() {
         high = take(high, *byte, bytes)?;
@@ -15,7 +15,7 @@ pub fn push_hexadecimal(digits: &str, bytes: &mut Answer) -> Answered {
 }
 
 /// Reads a digit. Returns the byte so far after the first digit of a byte, None after the second.
-fn take(high: Option<u8>, byte: u8, bytes: &mut Answer) -> Result<Option<u8>, Unanswered> {
+fn take(high: Option<u8>, byte: u8, bytes: &mut Transcript) -> Result<Option<u8>, Unanswered> {
     let Some(digit) = digit(byte) else {
         return Err(Unanswered::BadWords);
     };

@@ -9,13 +9,13 @@
 #![tactic(auto)]
 
 pub mod hexadecimal;
+pub mod lines;
 pub mod member;
 pub mod message;
 pub mod script;
-pub mod telling;
 pub mod words;
 pub mod words_of_map;
 pub mod words_of_message;
+pub mod words_of_proposal_state;
 pub mod words_of_record;
-pub mod words_of_standing;
 pub mod words_of_tape;

@@ -4,7 +4,7 @@ ghost use Rattle.std.specs.Prelude.{◌≡◌, ◌<◌, ◌≤◌};
 use crate::words::node;
 use std::marker::Model;
 use wf_ballot::{NODES, NodeId};
-use wf_test_table::{Unanswered, Words};
+use wf_test_table::{CaseWords, Unanswered};
 
 /// A node's number, and how many nodes its farm has.
 #[derive(Clone, Copy)]
@@ -27,7 +27,7 @@ impl Model for Member {
 
 impl Member {
     /// The node that `NODE of NODES` names, where the farm has it.
-    pub fn named(words: &mut Words<'_>) -> Result<Member, Unanswered> {
+    pub fn named(words: &mut CaseWords<'_>) -> Result<Member, Unanswered> {
         let node = node(words)?;
         if words.word() != "of" {
             return Err(Unanswered::BadWords);

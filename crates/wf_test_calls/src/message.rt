@@ -12,7 +12,7 @@
 ghost use Rattle.std.specs.Prelude.{◌≡◌, ◌+◌, ◌≤◌, OnOk};
 ghost use Rattle.arrayvec.specs.ArrayVec.{array_vec_len};
 ghost use Rattle.wf_model.specs.Table.{sequences_from};
-ghost use Rattle.wf_model.specs.Working.{window};
+ghost use Rattle.wf_model.specs.VolatileState.{window};
 
 use crate::script::Definitions;
 use crate::words;
@@ -21,13 +21,13 @@ use std::alloc::Global;
 use wf_ballot::{Ballot, Slot};
 use wf_canon::Canon;
 use wf_codec::{Message, Report, Votes};
-use wf_test_table::{Answered, Unanswered, Words};
+use wf_test_table::{Answered, CaseWords, Unanswered};
 
 /// The words of a message, and where its definition comes from.
 #[derive(Clone, Copy)]
 pub struct Spoken<'a> {
     pub alloc: Global,
-    pub words: Words<'a>,
+    pub words: CaseWords<'a>,
     pub definitions: Definitions<'a>,
 }
 

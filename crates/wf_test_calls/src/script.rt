@@ -7,14 +7,14 @@
 //! ```
 use std::alloc::Global;
 use wf_canon::{Canon, CanonFault};
-use wf_test_table::{Unanswered, Words};
+use wf_test_table::{CaseWords, Unanswered};
 
 /// The line after each map.
 const END: &str = "endmap\n";
 
 /// The maps of a script.
 #[derive(Clone, Copy)]
-pub struct Maps<'a> {
+pub struct CallMaps<'a> {
     script: &'a str,
 }
 
@@ -22,14 +22,14 @@ pub struct Maps<'a> {
 #[derive(Clone, Copy)]
 pub enum Definitions<'a> {
     /// The next word is the name of a map.
-    Named(Maps<'a>),
+    Named(CallMaps<'a>),
     /// This canonical text is the only one.
     Text(&'a [u8]),
 }
 
 impl Definitions<'_> {
     /// The definition that comes next in the words.
-    pub fn next(self, alloc: Global, words: &mut Words<'_>) -> Result<Canon, Unanswered> {
+    pub fn next(self, alloc: Global, words: &mut CaseWords<'_>) -> Result<Canon, Unanswered> {
         match self {
             Definitions::Named(maps) => maps.canon(alloc, words.word()),
             Definitions::Text(text) => canon_of(alloc, text),
@@ -39,16 +39,16 @@ impl Definitions<'_> {
 
 /// A script's maps and its calls.
 #[derive(Clone, Copy)]
-pub struct Script<'a> {
-    pub maps: Maps<'a>,
+pub struct CallScript<'a> {
+    pub maps: CallMaps<'a>,
     pub calls: &'a str,
 }
 
 /// The script that an input is.
-pub fn read_script(input: &[u8]) -> Result<Script<'_>, Unanswered> {
+pub fn read_script(input: &[u8]) -> Result<CallScript<'_>, Unanswered> {
     match str::from_utf8(input) {
-        Ok(script) => Ok(Script {
-            maps: Maps { script },
+        Ok(script) => Ok(CallScript {
+            maps: CallMaps { script },
             calls: calls_of(script),
         }),
         Err(_) => Err(Unanswered::BadWords),
@@ -77,9 +77,9 @@ fn named(map: &str) -> Option<(&str, &str)> {
     map.strip_prefix("map ")?.split_once('\n')
 }
 
-impl<'a> Maps<'a> {
+impl<'a> CallMaps<'a> {
     /// No map.
-    pub const NONE: Maps<'static> = Maps { script: "" };
+    pub const NONE: CallMaps<'static> = CallMaps { script: "" };
 
     /// The map of a name.
     pub fn canon(self, alloc: Global, name: &str) -> Result<Canon, Unanswered> {

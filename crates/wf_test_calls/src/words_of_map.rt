@@ -1,21 +1,21 @@
 //! Maps in words: the definition at a sequence or a slot.
-use crate::script::Maps;
-use crate::telling::{tell_none, write_field};
+use crate::lines::{write_field, write_none};
+use crate::script::CallMaps;
 use crate::words_of_message::write_definition;
 use std::alloc::Global;
 use std::fmt::Display;
 use wf_ballot::Seq;
 use wf_canon::Canon;
 use wf_def::map::MapDef;
-use wf_test_table::Answer;
+use wf_test_table::Transcript;
 
 /// Appends a line: a number and the definition there.
-pub fn tell_at<T: Display + Copy>(
+pub fn write_at<T: Display + Copy>(
     title: &str,
     number: T,
     canon: &Canon,
-    maps: Maps<'_>,
-    answer: &mut Answer,
+    maps: CallMaps<'_>,
+    answer: &mut Transcript,
 ) {
     write_field(title, number, answer);
     write_definition(canon, maps, answer);
@@ -23,19 +23,19 @@ pub fn tell_at<T: Display + Copy>(
 }
 
 /// Appends a line: a sequence and its map, none where there is none.
-pub fn tell_map(
+pub fn write_map(
     alloc: Global,
     sequence: Seq,
     map: Option<&MapDef>,
-    maps: Maps<'_>,
-    answer: &mut Answer,
+    maps: CallMaps<'_>,
+    answer: &mut Transcript,
 ) {
     let Some(map) = map else {
-        return tell_none(answer);
+        return write_none(answer);
     };
     match Canon::of(alloc, map) {
         Ok(canon) => {
-            tell_at("sequence ", sequence, &canon, maps, answer);
+            write_at("sequence ", sequence, &canon, maps, answer);
             drop(canon);
         }
         Err(_) => answer.cut(),

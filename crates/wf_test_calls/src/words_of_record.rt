@@ -1,18 +1,18 @@
 //! What is to be stored and sent, in words.
-use crate::script::Maps;
-use crate::telling::write_field;
+use crate::lines::write_field;
+use crate::script::CallMaps;
 use crate::words_of_message::{write_at, write_definition, write_message};
 use wf_codec::Message;
 use wf_journal::Record;
-use wf_test_table::Answer;
+use wf_test_table::Transcript;
 
 /// Appends a line: the record to store and the messages to send after that, each `nothing` where there is
 /// none.
-pub fn tell_step(
+pub fn write_step(
     record: Option<&Record>,
     messages: &[Message],
-    maps: Maps<'_>,
-    answer: &mut Answer,
+    maps: CallMaps<'_>,
+    answer: &mut Transcript,
 ) {
     answer.text("store ");
     match record {
@@ -20,18 +20,18 @@ pub fn tell_step(
         None => answer.text("nothing"),
     }
     answer.text(", ");
-    tell_sent(messages, maps, answer);
+    record_sent(messages, maps, answer);
 }
 
 /// Appends a line: the messages to send, `nothing` where there is none.
-pub fn tell_sent(messages: &[Message], maps: Maps<'_>, answer: &mut Answer) {
+pub fn record_sent(messages: &[Message], maps: CallMaps<'_>, answer: &mut Transcript) {
     answer.text("send ");
     write_sent(messages, maps, answer);
     answer.line("");
 }
 
 /// Appends the fields of a record, without its definition.
-pub fn write_head(record: &Record, answer: &mut Answer) {
+pub fn write_head(record: &Record, answer: &mut Transcript) {
     match record {
         Record::Tried(round) => write_field("tried ", *round, answer),
         Record::Promised(slot, ballot) => write_at("promised", *slot, *ballot, answer),
@@ -40,7 +40,7 @@ pub fn write_head(record: &Record, answer: &mut Answer) {
     }
 }
 
-fn write_record(record: &Record, maps: Maps<'_>, answer: &mut Answer) {
+fn write_record(record: &Record, maps: CallMaps<'_>, answer: &mut Transcript) {
     write_head(record, answer);
     match record {
         Record::Accepted(_, _, canon) | Record::Published(_, canon) => {
@@ -50,7 +50,7 @@ fn write_record(record: &Record, maps: Maps<'_>, answer: &mut Answer) {
     }
 }
 
-fn write_sent(messages: &[Message], maps: Maps<'_>, answer: &mut Answer) {
+fn write_sent(messages: &[Message], maps: CallMaps<'_>, answer: &mut Transcript) {
     let Some((first, others)) = messages.split_first() else {
         return answer.text("nothing");
     };

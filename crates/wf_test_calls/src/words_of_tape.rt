@@ -1,7 +1,7 @@
 //! Tapes of bytes, and in words how many bytes are on one.
 use std::alloc::Global;
 use wf_tape::MemoryTape;
-use wf_test_table::{Answer, Unanswered};
+use wf_test_table::{Transcript, Unanswered};
 
 /// A tape with a copy of these bytes, all of them synced.
 pub fn tape_of(alloc: Global, bytes: &[u8]) -> Result<MemoryTape, Unanswered> {
@@ -19,7 +19,7 @@ pub fn bytes_on(tape: MemoryTape) -> usize {
 }
 
 /// Appends how many bytes are on a tape.
-pub fn tell_length(bytes: usize, answer: &mut Answer) {
+pub fn write_length(bytes: usize, answer: &mut Transcript) {
     answer.count(bytes);
     answer.line(" bytes");
 }

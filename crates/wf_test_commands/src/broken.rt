@@ -1,12 +1,12 @@
 //! The command `canon` between a reader and a writer, of which one fails at one of its calls.
-use crate::commands::tell_outcome;
+use crate::commands::write_outcome;
 use std::alloc::Global;
 use std::io;
 use std::io::{ErrorKind, Read, Write};
 use wf_commands::fault::RunFault;
 use wf_commands::run::run_canon;
 use wf_stream::Stream;
-use wf_test_table::{Answer, Answered, Asked, Unanswered};
+use wf_test_table::{Answered, CaseInput, Transcript, Unanswered};
 
 /// A mapfile: 63 bytes.
 const MAPFILE: &[u8] = b"MAP NAME \"a\" EXTENT 0 0 4 4 PROJECTION \"init=epsg:4326\" END END";
@@ -39,13 +39,13 @@ impl Read for Pieces {
 
 /// Takes 41 bytes a call, if they are the expected ones, and fails at one of the calls.
 #[derive(Drop)]
-struct Sink {
+struct CheckedSink {
     awaited: &'static [u8],
     calls: u64,
     failing: u64,
 }
 
-impl Write for Sink {
+impl Write for CheckedSink {
     fn write(&mut self, buf: &[u8]) -> io::Result<usize> {
         if self.calls == self.failing {
             return Err(io::Error::from(ErrorKind::BrokenPipe));
@@ -76,7 +76,7 @@ fn run_broken(
         calls: 0,
         failing: failing_read,
     };
-    let mut writer = Sink {
+    let mut writer = CheckedSink {
         awaited: CANONICAL,
         calls: 0,
         failing: failing_write,
@@ -105,14 +105,14 @@ fn failing(word: &str) -> Result<u64, Unanswered> {
 
 /// `canon_broken`: how `canon` ends, and how many bytes of the canonical text aren't written, where a call of its reader and a
 /// call of its writer fail. The input is their numbers, counted from 0.
-pub(crate) fn canon_broken(asked: Asked<'_>, answer: &mut Answer) -> Answered {
+pub(crate) fn canon_broken(asked: CaseInput<'_>, answer: &mut Transcript) -> Answered {
     let (read, write) = asked.text()?.split_once(' ').unwrap_or(("", ""));
     let (outcome, left) = run_broken(asked.alloc, failing(read)?, failing(write)?);
     answer.count(left);
     answer.text(" bytes left: ");
     match outcome {
         Ok(()) => answer.line("done"),
-        Err(fault) => tell_outcome(Err(fault), answer),
+        Err(fault) => write_outcome(Err(fault), answer),
     }
     Ok(())
 }

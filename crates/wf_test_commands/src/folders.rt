@@ -2,17 +2,17 @@
 ghost use Rattle.wf_folder.specs.FarmFile.{IsFarmFile};
 
 use std::alloc::Global;
-use wf_folder::{Beginning, FarmFile, Found, Presence, Rejection, Start, admit};
-use wf_test_table::{Answer, Answered, Asked, Unanswered};
+use wf_folder::{Beginning, FarmFile, FoundFile, Presence, Start, StartRejection, admit};
+use wf_test_table::{Answered, CaseInput, Transcript, Unanswered};
 
-fn tell_beginning(beginning: Beginning, answer: &mut Answer) {
+fn write_beginning(beginning: Beginning, answer: &mut Transcript) {
     answer.text(match beginning {
         Beginning::Empty => ", began empty",
         Beginning::Found => ", began found",
     });
 }
 
-fn tell_text_again(alloc: Global, file: &FarmFile, text: &[u8], answer: &mut Answer)
+fn write_text_again(alloc: Global, file: &FarmFile, text: &[u8], answer: &mut Transcript)
     requires { IsFarmFile file.now }
 {
     match file.text(alloc) {
@@ -29,13 +29,13 @@ fn tell_text_again(alloc: Global, file: &FarmFile, text: &[u8], answer: &mut Ans
 }
 
 /// `farm_file`: what a file `farm` with this text says, or why it isn't one.
-pub(crate) fn farm_file(asked: Asked<'_>, answer: &mut Answer) -> Answered {
+pub(crate) fn farm_file(asked: CaseInput<'_>, answer: &mut Transcript) -> Answered {
     match FarmFile::read(asked.input) {
         Ok(file) => {
             answer.value(file.nodes);
             answer.text(" nodes");
-            tell_beginning(file.beginning, answer);
-            tell_text_again(asked.alloc, &file, asked.input, answer);
+            write_beginning(file.beginning, answer);
+            write_text_again(asked.alloc, &file, asked.input, answer);
         }
         Err(fault) => {
             answer.value(fault);
@@ -61,31 +61,31 @@ fn tapes_of(text: &str) -> [Presence; 64] {
 }
 
 /// What is found as the file: `none`, the text of one, spelled as the number of its nodes, or `bad`.
-fn found_of(word: &str) -> Found {
+fn found_of(word: &str) -> FoundFile {
     match word {
-        "none" => Found::Nothing,
+        "none" => FoundFile::Nothing,
         _ => match word.parse::<u8>() {
-            Ok(nodes) => Found::File(FarmFile {
+            Ok(nodes) => FoundFile::File(FarmFile {
                 nodes,
                 beginning: Beginning::Empty,
                 mark: [7; 16],
             }),
-            Err(_) => Found::Bad(match FarmFile::read(word.as_bytes()) {
-                Ok(_) => return Found::Nothing,
+            Err(_) => FoundFile::Bad(match FarmFile::read(word.as_bytes()) {
+                Ok(_) => return FoundFile::Nothing,
                 Err(fault) => fault,
             }),
         },
     }
 }
 
-fn tell_start(start: Result<Start, Rejection>, answer: &mut Answer) {
+fn write_start(start: Result<Start, StartRejection>, answer: &mut Transcript) {
     match start {
         Ok(Start::New) => answer.line("new"),
         Ok(Start::Own(_)) => answer.line("own"),
         Ok(Start::TakenOver) => answer.line("taken over"),
         Err(why) => {
             answer.value(why);
-            if let Rejection::SurplusTape(tape) | Rejection::MissingTape(tape) = why {
+            if let StartRejection::SurplusTape(tape) | StartRejection::MissingTape(tape) = why {
                 answer.text(" ");
                 answer.count(tape);
             }
@@ -95,7 +95,7 @@ fn tell_start(start: Result<Start, Rejection>, answer: &mut Answer) {
 }
 
 /// `admit N`: whether a farm of N nodes may start on a folder: its file, a space, its tapes.
-pub(crate) fn admitted(mut asked: Asked<'_>, answer: &mut Answer) -> Answered {
+pub(crate) fn admitted(mut asked: CaseInput<'_>, answer: &mut Transcript) -> Answered {
     let nodes = asked.words.byte()?;
     let Some((file, tapes)) = asked.text()?.split_once(' ') else {
         return Err(Unanswered::BadWords);
@@ -103,7 +103,7 @@ pub(crate) fn admitted(mut asked: Asked<'_>, answer: &mut Answer) -> Answered {
     if nodes > 64 {
         return Err(Unanswered::BadWords);
     }
-    tell_start(
+    write_start(
         admit(nodes, found_of(file), tapes_of(tapes).as_slice()),
         answer,
     );

@@ -5,7 +5,7 @@ ghost use Rattle.std.specs.Prelude.{◌<◌};
 use std::alloc::{AllocError, Global};
 use wf_canon::Canon;
 use wf_farm::{Action, Event, FarmFault, Fused, Kept, run_fused};
-use wf_test_table::{Answer, Answered, Asked, Unanswered};
+use wf_test_table::{Answered, CaseInput, Transcript, Unanswered};
 
 /// The nodes of the farm.
 const NODES: u8 = 3;
@@ -16,7 +16,7 @@ const MESSAGES: usize = 9;
 /// `fused NODE CALL LAST`: what is left of a publish in which the node's tape fails at that call, where an append keeps so many of the
 /// new bytes and the crash so many of those that aren't synced: for each number from 0 to LAST in turn. Numbers that leave the same
 /// stand in one line; the last line has the number of runs.
-pub(crate) fn fused(mut asked: Asked<'_>, answer: &mut Answer) -> Answered {
+pub(crate) fn fused(mut asked: CaseInput<'_>, answer: &mut Transcript) -> Answered {
     let node = asked.words.count()?;
     let call = asked.words.count()?;
     let last = asked.words.count()?;
@@ -29,9 +29,9 @@ pub(crate) fn fused(mut asked: Asked<'_>, answer: &mut Answer) -> Answered {
     let Ok(events) = publish(asked.alloc, map) else {
         return Err(Unanswered::Memory);
     };
-    let told = tell_runs(asked.alloc, &events, node, call, last, answer);
+    let reported_as = write_runs(asked.alloc, &events, node, call, last, answer);
     drop(events);
-    told
+    reported_as
 }
 
 /// A proposal of node 0, and then each message to each node.
@@ -47,27 +47,27 @@ fn publish(alloc: Global, map: Canon) -> Result<Vec<Event>, AllocError> {
 }
 
 /// Appends what each run leaves, a line for those in turn that leave the same, and then how many runs were made.
-fn tell_runs(
+fn write_runs(
     alloc: Global,
     events: &[Event],
     node: usize,
     call: usize,
     last: usize,
-    answer: &mut Answer,
+    answer: &mut Transcript,
 ) -> Answered
     requires { node < 3 }
 {
-    let mut before = Answer::new(alloc);
+    let mut before = Transcript::new(alloc);
     let mut runs: usize = 0;
     let mut all: usize = 0;
     for length in 0..=last {
-        let mut left = Answer::new(alloc);
+        let mut left = Transcript::new(alloc);
         match run_fused(alloc, NODES, events, node, call, length, length) {
-            Ok(fused) => tell_left(fused, &mut left),
-            Err(fault) => tell_fault(fault, &mut left),
+            Ok(fused) => write_left(fused, &mut left),
+            Err(fault) => write_fault(fault, &mut left),
         }
         if runs > 0 && !is_same(&before, &left) {
-            tell_line(runs, &before, answer);
+            write_line(runs, &before, answer);
             runs = 0;
         }
         runs = runs.saturating_add(1);
@@ -75,7 +75,7 @@ fn tell_runs(
         drop(before);
         before = left;
     }
-    tell_line(runs, &before, answer);
+    write_line(runs, &before, answer);
     drop(before);
     answer.count(all);
     answer.line(" runs");
@@ -83,7 +83,7 @@ fn tell_runs(
 }
 
 /// Appends how many runs left this.
-fn tell_line(runs: usize, left: &Answer, answer: &mut Answer) {
+fn write_line(runs: usize, left: &Transcript, answer: &mut Transcript) {
     answer.count(runs);
     answer.text(": ");
     answer.append(left);
@@ -91,21 +91,21 @@ fn tell_line(runs: usize, left: &Answer, answer: &mut Answer) {
 }
 
 /// Whether two answers were written, and are the same.
-fn is_same(first: &Answer, second: &Answer) -> bool {
+fn is_same(first: &Transcript, second: &Transcript) -> bool {
     match (first.written(), second.written()) {
         (Ok(first), Ok(second)) => first == second,
         _ => false,
     }
 }
 
-fn tell_fault(fault: FarmFault, answer: &mut Answer) {
+fn write_fault(fault: FarmFault, answer: &mut Transcript) {
     answer.value(fault);
 }
 
 /// Appends what a run left: where it was torn and how, the published sequences and the number of messages.
-fn tell_left(fused: Fused, answer: &mut Answer) {
+fn write_left(fused: Fused, answer: &mut Transcript) {
     let Fused { farm, torn } = fused;
-    tell_torn(torn, answer);
+    write_torn(torn, answer);
     answer.text(", published");
     for node in 0..3 {
         answer.text(" ");
@@ -119,7 +119,7 @@ fn tell_left(fused: Fused, answer: &mut Answer) {
     drop(farm);
 }
 
-fn tell_torn(torn: Option<(usize, Kept)>, answer: &mut Answer) {
+fn write_torn(torn: Option<(usize, Kept)>, answer: &mut Transcript) {
     match torn {
         None => answer.text("not torn"),
         Some((event, kept)) => {

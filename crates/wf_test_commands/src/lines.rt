@@ -2,16 +2,16 @@
 use crate::recorder::Recorder;
 use clap::Error;
 use std::alloc::Global;
-use wf_commands::ending::Ending;
 use wf_commands::program::{rejection_status, run_words};
+use wf_commands::program_end::Ending;
 use wf_farm::Carrier;
 use wf_line::arguments::line;
 use wf_line::line::{Line, Service};
 use wf_stream::Stream;
 use wf_test_table::escape::unescape;
-use wf_test_table::{Answer, Answered, Asked, Unanswered};
+use wf_test_table::{Answered, CaseInput, Transcript, Unanswered};
 
-fn tell_service(service: Service<'_>, answer: &mut Answer) {
+fn write_service(service: Service<'_>, answer: &mut Transcript) {
     answer.text("serve ");
     answer.value(service.nodes);
     answer.text(" ");
@@ -21,7 +21,7 @@ fn tell_service(service: Service<'_>, answer: &mut Answer) {
     answer.text(", kept ");
     answer.value(service.cache);
     if let Some(folder) = service.state {
-        tell_bracketed(folder, answer);
+        write_bracketed(folder, answer);
     }
     if service.log {
         answer.text(", log");
@@ -29,11 +29,11 @@ fn tell_service(service: Service<'_>, answer: &mut Answer) {
     answer.line("");
 }
 
-pub(crate) fn tell_bracketed(text: &str, answer: &mut Answer) {
+pub(crate) fn write_bracketed(text: &str, answer: &mut Transcript) {
     answer.texts(&[" [", text, "]"]);
 }
 
-fn tell_line(asked_for: Line<'_>, answer: &mut Answer) {
+fn write_line(asked_for: Line<'_>, answer: &mut Transcript) {
     match asked_for {
         Line::Canon => answer.line("canon"),
         Line::Check => answer.line("check"),
@@ -41,23 +41,23 @@ fn tell_line(asked_for: Line<'_>, answer: &mut Answer) {
         Line::Wire => answer.line("wire"),
         Line::Tape { file, map } => {
             answer.text("tape");
-            tell_bracketed(file, answer);
+            write_bracketed(file, answer);
             if let Some(sequence) = map {
                 answer.text(" map ");
                 answer.value(sequence);
             }
             answer.line("");
         }
-        Line::Serve(service) => tell_service(service, answer),
+        Line::Serve(service) => write_service(service, answer),
         Line::Caps { seq, query } => {
             answer.text("caps ");
             answer.value(seq);
-            tell_bracketed(query, answer);
+            write_bracketed(query, answer);
             answer.line("");
         }
         Line::Draw { query } => {
             answer.text("draw");
-            tell_bracketed(query, answer);
+            write_bracketed(query, answer);
             answer.line("");
         }
     }
@@ -70,7 +70,7 @@ pub(crate) fn status_of(error: Error) -> u8 {
     status
 }
 
-pub(crate) fn tell_rejection(status: u8, answer: &mut Answer) {
+pub(crate) fn write_rejection(status: u8, answer: &mut Transcript) {
     answer.text("rejected with status ");
     answer.value(status);
     answer.line("");
@@ -98,28 +98,28 @@ fn words_of_lines<'a>(alloc: Global, text: &'a str) -> Result<Vec<&'a str>, Unan
     words_of(alloc, text.strip_suffix('\n').unwrap_or(text), '\n')
 }
 
-fn tell_words(alloc: Global, words: &[&str], answer: &mut Answer) {
+fn write_words(alloc: Global, words: &[&str], answer: &mut Transcript) {
     match line(alloc, words) {
-        Ok(asked_for) => tell_line(asked_for, answer),
-        Err(error) => tell_rejection(status_of(error), answer),
+        Ok(asked_for) => write_line(asked_for, answer),
+        Err(error) => write_rejection(status_of(error), answer),
     }
 }
 
 /// `line`: what a command line asks for, or that it is rejected. Its words have spaces between; `line in lines` has a word a
 /// line.
-pub(crate) fn line_of(asked: Asked<'_>, answer: &mut Answer) -> Answered {
+pub(crate) fn line_of(asked: CaseInput<'_>, answer: &mut Transcript) -> Answered {
     let text = asked.text()?;
     let words = match asked.words.rest() {
         "" => words_of(asked.alloc, text, ' ')?,
         "in lines" => words_of_lines(asked.alloc, text)?,
         _ => return Err(Unanswered::BadWords),
     };
-    tell_words(asked.alloc, &words, answer);
+    write_words(asked.alloc, &words, answer);
     drop(words);
     Ok(())
 }
 
-fn tell_ending(ending: Ending, answer: &mut Answer) {
+fn write_ending(ending: Ending, answer: &mut Transcript) {
     if let Some(fault) = ending.reported {
         answer.value(fault);
         answer.line("");
@@ -132,7 +132,12 @@ fn tell_ending(ending: Ending, answer: &mut Answer) {
 }
 
 // Runs what a command line asks for. In place of serving nodes a line tells what is to be served.
-fn tell_run<C: Carrier>(asked: Asked<'_>, carrier: &mut C, words: &[&str], answer: &mut Answer) {
+fn write_run<C: Carrier>(
+    asked: CaseInput<'_>,
+    carrier: &mut C,
+    words: &[&str],
+    answer: &mut Transcript,
+) {
     let mut source = Stream::new(asked.input);
     let mut sink = Stream::new(answer.target());
     let server = Recorder {
@@ -142,35 +147,39 @@ fn tell_run<C: Carrier>(asked: Asked<'_>, carrier: &mut C, words: &[&str], answe
     let outcome = run_words(asked.alloc, words, &mut source, &mut sink, &server, carrier);
     drop(sink);
     match outcome {
-        Ok(ending) => tell_ending(ending, answer),
-        Err(error) => tell_rejection(status_of(error), answer),
+        Ok(ending) => write_ending(ending, answer),
+        Err(error) => write_rejection(status_of(error), answer),
     }
 }
 
 /// `run WORDS`: what the program writes about the input, its error line, and the exit status if that isn't 0. WORDS are the
-/// command line's, spelled with escapes, with `\n` between. The input is also the file `node-0.tape`, the only one that there is. The
-/// messages of `wire` come by the carrier.
-pub(crate) fn run<C: Carrier>(asked: Asked<'_>, carrier: &mut C, answer: &mut Answer) -> Answered {
-    let mut text = Answer::new(asked.alloc);
-    let told = match unescape(asked.words.rest(), &mut text) {
+/// command line's, spelled with escapes, with `\n` between. The input is also the file `node-0.tape`, the only one that there is.
+/// The messages of `wire` come by the carrier.
+pub(crate) fn run<C: Carrier>(
+    asked: CaseInput<'_>,
+    carrier: &mut C,
+    answer: &mut Transcript,
+) -> Answered {
+    let mut text = Transcript::new(asked.alloc);
+    let reported_as = match unescape(asked.words.rest(), &mut text) {
         Ok(()) => run_text(asked, carrier, &text, answer),
         Err(unanswered) => Err(unanswered),
     };
     drop(text);
-    told
+    reported_as
 }
 
 fn run_text<C: Carrier>(
-    asked: Asked<'_>,
+    asked: CaseInput<'_>,
     carrier: &mut C,
-    text: &Answer,
-    answer: &mut Answer,
+    text: &Transcript,
+    answer: &mut Transcript,
 ) -> Answered {
     let Ok(text) = str::from_utf8(text.written()?) else {
         return Err(Unanswered::BadWords);
     };
     let words = words_of(asked.alloc, text, '\n')?;
-    tell_run(asked, carrier, &words, answer);
+    write_run(asked, carrier, &words, answer);
     drop(words);
     Ok(())
 }

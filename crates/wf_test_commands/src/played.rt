@@ -4,13 +4,13 @@ use wf_codec::Message;
 use wf_farm::{Carrier, CarrierFault, Copies};
 use wf_play::run_script;
 use wf_stream::Stream;
-use wf_test_table::{Answer, Answered, Asked};
+use wf_test_table::{Answered, CaseInput, Transcript};
 
 /// What the script writes with its messages brought by the carrier, and its error line after that, where it has one.
 pub(crate) fn script<C: Carrier>(
-    asked: Asked<'_>,
+    asked: CaseInput<'_>,
     carrier: &mut C,
-    answer: &mut Answer,
+    answer: &mut Transcript,
 ) -> Answered {
     let mut source = Stream::new(asked.input);
     let mut sink = Stream::new(answer.target());
@@ -61,7 +61,7 @@ impl Carrier for Losing {
 }
 
 /// `script_losing N`: what the script writes by a carrier whose call N, counted from 0, fails.
-pub(crate) fn script_losing(mut asked: Asked<'_>, answer: &mut Answer) -> Answered {
+pub(crate) fn script_losing(mut asked: CaseInput<'_>, answer: &mut Transcript) -> Answered {
     let failing = asked.words.number()?;
     script(asked, &mut Losing { calls: 0, failing }, answer)
 }

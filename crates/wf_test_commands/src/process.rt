@@ -14,7 +14,7 @@ use std::time::Duration;
 use std::{fs, io};
 use wf_commands::program::program;
 use wf_test_table::escape::unescape;
-use wf_test_table::{Answer, Answered, Asked, Unanswered};
+use wf_test_table::{Answered, CaseInput, Transcript, Unanswered};
 
 /// Which of its standard streams is broken, or that another program has the folder `new`.
 #[derive(Clone, Copy, PartialEq)]
@@ -28,17 +28,17 @@ enum Broken {
 
 /// A process whose words are the lines of a text, and whose standard input is these bytes. It has the files of this machine, but finds
 /// no name in a folder, or one in the folder `full`; no port is free, no connection is accepted, and its clocks stand at 0.
-struct Process<'a, R> {
+struct TestProcess<'a, R> {
     files: &'a R,
     alloc: Global,
     words: &'a [u8],
     input: &'a [u8],
     broken: Broken,
-    output: RefCell<Answer>,
-    errors: RefCell<Answer>,
+    output: RefCell<Transcript>,
+    errors: RefCell<Transcript>,
 }
 
-impl<'a, R> Alloc for Process<'a, R> {
+impl<'a, R> Alloc for TestProcess<'a, R> {
     type A = Global;
 
     fn alloc(&self) -> Global {
@@ -59,7 +59,7 @@ fn fill(word: &[u8], buf: &mut [u8]) -> Result<usize, FillError>
     }
 }
 
-impl<'a, R> Env for Process<'a, R> {
+impl<'a, R> Env for TestProcess<'a, R> {
     fn arg(&self, i: usize, buf: &mut [u8]) -> Result<usize, FillError> {
         if i == 0 {
             return fill(b"wfarm", buf);
@@ -111,7 +111,7 @@ impl<'a> BufRead for Given<'a> {
     }
 }
 
-impl<'a, R> Input for Process<'a, R> {
+impl<'a, R> Input for TestProcess<'a, R> {
     type Reader = Given<'a>;
 
     fn read_line<A: Allocator + Clone>(&self, _buf: &mut String<A>) -> io::Result<usize> {
@@ -130,9 +130,9 @@ impl<'a, R> Input for Process<'a, R> {
     }
 }
 
-impl<'a, R> Process<'a, R> {
+impl<'a, R> TestProcess<'a, R> {
     /// Appends bytes to what was written to a standard stream.
-    fn append(&self, stream: &RefCell<Answer>, name: Broken, bytes: &[u8]) -> io::Result<()> {
+    fn append(&self, stream: &RefCell<Transcript>, name: Broken, bytes: &[u8]) -> io::Result<()> {
         if self.broken == name {
             return Err(io::Error::from(ErrorKind::BrokenPipe));
         }
@@ -148,7 +148,7 @@ impl<'a, R> Process<'a, R> {
     /// Appends a value as it is printed, and an end.
     fn append_value<D: Display + Drop>(
         &self,
-        stream: &RefCell<Answer>,
+        stream: &RefCell<Transcript>,
         name: Broken,
         value: D,
         end: &str,
@@ -164,7 +164,7 @@ impl<'a, R> Process<'a, R> {
     }
 }
 
-impl<'a, R> Print for Process<'a, R> {
+impl<'a, R> Print for TestProcess<'a, R> {
     fn print<D: Display + Drop>(&self, value: D) -> io::Result<()> {
         self.append_value(&self.output, Broken::Output, value, "")
     }
@@ -178,7 +178,7 @@ impl<'a, R> Print for Process<'a, R> {
     }
 }
 
-impl<'a, R> Eprint for Process<'a, R> {
+impl<'a, R> Eprint for TestProcess<'a, R> {
     fn eprint<D: Display + Drop>(&self, value: D) -> io::Result<()> {
         self.append_value(&self.errors, Broken::Errors, value, "")
     }
@@ -188,7 +188,7 @@ impl<'a, R> Eprint for Process<'a, R> {
     }
 }
 
-impl<'a, R> Clock for Process<'a, R> {
+impl<'a, R> Clock for TestProcess<'a, R> {
     fn monotonic(&self) -> io::Result<Duration> {
         Ok(Duration::ZERO)
     }
@@ -198,7 +198,7 @@ impl<'a, R> Clock for Process<'a, R> {
     }
 }
 
-impl<'a, R: Files<File = File>> Files for Process<'a, R> {
+impl<'a, R: Files<File = File>> Files for TestProcess<'a, R> {
     type File = File;
 
     type Dir = &'a [u8];
@@ -248,7 +248,7 @@ impl<'a, R: Files<File = File>> Files for Process<'a, R> {
     }
 }
 
-impl<'a, R> Net for Process<'a, R> {
+impl<'a, R> Net for TestProcess<'a, R> {
     type Stream = TcpStream;
 
     type Listener = TcpListener;
@@ -263,7 +263,7 @@ impl<'a, R> Net for Process<'a, R> {
 }
 
 /// Appends an exit status: 0, 1 or 2.
-fn tell_status(code: ExitCode, answer: &mut Answer) {
+fn write_status(code: ExitCode, answer: &mut Transcript) {
     answer.text("status ");
     answer.line(if code == ExitCode::from(0) {
         "0"
@@ -277,8 +277,8 @@ fn tell_status(code: ExitCode, answer: &mut Answer) {
 }
 
 /// Appends what was written to a standard stream, each line after a mark.
-fn tell_lines(mark: &str, written: Answer, answer: &mut Answer) -> Answered {
-    let told = match written.written() {
+fn write_lines(mark: &str, written: Transcript, answer: &mut Transcript) -> Answered {
+    let reported_as = match written.written() {
         Ok(bytes) => {
             for line in bytes.split_inclusive(|byte| *byte == b'\n') {
                 answer.text(mark);
@@ -289,7 +289,7 @@ fn tell_lines(mark: &str, written: Answer, answer: &mut Answer) -> Answered {
         Err(_) => Err(Unanswered::Memory),
     };
     drop(written);
-    told
+    reported_as
 }
 
 /// Locks a folder as long as the handle lives.
@@ -301,30 +301,30 @@ fn hold<R: Files<File = File>>(files: &R, folder: &str) -> Option<File> {
     }
 }
 
-fn tell_process<R: Files<File = File>>(
+fn write_process<R: Files<File = File>>(
     files: &R,
-    asked: Asked<'_>,
+    asked: CaseInput<'_>,
     broken: Broken,
     words: &[u8],
-    answer: &mut Answer,
+    answer: &mut Transcript,
 ) -> Answered {
     let held = if broken == Broken::Held {
         hold(files, "new")
     } else {
         None
     };
-    let process = Process {
+    let process = TestProcess {
         files,
         alloc: asked.alloc,
         words,
         input: asked.input,
         broken,
-        output: RefCell::new(Answer::new(asked.alloc)),
-        errors: RefCell::new(Answer::new(asked.alloc)),
+        output: RefCell::new(Transcript::new(asked.alloc)),
+        errors: RefCell::new(Transcript::new(asked.alloc)),
     };
     let code = program(&process);
     drop(held);
-    let Process {
+    let TestProcess {
         files: _,
         alloc: _,
         words: _,
@@ -333,20 +333,21 @@ fn tell_process<R: Files<File = File>>(
         output,
         errors,
     } = process;
-    tell_lines("", output.into_inner(), answer)?;
-    tell_lines("error: ", errors.into_inner(), answer)?;
-    tell_status(code, answer);
+    write_lines("", output.into_inner(), answer)?;
+    write_lines("error: ", errors.into_inner(), answer)?;
+    write_status(code, answer);
     Ok(())
 }
 
 /// `program BROKEN WORDS`: what a process of the program writes to its standard output, what to its standard error, and its exit
-/// status. BROKEN is the standard stream that fails, `input`, `output` or `errors`, `nothing`, or `held` where another program has the
-/// folder `new`. WORDS are the command line's, spelled
-/// with escapes, with `\n` between. The process has the files of this machine, where each folder but `full` is listed as empty, and no port.
+/// status. BROKEN is the standard stream that fails, `input`, `output` or `errors`, `nothing`, or `held` where another program has
+/// the folder `new`. WORDS are the command line's, spelled
+/// with escapes, with `\n` between. The process has the files of this machine, where each folder but `full` is listed as empty, and
+/// no port.
 pub(crate) fn program_of<R: Files<File = File>>(
     files: &R,
-    mut asked: Asked<'_>,
-    answer: &mut Answer,
+    mut asked: CaseInput<'_>,
+    answer: &mut Transcript,
 ) -> Answered {
     let broken = match asked.words.word() {
         "nothing" => Broken::Nothing,
@@ -356,14 +357,14 @@ pub(crate) fn program_of<R: Files<File = File>>(
         "held" => Broken::Held,
         _ => return Err(Unanswered::BadWords),
     };
-    let mut words = Answer::new(asked.alloc);
-    let told = match unescape(asked.words.rest(), &mut words) {
+    let mut words = Transcript::new(asked.alloc);
+    let reported_as = match unescape(asked.words.rest(), &mut words) {
         Ok(()) => match words.written() {
-            Ok(bytes) => tell_process(files, asked, broken, bytes, answer),
+            Ok(bytes) => write_process(files, asked, broken, bytes, answer),
             Err(_) => Err(Unanswered::Memory),
         },
         Err(unanswered) => Err(unanswered),
     };
     drop(words);
-    told
+    reported_as
 }

@@ -5,7 +5,7 @@ use std::net::{Net, TcpListener, TcpStream};
 use std::rt::Files;
 use wf_farm::Copies;
 use wf_link::Connection;
-use wf_test_table::{Answer, Answered, Asked, Questions, Unanswered};
+use wf_test_table::{Answered, CaseInput, Questions, Transcript, Unanswered};
 
 /// All questions of this program. It opens files of this machine, and connections of it to itself.
 #[derive(Drop)]
@@ -13,7 +13,7 @@ pub(crate) struct CommandQuestions<'r, R>(pub(crate) &'r R);
 
 impl<'r, R: Files<File = File> + Net<Listener = TcpListener, Stream = TcpStream>> Questions
     for CommandQuestions<'r, R> {
-    fn answer(&self, mut asked: Asked<'_>, answer: &mut Answer) -> Answered {
+    fn answer(&self, mut asked: CaseInput<'_>, answer: &mut Transcript) -> Answered {
         match asked.words.word() {
             "admit" => folders::admitted(asked, answer),
             "canon" => commands::canon(asked, answer),

@@ -1,13 +1,13 @@
 //! A server that tells what it is asked to serve, and the files that it has.
 ghost use Rattle.std.specs.Prelude.{◌≡◌, length};
-ghost use Rattle.wf_commands.specs.Counting.{FailsLast};
-ghost use Rattle.wf_serve.specs.Fault.{CountsWrites};
+ghost use Rattle.wf_commands.specs.FailureCount.{FailsLast};
+ghost use Rattle.wf_serve.specs.StartFault.{CountsWrites};
 ghost use Rattle.wf_test_commands.specs.Files.{content_at, is_file};
 
 use std::alloc::Global;
-use wf_commands::server::{ServeFault, Server};
+use wf_commands::server::{NodeServer, ServeFault};
 use wf_commands::tapes::Tapes;
-use wf_folder::{Found, Presence, Start};
+use wf_folder::{FoundFile, Presence, Start};
 use wf_line::line::Service;
 use wf_listing::TapeReadFault;
 use wf_serve::{Cause, Survey};
@@ -79,15 +79,15 @@ fn two_tapes() -> Survey
     tapes[0] = Presence::Written;
     tapes[1] = Presence::Written;
     Survey {
-        found: Found::Nothing,
+        found: FoundFile::Nothing,
         tapes,
     }
 }
 
-impl<'a> Server for Recorder<'a> {
+impl<'a> NodeServer for Recorder<'a> {
     ghost serves = { λ _ _ _ _ _. Unit {0} };
 
-    #[tactic(auto, unfolding(wf_commands::specs::Counting::FailsLast))]
+    #[tactic(auto, unfolding(wf_commands::specs::FailureCount::FailsLast))]
     fn serve<K: Sink>(&self, service: Service<'_>, sink: &mut K) -> Result<(), ServeFault> {
         if service.port == TAKEN_PORT {
             return Err(ServeFault::Start);
@@ -97,7 +97,7 @@ impl<'a> Server for Recorder<'a> {
 }
 
 // Writes `nodes N port P requests K cache C state DIR`, where DIR is in brackets if there is one.
-#[tactic(auto, unfolding(wf_commands::specs::Counting::FailsLast))]
+#[tactic(auto, unfolding(wf_commands::specs::FailureCount::FailsLast))]
 fn write_service<K: Sink>(
     alloc: Global,
     service: Service<'_>,

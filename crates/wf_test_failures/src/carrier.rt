@@ -44,7 +44,7 @@ impl Carrier for TwoRight {
 }
 
 /// The outcome of deliveries, the last published sequence of node 0, and the number of messages sent.
-type Outcome<T> = (Result<T, FarmFault>, u16, usize);
+type DeliveryOutcome<T> = (Result<T, FarmFault>, u16, usize);
 
 /// A farm of one node, which has proposed a map.
 fn proposed(rt: &impl Abort, alloc: Global) -> Farm {
@@ -83,7 +83,11 @@ fn published(farm: &Farm) -> u16 {
 }
 
 /// Four messages are delivered by this carrier.
-fn delivered<C: Carrier>(rt: &impl Abort, alloc: Global, carrier: &mut C) -> Outcome<usize> {
+fn delivered<C: Carrier>(
+    rt: &impl Abort,
+    alloc: Global,
+    carrier: &mut C,
+) -> DeliveryOutcome<usize> {
     let mut farm = proposed(rt, alloc);
     let result = deliver(alloc, &mut farm, carrier, 4);
     let outcome = (result, published(&farm), farm.sent_count());
@@ -92,7 +96,7 @@ fn delivered<C: Carrier>(rt: &impl Abort, alloc: Global, carrier: &mut C) -> Out
 }
 
 /// The messages are pumped by this carrier.
-fn pumped<C: Carrier>(rt: &impl Abort, alloc: Global, carrier: &mut C) -> Outcome<bool> {
+fn pumped<C: Carrier>(rt: &impl Abort, alloc: Global, carrier: &mut C) -> DeliveryOutcome<bool> {
     let mut farm = proposed(rt, alloc);
     let result = farm.pump_by(alloc, carrier, &[]);
     let outcome = (result, published(&farm), farm.sent_count());
@@ -117,7 +121,7 @@ fn bringing_the_first(rt: &impl Abort) -> TwoRight {
 
 #[test]
 fn a_message_that_is_not_carried_is_not_delivered(rt: HostRuntime) {
-    let third: Outcome<usize> = (Err(FarmFault::Carried(0)), 0, 3);
+    let third: DeliveryOutcome<usize> = (Err(FarmFault::Carried(0)), 0, 3);
     assert!(rt;
         delivered(&rt, rt.alloc(), &mut failing()) == third
             || delivered(&rt, rt.alloc(), &mut failing()) == third
@@ -126,7 +130,7 @@ fn a_message_that_is_not_carried_is_not_delivered(rt: HostRuntime) {
 
 #[test]
 fn another_message_is_not_delivered(rt: HostRuntime) {
-    let third: Outcome<usize> = (Err(FarmFault::Carried(0)), 0, 3);
+    let third: DeliveryOutcome<usize> = (Err(FarmFault::Carried(0)), 0, 3);
     assert!(rt;
         delivered(&rt, rt.alloc(), &mut bringing_the_first(&rt)) == third
             || delivered(&rt, rt.alloc(), &mut bringing_the_first(&rt)) == third
@@ -135,7 +139,7 @@ fn another_message_is_not_delivered(rt: HostRuntime) {
 
 #[test]
 fn a_pump_ends_at_a_message_that_is_not_carried(rt: HostRuntime) {
-    let third: Outcome<bool> = (Err(FarmFault::Carried(2)), 0, 3);
+    let third: DeliveryOutcome<bool> = (Err(FarmFault::Carried(2)), 0, 3);
     assert!(rt;
         pumped(&rt, rt.alloc(), &mut failing()) == third
             || pumped(&rt, rt.alloc(), &mut failing()) == third
@@ -144,7 +148,7 @@ fn a_pump_ends_at_a_message_that_is_not_carried(rt: HostRuntime) {
 
 #[test]
 fn copies_are_delivered(rt: HostRuntime) {
-    let all: Outcome<usize> = (Ok(4), 1, 5);
+    let all: DeliveryOutcome<usize> = (Ok(4), 1, 5);
     assert!(rt;
         delivered(&rt, rt.alloc(), &mut Copies) == all
             || delivered(&rt, rt.alloc(), &mut Copies) == all

@@ -6,7 +6,7 @@ use std::process::Abort;
 use wf_farm::{Action, Event, Farm};
 
 /// The last published sequences of the three nodes of a farm; None of one that doesn't run.
-type Published = [Option<u16>; 3];
+type LastPublished = [Option<u16>; 3];
 
 fn published_by(farm: &Farm, number: usize) -> Option<u16> {
     match farm.node(number) {
@@ -15,7 +15,7 @@ fn published_by(farm: &Farm, number: usize) -> Option<u16> {
     }
 }
 
-fn published(farm: &Farm) -> Published {
+fn published(farm: &Farm) -> LastPublished {
     [
         published_by(farm, 0),
         published_by(farm, 1),
@@ -41,7 +41,7 @@ fn is_missed(rt: &impl Abort, alloc: Global, farm: &mut Farm, count: u16) -> boo
 }
 
 /// What the nodes have published once node 2 has missed so many maps, and what after they caught up. None if an allocation fails.
-fn caught_up(rt: &impl Abort, alloc: Global, count: u16) -> Option<(Published, Published)> {
+fn caught_up(rt: &impl Abort, alloc: Global, count: u16) -> Option<(LastPublished, LastPublished)> {
     let Ok(mut farm) = Farm::new(alloc, 3) else {
         return None;
     };

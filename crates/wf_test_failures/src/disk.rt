@@ -30,7 +30,7 @@ fn add_until_failure(rt: &impl Abort, alloc: Global, disk: MemoryDisk) -> (Memor
     }
 }
 
-/// The same on a tape that is open.
+/// Opens a journal on a tape that is open and adds the records until one fails. Returns the disk and how many were added.
 fn add_on(rt: &impl Abort, alloc: Global, tape: DiskTape<MemoryDisk>) -> (MemoryDisk, usize) {
     match Journal::open(alloc, tape) {
         Ok((journal, records)) => {

@@ -69,23 +69,23 @@ fn a_request_over_a_connection_is_answered(rt: HostRuntime) {
 fn asked(alloc: Global, node: &mut Node<MemoryTape>, request: &[u8]) -> (Outcome, usize) {
     let mut reader = Bytes::new(request, 4_096, None);
     let served = serve_one(alloc, &mut reader, &mut Stream::new(io::sink()), node);
-    let told = (served.outcome, served.messages.len());
+    let reported = (served.outcome, served.messages.len());
     drop(served);
-    told
+    reported
 }
 
-/// The same; if an allocation fails, which sends nothing, the request is repeated once.
+/// The outcome of a request, which is repeated once if an allocation fails, since that sends nothing; and the number of messages.
 fn asked_again(
     rt: &impl Abort,
     alloc: Global,
     node: &mut Node<MemoryTape>,
     request: &[u8],
 ) -> (Outcome, usize) {
-    let told = asked(alloc, node, request);
-    if told.0 != Outcome::Sent(503, 104) {
-        return told;
+    let reported = asked(alloc, node, request);
+    if reported.0 != Outcome::Sent(503, 104) {
+        return reported;
     }
-    assert!(rt; told.1 == 0);
+    assert!(rt; reported.1 == 0);
     asked(alloc, node, request)
 }
 

@@ -41,14 +41,14 @@ fn propose(alloc: Global, node: &mut Node<MemoryTape>, map: Canon) -> Vec<Messag
     ensures of { node.new.n ≡ node.old.n }
 {
     match node.step(alloc, Input::Propose(map)) {
-        Ok(said) => said,
+        Ok(outputs) => outputs,
         Err(_) => Vec::new(alloc),
     }
 }
 
 /// The result of delivering the messages, and whether each of the nodes has published one map then.
 #[tactic(auto, using(crate::proofs::InTurn::three_in_turn))]
-fn hear(
+fn receive(
     alloc: Global,
     first: Node<MemoryTape>,
     second: Node<MemoryTape>,
@@ -82,7 +82,7 @@ fn published(rt: &impl Abort, alloc: Global) -> Option<(Pumped, bool)> {
         return None;
     };
     let prepare = propose(alloc, &mut first, map(rt, alloc, MAP_A));
-    Some(hear(alloc, first, second, third, prepare))
+    Some(receive(alloc, first, second, third, prepare))
 }
 
 #[test]
@@ -110,7 +110,7 @@ fn requests(alloc: Global) -> Vec<Message> {
 
 /// The result of delivering the messages to the only node of a farm.
 #[tactic(auto, using(crate::proofs::InTurn::one_in_turn))]
-fn hear_alone(alloc: Global, node: Node<MemoryTape>, messages: Vec<Message>) -> Pumped
+fn receive_alone(alloc: Global, node: Node<MemoryTape>, messages: Vec<Message>) -> Pumped
     requires id { node.id ≡ 0 }
     requires alone { node.n ≡ 1 }
 {
@@ -123,11 +123,11 @@ fn hear_alone(alloc: Global, node: Node<MemoryTape>, messages: Vec<Message>) -> 
 /// The result where there is a message more than a list of deliveries may be long.
 fn stopped_early(alloc: Global) -> Option<Pumped> {
     let alone = node(alloc, 0, 1)?;
-    Some(hear_alone(alloc, alone, requests(alloc)))
+    Some(receive_alone(alloc, alone, requests(alloc)))
 }
 
 #[test]
-fn deliveries_stop_at_100000_and_say_so(rt: HostRuntime) {
+fn deliveries_stop_at_100000_and_are_reported(rt: HostRuntime) {
     let expected = Some(Pumped {
         deliveries: 100_000,
         lost: 0,

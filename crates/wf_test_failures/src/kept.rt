@@ -1,5 +1,5 @@
 //! A node that answers by a cache of two pictures, which counts what is drawn and what is taken from it.
-ghost use Rattle.wf_wms.specs.KeptPictures.{AllKept};
+ghost use Rattle.wf_wms.specs.CachedPictures.{AllCached};
 
 use crate::value::{first_node, map, slot};
 use std::alloc::Global;
@@ -43,8 +43,8 @@ fn publisher(rt: &impl Abort, alloc: Global) -> Node<MemoryTape> {
 
 /// Whether a node answers a request with a tile.
 fn sends_tile(alloc: Global, node: &mut Node<MemoryTape>, cache: &mut Cache, request: &[u8]) -> bool
-    requires { AllKept node.old.parts.history cache.old }
-    ensures { AllKept node.new.parts.history cache.new }
+    requires { AllCached node.old.parts.history cache.old }
+    ensures { AllCached node.new.parts.history cache.new }
 {
     let mut source = Bytes::new(request, 4_096, None);
     let mut sink = Stream::new(io::sink());
@@ -57,7 +57,7 @@ fn sends_tile(alloc: Global, node: &mut Node<MemoryTape>, cache: &mut Cache, req
 /// Whether a cache of two pictures drops the second one for the third, since the first was used after it: of six tiles four are drawn, the
 /// second picture's twice.
 fn is_second_dropped(alloc: Global, node: &mut Node<MemoryTape>, cache: &mut Cache) -> bool
-    requires { AllKept node.old.parts.history cache.old }
+    requires { AllCached node.old.parts.history cache.old }
 {
     let are_sent = sends_tile(alloc, node, cache, ON_RED)
         && sends_tile(alloc, node, cache, ON_GREEN)

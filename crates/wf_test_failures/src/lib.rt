@@ -10,7 +10,7 @@ mod carrier;
 #[cfg(test)]
 mod catch_up;
 #[cfg(test)]
-mod crossing;
+mod connections;
 #[cfg(test)]
 mod disk;
 #[cfg(test)]
@@ -22,7 +22,7 @@ mod kept;
 #[cfg(test)]
 mod limits;
 #[cfg(test)]
-mod listing;
+mod long_listing;
 mod machine;
 #[cfg(test)]
 mod many;

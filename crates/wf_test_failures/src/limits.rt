@@ -1,7 +1,7 @@
 //! The reads and writes of a connection: how many, within which time, and what comes of those that are interrupted, fail or come too
-//! late. The clock is read once before each, so that a clock of the tests' own counts them and has them fail. The clients send their
-//! requests before the server accepts. If an allocation failed, everything is repeated once.
-use crate::machine::{Machine, Reading};
+//! late. The clock is read once before each, so that a clock of the tests' own counts them and has them fail. The clients send
+//! their requests before the server accepts. If an allocation failed, everything is repeated once.
+use crate::machine::{Reading, TestMachine};
 use crate::serve::{is_read, three_nodes};
 use crate::value::PUBLISH;
 use std::io;
@@ -69,7 +69,7 @@ fn answered(rt: &HostRuntime, case: Case<'_>, answers: &mut Vec<u8>) -> Option<u
         drop(listener);
         return None;
     };
-    let machine = Machine::new(rt, listener, "", case.readings);
+    let machine = TestMachine::new(rt, listener, "", case.readings);
     let mut sink = Output::new(rt.alloc(), 64);
     let is_served = serve(&machine, three_nodes(0, 2, None), &mut sink).is_ok();
     drop(sink);

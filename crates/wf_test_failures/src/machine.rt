@@ -23,7 +23,7 @@ pub(crate) enum Reading {
 /// The machine, but that it gives one listener for the first address that is asked for, and tries to lock a folder whenever its clock is
 /// read, as it is for each read and each write of a connection.
 #[derive(Drop)]
-pub(crate) struct Machine<'a> {
+pub(crate) struct TestMachine<'a> {
     rt: &'a HostRuntime,
     listener: RefCell<Option<TcpListener>>,
     asked: Cell<Option<SocketAddr>>,
@@ -34,14 +34,14 @@ pub(crate) struct Machine<'a> {
     count: Cell<usize>,
 }
 
-impl<'a> Machine<'a> {
+impl<'a> TestMachine<'a> {
     pub(crate) fn new(
         rt: &'a HostRuntime,
         listener: TcpListener,
         folder: &'a str,
         readings: &'a [Reading],
     ) -> Self {
-        Machine {
+        TestMachine {
             rt,
             listener: RefCell::new(Some(listener)),
             asked: Cell::new(None),
@@ -93,7 +93,7 @@ impl<'a> Machine<'a> {
     }
 }
 
-impl<'a> Alloc for Machine<'a> {
+impl<'a> Alloc for TestMachine<'a> {
     type A = Global;
 
     fn alloc(&self) -> Global {
@@ -101,7 +101,7 @@ impl<'a> Alloc for Machine<'a> {
     }
 }
 
-impl<'a> Eprint for Machine<'a> {
+impl<'a> Eprint for TestMachine<'a> {
     fn eprint<D: Display + Drop>(&self, value: D) -> io::Result<()> {
         self.rt.eprint(value)
     }
@@ -111,7 +111,7 @@ impl<'a> Eprint for Machine<'a> {
     }
 }
 
-impl<'a> Clock for Machine<'a> {
+impl<'a> Clock for TestMachine<'a> {
     fn monotonic(&self) -> io::Result<Duration> {
         self.look();
         let now = self.rt.monotonic()?;
@@ -127,7 +127,7 @@ impl<'a> Clock for Machine<'a> {
     }
 }
 
-impl<'a> Net for Machine<'a> {
+impl<'a> Net for TestMachine<'a> {
     type Stream = TcpStream;
 
     type Listener = TcpListener;
@@ -149,7 +149,7 @@ impl<'a> Net for Machine<'a> {
     }
 }
 
-impl<'a> Files for Machine<'a> {
+impl<'a> Files for TestMachine<'a> {
     type File = File;
 
     type Dir = <HostRuntime as Files>::Dir;

@@ -1,10 +1,10 @@
 //! More than three connections, on one thread: the clients send their requests before the server accepts. What a cache of pictures
-//! saves is told by the time alone, so the same requests are answered by a cache, and by one that has no room for their pictures. What
-//! fails for an allocation, or since the machine was busy, is repeated.
+//! saves is told by the time alone, so the same requests are answered by a cache, and by one that has no room for their pictures.
+//! What fails for an allocation, or since the machine was busy, is repeated.
 ghost use Rattle.std.specs.Prelude.{◌≤◌};
 ghost use Rattle.wf_service.specs.Service.{IsService};
 
-use crate::machine::Machine;
+use crate::machine::TestMachine;
 use crate::serve::{client, is_read};
 use std::alloc::Global;
 use std::net::{Net, TcpListener, TcpStream};
@@ -91,7 +91,7 @@ fn gather<R: Abort + Net<Listener = TcpListener, Stream = TcpStream> + AllocGlob
 fn are_served(rt: &HostRuntime, listener: TcpListener, service: Service<'_>) -> bool
     requires { IsService service }
 {
-    let machine = Machine::new(rt, listener, "", &[]);
+    let machine = TestMachine::new(rt, listener, "", &[]);
     let mut sink = Output::new(rt.alloc(), 64);
     let are_served = serve(&machine, service, &mut sink).is_ok();
     drop(sink);

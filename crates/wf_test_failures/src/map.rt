@@ -149,7 +149,7 @@ fn add(
     map.add_layer(name, layer(rt, alloc, title))
 }
 
-/// The same, repeated once if an allocation failed: the map is unchanged.
+/// Adds a layer, once more if an allocation failed: the map is unchanged then.
 fn added(
     rt: &impl Abort,
     alloc: Global,

@@ -6,7 +6,7 @@ use std::alloc::Global;
 use std::process::Abort;
 use wf_codec::Message;
 use wf_node::{Input, Node, NodeFault};
-use wf_proposer::Standing;
+use wf_proposer::ProposalState;
 use wf_tape::{MemoryTape, Tape};
 
 /// The records of a proposal of the map `a` up to the text of the map that is voted for: the round tried, the promise, the vote.
@@ -65,7 +65,7 @@ fn answers(
     }
 }
 
-/// The same when the first of these messages is delivered.
+/// The messages sent when the first of these is delivered.
 fn answers_to_first(
     rt: &impl Abort,
     alloc: Global,
@@ -89,7 +89,7 @@ fn proposed(rt: &impl Abort, alloc: Global) -> MemoryTape {
     let accepted = answers_to_first(rt, alloc, &mut node, accept);
     let chosen = answers_to_first(rt, alloc, &mut node, accepted);
     drop(chosen);
-    assert!(rt; matches!(node.proposal(), Standing::Published(_)));
+    assert!(rt; matches!(node.proposal(), ProposalState::Published(_)));
     node.close()
 }
 
@@ -116,7 +116,7 @@ fn fault_of(alloc: Global, node: &mut Node<Unsynced>, input: Input) -> Option<No
     }
 }
 
-/// The same for the step that receives a Prepare.
+/// The error of the step that receives a Prepare, None if it is done.
 fn fault_of_prepare(
     rt: &impl Abort,
     alloc: Global,

@@ -3,7 +3,7 @@
 ghost use Rattle.std.specs.Prelude.{◌≤◌};
 ghost use Rattle.wf_service.specs.Service.{IsService};
 
-use crate::machine::Machine;
+use crate::machine::TestMachine;
 use crate::tape::{TORN, TRIED, holds, new_folder};
 use crate::value::{MAP_A, PUBLISH};
 use std::alloc::Global;
@@ -88,12 +88,12 @@ fn serve_three(rt: &HostRuntime, listener: TcpListener, folder: &str) -> bool {
         return false;
     };
     let port = address.port();
-    let machine = Machine::new(rt, listener, folder, &[]);
+    let machine = TestMachine::new(rt, listener, folder, &[]);
     let mut sink = Output::new(rt.alloc(), 64);
     let outcome = serve(&machine, three_nodes(0, 3, Some(folder)), &mut sink);
-    let is_told = is_line(rt.alloc(), sink.bytes(), port);
+    let is_reported = is_line(rt.alloc(), sink.bytes(), port);
     drop(sink);
-    outcome.is_ok() && is_told && machine.is_bound_here() && machine.is_locked()
+    outcome.is_ok() && is_reported && machine.is_bound_here() && machine.is_locked()
 }
 
 /// Whether this is the line with a port.
@@ -225,9 +225,9 @@ fn nodes_start_on_tapes_of_128_kilobytes_and_shorten_them(rt: HostRuntime) {
 fn started(rt: &HostRuntime, port: u16, folder: &str) -> (Option<ServeFault>, bool) {
     let mut sink = Output::new(rt.alloc(), 64);
     let outcome = serve(rt, three_nodes(port, 0, Some(folder)), &mut sink);
-    let told = is_line(rt.alloc(), sink.bytes(), port);
+    let reported = is_line(rt.alloc(), sink.bytes(), port);
     drop(sink);
-    (outcome.err(), told)
+    (outcome.err(), reported)
 }
 
 /// Opening the tape would remove the torn record.

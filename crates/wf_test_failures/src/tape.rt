@@ -36,7 +36,7 @@ fn records_before<R: Abort + Files + AllocGlobal>(
     }
 }
 
-/// The same for a tape that is open.
+/// Opens a journal over a tape that is open, adds a Tried record of this round, and returns how many records the journal had.
 fn records_on<R: Abort + Files + AllocGlobal>(
     rt: &R,
     tape: FileTape<&R>,
@@ -172,7 +172,7 @@ pub struct Unsynced {
 impl Tape for Unsynced {
     ghost use Rattle.std.specs.Prelude.{[]};
 
-    ghost honest = { ⊥ };
+    ghost durable = { ⊥ };
 
     ghost content = { λ _. [] };
 
@@ -180,7 +180,7 @@ impl Tape for Unsynced {
 
     ghost failed = { λ t. t.failures };
 
-    ghost certain_is_honest = { λ no. absurd no };
+    ghost certain_is_durable = { λ no. absurd no };
 
     ghost is_now = { λ no. absurd no };
 

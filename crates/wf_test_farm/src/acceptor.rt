@@ -9,27 +9,27 @@
 //!
 //! `prepare` and `accept` can't name a published slot.
 use std::alloc::{AllocError, Global};
-use wf_acceptor::{Acceptor, Answer as Reply};
+use wf_acceptor::{Acceptor, AcceptorAnswer as Reply};
 use wf_ballot::Slot;
 use wf_journal::Record;
-use wf_test_calls::script::{Maps, read_script};
-use wf_test_calls::telling::{tell_done, tell_whether};
+use wf_test_calls::lines::{write_done, write_whether};
+use wf_test_calls::script::{CallMaps, read_script};
 use wf_test_calls::words;
-use wf_test_calls::words_of_record::tell_step;
-use wf_test_table::{Answer, Answered, Asked, Unanswered, Words};
+use wf_test_calls::words_of_record::write_step;
+use wf_test_table::{Answered, CaseInput, CaseWords, Transcript, Unanswered};
 
 #[derive(Drop)]
-struct Session<'a> {
+struct AcceptorSession<'a> {
     alloc: Global,
-    maps: Maps<'a>,
+    maps: CallMaps<'a>,
     acceptor: Acceptor,
 }
 
 /// Appends what the acceptor of a node, which has stored nothing, answers to each call.
-pub(crate) fn ask(mut asked: Asked<'_>, answer: &mut Answer) -> Answered {
+pub(crate) fn ask(mut asked: CaseInput<'_>, answer: &mut Transcript) -> Answered {
     let node = words::node(&mut asked.words)?;
     let script = read_script(asked.input)?;
-    let mut session = Session {
+    let mut session = AcceptorSession {
         alloc: asked.alloc,
         maps: script.maps,
         acceptor: Acceptor::new(asked.alloc, node),
@@ -39,17 +39,17 @@ pub(crate) fn ask(mut asked: Asked<'_>, answer: &mut Answer) -> Answered {
     taken
 }
 
-impl Session<'_> {
+impl AcceptorSession<'_> {
     ghost use Rattle.std.specs.Prelude.{◌≡◌, ◌+◌, IsTrue};
 
-    fn take_calls(&mut self, calls: &str, answer: &mut Answer) -> Answered {
+    fn take_calls(&mut self, calls: &str, answer: &mut Transcript) -> Answered {
         for call in calls.lines() {
-            self.take(&mut Words::new(call), answer)?;
+            self.take(&mut CaseWords::new(call), answer)?;
         }
         Ok(())
     }
 
-    fn take(&mut self, call: &mut Words<'_>, answer: &mut Answer) -> Answered {
+    fn take(&mut self, call: &mut CaseWords<'_>, answer: &mut Transcript) -> Answered {
         match call.word() {
             "prepare" => self.prepare(call, answer),
             "accept" => self.accept(call, answer),
@@ -59,7 +59,7 @@ impl Session<'_> {
         }
     }
 
-    fn prepare(&mut self, call: &mut Words<'_>, answer: &mut Answer) -> Answered {
+    fn prepare(&mut self, call: &mut CaseWords<'_>, answer: &mut Transcript) -> Answered {
         let slot = words::slot(call)?;
         let ballot = words::ballot(call)?;
         if self.acceptor.is_published(slot) {
@@ -69,7 +69,7 @@ impl Session<'_> {
         self.give(given, answer)
     }
 
-    fn accept(&mut self, call: &mut Words<'_>, answer: &mut Answer) -> Answered {
+    fn accept(&mut self, call: &mut CaseWords<'_>, answer: &mut Transcript) -> Answered {
         let slot = words::slot(call)?;
         let ballot = words::ballot(call)?;
         if self.acceptor.is_published(slot) {
@@ -80,7 +80,7 @@ impl Session<'_> {
         self.give(given, answer)
     }
 
-    fn give(&mut self, given: Result<Reply, AllocError>, answer: &mut Answer) -> Answered {
+    fn give(&mut self, given: Result<Reply, AllocError>, answer: &mut Transcript) -> Answered {
         match given {
             Ok(reply) => self.take_reply(reply, answer),
             Err(_) => Err(Unanswered::Memory),
@@ -88,9 +88,9 @@ impl Session<'_> {
     }
 
     /// Applies the record of a reply, and appends the reply.
-    fn take_reply(&mut self, reply: Reply, answer: &mut Answer) -> Answered {
+    fn take_reply(&mut self, reply: Reply, answer: &mut Transcript) -> Answered {
         let stored = self.store(reply.entry.as_ref());
-        tell_reply(&reply, self.maps, answer);
+        write_reply(&reply, self.maps, answer);
         drop(reply);
         stored
     }
@@ -107,7 +107,7 @@ impl Session<'_> {
         }
     }
 
-    fn publish(&mut self, call: &mut Words<'_>, answer: &mut Answer) -> Answered {
+    fn publish(&mut self, call: &mut CaseWords<'_>, answer: &mut Transcript) -> Answered {
         let slot = words::slot(call)?;
         if !self.is_next(slot) {
             return Err(Unanswered::BadWords);
@@ -116,7 +116,7 @@ impl Session<'_> {
         let record = Record::Published(slot, canon);
         let applied = self.acceptor.apply(&record);
         drop(record);
-        tell_done(applied, answer);
+        write_done(applied, answer);
         Ok(())
     }
 
@@ -131,14 +131,14 @@ impl Session<'_> {
         }
     }
 
-    fn is_published(&self, call: &mut Words<'_>, answer: &mut Answer) -> Answered {
+    fn is_published(&self, call: &mut CaseWords<'_>, answer: &mut Transcript) -> Answered {
         let slot = words::slot(call)?;
-        tell_whether(self.acceptor.is_published(slot), answer);
+        write_whether(self.acceptor.is_published(slot), answer);
         Ok(())
     }
 }
 
-fn tell_reply(reply: &Reply, maps: Maps<'_>, answer: &mut Answer) {
+fn write_reply(reply: &Reply, maps: CallMaps<'_>, answer: &mut Transcript) {
     let messages = reply.reply.as_slice();
-    tell_step(reply.entry.as_ref(), messages, maps, answer);
+    write_step(reply.entry.as_ref(), messages, maps, answer);
 }

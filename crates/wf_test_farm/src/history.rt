@@ -15,22 +15,22 @@ use std::alloc::{AllocError, Global};
 use wf_ballot::{Seq, Slot};
 use wf_canon::Canon;
 use wf_learner::{History, Learned};
-use wf_test_calls::script::{Maps, Script, read_script};
-use wf_test_calls::telling::{tell_done, tell_none, tell_printed, tell_read, write_field};
+use wf_test_calls::lines::{write_done, write_field, write_none, write_printed, write_read};
+use wf_test_calls::script::{CallMaps, CallScript, read_script};
 use wf_test_calls::words;
-use wf_test_calls::words_of_map::{tell_at, tell_map};
-use wf_test_calls::words_of_record::tell_sent;
-use wf_test_table::{Answer, Answered, Asked, Unanswered, Words};
+use wf_test_calls::words_of_map::{write_at, write_map};
+use wf_test_calls::words_of_record::record_sent;
+use wf_test_table::{Answered, CaseInput, CaseWords, Transcript, Unanswered};
 
 #[derive(Drop)]
-struct Session<'a> {
+struct HistorySession<'a> {
     alloc: Global,
-    maps: Maps<'a>,
+    maps: CallMaps<'a>,
     history: History,
 }
 
 /// Appends what the history of a node, which has published nothing, answers to each call.
-pub(crate) fn ask(asked: Asked<'_>, answer: &mut Answer) -> Answered {
+pub(crate) fn ask(asked: CaseInput<'_>, answer: &mut Transcript) -> Answered {
     let script = read_script(asked.input)?;
     match History::new(asked.alloc) {
         Ok(history) => take_calls(asked.alloc, history, script, answer),
@@ -41,10 +41,10 @@ pub(crate) fn ask(asked: Asked<'_>, answer: &mut Answer) -> Answered {
 fn take_calls(
     alloc: Global,
     history: History,
-    script: Script<'_>,
-    answer: &mut Answer,
+    script: CallScript<'_>,
+    answer: &mut Transcript,
 ) -> Answered {
-    let mut session = Session {
+    let mut session = HistorySession {
         alloc,
         maps: script.maps,
         history,
@@ -54,20 +54,20 @@ fn take_calls(
     taken
 }
 
-impl Session<'_> {
-    fn take_calls(&mut self, calls: &str, answer: &mut Answer) -> Answered {
+impl HistorySession<'_> {
+    fn take_calls(&mut self, calls: &str, answer: &mut Transcript) -> Answered {
         for call in calls.lines() {
-            self.take(&mut Words::new(call), answer)?;
+            self.take(&mut CaseWords::new(call), answer)?;
         }
         Ok(())
     }
 
-    fn take(&mut self, call: &mut Words<'_>, answer: &mut Answer) -> Answered {
+    fn take(&mut self, call: &mut CaseWords<'_>, answer: &mut Transcript) -> Answered {
         match call.word() {
             "learn" => self.learn(call, answer),
             "fill" => self.fill(call, answer),
             "room" => {
-                tell_done(self.history.make_room(), answer);
+                write_done(self.history.make_room(), answer);
                 Ok(())
             }
             asked => self.look(asked, call, answer),
@@ -75,18 +75,18 @@ impl Session<'_> {
     }
 
     /// The calls that change nothing.
-    fn look(&self, asked: &str, call: &mut Words<'_>, answer: &mut Answer) -> Answered {
+    fn look(&self, asked: &str, call: &mut CaseWords<'_>, answer: &mut Transcript) -> Answered {
         match asked {
-            "published" => tell_printed(self.history.published().number(), answer),
-            "next" => tell_read(self.history.next_slot(), answer),
+            "published" => write_printed(self.history.published().number(), answer),
+            "next" => write_read(self.history.next_slot(), answer),
             "get" => self.get(words::sequence(call)?, answer),
             asked => return self.look_at(asked, words::slot(call)?, answer),
         }
         Ok(())
     }
 
-    /// The same about a slot.
-    fn look_at(&self, asked: &str, slot: Slot, answer: &mut Answer) -> Answered {
+    /// The calls about a slot that change nothing.
+    fn look_at(&self, asked: &str, slot: Slot, answer: &mut Transcript) -> Answered {
         match asked {
             "canon" => self.canon(slot, answer),
             "chosen" => self.chosen(slot, answer),
@@ -96,22 +96,22 @@ impl Session<'_> {
         Ok(())
     }
 
-    fn learn(&mut self, call: &mut Words<'_>, answer: &mut Answer) -> Answered {
+    fn learn(&mut self, call: &mut CaseWords<'_>, answer: &mut Transcript) -> Answered {
         let slot = words::slot(call)?;
         let canon = self.maps.canon(self.alloc, call.word())?;
         match self.history.learn(slot, canon) {
-            Ok(learned) => tell_learned(learned, answer),
+            Ok(learned) => write_learned(learned, answer),
             Err(_) => answer.cut(),
         }
         Ok(())
     }
 
-    fn fill(&mut self, call: &mut Words<'_>, answer: &mut Answer) -> Answered {
+    fn fill(&mut self, call: &mut CaseWords<'_>, answer: &mut Transcript) -> Answered {
         let last = words::slot(call)?;
         let canon = self.maps.canon(self.alloc, call.word())?;
         let filled = self.learn_up_to(last, &canon);
         drop(canon);
-        tell_done(filled, answer);
+        write_done(filled, answer);
         Ok(())
     }
 
@@ -132,32 +132,32 @@ impl Session<'_> {
         }
     }
 
-    fn get(&self, sequence: Seq, answer: &mut Answer) {
+    fn get(&self, sequence: Seq, answer: &mut Transcript) {
         let map = self.history.get(sequence);
-        tell_map(self.alloc, sequence, map, self.maps, answer);
+        write_map(self.alloc, sequence, map, self.maps, answer);
     }
 
-    fn canon(&self, slot: Slot, answer: &mut Answer) {
+    fn canon(&self, slot: Slot, answer: &mut Transcript) {
         match self.history.canon(slot) {
-            Some(canon) => tell_at("slot ", slot, canon, self.maps, answer),
-            None => tell_none(answer),
+            Some(canon) => write_at("slot ", slot, canon, self.maps, answer),
+            None => write_none(answer),
         }
     }
 
-    fn chosen(&self, slot: Slot, answer: &mut Answer) {
+    fn chosen(&self, slot: Slot, answer: &mut Transcript) {
         match self.history.chosen(slot) {
             Ok(message) => {
-                tell_sent(message.as_slice(), self.maps, answer);
+                record_sent(message.as_slice(), self.maps, answer);
                 drop(message);
             }
             Err(_) => answer.cut(),
         }
     }
 
-    fn answer_ask(&self, slot: Slot, answer: &mut Answer) {
+    fn answer_ask(&self, slot: Slot, answer: &mut Transcript) {
         match self.history.answer_ask(self.alloc, slot) {
             Ok(messages) => {
-                tell_sent(&messages, self.maps, answer);
+                record_sent(&messages, self.maps, answer);
                 drop(messages);
             }
             Err(_) => answer.cut(),
@@ -165,7 +165,7 @@ impl Session<'_> {
     }
 }
 
-fn tell_learned(learned: Learned, answer: &mut Answer) {
+fn write_learned(learned: Learned, answer: &mut Transcript) {
     match learned {
         Learned::Published => answer.text("published"),
         Learned::Known => answer.text("known"),

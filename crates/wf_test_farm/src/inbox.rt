@@ -3,46 +3,46 @@ ghost use Rattle.std.specs.Prelude.{◌≤◌, length};
 
 use std::alloc::Global;
 use wf_codec::{Message, encode};
-use wf_test_calls::script::Maps;
-use wf_test_calls::telling::tell_printed;
+use wf_test_calls::lines::write_printed;
+use wf_test_calls::script::CallMaps;
 use wf_test_calls::words_of_message::write_message;
-use wf_test_table::{Answer, Answered, Asked, Unanswered};
+use wf_test_table::{Answered, CaseInput, Transcript, Unanswered};
 use wf_wire::{Inbox, InboxFault};
 
 /// Appends what an inbox returns for each piece of that many bytes, the messages or the error; and how many bytes it keeps.
-pub(crate) fn tell_fed(mut asked: Asked<'_>, answer: &mut Answer) -> Answered {
+pub(crate) fn write_fed(mut asked: CaseInput<'_>, answer: &mut Transcript) -> Answered {
     let size = asked.words.count()?;
     if size == 0 {
         return Err(Unanswered::BadWords);
     }
     let mut inbox = Inbox::new(asked.alloc);
     for piece in asked.input.chunks(size) {
-        tell_piece(&mut inbox, piece, answer);
+        write_piece(&mut inbox, piece, answer);
     }
-    answer.count(inbox.kept());
+    answer.count(inbox.pending());
     answer.line(" bytes kept");
     drop(inbox);
     Ok(())
 }
 
-fn tell_piece(inbox: &mut Inbox, piece: &[u8], answer: &mut Answer) {
+fn write_piece(inbox: &mut Inbox, piece: &[u8], answer: &mut Transcript) {
     match inbox.feed(piece) {
-        Ok(messages) => tell_messages(messages, answer),
+        Ok(messages) => write_messages(messages, answer),
         Err(InboxFault::Memory) => answer.cut(),
-        Err(fault) => tell_printed(fault, answer),
+        Err(fault) => write_printed(fault, answer),
     }
 }
 
-fn tell_messages(messages: Vec<Message>, answer: &mut Answer) {
+fn write_messages(messages: Vec<Message>, answer: &mut Transcript) {
     for message in &messages {
-        write_message(message, Maps::NONE, answer);
+        write_message(message, CallMaps::NONE, answer);
         answer.line("");
     }
     drop(messages);
 }
 
 /// Appends at how many places the bytes may be cut in two so that the messages that come out, and the bytes kept, are the bytes.
-pub(crate) fn tell_cuts(asked: Asked<'_>, answer: &mut Answer) -> Answered {
+pub(crate) fn write_cuts(asked: CaseInput<'_>, answer: &mut Transcript) -> Answered {
     let mut same = 0u64;
     for cut in 0..asked.input.len() {
         if gives_back(asked.alloc, asked.input, cut)? {
@@ -60,7 +60,7 @@ fn gives_back(alloc: Global, bytes: &[u8], cut: usize) -> Result<bool, Unanswere
     requires { cut ≤ length bytes.now }
 {
     let (first, second) = bytes.split_at(cut);
-    let mut spelled = Answer::new(alloc);
+    let mut spelled = Transcript::new(alloc);
     let mut inbox = Inbox::new(alloc);
     spell_piece(&mut inbox, first, &mut spelled);
     spell_piece(&mut inbox, second, &mut spelled);
@@ -73,15 +73,15 @@ fn gives_back(alloc: Global, bytes: &[u8], cut: usize) -> Result<bool, Unanswere
     is_same
 }
 
-fn spell_piece(inbox: &mut Inbox, piece: &[u8], spelled: &mut Answer) {
+fn spell_piece(inbox: &mut Inbox, piece: &[u8], spelled: &mut Transcript) {
     match inbox.feed(piece) {
         Ok(messages) => spell_messages(messages, spelled),
         Err(InboxFault::Memory) => spelled.cut(),
-        Err(fault) => tell_printed(fault, spelled),
+        Err(fault) => write_printed(fault, spelled),
     }
 }
 
-fn spell_messages(messages: Vec<Message>, spelled: &mut Answer) {
+fn spell_messages(messages: Vec<Message>, spelled: &mut Transcript) {
     for message in &messages {
         if encode(message, spelled.target()).is_err() {
             spelled.cut();

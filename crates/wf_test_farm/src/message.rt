@@ -1,32 +1,32 @@
 //! The questions about messages.
-use crate::inbox::{tell_cuts, tell_fed};
-use crate::reading::{tell_beginnings, tell_copy, tell_decoded, tell_followed};
-use crate::spelling::tell_encoded;
+use crate::decoding_cases::{write_beginnings, write_copy, write_decoded, write_followed};
+use crate::encoding_cases::write_encoded;
+use crate::inbox::{write_cuts, write_fed};
 use wf_codec::DecodeFault;
-use wf_test_calls::telling::tell_printed;
-use wf_test_table::{Answer, Answered, Asked, Unanswered, Words};
+use wf_test_calls::lines::write_printed;
+use wf_test_table::{Answered, CaseInput, CaseWords, Transcript, Unanswered};
 
-pub(crate) fn ask(mut asked: Asked<'_>, answer: &mut Answer) -> Answered {
+pub(crate) fn ask(mut asked: CaseInput<'_>, answer: &mut Transcript) -> Answered {
     match asked.words.word() {
-        "decode" => tell_decoded(asked, answer),
-        "followed" => tell_followed(asked, answer),
+        "decode" => write_decoded(asked, answer),
+        "followed" => write_followed(asked, answer),
         "beginnings" => {
-            tell_beginnings(asked, answer);
+            write_beginnings(asked, answer);
             Ok(())
         }
-        "copy" => tell_copy(asked, answer),
-        "fed" => tell_fed(asked, answer),
-        "cuts" => tell_cuts(asked, answer),
-        "encode" => tell_encoded(asked, answer),
-        "fault" => tell_fault_named(asked, answer),
+        "copy" => write_copy(asked, answer),
+        "fed" => write_fed(asked, answer),
+        "cuts" => write_cuts(asked, answer),
+        "encode" => write_encoded(asked, answer),
+        "fault" => write_fault_named(asked, answer),
         _ => Err(Unanswered::UnknownQuestion),
     }
 }
 
 /// Appends the error that a word names, as it is printed.
-fn tell_fault_named(asked: Asked<'_>, answer: &mut Answer) -> Answered {
-    let fault = fault_named(Words::of(asked.input)?.word())?;
-    tell_printed(fault, answer);
+fn write_fault_named(asked: CaseInput<'_>, answer: &mut Transcript) -> Answered {
+    let fault = fault_named(CaseWords::of(asked.input)?.word())?;
+    write_printed(fault, answer);
     Ok(())
 }
 

@@ -25,34 +25,34 @@
 //!
 //! [`wf_test_calls::message`] defines the words of a message. The answer to a rejected step is `refused: ` and the error as it is
 //! printed.
-use crate::opening::begin;
+use crate::open_cases::begin;
 use std::alloc::Global;
 use wf_ballot::Slot;
 use wf_canon::Canon;
 use wf_codec::Message;
 use wf_node::{Input, Node, NodeFault};
 use wf_tape::MemoryTape;
+use wf_test_calls::lines::{write_printed, write_rejected};
 use wf_test_calls::member::Member;
 use wf_test_calls::message::Spoken;
-use wf_test_calls::script::{Definitions, Maps, Script, read_script};
-use wf_test_calls::telling::{tell_printed, tell_refused};
+use wf_test_calls::script::{CallMaps, CallScript, Definitions, read_script};
 use wf_test_calls::words;
-use wf_test_calls::words_of_map::tell_map;
-use wf_test_calls::words_of_record::tell_sent;
-use wf_test_calls::words_of_standing::tell_standing;
-use wf_test_table::{Answer, Answered, Asked, Unanswered, Words};
+use wf_test_calls::words_of_map::write_map;
+use wf_test_calls::words_of_proposal_state::write_proposal_state;
+use wf_test_calls::words_of_record::record_sent;
+use wf_test_table::{Answered, CaseInput, CaseWords, Transcript, Unanswered};
 
 /// A node, the maps of the script, and which node of the farm it is.
 #[derive(Drop)]
-pub(crate) struct Session<'a> {
+pub(crate) struct NodeSession<'a> {
     pub alloc: Global,
-    pub maps: Maps<'a>,
+    pub maps: CallMaps<'a>,
     pub member: Member,
     pub node: Node<MemoryTape>,
 }
 
 /// Appends what the node answers to each call.
-pub(crate) fn ask(mut asked: Asked<'_>, answer: &mut Answer) -> Answered {
+pub(crate) fn ask(mut asked: CaseInput<'_>, answer: &mut Transcript) -> Answered {
     let member = Member::named(&mut asked.words)?;
     let script = read_script(asked.input)?;
     match begin(asked.alloc, member) {
@@ -65,10 +65,10 @@ fn take_calls(
     alloc: Global,
     member: Member,
     node: Node<MemoryTape>,
-    script: Script<'_>,
-    answer: &mut Answer,
+    script: CallScript<'_>,
+    answer: &mut Transcript,
 ) -> Answered {
-    let mut session = Session {
+    let mut session = NodeSession {
         alloc,
         maps: script.maps,
         member,
@@ -79,15 +79,15 @@ fn take_calls(
     taken
 }
 
-impl Session<'_> {
-    fn take_calls(&mut self, calls: &str, answer: &mut Answer) -> Answered {
+impl NodeSession<'_> {
+    fn take_calls(&mut self, calls: &str, answer: &mut Transcript) -> Answered {
         for call in calls.lines() {
-            self.take(&mut Words::new(call), answer)?;
+            self.take(&mut CaseWords::new(call), answer)?;
         }
         Ok(())
     }
 
-    fn take(&mut self, call: &mut Words<'_>, answer: &mut Answer) -> Answered {
+    fn take(&mut self, call: &mut CaseWords<'_>, answer: &mut Transcript) -> Answered {
         match call.word() {
             "propose" => self.propose(call, answer),
             "retry" => self.step(Input::Retry, answer),
@@ -100,7 +100,12 @@ impl Session<'_> {
     }
 
     /// The calls that replace this node with another.
-    fn take_tape(&mut self, asked: &str, call: &mut Words<'_>, answer: &mut Answer) -> Answered {
+    fn take_tape(
+        &mut self,
+        asked: &str,
+        call: &mut CaseWords<'_>,
+        answer: &mut Transcript,
+    ) -> Answered {
         match asked {
             "open" => self.open(call, answer),
             "restart" => self.restart(answer),
@@ -114,30 +119,30 @@ impl Session<'_> {
     }
 
     /// The calls that change nothing.
-    fn look(&self, asked: &str, call: &mut Words<'_>, answer: &mut Answer) -> Answered {
+    fn look(&self, asked: &str, call: &mut CaseWords<'_>, answer: &mut Transcript) -> Answered {
         match asked {
-            "published" => tell_printed(self.node.published().number(), answer),
+            "published" => write_printed(self.node.published().number(), answer),
             "definition" => return self.definition(call, answer),
-            "proposal" => tell_standing(self.node.proposal(), answer),
+            "proposal" => write_proposal_state(self.node.proposal(), answer),
             _ => return Err(Unanswered::UnknownQuestion),
         }
         Ok(())
     }
 
-    fn definition(&self, call: &mut Words<'_>, answer: &mut Answer) -> Answered {
+    fn definition(&self, call: &mut CaseWords<'_>, answer: &mut Transcript) -> Answered {
         let sequence = words::sequence(call)?;
         let map = self.node.definition(sequence);
-        tell_map(self.alloc, sequence, map, self.maps, answer);
+        write_map(self.alloc, sequence, map, self.maps, answer);
         Ok(())
     }
 
-    fn propose(&mut self, call: &mut Words<'_>, answer: &mut Answer) -> Answered {
+    fn propose(&mut self, call: &mut CaseWords<'_>, answer: &mut Transcript) -> Answered {
         let own = self.maps.canon(self.alloc, call.word())?;
         self.step(Input::Propose(own), answer)
     }
 
     /// A message comes in.
-    pub(crate) fn deliver(&mut self, words: Words<'_>, answer: &mut Answer) -> Answered {
+    pub(crate) fn deliver(&mut self, words: CaseWords<'_>, answer: &mut Transcript) -> Answered {
         let spoken = Spoken {
             alloc: self.alloc,
             words,
@@ -148,28 +153,28 @@ impl Session<'_> {
     }
 
     /// Takes a step, and appends what it sends or how it is rejected.
-    fn step(&mut self, input: Input, answer: &mut Answer) -> Answered {
+    fn step(&mut self, input: Input, answer: &mut Transcript) -> Answered {
         match self.node.step(self.alloc, input) {
             Ok(messages) => {
-                tell_sent(&messages, self.maps, answer);
+                record_sent(&messages, self.maps, answer);
                 drop(messages);
             }
             Err(NodeFault::Memory) => return Err(Unanswered::Memory),
-            Err(fault) => tell_refused(fault, answer),
+            Err(fault) => write_rejected(fault, answer),
         }
         Ok(())
     }
 
-    fn shorten(&mut self, answer: &mut Answer) -> Answered {
+    fn shorten(&mut self, answer: &mut Transcript) -> Answered {
         match self.node.shorten(self.alloc) {
             Ok(()) => answer.line("done"),
             Err(NodeFault::Memory) => return Err(Unanswered::Memory),
-            Err(fault) => tell_refused(fault, answer),
+            Err(fault) => write_rejected(fault, answer),
         }
         Ok(())
     }
 
-    fn fill(&mut self, call: &mut Words<'_>, answer: &mut Answer) -> Answered {
+    fn fill(&mut self, call: &mut CaseWords<'_>, answer: &mut Transcript) -> Answered {
         let last = words::slot(call)?;
         let canon = self.maps.canon(self.alloc, call.word())?;
         let filled = self.publish_up_to(last, &canon);

@@ -1,15 +1,15 @@
 //! Nodes, sequences and slots: their numbers, their bytes, and how they are read.
 use wf_ballot::{NodeId, Seq, Slot, split_node, split_slot};
-use wf_test_calls::telling::{tell_bytes, tell_left, tell_none, tell_printed, tell_read};
+use wf_test_calls::lines::{write_bytes, write_left, write_none, write_printed, write_read};
 use wf_test_calls::words::{node, sequence, slot};
-use wf_test_table::{Answer, Answered, Asked, Unanswered, Words};
+use wf_test_table::{Answered, CaseInput, CaseWords, Transcript, Unanswered};
 
-pub(crate) fn ask_node(asked: Asked<'_>, answer: &mut Answer) -> Answered {
+pub(crate) fn ask_node(asked: CaseInput<'_>, answer: &mut Transcript) -> Answered {
     match asked.words.rest() {
         "number" => node_number(asked, answer),
         "bytes" => node_bytes(asked, answer),
         "read" => {
-            tell_read(NodeId::from_bytes(asked.input), answer);
+            write_read(NodeId::from_bytes(asked.input), answer);
             Ok(())
         }
         "split" => {
@@ -20,62 +20,62 @@ pub(crate) fn ask_node(asked: Asked<'_>, answer: &mut Answer) -> Answered {
     }
 }
 
-fn node_number(asked: Asked<'_>, answer: &mut Answer) -> Answered {
-    let number = Words::of(asked.input)?.byte()?;
+fn node_number(asked: CaseInput<'_>, answer: &mut Transcript) -> Answered {
+    let number = CaseWords::of(asked.input)?.byte()?;
     match NodeId::new(number) {
-        Some(node) => tell_printed(node.number(), answer),
-        None => tell_none(answer),
+        Some(node) => write_printed(node.number(), answer),
+        None => write_none(answer),
     }
     Ok(())
 }
 
-fn node_bytes(asked: Asked<'_>, answer: &mut Answer) -> Answered {
-    let node = node(&mut Words::of(asked.input)?)?;
-    tell_bytes(&node.bytes(), answer);
+fn node_bytes(asked: CaseInput<'_>, answer: &mut Transcript) -> Answered {
+    let node = node(&mut CaseWords::of(asked.input)?)?;
+    write_bytes(&node.bytes(), answer);
     Ok(())
 }
 
-fn node_split(input: &[u8], answer: &mut Answer) {
+fn node_split(input: &[u8], answer: &mut Transcript) {
     match split_node(input) {
-        Some((node, rest)) => tell_left(node, rest, answer),
-        None => tell_none(answer),
+        Some((node, rest)) => write_left(node, rest, answer),
+        None => write_none(answer),
     }
 }
 
-pub(crate) fn ask_sequence(asked: Asked<'_>, answer: &mut Answer) -> Answered {
+pub(crate) fn ask_sequence(asked: CaseInput<'_>, answer: &mut Transcript) -> Answered {
     match asked.words.rest() {
         "number" => sequence_number(asked, answer),
         "bytes" => sequence_bytes(asked, answer),
         "read" => {
-            tell_read(Seq::from_bytes(asked.input), answer);
+            write_read(Seq::from_bytes(asked.input), answer);
             Ok(())
         }
         _ => Err(Unanswered::UnknownQuestion),
     }
 }
 
-fn sequence_number(asked: Asked<'_>, answer: &mut Answer) -> Answered {
-    let number = Words::of(asked.input)?.short()?;
+fn sequence_number(asked: CaseInput<'_>, answer: &mut Transcript) -> Answered {
+    let number = CaseWords::of(asked.input)?.short()?;
     match Seq::new(number) {
-        Some(sequence) => tell_printed(sequence.number(), answer),
-        None => tell_none(answer),
+        Some(sequence) => write_printed(sequence.number(), answer),
+        None => write_none(answer),
     }
     Ok(())
 }
 
-fn sequence_bytes(asked: Asked<'_>, answer: &mut Answer) -> Answered {
-    let sequence = sequence(&mut Words::of(asked.input)?)?;
-    tell_bytes(&sequence.bytes(), answer);
+fn sequence_bytes(asked: CaseInput<'_>, answer: &mut Transcript) -> Answered {
+    let sequence = sequence(&mut CaseWords::of(asked.input)?)?;
+    write_bytes(&sequence.bytes(), answer);
     Ok(())
 }
 
-pub(crate) fn ask_slot(asked: Asked<'_>, answer: &mut Answer) -> Answered {
+pub(crate) fn ask_slot(asked: CaseInput<'_>, answer: &mut Transcript) -> Answered {
     match asked.words.rest() {
         "number" => slot_number(asked, answer),
         "of" => slot_of(asked, answer),
         "bytes" => slot_bytes(asked, answer),
         "read" => {
-            tell_read(Slot::from_bytes(asked.input), answer);
+            write_read(Slot::from_bytes(asked.input), answer);
             Ok(())
         }
         "split" => {
@@ -86,33 +86,33 @@ pub(crate) fn ask_slot(asked: Asked<'_>, answer: &mut Answer) -> Answered {
     }
 }
 
-fn slot_number(asked: Asked<'_>, answer: &mut Answer) -> Answered {
-    let number = Words::of(asked.input)?.short()?;
+fn slot_number(asked: CaseInput<'_>, answer: &mut Transcript) -> Answered {
+    let number = CaseWords::of(asked.input)?.short()?;
     match Slot::new(number) {
-        Some(slot) => tell_printed(slot.number(), answer),
-        None => tell_none(answer),
+        Some(slot) => write_printed(slot.number(), answer),
+        None => write_none(answer),
     }
     Ok(())
 }
 
-fn slot_of(asked: Asked<'_>, answer: &mut Answer) -> Answered {
-    let sequence = sequence(&mut Words::of(asked.input)?)?;
+fn slot_of(asked: CaseInput<'_>, answer: &mut Transcript) -> Answered {
+    let sequence = sequence(&mut CaseWords::of(asked.input)?)?;
     match Slot::of(sequence) {
-        Some(slot) => tell_printed(slot.seq().number(), answer),
-        None => tell_none(answer),
+        Some(slot) => write_printed(slot.seq().number(), answer),
+        None => write_none(answer),
     }
     Ok(())
 }
 
-fn slot_bytes(asked: Asked<'_>, answer: &mut Answer) -> Answered {
-    let slot = slot(&mut Words::of(asked.input)?)?;
-    tell_bytes(&slot.bytes(), answer);
+fn slot_bytes(asked: CaseInput<'_>, answer: &mut Transcript) -> Answered {
+    let slot = slot(&mut CaseWords::of(asked.input)?)?;
+    write_bytes(&slot.bytes(), answer);
     Ok(())
 }
 
-fn slot_split(input: &[u8], answer: &mut Answer) {
+fn slot_split(input: &[u8], answer: &mut Transcript) {
     match split_slot(input) {
-        Some((slot, rest)) => tell_left(slot, rest, answer),
-        None => tell_none(answer),
+        Some((slot, rest)) => write_left(slot, rest, answer),
+        None => write_none(answer),
     }
 }

@@ -14,24 +14,24 @@
 //! The answer to a rejected call is `refused: ` and the rejection as it is printed.
 use std::alloc::Global;
 use wf_ballot::SEQUENCES;
-use wf_proposer::{Next, Proposer, Refusal};
+use wf_proposer::{Next, Proposer, StepRejection};
+use wf_test_calls::lines::write_rejected;
 use wf_test_calls::message::Spoken;
-use wf_test_calls::script::{Definitions, Maps, Script, read_script};
-use wf_test_calls::telling::tell_refused;
+use wf_test_calls::script::{CallMaps, CallScript, Definitions, read_script};
 use wf_test_calls::words;
-use wf_test_calls::words_of_record::tell_step;
-use wf_test_calls::words_of_standing::tell_standing;
-use wf_test_table::{Answer, Answered, Asked, Unanswered, Words};
+use wf_test_calls::words_of_proposal_state::write_proposal_state;
+use wf_test_calls::words_of_record::write_step;
+use wf_test_table::{Answered, CaseInput, CaseWords, Transcript, Unanswered};
 
 #[derive(Drop)]
-struct Session<'a> {
+struct ProposerSession<'a> {
     alloc: Global,
-    maps: Maps<'a>,
+    maps: CallMaps<'a>,
     proposer: Proposer,
 }
 
 /// Appends what the proposer of a node, of a farm of that many nodes, answers to each call, and the state of its proposal.
-pub(crate) fn ask(mut asked: Asked<'_>, answer: &mut Answer) -> Answered {
+pub(crate) fn ask(mut asked: CaseInput<'_>, answer: &mut Transcript) -> Answered {
     let node = words::node(&mut asked.words)?;
     if asked.words.word() != "of" {
         return Err(Unanswered::BadWords);
@@ -44,29 +44,29 @@ pub(crate) fn ask(mut asked: Asked<'_>, answer: &mut Answer) -> Answered {
 fn take_calls(
     alloc: Global,
     proposer: Proposer,
-    script: Script<'_>,
-    answer: &mut Answer,
+    script: CallScript<'_>,
+    answer: &mut Transcript,
 ) -> Answered {
-    let mut session = Session {
+    let mut session = ProposerSession {
         alloc,
         maps: script.maps,
         proposer,
     };
     let taken = session.take_calls(script.calls, answer);
-    tell_standing(session.proposer.proposal(), answer);
+    write_proposal_state(session.proposer.proposal(), answer);
     drop(session);
     taken
 }
 
-impl Session<'_> {
-    fn take_calls(&mut self, calls: &str, answer: &mut Answer) -> Answered {
+impl ProposerSession<'_> {
+    fn take_calls(&mut self, calls: &str, answer: &mut Transcript) -> Answered {
         for call in calls.lines() {
-            self.take(&mut Words::new(call), answer)?;
+            self.take(&mut CaseWords::new(call), answer)?;
         }
         Ok(())
     }
 
-    fn take(&mut self, call: &mut Words<'_>, answer: &mut Answer) -> Answered {
+    fn take(&mut self, call: &mut CaseWords<'_>, answer: &mut Transcript) -> Answered {
         match call.word() {
             "start" => self.start(call, answer),
             "retry" => self.retry(call, answer),
@@ -78,7 +78,7 @@ impl Session<'_> {
         }
     }
 
-    fn start(&mut self, call: &mut Words<'_>, answer: &mut Answer) -> Answered {
+    fn start(&mut self, call: &mut CaseWords<'_>, answer: &mut Transcript) -> Answered {
         let tried = call.number()?;
         let published = words::sequence(call)?;
         if published.number() >= SEQUENCES {
@@ -89,13 +89,13 @@ impl Session<'_> {
         self.give(started, answer)
     }
 
-    fn retry(&mut self, call: &mut Words<'_>, answer: &mut Answer) -> Answered {
+    fn retry(&mut self, call: &mut CaseWords<'_>, answer: &mut Transcript) -> Answered {
         let tried = call.number()?;
         let retried = self.proposer.retry(self.alloc, tried);
         self.give(retried, answer)
     }
 
-    fn promise(&mut self, call: &mut Words<'_>, answer: &mut Answer) -> Answered {
+    fn promise(&mut self, call: &mut CaseWords<'_>, answer: &mut Transcript) -> Answered {
         let from = words::node(call)?;
         let slot = words::slot(call)?;
         let ballot = words::ballot(call)?;
@@ -105,19 +105,19 @@ impl Session<'_> {
             definitions: Definitions::Named(self.maps),
         };
         let report = spoken.report(slot)?;
-        let heard = self.proposer.on_promise(self.alloc, from, ballot, report);
-        self.give(heard, answer)
+        let received = self.proposer.on_promise(self.alloc, from, ballot, report);
+        self.give(received, answer)
     }
 
-    fn accepted(&mut self, call: &mut Words<'_>, answer: &mut Answer) -> Answered {
+    fn accepted(&mut self, call: &mut CaseWords<'_>, answer: &mut Transcript) -> Answered {
         let from = words::node(call)?;
         let slot = words::slot(call)?;
         let ballot = words::ballot(call)?;
-        let heard = self.proposer.on_accepted(self.alloc, from, slot, ballot);
-        self.give(heard, answer)
+        let received = self.proposer.on_accepted(self.alloc, from, slot, ballot);
+        self.give(received, answer)
     }
 
-    fn nack(&mut self, call: &mut Words<'_>, answer: &mut Answer) -> Answered {
+    fn nack(&mut self, call: &mut CaseWords<'_>, answer: &mut Transcript) -> Answered {
         let slot = words::slot(call)?;
         let ballot = words::ballot(call)?;
         let promised = words::ballot(call)?;
@@ -126,7 +126,7 @@ impl Session<'_> {
         Ok(())
     }
 
-    fn published(&mut self, call: &mut Words<'_>, answer: &mut Answer) -> Answered {
+    fn published(&mut self, call: &mut CaseWords<'_>, answer: &mut Transcript) -> Answered {
         let slot = words::slot(call)?;
         let canon = self.maps.canon(self.alloc, call.word())?;
         self.proposer.on_published(slot, &canon);
@@ -136,18 +136,18 @@ impl Session<'_> {
     }
 
     /// Appends the rejection, or the answer, which is committed.
-    fn give(&mut self, answered: Result<Next, Refusal>, answer: &mut Answer) -> Answered {
+    fn give(&mut self, answered: Result<Next, StepRejection>, answer: &mut Transcript) -> Answered {
         match answered {
             Ok(next) => self.commit(next, answer),
-            Err(Refusal::Memory) => return Err(Unanswered::Memory),
-            Err(refusal) => tell_refused(refusal, answer),
+            Err(StepRejection::Memory) => return Err(Unanswered::Memory),
+            Err(rejection) => write_rejected(rejection, answer),
         }
         Ok(())
     }
 
-    fn commit(&mut self, next: Next, answer: &mut Answer) {
+    fn commit(&mut self, next: Next, answer: &mut Transcript) {
         let (record, messages) = self.proposer.commit(next);
-        tell_step(record.as_ref(), &messages, self.maps, answer);
+        write_step(record.as_ref(), &messages, self.maps, answer);
         drop(record);
         drop(messages);
     }

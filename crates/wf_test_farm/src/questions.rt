@@ -33,15 +33,16 @@
 //!                                                   error; and how many bytes are on the tape then
 //! ```
 //!
-//! `wf_test_calls` has what a script is, [`crate::acceptor`], [`crate::proposer`], [`crate::history`] and [`crate::node`] the calls.
-use crate::{acceptor, history, message, node, number, opening, proposer, tape, tries};
-use wf_test_table::{Answer, Answered, Asked, Questions, Unanswered};
+//! `wf_test_calls` has what a script is, [`crate::acceptor`], [`crate::proposer`], [`crate::history`] and [`crate::node`] the
+//! calls.
+use crate::{acceptor, history, message, node, number, open_cases, proposer, tape, tries};
+use wf_test_table::{Answered, CaseInput, Questions, Transcript, Unanswered};
 
 /// The questions about a farm's numbers, messages, acceptors, proposers, histories, tapes and nodes.
-pub(crate) struct Farm;
+pub(crate) struct FarmQuestions;
 
-impl Questions for Farm {
-    fn answer(&self, mut asked: Asked<'_>, answer: &mut Answer) -> Answered {
+impl Questions for FarmQuestions {
+    fn answer(&self, mut asked: CaseInput<'_>, answer: &mut Transcript) -> Answered {
         match asked.words.word() {
             "majority" => tries::majority(asked, answer),
             "node" => number::ask_node(asked, answer),
@@ -55,7 +56,7 @@ impl Questions for Farm {
             "history" => history::ask(asked, answer),
             "tape" => tape::ask(asked, answer),
             "whole" => node::ask(asked, answer),
-            "open" => opening::ask(asked, answer),
+            "open" => open_cases::ask(asked, answer),
             _ => Err(Unanswered::UnknownQuestion),
         }
     }

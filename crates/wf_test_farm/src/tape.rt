@@ -4,50 +4,50 @@ use wf_ballot::Slot;
 use wf_canon::Canon;
 use wf_journal::{Journal, OpenFault, Record};
 use wf_tape::MemoryTape;
+use wf_test_calls::lines::write_printed;
 use wf_test_calls::script::canon_of;
-use wf_test_calls::telling::tell_printed;
 use wf_test_calls::words_of_record::write_head;
-use wf_test_calls::words_of_tape::{bytes_on, tape_of, tell_length};
-use wf_test_table::{Answer, Answered, Asked, Unanswered};
+use wf_test_calls::words_of_tape::{bytes_on, tape_of, write_length};
+use wf_test_table::{Answered, CaseInput, Transcript, Unanswered};
 
-pub(crate) fn ask(mut asked: Asked<'_>, answer: &mut Answer) -> Answered {
+pub(crate) fn ask(mut asked: CaseInput<'_>, answer: &mut Transcript) -> Answered {
     match asked.words.word() {
-        "open" => tell_opened(asked, answer),
-        "torn" => tell_torn(asked, answer),
-        "published" => tell_published(asked, answer),
+        "open" => write_opened(asked, answer),
+        "torn" => write_torn(asked, answer),
+        "published" => write_published(asked, answer),
         _ => Err(Unanswered::UnknownQuestion),
     }
 }
 
 /// Appends each record, or the error, and how many bytes are on the tape then.
-fn tell_opened(asked: Asked<'_>, answer: &mut Answer) -> Answered {
+fn write_opened(asked: CaseInput<'_>, answer: &mut Transcript) -> Answered {
     match Journal::open(asked.alloc, tape_of(asked.alloc, asked.input)?) {
-        Ok((journal, records)) => tell_records(journal, records, answer),
-        Err((tape, fault)) => return tell_refused(tape, fault, answer),
+        Ok((journal, records)) => write_records(journal, records, answer),
+        Err((tape, fault)) => return write_rejected(tape, fault, answer),
     }
     Ok(())
 }
 
-fn tell_records(journal: Journal<MemoryTape>, records: Vec<Record>, answer: &mut Answer) {
+fn write_records(journal: Journal<MemoryTape>, records: Vec<Record>, answer: &mut Transcript) {
     for record in &records {
-        tell_record(record, answer);
+        write_record(record, answer);
     }
     drop(records);
-    tell_length(bytes_on(journal.close()), answer);
+    write_length(bytes_on(journal.close()), answer);
 }
 
-fn tell_refused(tape: MemoryTape, fault: OpenFault, answer: &mut Answer) -> Answered {
+fn write_rejected(tape: MemoryTape, fault: OpenFault, answer: &mut Transcript) -> Answered {
     let left = bytes_on(tape);
     if let OpenFault::Memory = fault {
         return Err(Unanswered::Memory);
     }
-    tell_printed(fault, answer);
-    tell_length(left, answer);
+    write_printed(fault, answer);
+    write_length(left, answer);
     Ok(())
 }
 
 /// Appends a record in words, and then the text of its definition.
-fn tell_record(record: &Record, answer: &mut Answer) {
+fn write_record(record: &Record, answer: &mut Transcript) {
     write_head(record, answer);
     answer.line("");
     match record {
@@ -58,7 +58,7 @@ fn tell_record(record: &Record, answer: &mut Answer) {
 
 /// Appends how many proper beginnings of the bytes open with exactly the first N bytes left, of those that hold these N bytes.
 /// The word is N.
-fn tell_torn(mut asked: Asked<'_>, answer: &mut Answer) -> Answered {
+fn write_torn(mut asked: CaseInput<'_>, answer: &mut Transcript) -> Answered {
     let whole = asked.words.count()?;
     let torn = count_torn(asked.alloc, whole, asked.input)?;
     answer.value(torn);
@@ -101,12 +101,12 @@ fn none_left(fault: OpenFault) -> Result<Option<usize>, Unanswered> {
 
 /// Appends how many records and bytes a tape opens with to which the definition was added at the slots
 /// from 1 to the last one.
-fn tell_published(mut asked: Asked<'_>, answer: &mut Answer) -> Answered {
+fn write_published(mut asked: CaseInput<'_>, answer: &mut Transcript) -> Answered {
     let last = asked.words.short()?;
     let tape = published_tape(asked.alloc, last, asked.input)?;
     match Journal::open(asked.alloc, tape) {
         Ok((journal, records)) => {
-            tell_counts(journal, records, answer);
+            write_counts(journal, records, answer);
             Ok(())
         }
         Err(refused) => {
@@ -116,11 +116,11 @@ fn tell_published(mut asked: Asked<'_>, answer: &mut Answer) -> Answered {
     }
 }
 
-fn tell_counts(journal: Journal<MemoryTape>, records: Vec<Record>, answer: &mut Answer) {
+fn write_counts(journal: Journal<MemoryTape>, records: Vec<Record>, answer: &mut Transcript) {
     answer.count(records.len());
     drop(records);
     answer.text(" records, ");
-    tell_length(bytes_on(journal.close()), answer);
+    write_length(bytes_on(journal.close()), answer);
 }
 
 fn published_tape(alloc: Global, last: u16, text: &[u8]) -> Result<MemoryTape, Unanswered> {

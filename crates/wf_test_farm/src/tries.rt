@@ -1,38 +1,38 @@
 //! Majorities, rounds and ballots.
 use wf_ballot::{Ballot, is_majority, split_ballot, split_round};
-use wf_test_calls::telling::{
-    tell_bytes, tell_left, tell_none, tell_printed, tell_read, tell_whether,
+use wf_test_calls::lines::{
+    write_bytes, write_left, write_none, write_printed, write_read, write_whether,
 };
 use wf_test_calls::words::{ballot, node};
-use wf_test_table::{Answer, Answered, Asked, Unanswered, Words};
+use wf_test_table::{Answered, CaseInput, CaseWords, Transcript, Unanswered};
 
-pub(crate) fn majority(asked: Asked<'_>, answer: &mut Answer) -> Answered {
-    let mut words = Words::of(asked.input)?;
+pub(crate) fn majority(asked: CaseInput<'_>, answer: &mut Transcript) -> Answered {
+    let mut words = CaseWords::of(asked.input)?;
     let count = words.count()?;
     if words.word() != "of" {
         return Err(Unanswered::BadWords);
     }
-    tell_whether(is_majority(count, words.count()?), answer);
+    write_whether(is_majority(count, words.count()?), answer);
     Ok(())
 }
 
-pub(crate) fn ask_round(asked: Asked<'_>, answer: &mut Answer) -> Answered {
+pub(crate) fn ask_round(asked: CaseInput<'_>, answer: &mut Transcript) -> Answered {
     if asked.words.rest() != "split" {
         return Err(Unanswered::UnknownQuestion);
     }
     match split_round(asked.input) {
-        Some((round, rest)) => tell_left(round, rest, answer),
-        None => tell_none(answer),
+        Some((round, rest)) => write_left(round, rest, answer),
+        None => write_none(answer),
     }
     Ok(())
 }
 
-pub(crate) fn ask_ballot(asked: Asked<'_>, answer: &mut Answer) -> Answered {
+pub(crate) fn ask_ballot(asked: CaseInput<'_>, answer: &mut Transcript) -> Answered {
     match asked.words.rest() {
         "number" => ballot_number(asked, answer),
         "bytes" => ballot_bytes(asked, answer),
         "read" => {
-            tell_read(Ballot::from_bytes(asked.input), answer);
+            write_read(Ballot::from_bytes(asked.input), answer);
             Ok(())
         }
         "split" => {
@@ -46,46 +46,46 @@ pub(crate) fn ask_ballot(asked: Asked<'_>, answer: &mut Answer) -> Answered {
 }
 
 /// Appends a ballot's round and node.
-fn tell_parts(ballot: Option<Ballot>, answer: &mut Answer) {
+fn write_parts(ballot: Option<Ballot>, answer: &mut Transcript) {
     match ballot {
         Some(ballot) => {
             answer.value(ballot.round());
             answer.text(" ");
-            tell_printed(ballot.node().number(), answer);
+            write_printed(ballot.node().number(), answer);
         }
-        None => tell_none(answer),
+        None => write_none(answer),
     }
 }
 
-fn ballot_number(asked: Asked<'_>, answer: &mut Answer) -> Answered {
-    let mut words = Words::of(asked.input)?;
+fn ballot_number(asked: CaseInput<'_>, answer: &mut Transcript) -> Answered {
+    let mut words = CaseWords::of(asked.input)?;
     let round = words.number()?;
-    tell_parts(Ballot::new(round, node(&mut words)?), answer);
+    write_parts(Ballot::new(round, node(&mut words)?), answer);
     Ok(())
 }
 
-fn ballot_next(asked: Asked<'_>, answer: &mut Answer) -> Answered {
-    let mut words = Words::of(asked.input)?;
+fn ballot_next(asked: CaseInput<'_>, answer: &mut Transcript) -> Answered {
+    let mut words = CaseWords::of(asked.input)?;
     let round = words.number()?;
-    tell_parts(Ballot::next(round, node(&mut words)?), answer);
+    write_parts(Ballot::next(round, node(&mut words)?), answer);
     Ok(())
 }
 
-fn ballot_bytes(asked: Asked<'_>, answer: &mut Answer) -> Answered {
-    let ballot = ballot(&mut Words::of(asked.input)?)?;
-    tell_bytes(&ballot.bytes(), answer);
+fn ballot_bytes(asked: CaseInput<'_>, answer: &mut Transcript) -> Answered {
+    let ballot = ballot(&mut CaseWords::of(asked.input)?)?;
+    write_bytes(&ballot.bytes(), answer);
     Ok(())
 }
 
-fn ballot_split(input: &[u8], answer: &mut Answer) {
+fn ballot_split(input: &[u8], answer: &mut Transcript) {
     match split_ballot(input) {
-        Some((ballot, rest)) => tell_left(ballot, rest, answer),
-        None => tell_none(answer),
+        Some((ballot, rest)) => write_left(ballot, rest, answer),
+        None => write_none(answer),
     }
 }
 
-fn ballot_compare(asked: Asked<'_>, answer: &mut Answer) -> Answered {
-    let mut words = Words::of(asked.input)?;
+fn ballot_compare(asked: CaseInput<'_>, answer: &mut Transcript) -> Answered {
+    let mut words = CaseWords::of(asked.input)?;
     let first = ballot(&mut words)?;
     let second = ballot(&mut words)?;
     answer.line(order(first, second));

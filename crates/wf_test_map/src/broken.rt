@@ -4,21 +4,21 @@ use wf_tape::{Tape, TapeFault};
 
 /// An empty tape whose device fails where something is to be appended.
 #[derive(Drop)]
-pub(crate) struct Broken {
+pub(crate) struct BrokenTape {
     failures: u64,
 }
 
-impl Broken {
+impl BrokenTape {
     /// A tape that hasn't failed yet.
     pub(crate) fn new() -> Self {
-        Broken { failures: 0 }
+        BrokenTape { failures: 0 }
     }
 }
 
-impl Tape for Broken {
+impl Tape for BrokenTape {
     ghost use Rattle.std.specs.Prelude.{[]};
 
-    ghost honest = { ⊥ };
+    ghost durable = { ⊥ };
 
     ghost content = { λ _. [] };
 
@@ -26,7 +26,7 @@ impl Tape for Broken {
 
     ghost failed = { λ t. t.failures };
 
-    ghost certain_is_honest = { λ no. absurd no };
+    ghost certain_is_durable = { λ no. absurd no };
 
     ghost is_now = { λ no. absurd no };
 

@@ -12,45 +12,46 @@
 //!                            separate several requests; each is read and answered in the same way: `by N`, `by N failing at K` and
 //!                            so on, `room N`, `writing N` and so on
 //! refuse NODE of NODES [WAY] the same, where the node's tape fails
-//! serve_alone NODE of NODES [WAY]        the same, where the node hears the first message that it sends, and the first of its answers in
+//! serve_alone NODE of NODES [WAY]        the same, where the node hears the first message that it sends, and the first of its
+//! answers in
 //!                                        turn, before the next request comes
 //! serve_published NODE of NODES [WAY]    the same of a node that has published a map: its mapfile and a byte of 0 come first
 //! serve_cached NODE of NODES [WAY]       the same of one request that comes twice, by a cache of one picture
 //! ```
 use crate::alone;
-use crate::broken::Broken;
-use crate::exchange::{Exchange, tell_hearing};
+use crate::broken::BrokenTape;
+use crate::exchange::{Exchange, write_received};
 use crate::published::serve_published;
-use crate::serving::serve;
+use crate::requests_in_turn::serve;
 use wf_tape::MemoryTape;
-use wf_test_table::{Answer, Answered, Asked};
+use wf_test_table::{Answered, CaseInput, Transcript};
 
-/// `hear`: what is read of a request, or what became of it.
-pub(crate) fn hear(asked: Asked<'_>, answer: &mut Answer) -> Answered {
-    tell_hearing(asked, Exchange::read(asked.words)?, answer)
+/// `receive`: what is read of a request, or what became of it.
+pub(crate) fn receive(asked: CaseInput<'_>, answer: &mut Transcript) -> Answered {
+    write_received(asked, Exchange::read(asked.words)?, answer)
 }
 
 /// `serve`: what a new node answers.
-pub(crate) fn serve_one(asked: Asked<'_>, answer: &mut Answer) -> Answered {
+pub(crate) fn serve_one(asked: CaseInput<'_>, answer: &mut Transcript) -> Answered {
     serve(asked, MemoryTape::new(Vec::new(asked.alloc)), answer)
 }
 
-/// `refuse`: what a new node answers whose tape fails.
-pub(crate) fn refuse(asked: Asked<'_>, answer: &mut Answer) -> Answered {
-    serve(asked, Broken::new(), answer)
+/// `reject`: what a new node answers whose tape fails.
+pub(crate) fn reject(asked: CaseInput<'_>, answer: &mut Transcript) -> Answered {
+    serve(asked, BrokenTape::new(), answer)
 }
 
 /// `serve_alone`: what a new node answers that hears its own messages.
-pub(crate) fn serve_alone(asked: Asked<'_>, answer: &mut Answer) -> Answered {
+pub(crate) fn serve_alone(asked: CaseInput<'_>, answer: &mut Transcript) -> Answered {
     alone::serve_alone(asked, answer)
 }
 
 /// `serve_published`: what a node answers that has published a map.
-pub(crate) fn serve_map(asked: Asked<'_>, answer: &mut Answer) -> Answered {
+pub(crate) fn serve_map(asked: CaseInput<'_>, answer: &mut Transcript) -> Answered {
     serve_published(asked, false, answer)
 }
 
 /// `serve_cached`: the same, by a cache of one picture.
-pub(crate) fn serve_cached(asked: Asked<'_>, answer: &mut Answer) -> Answered {
+pub(crate) fn serve_cached(asked: CaseInput<'_>, answer: &mut Transcript) -> Answered {
     serve_published(asked, true, answer)
 }

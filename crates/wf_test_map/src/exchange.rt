@@ -1,13 +1,13 @@
 //! How a request is read and its response written; and a request that is read, or answered at once.
-use crate::faltering::{Failure, Faltering, Taking};
+use crate::failing_streams::{Failure, Faltering, Taking};
 use std::alloc::Global;
 use std::io::ErrorKind;
+use wf_edge::completion::write_error;
 use wf_edge::outcome::Outcome;
 use wf_edge::request::Request;
-use wf_edge::resource::Asked as Resource;
-use wf_edge::saying::say_fault;
+use wf_edge::resource::RequestedResource as Resource;
 use wf_stream::Stream;
-use wf_test_table::{Answer, Answered, Asked, Unanswered, Words};
+use wf_test_table::{Answered, CaseInput, CaseWords, Transcript, Unanswered};
 
 /// More bytes than any request or response of a case has.
 const ALL: usize = 4_194_304;
@@ -42,7 +42,7 @@ impl Exchange {
     };
 
     /// The way that words name; without words the request comes in one piece, and the response is taken whole.
-    pub(crate) fn read(mut words: Words<'_>) -> Result<Exchange, Unanswered> {
+    pub(crate) fn read(mut words: CaseWords<'_>) -> Result<Exchange, Unanswered> {
         match words.word() {
             "" => Ok(Exchange::WHOLE),
             "by" => Exchange::read_piece(words),
@@ -56,7 +56,7 @@ impl Exchange {
     }
 
     // Reads `N` or `N HOW at K`: so the K-th call of the reader fails, counted from 1.
-    fn read_piece(mut words: Words<'_>) -> Result<Exchange, Unanswered> {
+    fn read_piece(mut words: CaseWords<'_>) -> Result<Exchange, Unanswered> {
         let piece = words.count()?;
         let failure = read_failure(words)?;
         Ok(Exchange {
@@ -67,7 +67,7 @@ impl Exchange {
     }
 
     // Reads the same of the writer.
-    fn read_writing(mut words: Words<'_>) -> Result<Exchange, Unanswered> {
+    fn read_writing(mut words: CaseWords<'_>) -> Result<Exchange, Unanswered> {
         let piece = words.count()?;
         let failure = read_failure(words)?;
         Ok(Exchange {
@@ -94,8 +94,8 @@ impl Exchange {
     }
 
     /// Appends what was written, in whole lines, and by how many writes, where that is told.
-    pub(crate) fn tell_written(self, writer: &Taking, answer: &mut Answer) {
-        tell_lines(writer.bytes(), answer);
+    pub(crate) fn write_written(self, writer: &Taking, answer: &mut Transcript) {
+        write_lines(writer.bytes(), answer);
         if self.writing.is_some() {
             answer.value(writer.calls());
             answer.line(" writes");
@@ -104,7 +104,7 @@ impl Exchange {
 }
 
 // Reads `HOW at K`, or nothing.
-fn read_failure(mut words: Words<'_>) -> Result<Option<Failure>, Unanswered> {
+fn read_failure(mut words: CaseWords<'_>) -> Result<Option<Failure>, Unanswered> {
     let kind = match words.word() {
         "" => return Ok(None),
         "failing" => ErrorKind::ConnectionReset,
@@ -118,7 +118,7 @@ fn read_failure(mut words: Words<'_>) -> Result<Option<Failure>, Unanswered> {
 }
 
 // How many calls come before the one that `at K` names.
-fn read_call(mut words: Words<'_>) -> Result<u64, Unanswered> {
+fn read_call(mut words: CaseWords<'_>) -> Result<u64, Unanswered> {
     if words.word() != "at" {
         return Err(Unanswered::BadWords);
     }
@@ -126,7 +126,7 @@ fn read_call(mut words: Words<'_>) -> Result<u64, Unanswered> {
     Ok(call.saturating_sub(1) as u64)
 }
 
-fn write_counted(what: &str, status: u16, count: u64, answer: &mut Answer) {
+fn write_counted(what: &str, status: u16, count: u64, answer: &mut Transcript) {
     answer.text(what);
     answer.value(status);
     answer.text(", ");
@@ -135,7 +135,7 @@ fn write_counted(what: &str, status: u16, count: u64, answer: &mut Answer) {
 }
 
 /// Appends what became of a request.
-pub(crate) fn tell_outcome(outcome: Outcome, answer: &mut Answer) {
+pub(crate) fn write_outcome(outcome: Outcome, answer: &mut Transcript) {
     match outcome {
         Outcome::Sent(status, count) => write_counted("sent ", status, count, answer),
         Outcome::WriteFailed(status, count) => write_counted("cut ", status, count, answer),
@@ -153,7 +153,7 @@ fn name(resource: Resource) -> &'static str {
 }
 
 // Appends what a request asks for, its query and the length of its body.
-fn tell_request(request: &Request, answer: &mut Answer) {
+fn write_request(request: &Request, answer: &mut Transcript) {
     answer.text(name(request.asked()));
     answer.bytes(request.query());
     answer.text("], body ");
@@ -162,7 +162,7 @@ fn tell_request(request: &Request, answer: &mut Answer) {
 }
 
 // Appends what was written, in whole lines.
-fn tell_lines(written: &[u8], answer: &mut Answer) {
+fn write_lines(written: &[u8], answer: &mut Transcript) {
     answer.bytes(written);
     match written.last() {
         Some(last) if *last != b'\n' => answer.line(""),
@@ -171,17 +171,21 @@ fn tell_lines(written: &[u8], answer: &mut Answer) {
 }
 
 /// Appends what was read of a request in this way, or the outcome, and what was written.
-pub(crate) fn tell_hearing(asked: Asked<'_>, way: Exchange, answer: &mut Answer) -> Answered {
+pub(crate) fn write_received(
+    asked: CaseInput<'_>,
+    way: Exchange,
+    answer: &mut Transcript,
+) -> Answered {
     let mut reader = way.reader(asked.input)?;
     let mut writer = way.writer(asked.alloc);
     match Request::read(asked.alloc, &mut reader) {
         Ok(request) => {
-            tell_request(&request, answer);
+            write_request(&request, answer);
             drop(request);
         }
-        Err(fault) => tell_outcome(say_fault(&mut writer, fault), answer),
+        Err(fault) => write_outcome(write_error(&mut writer, fault), answer),
     }
-    way.tell_written(writer.inner(), answer);
+    way.write_written(writer.inner(), answer);
     drop(writer);
     drop(reader);
     Ok(())

@@ -3,23 +3,23 @@
 //!
 //! Standard input is a table of cases (`wf_test_table` defines its format); standard output is the report, whose last line has the
 //! counts. The questions that need no node and no request are those of `wf_test_questions`; each of the others is one function, by
-//! subject: `requests`, `maps`, `kept`, `reports`, `edge`.
+//! subject: `requests`, `maps`, `cached`, `reports`, `edge`.
 //!
 //! The program is proved to be safe and to return, and nothing more: what the cases show is in the table.
 #![tactic(auto)]
 
 mod alone;
 mod broken;
+mod cached;
 mod edge;
 mod exchange;
-mod faltering;
-mod kept;
+mod failing_streams;
 mod maps;
 mod published;
 mod questions;
 mod reports;
 mod requests;
-mod serving;
+mod requests_in_turn;
 
 use questions::MapQuestions;
 use std::process::ExitCode;

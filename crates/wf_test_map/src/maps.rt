@@ -1,14 +1,14 @@
 //! Requests to a server that publishes one map.
-ghost use Rattle.wf_wms.specs.KeptPictures.{AllKept};
+ghost use Rattle.wf_wms.specs.CachedPictures.{AllCached};
 
-use crate::requests::tell_summary;
+use crate::requests::write_summary;
 use std::alloc::{AllocError, Global};
 use wf_canon::{Canon, CanonFault};
 use wf_def::map::MapDef;
 use wf_learner::History;
 use wf_mapfile::fault::MapFault;
 use wf_test_table::escape::unescape;
-use wf_test_table::{Answer, Answered, Asked, Unanswered};
+use wf_test_table::{Answered, CaseInput, Transcript, Unanswered};
 use wf_wms::Answer as Given;
 use wf_wms::cache::Cache;
 use wf_wms::service::{answer as answer_query, answer_cached};
@@ -53,20 +53,20 @@ pub(crate) fn is_same(a: &Given, b: &Given) -> bool {
 }
 
 // Whether the cache gives the same answer.
-fn is_kept(
+fn is_cached(
     alloc: Global,
     cache: &mut Cache,
     history: &History,
     query: &[u8],
     plain: &Given,
 ) -> Result<bool, AllocError>
-    requires { AllKept history.now.definitions cache.old }
-    ensures { AllKept history.now.definitions cache.new }
+    requires { AllCached history.now.definitions cache.old }
+    ensures { AllCached history.now.definitions cache.new }
 {
     match answer_cached(alloc, cache, history.published().number(), history, query) {
-        Ok(kept) => {
-            let same = is_same(&kept, plain);
-            drop(kept);
+        Ok(cached) => {
+            let same = is_same(&cached, plain);
+            drop(cached);
             Ok(same)
         }
         Err(error) => Err(error),
@@ -74,7 +74,7 @@ fn is_kept(
 }
 
 // Whether a cache gives the same answer, where it is empty and once more.
-fn is_kept_twice(
+fn is_cached_twice(
     alloc: Global,
     history: &History,
     query: &[u8],
@@ -82,8 +82,8 @@ fn is_kept_twice(
 ) -> Result<bool, AllocError> {
     match Cache::new(alloc, 1) {
         Ok(mut cache) => {
-            let first = is_kept(alloc, &mut cache, history, query, plain);
-            let again = is_kept(alloc, &mut cache, history, query, plain);
+            let first = is_cached(alloc, &mut cache, history, query, plain);
+            let again = is_cached(alloc, &mut cache, history, query, plain);
             drop(cache);
             Ok(first? && again?)
         }
@@ -98,7 +98,7 @@ fn ask_published(
     query: &[u8],
 ) -> Result<Option<Given>, AllocError> {
     match answer_query(alloc, history.published().number(), history, query) {
-        Ok(plain) => match is_kept_twice(alloc, history, query, &plain) {
+        Ok(plain) => match is_cached_twice(alloc, history, query, &plain) {
             Ok(true) => Ok(Some(plain)),
             Ok(false) => {
                 drop(plain);
@@ -152,9 +152,9 @@ fn ask_map(alloc: Global, mapfile: &[u8], query: &[u8]) -> Result<Given, Unanswe
 }
 
 /// `get`: the kind, the media type and the length of the answer to a query at update sequence 1, where map `sq` is published.
-pub(crate) fn get(asked: Asked<'_>, answer: &mut Answer) -> Answered {
+pub(crate) fn get(asked: CaseInput<'_>, answer: &mut Transcript) -> Answered {
     match ask_map(asked.alloc, MAP_SQ.as_bytes(), asked.input) {
-        Ok(given) => tell_summary(given, answer),
+        Ok(given) => write_summary(given, answer),
         Err(unanswered) => return Err(unanswered),
     }
     Ok(())
@@ -171,7 +171,7 @@ pub(crate) fn letter_of(pixel: &[u8]) -> &'static str {
 }
 
 // A row of pixels as letters, on a line of its own.
-fn write_row(row: &[u8], answer: &mut Answer) {
+fn write_row(row: &[u8], answer: &mut Transcript) {
     for pixel in row.chunks(3) {
         answer.text(letter_of(pixel));
     }
@@ -179,7 +179,7 @@ fn write_row(row: &[u8], answer: &mut Answer) {
 }
 
 // A picture of 4 by 4 pixels: its head, and its pixels as letters.
-fn write_picture(bytes: &[u8], answer: &mut Answer) -> Answered {
+fn write_picture(bytes: &[u8], answer: &mut Transcript) -> Answered {
     let Some(pixels) = bytes.strip_prefix(b"P6\n4 4\n255\n".as_slice()) else {
         return Err(Unanswered::BadWords);
     };
@@ -189,12 +189,12 @@ fn write_picture(bytes: &[u8], answer: &mut Answer) -> Answered {
     Ok(())
 }
 
-fn tell_drawn(asked: Asked<'_>, query: &Answer, answer: &mut Answer) -> Answered {
+fn write_drawn(asked: CaseInput<'_>, query: &Transcript, answer: &mut Transcript) -> Answered {
     match ask_map(asked.alloc, asked.input, query.written()?) {
         Ok(given) => {
-            let told = write_picture(&given.bytes, answer);
+            let reported = write_picture(&given.bytes, answer);
             drop(given);
-            told
+            reported
         }
         Err(unanswered) => Err(unanswered),
     }
@@ -202,12 +202,12 @@ fn tell_drawn(asked: Asked<'_>, query: &Answer, answer: &mut Answer) -> Answered
 
 /// `drawn QUERY`: the pixels, as letters, of the picture of 4 by 4 pixels that the query gets at update sequence 1, where the map
 /// of the input is published. QUERY is spelled with escapes.
-pub(crate) fn drawn(asked: Asked<'_>, answer: &mut Answer) -> Answered {
-    let mut query = Answer::new(asked.alloc);
-    let told = match unescape(asked.words.rest(), &mut query) {
-        Ok(()) => tell_drawn(asked, &query, answer),
+pub(crate) fn drawn(asked: CaseInput<'_>, answer: &mut Transcript) -> Answered {
+    let mut query = Transcript::new(asked.alloc);
+    let reported = match unescape(asked.words.rest(), &mut query) {
+        Ok(()) => write_drawn(asked, &query, answer),
         Err(unanswered) => Err(unanswered),
     };
     drop(query);
-    told
+    reported
 }

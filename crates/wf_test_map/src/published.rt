@@ -1,9 +1,9 @@
 //! Requests that a node serves which has published a map.
-ghost use Rattle.wf_wms.specs.KeptPictures.{AllKept};
+ghost use Rattle.wf_wms.specs.CachedPictures.{AllCached};
 
 use crate::exchange::Exchange;
 use crate::maps::read_canon;
-use crate::serving::{serve_each, tell};
+use crate::requests_in_turn::{serve_each, write};
 use std::alloc::Global;
 use wf_ballot::Slot;
 use wf_canon::Canon;
@@ -12,29 +12,29 @@ use wf_edge::serve::serve_one_cached;
 use wf_node::{Input, Node, NodeFault};
 use wf_tape::{MemoryTape, Tape};
 use wf_test_calls::member::Member;
-use wf_test_table::{Answer, Answered, Asked, Unanswered};
+use wf_test_table::{Answered, CaseInput, Transcript, Unanswered};
 use wf_wms::cache::Cache;
 
 /// Appends, for each request, what becomes of it, what is written and what is sent; if wanted, of
 /// one request that comes twice, by a cache of one picture. The
 /// node of the words is on an empty tape, and publishes the map whose mapfile comes first in the input.
 pub(crate) fn serve_published(
-    mut asked: Asked<'_>,
+    mut asked: CaseInput<'_>,
     is_cached: bool,
-    answer: &mut Answer,
+    answer: &mut Transcript,
 ) -> Answered {
     match open(&mut asked) {
         Ok(mut node) => {
-            let told = publish_and_serve(asked, &mut node, is_cached, answer);
+            let reported = publish_and_serve(asked, &mut node, is_cached, answer);
             drop(node);
-            told
+            reported
         }
         Err(unanswered) => Err(unanswered),
     }
 }
 
 /// The node of the words, on an empty tape.
-pub(crate) fn open(asked: &mut Asked<'_>) -> Result<Node<MemoryTape>, Unanswered> {
+pub(crate) fn open(asked: &mut CaseInput<'_>) -> Result<Node<MemoryTape>, Unanswered> {
     let member = Member::named(&mut asked.words)?;
     let tape = MemoryTape::new(Vec::new(asked.alloc));
     match Node::open(asked.alloc, tape, member.node(), member.nodes()) {
@@ -47,10 +47,10 @@ pub(crate) fn open(asked: &mut Asked<'_>) -> Result<Node<MemoryTape>, Unanswered
 }
 
 fn publish_and_serve(
-    asked: Asked<'_>,
+    asked: CaseInput<'_>,
     node: &mut Node<MemoryTape>,
     is_cached: bool,
-    answer: &mut Answer,
+    answer: &mut Transcript,
 ) -> Answered {
     let way = Exchange::read(asked.words)?;
     let Some((mapfile, requests)) = asked.text()?.split_once('\0') else {
@@ -59,9 +59,9 @@ fn publish_and_serve(
     publish(asked.alloc, node, mapfile)?;
     let input = requests.as_bytes();
     if is_cached {
-        return serve_by_cache(Asked { input, ..asked }, node, way, answer);
+        return serve_by_cache(CaseInput { input, ..asked }, node, way, answer);
     }
-    serve_each(Asked { input, ..asked }, node, way, answer)
+    serve_each(CaseInput { input, ..asked }, node, way, answer)
 }
 
 fn publish<T: Tape>(alloc: Global, node: &mut Node<T>, mapfile: &str) -> Answered {
@@ -88,16 +88,16 @@ fn learn<T: Tape>(alloc: Global, node: &mut Node<T>, canon: Canon) -> Answered {
 }
 
 fn serve_by_cache<T: Tape>(
-    asked: Asked<'_>,
+    asked: CaseInput<'_>,
     node: &mut Node<T>,
     way: Exchange,
-    answer: &mut Answer,
+    answer: &mut Transcript,
 ) -> Answered {
     match Cache::new(asked.alloc, 1) {
         Ok(mut cache) => {
-            let told = serve_twice_by(asked, node, &mut cache, way, answer);
+            let reported = serve_twice_by(asked, node, &mut cache, way, answer);
             drop(cache);
-            told
+            reported
         }
         Err(_) => Err(Unanswered::Memory),
     }
@@ -105,33 +105,33 @@ fn serve_by_cache<T: Tape>(
 
 // The request twice: what was kept for the first is there for the second.
 fn serve_twice_by<T: Tape>(
-    asked: Asked<'_>,
+    asked: CaseInput<'_>,
     node: &mut Node<T>,
     cache: &mut Cache,
     way: Exchange,
-    answer: &mut Answer,
+    answer: &mut Transcript,
 ) -> Answered
-    requires { AllKept node.old.parts.history cache.old }
+    requires { AllCached node.old.parts.history cache.old }
 {
-    tell_serving_by(asked.alloc, node, cache, way, asked.input, answer)?;
-    tell_serving_by(asked.alloc, node, cache, way, asked.input, answer)
+    write_serving_by(asked.alloc, node, cache, way, asked.input, answer)?;
+    write_serving_by(asked.alloc, node, cache, way, asked.input, answer)
 }
 
-fn tell_serving_by<T: Tape>(
+fn write_serving_by<T: Tape>(
     alloc: Global,
     node: &mut Node<T>,
     cache: &mut Cache,
     way: Exchange,
     request: &[u8],
-    answer: &mut Answer,
+    answer: &mut Transcript,
 ) -> Answered
-    requires { AllKept node.old.parts.history cache.old }
-    ensures { AllKept node.new.parts.history cache.new }
+    requires { AllCached node.old.parts.history cache.old }
+    ensures { AllCached node.new.parts.history cache.new }
 {
     let mut reader = way.reader(request)?;
     let mut writer = way.writer(alloc);
     let served = serve_one_cached(alloc, &mut reader, &mut writer, node, cache);
-    tell(&served, way, writer.inner(), answer);
+    write(&served, way, writer.inner(), answer);
     drop(served);
     drop(writer);
     drop(reader);

@@ -1,5 +1,5 @@
 //! Reports of exceptions, also each by itself.
-use wf_test_table::{Answer, Answered, Asked, Unanswered, Words};
+use wf_test_table::{Answered, CaseInput, CaseWords, Transcript, Unanswered};
 use wf_wms::report::report;
 use wf_wms::{Exception, Parameter};
 
@@ -25,7 +25,7 @@ fn exception_alone(name: &str) -> Result<Exception, Unanswered> {
     }
 }
 
-fn exception_of(mut words: Words<'_>) -> Result<Exception, Unanswered> {
+fn exception_of(mut words: CaseWords<'_>) -> Result<Exception, Unanswered> {
     match words.word() {
         "MissingParameter" => Ok(Exception::MissingParameter(parameter_of(words.rest())?)),
         "BadValue" => Ok(Exception::BadValue(parameter_of(words.rest())?)),
@@ -36,7 +36,7 @@ fn exception_of(mut words: Words<'_>) -> Result<Exception, Unanswered> {
 }
 
 /// `report EXCEPTION`: its report.
-pub(crate) fn report_of(asked: Asked<'_>, answer: &mut Answer) -> Answered {
+pub(crate) fn report_of(asked: CaseInput<'_>, answer: &mut Transcript) -> Answered {
     match report(asked.alloc, exception_of(asked.words)?) {
         Ok(document) => {
             answer.bytes(&document);

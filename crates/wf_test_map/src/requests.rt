@@ -2,13 +2,13 @@
 use wf_ballot::Seq;
 use wf_def::map::MapDef;
 use wf_test_calls::words::sequence;
-use wf_test_table::{Answer, Answered, Asked};
+use wf_test_table::{Answered, CaseInput, Transcript};
 use wf_wms::{Answer as Given, Exception, Kind, describe};
 
 /// Map `a`: 0 0 4 4 in degrees, with every default.
 const MAP_A: &str = "MAP NAME \"a\" EXTENT 0 0 4 4 PROJECTION \"init=epsg:4326\" END END";
 
-fn write_exception(exception: Exception, answer: &mut Answer) {
+fn write_exception(exception: Exception, answer: &mut Transcript) {
     match exception {
         Exception::MissingParameter(parameter) => {
             answer.text("MissingParameter ");
@@ -31,7 +31,7 @@ fn write_exception(exception: Exception, answer: &mut Answer) {
     }
 }
 
-fn write_kind(kind: Kind, answer: &mut Answer) {
+fn write_kind(kind: Kind, answer: &mut Transcript) {
     match kind {
         Kind::Capabilities => answer.text("Capabilities"),
         Kind::Map => answer.text("Map"),
@@ -40,7 +40,7 @@ fn write_kind(kind: Kind, answer: &mut Answer) {
 }
 
 /// Appends the kind, the media type and the length of the answer to a query.
-pub(crate) fn tell_summary(given: Given, answer: &mut Answer) {
+pub(crate) fn write_summary(given: Given, answer: &mut Transcript) {
     write_kind(given.kind, answer);
     answer.text(", ");
     answer.text(given.media);
@@ -50,19 +50,19 @@ pub(crate) fn tell_summary(given: Given, answer: &mut Answer) {
     drop(given);
 }
 
-fn tell_described(asked: Asked<'_>, sequence: Seq, map: &MapDef, answer: &mut Answer) {
+fn write_described(asked: CaseInput<'_>, sequence: Seq, map: &MapDef, answer: &mut Transcript) {
     match describe(asked.alloc, sequence.number(), map, asked.input) {
-        Ok(given) => tell_summary(given, answer),
+        Ok(given) => write_summary(given, answer),
         Err(_) => answer.cut(),
     }
 }
 
 /// `request SEQ`: the kind, the media type and the length of the answer to a query about map `a` at an update sequence.
-pub(crate) fn request(mut asked: Asked<'_>, answer: &mut Answer) -> Answered {
+pub(crate) fn request(mut asked: CaseInput<'_>, answer: &mut Transcript) -> Answered {
     let sequence = sequence(&mut asked.words)?;
     match wf_mapfile::read(asked.alloc, MAP_A.as_bytes()) {
         Ok(map) => {
-            tell_described(asked, sequence, &map, answer);
+            write_described(asked, sequence, &map, answer);
             drop(map);
         }
         Err(_) => answer.cut(),

@@ -1,23 +1,28 @@
 //! Pictures of a map's layers with their labels, as files.
-use crate::request::{Request, are_below, indices_of};
+use crate::request::{SectionRequest, are_below, indices_of};
 use crate::section::read_map;
 use wf_def::map::MapDef;
-use wf_test_table::{Answer, Answered, Asked, Unanswered};
+use wf_test_table::{Answered, CaseInput, Transcript, Unanswered};
 
 /// Appends the file of the picture of `BOX, W by H, BACKGROUND[, LAYER ..]`.
-pub(crate) fn ask(mut asked: Asked<'_>, answer: &mut Answer) -> Answered {
-    let request = Request::read(&mut asked.words)?;
+pub(crate) fn ask(mut asked: CaseInput<'_>, answer: &mut Transcript) -> Answered {
+    let request = SectionRequest::read(&mut asked.words)?;
     match read_map(asked) {
         Ok(map) => {
-            let told = tell_file(asked, &map, request, answer);
+            let reported = write_file(asked, &map, request, answer);
             drop(map);
-            told
+            reported
         }
         Err(unanswered) => Err(unanswered),
     }
 }
 
-fn tell_file(asked: Asked<'_>, map: &MapDef, request: Request, answer: &mut Answer) -> Answered {
+fn write_file(
+    asked: CaseInput<'_>,
+    map: &MapDef,
+    request: SectionRequest,
+    answer: &mut Transcript,
+) -> Answered {
     let layers = indices_of(asked, map)?;
     if !are_below(&layers, map.layer_count()) {
         drop(layers);

@@ -1,7 +1,7 @@
 //! Pictures of a map's layers with their labels.
 ghost use Rattle.std.specs.Prelude.{◌<◌, All, length};
 
-use crate::request::{Request, are_below, indices_of};
+use crate::request::{SectionRequest, are_below, indices_of};
 use crate::section::read_map;
 use crate::window::Window;
 use std::alloc::Global;
@@ -11,51 +11,55 @@ use wf_label::placement::place;
 use wf_paint::painter::paint;
 use wf_paint::pixmap::Pixmap;
 use wf_paint::view::View;
-use wf_test_table::{Answer, Answered, Asked, Unanswered};
+use wf_test_table::{Answered, CaseInput, Transcript, Unanswered};
 
 /// Appends the picture of `BOX, W by H, BACKGROUND[, LAYER ..]`: a letter a pixel, the top row first.
-pub(crate) fn ask(asked: Asked<'_>, answer: &mut Answer) -> Answered {
+pub(crate) fn ask(asked: CaseInput<'_>, answer: &mut Transcript) -> Answered {
     ask_shown(asked, None, answer)
 }
 
 /// Appends the same of `COLUMN ROW, W by H of` a picture.
-pub(crate) fn ask_part(mut asked: Asked<'_>, answer: &mut Answer) -> Answered {
+pub(crate) fn ask_part(mut asked: CaseInput<'_>, answer: &mut Transcript) -> Answered {
     let window = Window::read(&mut asked.words)?;
     ask_shown(asked, Some(window), answer)
 }
 
-fn ask_shown(mut asked: Asked<'_>, window: Option<Window>, answer: &mut Answer) -> Answered {
-    let request = Request::read(&mut asked.words)?;
+fn ask_shown(
+    mut asked: CaseInput<'_>,
+    window: Option<Window>,
+    answer: &mut Transcript,
+) -> Answered {
+    let request = SectionRequest::read(&mut asked.words)?;
     match read_map(asked) {
         Ok(map) => {
-            let told = tell_layers(asked, &map, request, window, answer);
+            let reported = write_layers(asked, &map, request, window, answer);
             drop(map);
-            told
+            reported
         }
         Err(unanswered) => Err(unanswered),
     }
 }
 
-fn tell_layers(
-    asked: Asked<'_>,
+fn write_layers(
+    asked: CaseInput<'_>,
     map: &MapDef,
-    request: Request,
+    request: SectionRequest,
     window: Option<Window>,
-    answer: &mut Answer,
+    answer: &mut Transcript,
 ) -> Answered {
     let layers = indices_of(asked, map)?;
-    let told = tell_picture(asked.alloc, map, &layers, request, window, answer);
+    let reported = write_picture(asked.alloc, map, &layers, request, window, answer);
     drop(layers);
-    told
+    reported
 }
 
-fn tell_picture(
+fn write_picture(
     alloc: Global,
     map: &MapDef,
     layers: &[usize],
-    request: Request,
+    request: SectionRequest,
     window: Option<Window>,
-    answer: &mut Answer,
+    answer: &mut Transcript,
 ) -> Answered {
     let view = request.section.view(map)?;
     if !are_below(layers, map.layer_count()) {
@@ -64,9 +68,9 @@ fn tell_picture(
     match paint(alloc, map, layers, &view, request.background) {
         Ok(mut pixmap) => {
             label(alloc, map, layers, &view, &mut pixmap, answer);
-            let told = tell_pixels(&pixmap, window, answer);
+            let reported = write_pixels(&pixmap, window, answer);
             drop(pixmap);
-            told
+            reported
         }
         Err(_) => Err(Unanswered::Memory),
     }
@@ -79,7 +83,7 @@ fn label(
     layers: &[usize],
     view: &View,
     pixmap: &mut Pixmap,
-    answer: &mut Answer,
+    answer: &mut Transcript,
 )
     requires { All (λ i. i < length map.now.layers) layers.now }
 {
@@ -92,7 +96,7 @@ fn label(
     }
 }
 
-fn tell_pixels(pixmap: &Pixmap, window: Option<Window>, answer: &mut Answer) -> Answered {
+fn write_pixels(pixmap: &Pixmap, window: Option<Window>, answer: &mut Transcript) -> Answered {
     let window = match window {
         Some(window) => window,
         None => Window::whole(pixmap),

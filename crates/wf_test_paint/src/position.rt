@@ -3,10 +3,10 @@ use crate::section::{Section, read_map, read_point};
 use wf_paint::corner::Corner;
 use wf_paint::position::Position;
 use wf_paint::view::View;
-use wf_test_table::{Answer, Answered, Asked, Unanswered};
+use wf_test_table::{Answered, CaseInput, Transcript, Unanswered};
 
 /// Appends where the view of `BOX, W by H, X Y` shows the point; for a tile also where it is cut out.
-pub(crate) fn ask(mut asked: Asked<'_>, answer: &mut Answer) -> Answered {
+pub(crate) fn ask(mut asked: CaseInput<'_>, answer: &mut Transcript) -> Answered {
     let section = Section::read(&mut asked.words)?;
     let point = read_point(asked.words)?;
     let view = view_of(asked, section)?;
@@ -18,7 +18,7 @@ pub(crate) fn ask(mut asked: Asked<'_>, answer: &mut Answer) -> Answered {
     Ok(())
 }
 
-fn view_of(asked: Asked<'_>, section: Section) -> Result<View, Unanswered> {
+fn view_of(asked: CaseInput<'_>, section: Section) -> Result<View, Unanswered> {
     match read_map(asked) {
         Ok(map) => {
             let view = section.view(&map);
@@ -29,13 +29,13 @@ fn view_of(asked: Asked<'_>, section: Section) -> Result<View, Unanswered> {
     }
 }
 
-fn write_position(position: Position, answer: &mut Answer) {
+fn write_position(position: Position, answer: &mut Transcript) {
     answer.value(position.x());
     answer.text(" ");
     answer.value(position.y());
 }
 
-fn write_corner(corner: Corner, answer: &mut Answer) {
+fn write_corner(corner: Corner, answer: &mut Transcript) {
     answer.text(", cut at ");
     answer.value(corner.column);
     answer.text(" ");

@@ -14,13 +14,13 @@
 //!
 //! [`crate::letter`] has the letters.
 use crate::{cell, file, picture, position};
-use wf_test_table::{Answer, Answered, Asked, Questions, Unanswered};
+use wf_test_table::{Answered, CaseInput, Questions, Transcript, Unanswered};
 
 /// The questions about the painter.
 pub(crate) struct Painter;
 
 impl Questions for Painter {
-    fn answer(&self, mut asked: Asked<'_>, answer: &mut Answer) -> Answered {
+    fn answer(&self, mut asked: CaseInput<'_>, answer: &mut Transcript) -> Answered {
         match asked.words.word() {
             "picture" => picture::ask(asked, answer),
             "part" => picture::ask_part(asked, answer),

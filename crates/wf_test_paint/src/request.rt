@@ -5,21 +5,21 @@ use crate::letter::color_of;
 use crate::section::Section;
 use wf_def::color::Color;
 use wf_def::map::MapDef;
-use wf_test_table::{Asked, Unanswered, Words};
+use wf_test_table::{CaseInput, CaseWords, Unanswered};
 
 /// A section of a map and the colour of the background.
 #[derive(Clone, Copy)]
-pub(crate) struct Request {
+pub(crate) struct SectionRequest {
     pub section: Section,
     pub background: Color,
 }
 
-impl Request {
+impl SectionRequest {
     /// The request of the parts `BOX, W by H, BACKGROUND`.
-    pub fn read(words: &mut Words<'_>) -> Result<Self, Unanswered> {
+    pub fn read(words: &mut CaseWords<'_>) -> Result<Self, Unanswered> {
         let section = Section::read(words)?;
         let background = color_of(words.part())?;
-        Ok(Request {
+        Ok(SectionRequest {
             section,
             background,
         })
@@ -27,7 +27,7 @@ impl Request {
 }
 
 /// The indices of the layers of these names.
-pub(crate) fn indices_of(asked: Asked<'_>, map: &MapDef) -> Result<Vec<usize>, Unanswered> {
+pub(crate) fn indices_of(asked: CaseInput<'_>, map: &MapDef) -> Result<Vec<usize>, Unanswered> {
     let mut indices = Vec::new(asked.alloc);
     match push_indices(map, asked.words, &mut indices) {
         Ok(()) => Ok(indices),
@@ -40,7 +40,7 @@ pub(crate) fn indices_of(asked: Asked<'_>, map: &MapDef) -> Result<Vec<usize>, U
 
 fn push_indices(
     map: &MapDef,
-    words: Words<'_>,
+    words: CaseWords<'_>,
     indices: &mut Vec<usize>,
 ) -> Result<(), Unanswered> {
     for name in words.rest().split_whitespace() {

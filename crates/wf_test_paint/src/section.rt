@@ -14,7 +14,7 @@ use wf_paint::view::View;
 use wf_picture::picture::draw;
 use wf_picture::request::PictureRequest;
 use wf_picture::size::Size;
-use wf_test_table::{Asked, Unanswered, Words};
+use wf_test_table::{CaseInput, CaseWords, Unanswered};
 
 /// A box and a size in pixels.
 #[derive(Clone, Copy)]
@@ -26,9 +26,9 @@ pub(crate) struct Section {
 
 impl Section {
     /// The section of the parts `BOX, W by H`.
-    pub fn read(words: &mut Words<'_>) -> Result<Section, Unanswered> {
-        let bbox = read_box(Words::new(words.part()))?;
-        let mut size = Words::new(words.part());
+    pub fn read(words: &mut CaseWords<'_>) -> Result<Section, Unanswered> {
+        let bbox = read_box(CaseWords::new(words.part()))?;
+        let mut size = CaseWords::new(words.part());
         let width = size.number()?;
         let height = read_other_side(&mut size)?;
         Ok(Section {
@@ -85,7 +85,7 @@ impl Section {
 }
 
 /// The number of pixels after the word `by`.
-pub(crate) fn read_other_side(words: &mut Words<'_>) -> Result<u32, Unanswered> {
+pub(crate) fn read_other_side(words: &mut CaseWords<'_>) -> Result<u32, Unanswered> {
     match words.word() {
         "by" => words.number(),
         _ => Err(Unanswered::BadWords),
@@ -93,7 +93,7 @@ pub(crate) fn read_other_side(words: &mut Words<'_>) -> Result<u32, Unanswered> 
 }
 
 /// The box of four sides: least x, least y, most x and most y.
-pub(crate) fn read_box(mut words: Words<'_>) -> Result<Extent, Unanswered> {
+pub(crate) fn read_box(mut words: CaseWords<'_>) -> Result<Extent, Unanswered> {
     let minx = read_number(&mut words)?;
     let miny = read_number(&mut words)?;
     let maxx = read_number(&mut words)?;
@@ -105,14 +105,14 @@ pub(crate) fn read_box(mut words: Words<'_>) -> Result<Extent, Unanswered> {
 }
 
 /// The point of two coordinates.
-pub(crate) fn read_point(mut words: Words<'_>) -> Result<Point, Unanswered> {
+pub(crate) fn read_point(mut words: CaseWords<'_>) -> Result<Point, Unanswered> {
     let x = read_number(&mut words)?;
     let y = read_number(&mut words)?;
     Ok(Point { x, y })
 }
 
 /// The map of the mapfile that is the input.
-pub(crate) fn read_map(asked: Asked<'_>) -> Result<MapDef, Unanswered> {
+pub(crate) fn read_map(asked: CaseInput<'_>) -> Result<MapDef, Unanswered> {
     match read(asked.alloc, asked.input) {
         Ok(map) => Ok(map),
         Err(MapFault::Memory) => Err(Unanswered::Memory),
@@ -120,7 +120,7 @@ pub(crate) fn read_map(asked: Asked<'_>) -> Result<MapDef, Unanswered> {
     }
 }
 
-fn read_number(words: &mut Words<'_>) -> Result<Micro, Unanswered> {
+fn read_number(words: &mut CaseWords<'_>) -> Result<Micro, Unanswered> {
     match Micro::read(words.word().as_bytes()) {
         Ok(number) => Ok(number),
         Err(_) => Err(Unanswered::BadWords),

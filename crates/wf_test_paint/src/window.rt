@@ -3,7 +3,7 @@ use crate::letter::letter_of;
 use crate::section::read_other_side;
 use wf_def::color::Color;
 use wf_paint::pixmap::Pixmap;
-use wf_test_table::{Answer, Answered, Unanswered, Words};
+use wf_test_table::{Answered, CaseWords, Transcript, Unanswered};
 
 /// Some columns and rows of a picture from a first one on, counted from the left and from the bottom.
 #[derive(Clone, Copy)]
@@ -16,8 +16,8 @@ pub(crate) struct Window {
 
 impl Window {
     /// The window that `COLUMN ROW, W by H of` names.
-    pub fn read(words: &mut Words<'_>) -> Result<Window, Unanswered> {
-        let mut corner = Words::new(words.part());
+    pub fn read(words: &mut CaseWords<'_>) -> Result<Window, Unanswered> {
+        let mut corner = CaseWords::new(words.part());
         let column = corner.number()?;
         let row = corner.number()?;
         let width = words.number()?;
@@ -44,7 +44,7 @@ impl Window {
     }
 
     /// Appends the rows of the picture that it shows, the top one first.
-    pub fn write(self, pixmap: &Pixmap, answer: &mut Answer) -> Answered {
+    pub fn write(self, pixmap: &Pixmap, answer: &mut Transcript) -> Answered {
         if self.column.saturating_add(self.width) > pixmap.width() {
             return Err(Unanswered::BadWords);
         }
@@ -70,14 +70,14 @@ impl Window {
 }
 
 /// Appends a row, a letter a pixel.
-fn write_row(bytes: &[u8], answer: &mut Answer) {
+fn write_row(bytes: &[u8], answer: &mut Transcript) {
     for pixel in bytes.chunks(3) {
         write_pixel(pixel, answer);
     }
     answer.line("");
 }
 
-fn write_pixel(pixel: &[u8], answer: &mut Answer) {
+fn write_pixel(pixel: &[u8], answer: &mut Transcript) {
     match pixel {
         [r, g, b] => {
             let color = Color {

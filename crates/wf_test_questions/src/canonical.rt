@@ -7,11 +7,11 @@ use wf_def::extent::Extent;
 use wf_def::map::MapDef;
 use wf_def::micro::Micro;
 use wf_def::text::Text;
-use wf_test_table::{Answer, Answered, Asked, Unanswered, Words};
+use wf_test_table::{Answered, CaseInput, CaseWords, Transcript, Unanswered};
 
 /// `canonical_number`: the canonical text of a number of millionths, after what is written already.
-pub(crate) fn number(asked: Asked<'_>, answer: &mut Answer) -> Answered {
-    let millionths = Words::of(asked.input)?.signed()?;
+pub(crate) fn number(asked: CaseInput<'_>, answer: &mut Transcript) -> Answered {
+    let millionths = CaseWords::of(asked.input)?.signed()?;
     let Some(number) = Micro::from_millionths(millionths) else {
         return Err(Unanswered::BadWords);
     };
@@ -23,7 +23,7 @@ pub(crate) fn number(asked: Asked<'_>, answer: &mut Answer) -> Answered {
     Ok(())
 }
 
-fn write_canon_fault(fault: CanonFault, answer: &mut Answer) {
+fn write_canon_fault(fault: CanonFault, answer: &mut Transcript) {
     match fault {
         CanonFault::Memory => answer.cut(),
         CanonFault::TooBig => answer.line("K1"),
@@ -31,34 +31,34 @@ fn write_canon_fault(fault: CanonFault, answer: &mut Answer) {
     }
 }
 
-fn tell_canon(canon: Canon, answer: &mut Answer) {
+fn print_canon(canon: Canon, answer: &mut Transcript) {
     answer.bytes(canon.text());
     drop(canon);
 }
 
-fn tell_copy(canon: Canon, answer: &mut Answer) {
+fn print_copy(canon: Canon, answer: &mut Transcript) {
     let copied = canon.copy();
     drop(canon);
     match copied {
-        Ok(copy) => tell_canon(copy, answer),
+        Ok(copy) => print_canon(copy, answer),
         Err(_) => answer.cut(),
     }
 }
 
 // Appends a line if the quick reader leaves a canonical text to be read and written again.
-fn tell_slow(asked: Asked<'_>, answer: &mut Answer) {
-    match Canon::scanned(asked.alloc, asked.input) {
+fn print_slow(asked: CaseInput<'_>, answer: &mut Transcript) {
+    match Canon::scan_bytes(asked.alloc, asked.input) {
         Some(canon) => drop(canon),
         None => answer.line("the quick reader leaves it"),
     }
 }
 
 /// `canonical`: a copy of the canonical text that the bytes are, or why they are none. The quick reader has to accept each such text too.
-pub(crate) fn from_bytes(asked: Asked<'_>, answer: &mut Answer) -> Answered {
+pub(crate) fn from_bytes(asked: CaseInput<'_>, answer: &mut Transcript) -> Answered {
     match Canon::from_bytes(asked.alloc, asked.input) {
         Ok(canon) => {
-            tell_copy(canon, answer);
-            tell_slow(asked, answer);
+            print_copy(canon, answer);
+            print_slow(asked, answer);
         }
         Err(fault) => write_canon_fault(fault, answer),
     }
@@ -138,44 +138,44 @@ fn spelled_title(text: &[u8]) -> &[u8] {
     }
 }
 
-fn tell_title(canon: Canon, answer: &mut Answer) {
+fn print_title(canon: Canon, answer: &mut Transcript) {
     answer.text("again: ");
     answer.line(canon.def().title().as_str());
     drop(canon);
 }
 
-fn tell_title_of_copy(canon: Canon, answer: &mut Answer) {
+fn print_title_of_copy(canon: Canon, answer: &mut Transcript) {
     let copied = canon.copy();
     drop(canon);
     match copied {
-        Ok(copy) => tell_title(copy, answer),
+        Ok(copy) => print_title(copy, answer),
         Err(_) => answer.cut(),
     }
 }
 
-fn tell_title_again(alloc: Global, canon: Canon, answer: &mut Answer) {
+fn print_title_again(alloc: Global, canon: Canon, answer: &mut Transcript) {
     answer.bytes(spelled_title(canon.text()));
     answer.line("");
     match Canon::from_bytes(alloc, canon.text()) {
-        Ok(again) => tell_title_of_copy(again, answer),
+        Ok(again) => print_title_of_copy(again, answer),
         Err(fault) => write_canon_fault(fault, answer),
     }
     drop(canon);
 }
 
-fn tell_titled(alloc: Global, map: MapDef, answer: &mut Answer) {
+fn print_titled(alloc: Global, map: MapDef, answer: &mut Transcript) {
     let canonical = Canon::of(alloc, &map);
     drop(map);
     match canonical {
-        Ok(canon) => tell_title_again(alloc, canon, answer),
+        Ok(canon) => print_title_again(alloc, canon, answer),
         Err(fault) => write_canon_fault(fault, answer),
     }
 }
 
 /// `title`: how the canonical text of map `a` with this title spells it, and the title that this text means.
-pub(crate) fn title(asked: Asked<'_>, answer: &mut Answer) -> Answered {
+pub(crate) fn title(asked: CaseInput<'_>, answer: &mut Transcript) -> Answered {
     match titled(asked.alloc, asked.input) {
-        Ok(map) => tell_titled(asked.alloc, map, answer),
+        Ok(map) => print_titled(asked.alloc, map, answer),
         Err(unanswered) => return Err(unanswered),
     }
     Ok(())

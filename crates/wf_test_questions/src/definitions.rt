@@ -3,13 +3,13 @@ ghost use Rattle.std.specs.Prelude.{◌<◌, length};
 
 use crate::canonical::two_texts;
 use crate::mapfiles::write_value;
-use crate::shown::tell_map;
+use crate::shown::print_map;
 use crate::texts::text_of;
 use std::alloc::{AllocError, Global};
 use wf_def::attribute::attribute;
 use wf_def::choice::LayerKind;
 use wf_def::class::{Class, Styles};
-use wf_def::feature::{Feature, Part, Parts};
+use wf_def::feature::{Feature, Part, ShapeParts};
 use wf_def::layer::{Classes, Features, Layer};
 use wf_def::map::MapDef;
 use wf_def::micro::Micro;
@@ -17,10 +17,10 @@ use wf_def::point::Point;
 use wf_def::style::Style;
 use wf_def::text::Text;
 use wf_def::whole::Whole;
-use wf_test_table::{Answer, Answered, Asked, Unanswered, Words};
+use wf_test_table::{Answered, CaseInput, CaseWords, Transcript, Unanswered};
 
 /// `attribute`: the value of names between commas, values between semicolons and a name, with `|` between the three.
-pub(crate) fn attribute_of_lists(asked: Asked<'_>, answer: &mut Answer) -> Answered {
+pub(crate) fn attribute_of_lists(asked: CaseInput<'_>, answer: &mut Transcript) -> Answered {
     let Some((names, rest)) = asked.text()?.split_once('|') else {
         return Err(Unanswered::BadWords);
     };
@@ -48,12 +48,12 @@ fn style_of_width(width: u8) -> Result<Style, Unanswered> {
 }
 
 // Appends whether there is room for one more.
-fn write_room(is_full: bool, answer: &mut Answer) {
+fn write_room(is_full: bool, answer: &mut Transcript) {
     answer.text(if is_full { "full:" } else { "room:" });
 }
 
 // Appends whether there is room for one more, and the widths in their order.
-fn tell_styles(styles: Styles, answer: &mut Answer) {
+fn print_styles(styles: Styles, answer: &mut Transcript) {
     write_room(styles.is_full(), answer);
     for style in styles.as_slice() {
         answer.text(" ");
@@ -63,26 +63,26 @@ fn tell_styles(styles: Styles, answer: &mut Answer) {
     drop(styles);
 }
 
-fn tell_copy_of_styles(styles: &Styles, answer: &mut Answer) {
+fn print_copy_of_styles(styles: &Styles, answer: &mut Transcript) {
     match styles.clone() {
-        Ok(copy) => tell_styles(copy, answer),
+        Ok(copy) => print_styles(copy, answer),
         Err(_) => answer.cut(),
     }
 }
 
 /// `styles`: a copy of the styles of these widths, as far as there is room.
-pub(crate) fn styles(asked: Asked<'_>, answer: &mut Answer) -> Answered {
-    let words = Words::of(asked.input)?;
+pub(crate) fn styles(asked: CaseInput<'_>, answer: &mut Transcript) -> Answered {
+    let words = CaseWords::of(asked.input)?;
     let mut styles = Styles::new(asked.alloc);
     let pushed = push_styles(&mut styles, words);
-    tell_copy_of_styles(&styles, answer);
+    print_copy_of_styles(&styles, answer);
     drop(styles);
     pushed
 }
 
-fn push_styles(styles: &mut Styles, words: Words<'_>) -> Answered {
+fn push_styles(styles: &mut Styles, words: CaseWords<'_>) -> Answered {
     for word in words.rest().split(' ') {
-        push_style(styles, Words::new(word).byte()?)?;
+        push_style(styles, CaseWords::new(word).byte()?)?;
     }
     Ok(())
 }
@@ -102,7 +102,7 @@ fn empty_class(alloc: Global) -> Result<Class, Unanswered> {
     }
 }
 
-fn tell_classes(classes: Classes, answer: &mut Answer) {
+fn print_classes(classes: Classes, answer: &mut Transcript) {
     write_room(classes.is_full(), answer);
     answer.text(" ");
     answer.count(classes.as_slice().len());
@@ -110,19 +110,19 @@ fn tell_classes(classes: Classes, answer: &mut Answer) {
     drop(classes);
 }
 
-fn tell_copy_of_classes(classes: &Classes, answer: &mut Answer) {
+fn print_copy_of_classes(classes: &Classes, answer: &mut Transcript) {
     match classes.clone() {
-        Ok(copy) => tell_classes(copy, answer),
+        Ok(copy) => print_classes(copy, answer),
         Err(_) => answer.cut(),
     }
 }
 
 /// `classes`: a copy of that many empty classes, as far as there is room.
-pub(crate) fn classes(asked: Asked<'_>, answer: &mut Answer) -> Answered {
-    let count = Words::of(asked.input)?.count()?;
+pub(crate) fn classes(asked: CaseInput<'_>, answer: &mut Transcript) -> Answered {
+    let count = CaseWords::of(asked.input)?.count()?;
     let mut classes = Classes::new(asked.alloc);
     let pushed = push_classes(asked.alloc, &mut classes, count);
-    tell_copy_of_classes(&classes, answer);
+    print_copy_of_classes(&classes, answer);
     drop(classes);
     pushed
 }
@@ -158,8 +158,8 @@ fn push_points(part: &mut Part, count: usize) -> Result<(), AllocError> {
 }
 
 // Parts, each with as many points as its word says.
-fn parts_of_points(alloc: Global, words: &str) -> Result<Parts, Unanswered> {
-    let mut parts = Parts::new(alloc);
+fn parts_of_points(alloc: Global, words: &str) -> Result<ShapeParts, Unanswered> {
+    let mut parts = ShapeParts::new(alloc);
     match push_parts(alloc, words, &mut parts) {
         Ok(()) => Ok(parts),
         Err(unanswered) => {
@@ -169,9 +169,9 @@ fn parts_of_points(alloc: Global, words: &str) -> Result<Parts, Unanswered> {
     }
 }
 
-fn push_parts(alloc: Global, words: &str, parts: &mut Parts) -> Answered {
+fn push_parts(alloc: Global, words: &str, parts: &mut ShapeParts) -> Answered {
     for word in words.split_whitespace() {
-        let count = Words::new(word).count()?;
+        let count = CaseWords::new(word).count()?;
         let part = part_of_points(alloc, count)?;
         parts.push(part)?;
     }
@@ -206,12 +206,12 @@ fn with_items(alloc: Global, title: Text) -> Result<(Text, Text, Text), Unanswer
 }
 
 // Appends whether a layer of the kind can have these attributes and features.
-fn tell_layer(
+fn print_layer(
     alloc: Global,
     kind: LayerKind,
     items: Text,
     features: Features,
-    answer: &mut Answer,
+    answer: &mut Transcript,
 ) {
     match empty_texts(alloc) {
         Ok((title, class_item, label_item)) => {
@@ -234,16 +234,16 @@ fn tell_layer(
     }
 }
 
-fn tell_layer_of_items(
+fn print_layer_of_items(
     alloc: Global,
     kind: LayerKind,
     items: &[u8],
     features: Features,
-    answer: &mut Answer,
+    answer: &mut Transcript,
 ) -> Answered {
     match text_of(alloc, items) {
         Ok(items) => {
-            tell_layer(alloc, kind, items, features, answer);
+            print_layer(alloc, kind, items, features, answer);
             Ok(())
         }
         Err(unanswered) => {
@@ -253,15 +253,15 @@ fn tell_layer_of_items(
     }
 }
 
-fn tell_layer_of_feature(
+fn print_layer_of_feature(
     alloc: Global,
     kind: LayerKind,
     feature: Feature,
-    answer: &mut Answer,
+    answer: &mut Transcript,
 ) -> Answered {
     let mut features = Features::new(alloc);
     match features.push(feature) {
-        Ok(()) => tell_layer_of_items(alloc, kind, b"", features, answer),
+        Ok(()) => print_layer_of_items(alloc, kind, b"", features, answer),
         Err(_) => {
             drop(features);
             Err(Unanswered::Memory)
@@ -269,15 +269,15 @@ fn tell_layer_of_feature(
     }
 }
 
-fn tell_layer_of_parts(
+fn print_layer_of_parts(
     alloc: Global,
     kind: LayerKind,
-    parts: Parts,
-    answer: &mut Answer,
+    parts: ShapeParts,
+    answer: &mut Transcript,
 ) -> Answered {
     match two_texts(alloc, b"", b"") {
         Ok((items, text)) => match Feature::new(parts, items, text) {
-            Some(feature) => tell_layer_of_feature(alloc, kind, feature, answer),
+            Some(feature) => print_layer_of_feature(alloc, kind, feature, answer),
             None => {
                 answer.line("no feature");
                 Ok(())
@@ -291,18 +291,18 @@ fn tell_layer_of_parts(
 }
 
 /// `shape KIND`: whether a layer of the kind can have one feature whose parts have these numbers of points.
-pub(crate) fn shape(asked: Asked<'_>, answer: &mut Answer) -> Answered {
+pub(crate) fn shape(asked: CaseInput<'_>, answer: &mut Transcript) -> Answered {
     let kind = kind_of(asked.words.rest())?;
     match parts_of_points(asked.alloc, asked.text()?) {
-        Ok(parts) => tell_layer_of_parts(asked.alloc, kind, parts, answer),
+        Ok(parts) => print_layer_of_parts(asked.alloc, kind, parts, answer),
         Err(unanswered) => Err(unanswered),
     }
 }
 
 /// `items`: whether a layer can have this list of attributes.
-pub(crate) fn items(asked: Asked<'_>, answer: &mut Answer) -> Answered {
+pub(crate) fn items(asked: CaseInput<'_>, answer: &mut Transcript) -> Answered {
     let features = Features::new(asked.alloc);
-    tell_layer_of_items(
+    print_layer_of_items(
         asked.alloc,
         LayerKind::Points,
         asked.input,
@@ -312,9 +312,9 @@ pub(crate) fn items(asked: Asked<'_>, answer: &mut Answer) -> Answered {
 }
 
 /// `empty_map`: the map at the start of a farm.
-pub(crate) fn empty_map(asked: Asked<'_>, answer: &mut Answer) -> Answered {
+pub(crate) fn empty_map(asked: CaseInput<'_>, answer: &mut Transcript) -> Answered {
     match MapDef::empty(asked.alloc) {
-        Ok(map) => tell_map(map, answer),
+        Ok(map) => print_map(map, answer),
         Err(_) => answer.cut(),
     }
     Ok(())

@@ -10,6 +10,7 @@
 
 mod canonical;
 mod definitions;
+mod mapfile_frame;
 mod mapfiles;
 mod numbers;
 mod questions;
@@ -18,6 +19,5 @@ mod spellings;
 mod tables;
 mod texts;
 mod tokens;
-mod wrapping;
 
 pub use questions::ask;

@@ -1,7 +1,7 @@
 //! Mapfiles: the map that they mean, or the error.
+use crate::mapfile_frame::{CLASS, Wrapping, wrapping_of};
 use crate::shown::{write_class, write_fault, write_layers, write_map};
 use crate::texts::text_of;
-use crate::wrapping::{CLASS, Wrapping, wrapping_of};
 use std::alloc::Global;
 use wf_def::class::Class;
 use wf_def::feature::Feature;
@@ -9,11 +9,11 @@ use wf_def::layer::Layer;
 use wf_def::map::MapDef;
 use wf_def::text::Text;
 use wf_mapfile::fault::MapFault;
-use wf_test_table::{Answer, Answered, Asked, Unanswered};
+use wf_test_table::{Answered, CaseInput, Transcript, Unanswered};
 
 // What is written about a map.
 #[derive(Clone, Copy)]
-enum Told<'a> {
+enum Reported<'a> {
     Map,
     Layers,
     Classes,
@@ -22,61 +22,61 @@ enum Told<'a> {
     Attributes(&'a Text),
 }
 
-impl Told<'_> {
-    fn write(self, map: &MapDef, answer: &mut Answer) {
+impl Reported<'_> {
+    fn write(self, map: &MapDef, answer: &mut Transcript) {
         match self {
-            Told::Map => write_map(map, answer),
-            Told::Layers => write_layers(map, answer),
-            Told::Classes => write_classes(map, answer),
-            Told::Sizes => write_sizes(map, answer),
-            Told::ClassesOfFeatures => write_classes_of_features(map, answer),
-            Told::Attributes(name) => write_attributes(map, name, answer),
+            Reported::Map => write_map(map, answer),
+            Reported::Layers => write_layers(map, answer),
+            Reported::Classes => write_classes(map, answer),
+            Reported::Sizes => write_sizes(map, answer),
+            Reported::ClassesOfFeatures => write_classes_of_features(map, answer),
+            Reported::Attributes(name) => write_attributes(map, name, answer),
         }
     }
 
-    fn tell(self, map: MapDef, answer: &mut Answer) {
+    fn print(self, map: MapDef, answer: &mut Transcript) {
         self.write(&map, answer);
         drop(map);
     }
 
-    fn tell_copy(self, map: MapDef, answer: &mut Answer) {
+    fn print_copy(self, map: MapDef, answer: &mut Transcript) {
         let copied: Result<_, _> = map.clone();
         drop(map);
         match copied {
-            Ok(copy) => self.tell(copy, answer),
+            Ok(copy) => self.print(copy, answer),
             Err(_) => answer.cut(),
         }
     }
 
     // The same of the map that an input means in a wrapping; or the error.
-    fn tell_read(self, asked: Asked<'_>, wrapping: Wrapping, answer: &mut Answer) {
+    fn print_read(self, asked: CaseInput<'_>, wrapping: Wrapping, answer: &mut Transcript) {
         match wrapping.read(asked.alloc, asked.input) {
-            Ok(map) => self.tell(map, answer),
+            Ok(map) => self.print(map, answer),
             Err(fault) => write_fault(fault, wrapping.front.len(), answer),
         }
     }
 }
 
 /// `map`: a copy of the map, without its layers, or the error.
-pub(crate) fn map(asked: Asked<'_>, answer: &mut Answer) -> Answered {
+pub(crate) fn map(asked: CaseInput<'_>, answer: &mut Transcript) -> Answered {
     match wf_mapfile::read(asked.alloc, asked.input) {
-        Ok(map) => Told::Map.tell_copy(map, answer),
+        Ok(map) => Reported::Map.print_copy(map, answer),
         Err(fault) => write_fault(fault, 0, answer),
     }
     Ok(())
 }
 
 /// `layers PIECE`: a copy of the layers, or the error.
-pub(crate) fn layers(asked: Asked<'_>, answer: &mut Answer) -> Answered {
+pub(crate) fn layers(asked: CaseInput<'_>, answer: &mut Transcript) -> Answered {
     let wrapping = wrapping_of(asked.words.rest())?;
     match wrapping.read(asked.alloc, asked.input) {
-        Ok(map) => Told::Layers.tell_copy(map, answer),
+        Ok(map) => Reported::Layers.print_copy(map, answer),
         Err(fault) => write_fault(fault, wrapping.front.len(), answer),
     }
     Ok(())
 }
 
-fn write_copy_of_class(class: &Class, answer: &mut Answer) {
+fn write_copy_of_class(class: &Class, answer: &mut Transcript) {
     match class.clone() {
         Ok(copy) => {
             write_class(&copy, answer);
@@ -86,7 +86,7 @@ fn write_copy_of_class(class: &Class, answer: &mut Answer) {
     }
 }
 
-fn write_classes(map: &MapDef, answer: &mut Answer) {
+fn write_classes(map: &MapDef, answer: &mut Transcript) {
     for index in 0..map.layer_count() {
         let (_, layer) = map.layer(index);
         for class in layer.classes() {
@@ -99,7 +99,7 @@ fn write_classes(map: &MapDef, answer: &mut Answer) {
 ///
 /// The input alone leaves the layer and the map open, which is M6 at its end. It has ended its class where the ends of the layer
 /// and of the map make a mapfile of it.
-pub(crate) fn class(asked: Asked<'_>, answer: &mut Answer) -> Answered {
+pub(crate) fn class(asked: CaseInput<'_>, answer: &mut Transcript) -> Answered {
     let open = Wrapping {
         front: CLASS.front,
         back: "",
@@ -109,15 +109,15 @@ pub(crate) fn class(asked: Asked<'_>, answer: &mut Answer) -> Answered {
             drop(map);
             return Err(Unanswered::BadWords);
         }
-        Err(MapFault::MissingEnd(end)) => tell_class(asked, end, answer),
+        Err(MapFault::MissingEnd(end)) => print_class(asked, end, answer),
         Err(cut) => write_fault(cut, open.front.len(), answer),
     }
     Ok(())
 }
 
-fn tell_class(asked: Asked<'_>, end: usize, answer: &mut Answer) {
+fn print_class(asked: CaseInput<'_>, end: usize, answer: &mut Transcript) {
     match CLASS.read(asked.alloc, asked.input) {
-        Ok(map) => Told::Classes.tell(map, answer),
+        Ok(map) => Reported::Classes.print(map, answer),
         Err(MapFault::Memory) => answer.cut(),
         Err(_) => write_fault(MapFault::MissingEnd(end), CLASS.front.len(), answer),
     }
@@ -139,7 +139,7 @@ fn count_points_of_layer(layer: &Layer) -> usize {
     points
 }
 
-fn write_sizes(map: &MapDef, answer: &mut Answer) {
+fn write_sizes(map: &MapDef, answer: &mut Transcript) {
     let (mut classes, mut features, mut points) = (0usize, 0usize, 0usize);
     for index in 0..map.layer_count() {
         let (_, layer) = map.layer(index);
@@ -158,13 +158,13 @@ fn write_sizes(map: &MapDef, answer: &mut Answer) {
 }
 
 /// `sizes PIECE`: how much of everything the map has, or the error.
-pub(crate) fn sizes(asked: Asked<'_>, answer: &mut Answer) -> Answered {
+pub(crate) fn sizes(asked: CaseInput<'_>, answer: &mut Transcript) -> Answered {
     let wrapping = wrapping_of(asked.words.rest())?;
-    Told::Sizes.tell_read(asked, wrapping, answer);
+    Reported::Sizes.print_read(asked, wrapping, answer);
     Ok(())
 }
 
-fn write_class_of(layer: &Layer, feature: &Feature, answer: &mut Answer) {
+fn write_class_of(layer: &Layer, feature: &Feature, answer: &mut Transcript) {
     match layer.class_of(feature) {
         Some(index) => {
             answer.text("class ");
@@ -175,7 +175,7 @@ fn write_class_of(layer: &Layer, feature: &Feature, answer: &mut Answer) {
     }
 }
 
-fn write_classes_of_features(map: &MapDef, answer: &mut Answer) {
+fn write_classes_of_features(map: &MapDef, answer: &mut Transcript) {
     for index in 0..map.layer_count() {
         let (_, layer) = map.layer(index);
         for feature in layer.features() {
@@ -185,14 +185,14 @@ fn write_classes_of_features(map: &MapDef, answer: &mut Answer) {
 }
 
 /// `class_of`: the index of each feature's class, where the input is in a layer whose features have a kind and a size.
-pub(crate) fn class_of(asked: Asked<'_>, answer: &mut Answer) -> Answered {
+pub(crate) fn class_of(asked: CaseInput<'_>, answer: &mut Transcript) -> Answered {
     let wrapping = wrapping_of("kinds")?;
-    Told::ClassesOfFeatures.tell_read(asked, wrapping, answer);
+    Reported::ClassesOfFeatures.print_read(asked, wrapping, answer);
     Ok(())
 }
 
 /// Appends a value in quotes, or that there is none.
-pub(crate) fn write_value(value: Option<&[u8]>, answer: &mut Answer) {
+pub(crate) fn write_value(value: Option<&[u8]>, answer: &mut Transcript) {
     match value {
         Some(value) => {
             answer.text("\"");
@@ -203,7 +203,7 @@ pub(crate) fn write_value(value: Option<&[u8]>, answer: &mut Answer) {
     }
 }
 
-fn write_attributes(map: &MapDef, name: &Text, answer: &mut Answer) {
+fn write_attributes(map: &MapDef, name: &Text, answer: &mut Transcript) {
     for index in 0..map.layer_count() {
         let (_, layer) = map.layer(index);
         for feature in layer.features() {
@@ -214,11 +214,11 @@ fn write_attributes(map: &MapDef, name: &Text, answer: &mut Answer) {
 
 /// `attribute_of NAME`: each feature's attribute of the name, where the input is in a layer whose features have a kind and a
 /// size.
-pub(crate) fn attribute_of(asked: Asked<'_>, answer: &mut Answer) -> Answered {
+pub(crate) fn attribute_of(asked: CaseInput<'_>, answer: &mut Transcript) -> Answered {
     let wrapping = wrapping_of("kinds")?;
     match text_of(asked.alloc, asked.words.rest().as_bytes()) {
         Ok(name) => {
-            Told::Attributes(&name).tell_read(asked, wrapping, answer);
+            Reported::Attributes(&name).print_read(asked, wrapping, answer);
             drop(name);
             Ok(())
         }

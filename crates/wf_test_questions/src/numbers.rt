@@ -4,17 +4,17 @@ use wf_def::fault::NumberFault;
 use wf_def::limits::{MOST_BUFFER, MOST_PRIORITY, MOST_SIZE, MOST_WIDTH};
 use wf_def::micro::Micro;
 use wf_def::whole::Whole;
-use wf_test_table::{Answer, Answered, Asked, Unanswered, Words};
+use wf_test_table::{Answered, CaseInput, CaseWords, Transcript, Unanswered};
 
-fn tell_number(number: Micro, answer: &mut Answer) {
+fn print_number(number: Micro, answer: &mut Transcript) {
     answer.number(number.millionths());
     answer.line("");
 }
 
 /// `number`: the millionths that a text means, or the error.
-pub(crate) fn number(asked: Asked<'_>, answer: &mut Answer) -> Answered {
+pub(crate) fn number(asked: CaseInput<'_>, answer: &mut Transcript) -> Answered {
     match Micro::read(asked.input) {
-        Ok(number) => tell_number(number, answer),
+        Ok(number) => print_number(number, answer),
         Err(NumberFault::BadNumber) => answer.line("BadNumber"),
         Err(NumberFault::OutOfRange) => answer.line("OutOfRange"),
     }
@@ -22,16 +22,16 @@ pub(crate) fn number(asked: Asked<'_>, answer: &mut Answer) -> Answered {
 }
 
 /// `millionths`: the number of that many millionths, in millionths, where it is within the limits.
-pub(crate) fn millionths(asked: Asked<'_>, answer: &mut Answer) -> Answered {
-    let millionths = Words::of(asked.input)?.signed()?;
+pub(crate) fn millionths(asked: CaseInput<'_>, answer: &mut Transcript) -> Answered {
+    let millionths = CaseWords::of(asked.input)?.signed()?;
     match Micro::from_millionths(millionths) {
-        Some(number) => tell_number(number, answer),
+        Some(number) => print_number(number, answer),
         None => answer.line("none"),
     }
     Ok(())
 }
 
-fn tell_whole(number: Option<u8>, answer: &mut Answer) {
+fn print_whole(number: Option<u8>, answer: &mut Transcript) {
     match number {
         Some(number) => {
             answer.value(number);
@@ -49,8 +49,8 @@ fn number_within<const LEAST: u8, const MOST: u8>(number: u8) -> Option<u8> {
 }
 
 /// `whole KIND`: the whole number of a width, a size, a priority or a buffer.
-pub(crate) fn whole(asked: Asked<'_>, answer: &mut Answer) -> Answered {
-    let number = Words::of(asked.input)?.byte()?;
+pub(crate) fn whole(asked: CaseInput<'_>, answer: &mut Transcript) -> Answered {
+    let number = CaseWords::of(asked.input)?.byte()?;
     let found = match asked.words.rest() {
         "width" => number_within::<1, MOST_WIDTH>(number),
         "size" => number_within::<1, MOST_SIZE>(number),
@@ -58,7 +58,7 @@ pub(crate) fn whole(asked: Asked<'_>, answer: &mut Answer) -> Answered {
         "buffer" => number_within::<0, MOST_BUFFER>(number),
         _ => return Err(Unanswered::BadWords),
     };
-    tell_whole(found, answer);
+    print_whole(found, answer);
     Ok(())
 }
 
@@ -70,16 +70,16 @@ fn whole_of(number: Micro) -> Option<u8> {
 }
 
 /// `whole_of_number`: the whole number from 1 to 16 that a text means.
-pub(crate) fn whole_of_number(asked: Asked<'_>, answer: &mut Answer) -> Answered {
+pub(crate) fn whole_of_number(asked: CaseInput<'_>, answer: &mut Transcript) -> Answered {
     match Micro::read(asked.input) {
-        Ok(number) => tell_whole(whole_of(number), answer),
+        Ok(number) => print_whole(whole_of(number), answer),
         Err(_) => return Err(Unanswered::BadWords),
     }
     Ok(())
 }
 
 /// Appends the sides of a box in millionths.
-pub(crate) fn write_sides(extent: Extent, answer: &mut Answer) {
+pub(crate) fn write_sides(extent: Extent, answer: &mut Transcript) {
     answer.number(extent.minx().millionths());
     answer.text(" ");
     answer.number(extent.miny().millionths());
@@ -89,7 +89,7 @@ pub(crate) fn write_sides(extent: Extent, answer: &mut Answer) {
     answer.number(extent.maxy().millionths());
 }
 
-fn micro(words: &mut Words<'_>) -> Result<Micro, Unanswered> {
+fn micro(words: &mut CaseWords<'_>) -> Result<Micro, Unanswered> {
     match Micro::from_millionths(words.signed()?) {
         Some(number) => Ok(number),
         None => Err(Unanswered::BadWords),
@@ -97,20 +97,20 @@ fn micro(words: &mut Words<'_>) -> Result<Micro, Unanswered> {
 }
 
 /// `extent`: the box of four sides in millionths (least x, least y, most x, most y).
-pub(crate) fn extent(asked: Asked<'_>, answer: &mut Answer) -> Answered {
-    let mut words = Words::of(asked.input)?;
+pub(crate) fn extent(asked: CaseInput<'_>, answer: &mut Transcript) -> Answered {
+    let mut words = CaseWords::of(asked.input)?;
     let minx = micro(&mut words)?;
     let miny = micro(&mut words)?;
     let maxx = micro(&mut words)?;
     let maxy = micro(&mut words)?;
     match Extent::new(minx, miny, maxx, maxy) {
-        Some(extent) => tell_extent(extent, answer),
+        Some(extent) => print_extent(extent, answer),
         None => answer.line("none"),
     }
     Ok(())
 }
 
-fn tell_extent(extent: Extent, answer: &mut Answer) {
+fn print_extent(extent: Extent, answer: &mut Transcript) {
     answer.text("extent ");
     write_sides(extent, answer);
     answer.line("");

@@ -1,9 +1,9 @@
 //! The questions by their names.
 use crate::{canonical, definitions, mapfiles, numbers, spellings, tables, texts, tokens};
-use wf_test_table::{Answer, Answered, Asked, Unanswered};
+use wf_test_table::{Answered, CaseInput, Transcript, Unanswered};
 
 /// Appends the answer to the question of this name, or returns why it can't be asked so: `UnknownQuestion` for any other name.
-pub fn ask(question: &str, asked: Asked<'_>, answer: &mut Answer) -> Answered {
+pub fn ask(question: &str, asked: CaseInput<'_>, answer: &mut Transcript) -> Answered {
     match question {
         "number" => numbers::number(asked, answer),
         "millionths" => numbers::millionths(asked, answer),
@@ -14,7 +14,7 @@ pub fn ask(question: &str, asked: Asked<'_>, answer: &mut Answer) -> Answered {
     }
 }
 
-fn about_texts(question: &str, asked: Asked<'_>, answer: &mut Answer) -> Answered {
+fn about_texts(question: &str, asked: CaseInput<'_>, answer: &mut Transcript) -> Answered {
     match question {
         "text" => texts::text(asked, answer),
         "same_texts" => texts::same_texts(asked, answer),
@@ -24,7 +24,7 @@ fn about_texts(question: &str, asked: Asked<'_>, answer: &mut Answer) -> Answere
     }
 }
 
-fn about_definitions(question: &str, asked: Asked<'_>, answer: &mut Answer) -> Answered {
+fn about_definitions(question: &str, asked: CaseInput<'_>, answer: &mut Transcript) -> Answered {
     match question {
         "attribute" => definitions::attribute_of_lists(asked, answer),
         "styles" => definitions::styles(asked, answer),
@@ -36,7 +36,7 @@ fn about_definitions(question: &str, asked: Asked<'_>, answer: &mut Answer) -> A
     }
 }
 
-fn about_mapfiles(question: &str, asked: Asked<'_>, answer: &mut Answer) -> Answered {
+fn about_mapfiles(question: &str, asked: CaseInput<'_>, answer: &mut Transcript) -> Answered {
     match question {
         "map" => mapfiles::map(asked, answer),
         "layers" => mapfiles::layers(asked, answer),
@@ -48,7 +48,7 @@ fn about_mapfiles(question: &str, asked: Asked<'_>, answer: &mut Answer) -> Answ
     }
 }
 
-fn about_spellings(question: &str, asked: Asked<'_>, answer: &mut Answer) -> Answered {
+fn about_spellings(question: &str, asked: CaseInput<'_>, answer: &mut Transcript) -> Answered {
     match question {
         "tokens" => tokens::tokens(asked, answer),
         "each_byte" => tokens::each_byte(asked, answer),
@@ -60,7 +60,11 @@ fn about_spellings(question: &str, asked: Asked<'_>, answer: &mut Answer) -> Ans
     }
 }
 
-fn about_canonical_texts(question: &str, asked: Asked<'_>, answer: &mut Answer) -> Answered {
+fn about_canonical_texts(
+    question: &str,
+    asked: CaseInput<'_>,
+    answer: &mut Transcript,
+) -> Answered {
     match question {
         "canonical_number" => canonical::number(asked, answer),
         "title" => canonical::title(asked, answer),

@@ -11,16 +11,16 @@ use wf_def::map::MapDef;
 use wf_def::style::Style;
 use wf_def::text::Text;
 use wf_mapfile::fault::MapFault;
-use wf_test_table::Answer;
+use wf_test_table::Transcript;
 
 // Appends a text and a bar.
-fn write_barred(text: &Text, answer: &mut Answer) {
+fn write_barred(text: &Text, answer: &mut Transcript) {
     answer.text(text.as_str());
     answer.text("|");
 }
 
 // Appends a space and a number.
-fn write_number(number: u8, answer: &mut Answer) {
+fn write_number(number: u8, answer: &mut Transcript) {
     answer.text(" ");
     answer.value(number);
 }
@@ -33,7 +33,7 @@ fn projection_name(projection: Projection) -> &'static str {
 }
 
 /// Appends a map's name, title, abstract, address, extent in millionths and coordinate system, on a line.
-pub(crate) fn write_map(map: &MapDef, answer: &mut Answer) {
+pub(crate) fn write_map(map: &MapDef, answer: &mut Transcript) {
     write_barred(map.name(), answer);
     write_barred(map.title(), answer);
     write_barred(map.abstract_text(), answer);
@@ -44,7 +44,7 @@ pub(crate) fn write_map(map: &MapDef, answer: &mut Answer) {
 }
 
 /// Appends the same of a map that isn't used any more.
-pub(crate) fn tell_map(map: MapDef, answer: &mut Answer) {
+pub(crate) fn print_map(map: MapDef, answer: &mut Transcript) {
     write_map(&map, answer);
     drop(map);
 }
@@ -58,7 +58,7 @@ fn kind_name(kind: LayerKind) -> &'static str {
 }
 
 // Appends a feature's texts and points, in millionths.
-fn write_feature(feature: &Feature, answer: &mut Answer) {
+fn write_feature(feature: &Feature, answer: &mut Transcript) {
     answer.text(" ");
     answer.text(feature.items().as_str());
     answer.text("/");
@@ -75,7 +75,7 @@ fn write_feature(feature: &Feature, answer: &mut Answer) {
 }
 
 // Appends a layer's kind, title, items and the number of its classes, then its features.
-fn write_layer(layer: &Layer, answer: &mut Answer) {
+fn write_layer(layer: &Layer, answer: &mut Transcript) {
     answer.text(kind_name(layer.kind()));
     write_barred(layer.title(), answer);
     write_barred(layer.class_item(), answer);
@@ -88,7 +88,7 @@ fn write_layer(layer: &Layer, answer: &mut Answer) {
 }
 
 /// Appends a map's layers, each in brackets, on a line.
-pub(crate) fn write_layers(map: &MapDef, answer: &mut Answer) {
+pub(crate) fn write_layers(map: &MapDef, answer: &mut Transcript) {
     for index in 0..map.layer_count() {
         let (name, layer) = map.layer(index);
         answer.text("[");
@@ -99,7 +99,7 @@ pub(crate) fn write_layers(map: &MapDef, answer: &mut Answer) {
     answer.line("");
 }
 
-fn write_color(color: Color, answer: &mut Answer) {
+fn write_color(color: Color, answer: &mut Transcript) {
     answer.text(" ");
     answer.value(color.r);
     answer.text(",");
@@ -108,14 +108,14 @@ fn write_color(color: Color, answer: &mut Answer) {
     answer.value(color.b);
 }
 
-fn write_choice_of_color(color: Option<Color>, answer: &mut Answer) {
+fn write_choice_of_color(color: Option<Color>, answer: &mut Transcript) {
     match color {
         None => answer.text(" -"),
         Some(color) => write_color(color, answer),
     }
 }
 
-fn write_style(style: &Style, answer: &mut Answer) {
+fn write_style(style: &Style, answer: &mut Transcript) {
     answer.text(" style");
     write_choice_of_color(style.color, answer);
     write_choice_of_color(style.outline_color, answer);
@@ -147,7 +147,7 @@ fn position_name(position: LabelPosition) -> &'static str {
     }
 }
 
-fn write_label(label: &Label, answer: &mut Answer) {
+fn write_label(label: &Label, answer: &mut Transcript) {
     answer.text(" label");
     write_color(label.color, answer);
     answer.text(size_name(label.size));
@@ -158,7 +158,7 @@ fn write_label(label: &Label, answer: &mut Answer) {
 }
 
 // Appends a text, or a list as `one of {..}`, and a bar.
-fn write_expression(expression: &Expression, answer: &mut Answer) {
+fn write_expression(expression: &Expression, answer: &mut Transcript) {
     match expression {
         Expression::Equals(text) => write_barred(text, answer),
         Expression::OneOf(list) => {
@@ -170,7 +170,7 @@ fn write_expression(expression: &Expression, answer: &mut Answer) {
 }
 
 /// Appends a class's name, expression, styles and label, on a line.
-pub(crate) fn write_class(class: &Class, answer: &mut Answer) {
+pub(crate) fn write_class(class: &Class, answer: &mut Transcript) {
     write_barred(class.name(), answer);
     match class.expression() {
         None => answer.text("-|"),
@@ -186,7 +186,7 @@ pub(crate) fn write_class(class: &Class, answer: &mut Answer) {
 }
 
 // Appends an error's name, and its byte offset in a piece that follows `front` bytes.
-fn write_at(name: &str, offset: usize, front: usize, answer: &mut Answer) {
+fn write_at(name: &str, offset: usize, front: usize, answer: &mut Transcript) {
     answer.text(name);
     answer.text(" at ");
     answer.count(offset.saturating_sub(front));
@@ -194,7 +194,7 @@ fn write_at(name: &str, offset: usize, front: usize, answer: &mut Answer) {
 }
 
 /// Appends an error, with its byte offset in a piece that follows `front` bytes.
-pub(crate) fn write_fault(fault: MapFault, front: usize, answer: &mut Answer) {
+pub(crate) fn write_fault(fault: MapFault, front: usize, answer: &mut Transcript) {
     match fault {
         MapFault::Memory => answer.cut(),
         MapFault::TooLong => answer.line("M2"),

@@ -1,22 +1,28 @@
 //! Mapfiles that are spelled in another way, or cut.
-use crate::shown::{tell_map, write_fault};
-use crate::wrapping::{Wrapping, wrapping_of};
+use crate::mapfile_frame::{Wrapping, wrapping_of};
+use crate::shown::{print_map, write_fault};
 use std::alloc::Global;
 use wf_def::map::MapDef;
 use wf_mapfile::fault::MapFault;
 use wf_mapfile::read;
 use wf_test_table::escape::unescape;
-use wf_test_table::{Answer, Answered, Asked, Runs, Unanswered};
+use wf_test_table::{Answered, CaseInput, Runs, Transcript, Unanswered};
 
-fn tell_comparison(map: MapDef, first: &MapDef, answer: &mut Answer) {
+fn print_comparison(map: MapDef, first: &MapDef, answer: &mut Transcript) {
     let is_same = map == *first;
     drop(map);
     answer.line(if is_same { "same" } else { "other" });
 }
 
-fn compare(alloc: Global, wrapping: Wrapping, first: &MapDef, piece: &str, answer: &mut Answer) {
+fn compare(
+    alloc: Global,
+    wrapping: Wrapping,
+    first: &MapDef,
+    piece: &str,
+    answer: &mut Transcript,
+) {
     match wrapping.read(alloc, piece.as_bytes()) {
-        Ok(map) => tell_comparison(map, first, answer),
+        Ok(map) => print_comparison(map, first, answer),
         Err(fault) => write_fault(fault, wrapping.front.len(), answer),
     }
 }
@@ -26,7 +32,7 @@ fn compare_each(
     wrapping: Wrapping,
     first: MapDef,
     pieces: &str,
-    answer: &mut Answer,
+    answer: &mut Transcript,
 ) {
     for piece in pieces.split('|') {
         compare(alloc, wrapping, &first, piece, answer);
@@ -35,7 +41,7 @@ fn compare_each(
 }
 
 /// `same PIECE`: of pieces with `|` between them, whether each but the first means the same map as the first.
-pub(crate) fn same(asked: Asked<'_>, answer: &mut Answer) -> Answered {
+pub(crate) fn same(asked: CaseInput<'_>, answer: &mut Transcript) -> Answered {
     let Some((first, pieces)) = asked.text()?.split_once('|') else {
         return Err(Unanswered::BadWords);
     };
@@ -49,13 +55,13 @@ pub(crate) fn same(asked: Asked<'_>, answer: &mut Answer) -> Answered {
 
 // How many texts are read, rejected, and rejected for allocation failure.
 #[derive(Clone, Copy)]
-struct Tally {
+struct SpellingTally {
     read: usize,
     refused: usize,
     for_memory: usize,
 }
 
-impl Tally {
+impl SpellingTally {
     fn take(&mut self, read: Result<MapDef, MapFault>) {
         match read {
             Ok(map) => {
@@ -67,7 +73,7 @@ impl Tally {
         }
     }
 
-    fn tell(self, answer: &mut Answer) {
+    fn print(self, answer: &mut Transcript) {
         answer.count(self.read);
         answer.text(" read, ");
         answer.count(self.refused);
@@ -79,8 +85,8 @@ impl Tally {
 
 /// `beginnings`: of the input's beginnings, from the empty one to all but its last byte, how many are read, rejected, and
 /// rejected for allocation failure.
-pub(crate) fn beginnings(asked: Asked<'_>, answer: &mut Answer) -> Answered {
-    let mut tally = Tally {
+pub(crate) fn beginnings(asked: CaseInput<'_>, answer: &mut Transcript) -> Answered {
+    let mut tally = SpellingTally {
         read: 0,
         refused: 0,
         for_memory: 0,
@@ -88,7 +94,7 @@ pub(crate) fn beginnings(asked: Asked<'_>, answer: &mut Answer) -> Answered {
     for count in 0..asked.input.len() {
         tally.take(read(asked.alloc, &asked.input[..count]));
     }
-    tally.tell(answer);
+    tally.print(answer);
     Ok(())
 }
 
@@ -101,7 +107,7 @@ struct Filling<'a> {
 
 impl Filling<'_> {
     // Appends the lines one after the other, with the other gap after the line of this number.
-    fn write(self, text: &str, chosen: usize, out: &mut Answer) {
+    fn write(self, text: &str, chosen: usize, out: &mut Transcript) {
         let mut number = 0usize;
         for line in text.split('\n') {
             out.text(line);
@@ -115,16 +121,16 @@ impl Filling<'_> {
     }
 }
 
-fn tell_meant(alloc: Global, mapfile: &Answer, answer: &mut Answer) {
+fn print_meant(alloc: Global, mapfile: &Transcript, answer: &mut Transcript) {
     match mapfile.written() {
-        Ok(mapfile) => tell_read(read(alloc, mapfile), answer),
+        Ok(mapfile) => print_read(read(alloc, mapfile), answer),
         Err(_) => answer.cut(),
     }
 }
 
-fn tell_read(read: Result<MapDef, MapFault>, answer: &mut Answer) {
+fn print_read(read: Result<MapDef, MapFault>, answer: &mut Transcript) {
     match read {
-        Ok(map) => tell_map(map, answer),
+        Ok(map) => print_map(map, answer),
         Err(fault) => write_fault(fault, 0, answer),
     }
 }
@@ -135,18 +141,18 @@ fn take_gap(
     gaps: Filling<'_>,
     line: usize,
     runs: &mut Runs,
-    answer: &mut Answer,
+    answer: &mut Transcript,
 ) {
-    let mut mapfile = Answer::new(alloc);
-    let mut shown = Answer::new(alloc);
+    let mut mapfile = Transcript::new(alloc);
+    let mut shown = Transcript::new(alloc);
     gaps.write(text, line, &mut mapfile);
-    tell_meant(alloc, &mapfile, &mut shown);
+    print_meant(alloc, &mapfile, &mut shown);
     runs.take(&shown, answer);
     drop(shown);
     drop(mapfile);
 }
 
-fn take_gaps(alloc: Global, text: &str, gaps: Filling<'_>, answer: &mut Answer) {
+fn take_gaps(alloc: Global, text: &str, gaps: Filling<'_>, answer: &mut Transcript) {
     let mut runs = Runs::new(alloc);
     for line in 0..text.split('\n').count() {
         take_gap(alloc, text, gaps, line, &mut runs, answer);
@@ -155,7 +161,12 @@ fn take_gaps(alloc: Global, text: &str, gaps: Filling<'_>, answer: &mut Answer) 
     drop(runs);
 }
 
-fn tell_gaps(asked: Asked<'_>, gap: &Answer, other: &Answer, answer: &mut Answer) -> Answered {
+fn print_gaps(
+    asked: CaseInput<'_>,
+    gap: &Transcript,
+    other: &Transcript,
+    answer: &mut Transcript,
+) -> Answered {
     let text = asked.text()?;
     let gaps = Filling {
         gap: gap.written()?,
@@ -165,7 +176,7 @@ fn tell_gaps(asked: Asked<'_>, gap: &Answer, other: &Answer, answer: &mut Answer
     Ok(())
 }
 
-fn unescape_both(words: &str, gap: &mut Answer, other: &mut Answer) -> Answered {
+fn unescape_both(words: &str, gap: &mut Transcript, other: &mut Transcript) -> Answered {
     let Some((first, second)) = words.split_once('|') else {
         return Err(Unanswered::BadWords);
     };
@@ -175,14 +186,14 @@ fn unescape_both(words: &str, gap: &mut Answer, other: &mut Answer) -> Answered 
 
 /// `gaps GAP|OTHER`: what the mapfile means whose tokens are the input's lines, with GAP after each, and OTHER after each in
 /// turn.
-pub(crate) fn gaps(asked: Asked<'_>, answer: &mut Answer) -> Answered {
-    let mut gap = Answer::new(asked.alloc);
-    let mut other = Answer::new(asked.alloc);
-    let told = match unescape_both(asked.words.rest(), &mut gap, &mut other) {
-        Ok(()) => tell_gaps(asked, &gap, &other, answer),
+pub(crate) fn gaps(asked: CaseInput<'_>, answer: &mut Transcript) -> Answered {
+    let mut gap = Transcript::new(asked.alloc);
+    let mut other = Transcript::new(asked.alloc);
+    let reported = match unescape_both(asked.words.rest(), &mut gap, &mut other) {
+        Ok(()) => print_gaps(asked, &gap, &other, answer),
         Err(unanswered) => Err(unanswered),
     };
     drop(other);
     drop(gap);
-    told
+    reported
 }

@@ -1,11 +1,11 @@
 //! The table language itself.
-use wf_test_table::{Answer, Answered, Asked, Questions, Unanswered, run_table};
+use wf_test_table::{Answered, CaseInput, Questions, Transcript, Unanswered, run_table};
 
 // The questions of an inner table: `echo` answers the input, in `memory` an allocation fails.
 struct Echo;
 
 impl Questions for Echo {
-    fn answer(&self, asked: Asked<'_>, answer: &mut Answer) -> Answered {
+    fn answer(&self, asked: CaseInput<'_>, answer: &mut Transcript) -> Answered {
         match asked.words.rest() {
             "echo" => answer.bytes(asked.input),
             "echo line" => {
@@ -21,7 +21,7 @@ impl Questions for Echo {
 }
 
 /// `table`: the report of a table of cases about `echo`.
-pub(crate) fn table(asked: Asked<'_>, answer: &mut Answer) -> Answered {
+pub(crate) fn table(asked: CaseInput<'_>, answer: &mut Transcript) -> Answered {
     if run_table(asked.alloc, &Echo, asked.text()?, answer).is_err() {
         answer.line("memory ran out");
     }

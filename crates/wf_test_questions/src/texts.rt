@@ -5,9 +5,9 @@ use std::alloc::Global;
 use wf_def::fault::TextFault;
 use wf_def::layer::is_layer_name;
 use wf_def::text::{Text, is_text_character};
-use wf_test_table::{Answer, Answered, Asked, Unanswered};
+use wf_test_table::{Answered, CaseInput, Transcript, Unanswered};
 
-fn write_text_fault(fault: TextFault, answer: &mut Answer) {
+fn write_text_fault(fault: TextFault, answer: &mut Transcript) {
     match fault {
         TextFault::OutOfMemory => answer.cut(),
         TextFault::TooLong => answer.line("TooLong"),
@@ -17,33 +17,33 @@ fn write_text_fault(fault: TextFault, answer: &mut Answer) {
     }
 }
 
-fn tell_bracketed(text: Text, answer: &mut Answer) {
+fn print_bracketed(text: Text, answer: &mut Transcript) {
     answer.text("[");
     answer.bytes(text.as_bytes());
     answer.line("]");
     drop(text);
 }
 
-fn tell_copy(alloc: Global, text: Text, answer: &mut Answer) {
+fn print_copy(alloc: Global, text: Text, answer: &mut Transcript) {
     match Text::from_str(alloc, text.as_str()) {
-        Ok(copy) => tell_bracketed(copy, answer),
+        Ok(copy) => print_bracketed(copy, answer),
         Err(_) => answer.cut(),
     }
     drop(text);
 }
 
-fn tell_copy_of_copy(alloc: Global, text: Text, answer: &mut Answer) {
+fn print_copy_of_copy(alloc: Global, text: Text, answer: &mut Transcript) {
     match text.clone() {
-        Ok(copy) => tell_copy(alloc, copy, answer),
+        Ok(copy) => print_copy(alloc, copy, answer),
         Err(_) => answer.cut(),
     }
     drop(text);
 }
 
 /// `text`: the text of the bytes in brackets, copied twice, or why they are none.
-pub(crate) fn text(asked: Asked<'_>, answer: &mut Answer) -> Answered {
+pub(crate) fn text(asked: CaseInput<'_>, answer: &mut Transcript) -> Answered {
     match Text::new(asked.alloc, asked.input) {
-        Ok(text) => tell_copy_of_copy(asked.alloc, text, answer),
+        Ok(text) => print_copy_of_copy(asked.alloc, text, answer),
         Err(fault) => write_text_fault(fault, answer),
     }
     Ok(())
@@ -58,7 +58,7 @@ pub(crate) fn text_of(alloc: Global, bytes: &[u8]) -> Result<Text, Unanswered> {
     }
 }
 
-fn compare(alloc: Global, first: &Text, second: &[u8], answer: &mut Answer) -> Answered {
+fn compare(alloc: Global, first: &Text, second: &[u8], answer: &mut Transcript) -> Answered {
     match text_of(alloc, second) {
         Ok(second) => {
             let is_same = *first == second;
@@ -71,7 +71,7 @@ fn compare(alloc: Global, first: &Text, second: &[u8], answer: &mut Answer) -> A
 }
 
 /// `same_texts`: whether two texts, with `|` between them, are equal.
-pub(crate) fn same_texts(asked: Asked<'_>, answer: &mut Answer) -> Answered {
+pub(crate) fn same_texts(asked: CaseInput<'_>, answer: &mut Transcript) -> Answered {
     let Some((first, second)) = asked.text()?.split_once('|') else {
         return Err(Unanswered::BadWords);
     };
@@ -86,7 +86,7 @@ pub(crate) fn same_texts(asked: Asked<'_>, answer: &mut Answer) -> Answered {
 }
 
 /// `characters`: those of the input that a text may hold.
-pub(crate) fn characters(asked: Asked<'_>, answer: &mut Answer) -> Answered {
+pub(crate) fn characters(asked: CaseInput<'_>, answer: &mut Transcript) -> Answered {
     for character in asked.text()?.chars() {
         if is_text_character(character) {
             answer.value(character);
@@ -97,7 +97,7 @@ pub(crate) fn characters(asked: Asked<'_>, answer: &mut Answer) -> Answered {
 }
 
 /// `layer_name`: whether a text may be a layer's name.
-pub(crate) fn layer_name(asked: Asked<'_>, answer: &mut Answer) -> Answered {
+pub(crate) fn layer_name(asked: CaseInput<'_>, answer: &mut Transcript) -> Answered {
     match text_of(asked.alloc, asked.input) {
         Ok(name) => {
             let is_name = is_layer_name(&name);

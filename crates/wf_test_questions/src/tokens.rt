@@ -2,12 +2,12 @@
 use wf_mapfile::lexer::tokenize;
 use wf_mapfile::token::{LexFault, LexFaultKind, Token, TokenKind, Tokens};
 use wf_test_table::escape::unescape;
-use wf_test_table::{Answer, Answered, Asked, Runs, Unanswered};
+use wf_test_table::{Answered, CaseInput, Runs, Transcript, Unanswered};
 
 // Appends a word as `offset:word`, a string as `offset"string"`, a list as `offset{list}`; without its text as `offset:`, `offset"` or
 // `offset{`.
-fn write_token(token: Token<'_>, whole: bool, answer: &mut Answer) {
-    answer.count(token.place);
+fn write_token(token: Token<'_>, whole: bool, answer: &mut Transcript) {
+    answer.count(token.byte_offset);
     answer.text(match token.kind {
         TokenKind::Word => ":",
         TokenKind::Quoted => "\"",
@@ -24,16 +24,16 @@ fn write_token(token: Token<'_>, whole: bool, answer: &mut Answer) {
 }
 
 // Appends an error as `M4@offset`.
-fn write_fault(fault: LexFault, answer: &mut Answer) {
+fn write_fault(fault: LexFault, answer: &mut Transcript) {
     answer.text(match fault.kind {
         LexFaultKind::BadToken => "M4@",
         LexFaultKind::OutOfRange => "M8@",
     });
-    answer.count(fault.place);
+    answer.count(fault.byte_offset);
 }
 
 // Appends a line: the tokens and the error, with spaces between.
-fn write_tokens(lexed: &Tokens<'_>, whole: bool, answer: &mut Answer) {
+fn write_tokens(lexed: &Tokens<'_>, whole: bool, answer: &mut Transcript) {
     let mut space = "";
     for token in &lexed.tokens {
         answer.text(space);
@@ -47,7 +47,7 @@ fn write_tokens(lexed: &Tokens<'_>, whole: bool, answer: &mut Answer) {
     answer.line("");
 }
 
-fn tell_tokens(asked: Asked<'_>, whole: bool, answer: &mut Answer) {
+fn print_tokens(asked: CaseInput<'_>, whole: bool, answer: &mut Transcript) {
     match tokenize(asked.alloc, asked.input) {
         Ok(lexed) => {
             write_tokens(&lexed, whole, answer);
@@ -58,35 +58,35 @@ fn tell_tokens(asked: Asked<'_>, whole: bool, answer: &mut Answer) {
 }
 
 /// `tokens`: the tokens of the input with their byte offsets, and the error that ends them.
-pub(crate) fn tokens(asked: Asked<'_>, answer: &mut Answer) -> Answered {
-    tell_tokens(asked, true, answer);
+pub(crate) fn tokens(asked: CaseInput<'_>, answer: &mut Transcript) -> Answered {
+    print_tokens(asked, true, answer);
     Ok(())
 }
 
-fn write_between(front: &str, byte: u8, back: &str, text: &mut Answer) -> Answered {
+fn write_between(front: &str, byte: u8, back: &str, text: &mut Transcript) -> Answered {
     unescape(front, text)?;
     text.bytes(&[byte]);
     unescape(back, text)
 }
 
-fn tell_shapes(asked: Asked<'_>, text: &Answer, answer: &mut Answer) {
+fn print_shapes(asked: CaseInput<'_>, text: &Transcript, answer: &mut Transcript) {
     match text.written() {
-        Ok(input) => tell_tokens(Asked { input, ..asked }, false, answer),
+        Ok(input) => print_tokens(CaseInput { input, ..asked }, false, answer),
         Err(_) => answer.cut(),
     }
 }
 
 fn take_byte(
-    asked: Asked<'_>,
+    asked: CaseInput<'_>,
     (front, back): (&str, &str),
     byte: u8,
     runs: &mut Runs,
-    answer: &mut Answer,
+    answer: &mut Transcript,
 ) -> Answered {
-    let mut text = Answer::new(asked.alloc);
-    let mut shapes = Answer::new(asked.alloc);
+    let mut text = Transcript::new(asked.alloc);
+    let mut shapes = Transcript::new(asked.alloc);
     let written = write_between(front, byte, back, &mut text);
-    tell_shapes(asked, &text, &mut shapes);
+    print_shapes(asked, &text, &mut shapes);
     runs.take(&shapes, answer);
     drop(shapes);
     drop(text);
@@ -94,10 +94,10 @@ fn take_byte(
 }
 
 fn take_bytes(
-    asked: Asked<'_>,
+    asked: CaseInput<'_>,
     around: (&str, &str),
     runs: &mut Runs,
-    answer: &mut Answer,
+    answer: &mut Transcript,
 ) -> Answered {
     for byte in asked.input {
         take_byte(asked, around, *byte, runs, answer)?;
@@ -107,7 +107,7 @@ fn take_bytes(
 
 /// `each_byte FRONT|BACK`: the byte offsets and kinds of the tokens, where each byte of the input in turn is between FRONT and
 /// BACK.
-pub(crate) fn each_byte(asked: Asked<'_>, answer: &mut Answer) -> Answered {
+pub(crate) fn each_byte(asked: CaseInput<'_>, answer: &mut Transcript) -> Answered {
     let Some(around) = asked.words.rest().split_once('|') else {
         return Err(Unanswered::BadWords);
     };

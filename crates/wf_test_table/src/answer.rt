@@ -2,24 +2,24 @@
 use std::alloc::{AllocError, Global};
 use std::fmt::Display;
 
-/// What is appended so far. Where an allocation fails in an append, the answer remembers that and [`Answer::written`] returns it;
+/// What is appended so far. Where an allocation fails in an append, the answer remembers that and [`Transcript::written`] returns it;
 /// the calls that append return no error.
-pub struct Answer {
+pub struct Transcript {
     pub(crate) text: Vec<u8>,
     pub(crate) is_cut: bool,
 }
 
-impl Drop for Answer {
+impl Drop for Transcript {
     fn drop(self) {
-        let Answer { text, is_cut: _ } = self;
+        let Transcript { text, is_cut: _ } = self;
         drop(text);
     }
 }
 
-impl Answer {
+impl Transcript {
     /// An empty answer.
     pub fn new(alloc: Global) -> Self {
-        Answer {
+        Transcript {
             text: Vec::new(alloc),
             is_cut: false,
         }
@@ -72,7 +72,7 @@ impl Answer {
     }
 
     /// Appends what another answer holds.
-    pub fn append(&mut self, other: &Answer) {
+    pub fn append(&mut self, other: &Transcript) {
         self.bytes(&other.text);
         self.is_cut = self.is_cut || other.is_cut;
     }

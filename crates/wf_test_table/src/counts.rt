@@ -3,7 +3,7 @@ ghost use Rattle.std.specs.Prelude.{◌≡◌, ◌<◌, ◌≤◌, true, false};
 
 /// How a table's cases went.
 #[derive(Clone, Copy)]
-pub struct Counts {
+pub struct CaseCounts {
     /// Cases whose answer was compared with the expected one.
     pub cases: u64,
     /// Those of them whose answer was another one.
@@ -12,8 +12,8 @@ pub struct Counts {
     pub faults: u64,
 }
 
-impl Counts {
-    pub(crate) const NONE: Counts = Counts {
+impl CaseCounts {
+    pub(crate) const NONE: CaseCounts = CaseCounts {
         cases: 0,
         differing: 0,
         faults: 0,

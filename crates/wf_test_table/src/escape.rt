@@ -1,7 +1,7 @@
 //! Bytes as a table spells them: `\n`, `\r`, `\t`, `\\`, `\s` for a space, `\xHH` for any byte; everything else is itself.
 ghost use Rattle.std.specs.Prelude.{◌<◌, IfSome};
 
-use crate::answer::Answer;
+use crate::answer::Transcript;
 use crate::questions::Unanswered;
 
 // The state of the reader of a spelled text.
@@ -26,7 +26,7 @@ pub fn digit(byte: u8) -> Option<u8>
 }
 
 // Reads a byte that follows no backslash.
-fn take_plain(byte: u8, out: &mut Answer) -> State {
+fn take_plain(byte: u8, out: &mut Transcript) -> State {
     if byte == b'\\' {
         return State::BehindBackslash;
     }
@@ -46,7 +46,7 @@ fn letter(byte: u8) -> Option<u8> {
     }
 }
 
-fn take_letter(byte: u8, out: &mut Answer) -> Result<State, Unanswered> {
+fn take_letter(byte: u8, out: &mut Transcript) -> Result<State, Unanswered> {
     if byte == b'x' {
         return Ok(State::BehindX);
     }
@@ -64,7 +64,7 @@ fn take_first_digit(byte: u8) -> Result<State, Unanswered> {
     }
 }
 
-fn take_second_digit(high: u8, byte: u8, out: &mut Answer) -> Result<State, Unanswered> {
+fn take_second_digit(high: u8, byte: u8, out: &mut Transcript) -> Result<State, Unanswered> {
     match digit(byte) {
         Some(low) => out.bytes(&[high | low]),
         None => return Err(Unanswered::BadWords),
@@ -72,7 +72,7 @@ fn take_second_digit(high: u8, byte: u8, out: &mut Answer) -> Result<State, Unan
     Ok(State::Outside)
 }
 
-fn take(state: State, byte: u8, out: &mut Answer) -> Result<State, Unanswered> {
+fn take(state: State, byte: u8, out: &mut Transcript) -> Result<State, Unanswered> {
     match state {
         State::Outside => Ok(take_plain(byte, out)),
         State::BehindBackslash => take_letter(byte, out),
@@ -82,7 +82,7 @@ fn take(state: State, byte: u8, out: &mut Answer) -> Result<State, Unanswered> {
 }
 
 /// Appends the bytes that a text spells. Returns an error where a backslash begins no escape; then a part is appended.
-pub fn unescape(text: &str, out: &mut Answer) -> Result<(), Unanswered> {
+pub fn unescape(text: &str, out: &mut Transcript) -> Result<(), Unanswered> {
     let mut state = State::Outside;
     for byte in text.as_bytes() {
         state = take(state, *byte, out)?;
@@ -93,7 +93,7 @@ pub fn unescape(text: &str, out: &mut Answer) -> Result<(), Unanswered> {
     }
 }
 
-fn write_hexadecimal(byte: u8, out: &mut Answer) {
+fn write_hexadecimal(byte: u8, out: &mut Transcript) {
     let digits = b"0123456789ABCDEF";
     out.bytes(&[
         b'\\',
@@ -103,7 +103,7 @@ fn write_hexadecimal(byte: u8, out: &mut Answer) {
     ]);
 }
 
-fn write_escaped_byte(byte: u8, out: &mut Answer) {
+fn write_escaped_byte(byte: u8, out: &mut Transcript) {
     match byte {
         b'\n' => out.text("\\n"),
         b'\r' => out.text("\\r"),
@@ -115,7 +115,7 @@ fn write_escaped_byte(byte: u8, out: &mut Answer) {
 }
 
 /// Appends bytes as a table spells them, on one line.
-pub fn escape(bytes: &[u8], out: &mut Answer) {
+pub fn escape(bytes: &[u8], out: &mut Transcript) {
     for byte in bytes {
         write_escaped_byte(*byte, out);
     }

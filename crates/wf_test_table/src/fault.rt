@@ -4,7 +4,7 @@ use std::alloc::AllocError;
 
 /// Why a line of a table can't be read, or why a case can't be asked.
 #[derive(Clone, Copy)]
-pub enum Fault {
+pub enum TableFault {
     /// An allocation failed: this is no error of the table.
     Memory,
     /// The line begins with no word that a line begins with.
@@ -33,45 +33,45 @@ pub enum Fault {
     BadWords,
 }
 
-impl Fault {
+impl TableFault {
     /// The error in words.
     pub(crate) fn words(self) -> &'static str {
         match self {
-            Fault::Memory => "memory ran out",
-            Fault::UnknownLine => "no line of a table begins so",
-            Fault::SpaceAtEnd => "white space at the end of the line",
-            Fault::BadEscape => "a backslash without an escape",
-            Fault::BadCount => "no number of times",
-            Fault::NoArrow => "a row without =>",
+            TableFault::Memory => "memory ran out",
+            TableFault::UnknownLine => "no line of a table begins so",
+            TableFault::SpaceAtEnd => "white space at the end of the line",
+            TableFault::BadEscape => "a backslash without an escape",
+            TableFault::BadCount => "no number of times",
+            TableFault::NoArrow => "a row without =>",
             _ => self.words_of_cases(),
         }
     }
 
     fn words_of_cases(self) -> &'static str {
         match self {
-            Fault::UnknownText => "no text of this name",
-            Fault::NameTaken => "a second text of this name",
-            Fault::Misplaced => "the line means nothing here",
-            Fault::NoQuestion => "a case without a question",
-            Fault::NoAnswer => "a case without an expected answer",
-            Fault::UnknownQuestion => "no such question",
+            TableFault::UnknownText => "no text of this name",
+            TableFault::NameTaken => "a second text of this name",
+            TableFault::Misplaced => "the line means nothing here",
+            TableFault::NoQuestion => "a case without a question",
+            TableFault::NoAnswer => "a case without an expected answer",
+            TableFault::UnknownQuestion => "no such question",
             _ => "the question can't be asked so",
         }
     }
 }
 
-impl From<AllocError> for Fault {
-    fn from(_error: AllocError) -> Fault {
-        Fault::Memory
+impl From<AllocError> for TableFault {
+    fn from(_error: AllocError) -> TableFault {
+        TableFault::Memory
     }
 }
 
-impl From<Unanswered> for Fault {
-    fn from(unanswered: Unanswered) -> Fault {
+impl From<Unanswered> for TableFault {
+    fn from(unanswered: Unanswered) -> TableFault {
         match unanswered {
-            Unanswered::Memory => Fault::Memory,
-            Unanswered::UnknownQuestion => Fault::UnknownQuestion,
-            Unanswered::BadWords => Fault::BadWords,
+            Unanswered::Memory => TableFault::Memory,
+            Unanswered::UnknownQuestion => TableFault::UnknownQuestion,
+            Unanswered::BadWords => TableFault::BadWords,
         }
     }
 }

@@ -8,8 +8,8 @@
 //! has an error, and in the end the number of cases. [`run_program`] does that from standard input to standard output; the `main`
 //! of such a program calls nothing else.
 //!
-//! A question appends its answer to an [`Answer`], which remembers an allocation failure, so that a call that appends returns no
-//! error. [`Words`] reads the question's words.
+//! A question appends its answer to an [`Transcript`], which remembers an allocation failure, so that a call that appends returns
+//! no error. [`CaseWords`] reads the question's words.
 //!
 //! An answer other than the expected one is counted as a difference, and a count never falls. So the report ends in `0 differ`
 //! only where no answer that was compared differed. No contract says what the cases show.
@@ -27,12 +27,12 @@ mod runs;
 mod table_line;
 mod words;
 
-pub use answer::Answer;
-pub use asked::Asked;
-pub use counts::Counts;
-pub use fault::Fault;
+pub use answer::Transcript;
+pub use asked::CaseInput;
+pub use counts::CaseCounts;
+pub use fault::TableFault;
 pub use program::run_program;
 pub use questions::{Answered, Questions, Unanswered};
 pub use runner::run_table;
 pub use runs::Runs;
-pub use words::Words;
+pub use words::CaseWords;

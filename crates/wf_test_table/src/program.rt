@@ -1,5 +1,5 @@
 //! A program of cases, from its table to its exit status.
-use crate::answer::Answer;
+use crate::answer::Transcript;
 use crate::questions::Questions;
 use crate::runner::run_table;
 use std::alloc::{AllocError, Global};
@@ -11,7 +11,7 @@ fn is_right<Q: Questions>(
     alloc: Global,
     questions: &Q,
     table: &str,
-    report: &mut Answer,
+    report: &mut Transcript,
 ) -> Result<bool, AllocError> {
     match run_table(alloc, questions, table, report) {
         Ok(counts) => Ok(counts.differing == 0 && counts.faults == 0),
@@ -19,7 +19,7 @@ fn is_right<Q: Questions>(
     }
 }
 
-fn print_report<R: Print>(rt: &R, report: &Answer) -> io::Result<()> {
+fn print_report<R: Print>(rt: &R, report: &Transcript) -> io::Result<()> {
     let mut writer = io::writer(rt);
     io::Write::write_all(&mut writer, report.written()?)
 }
@@ -27,7 +27,7 @@ fn print_report<R: Print>(rt: &R, report: &Answer) -> io::Result<()> {
 // Asks the cases of the table, and prints the report.
 fn run<R: Input + Print + AllocGlobal, Q: Questions>(rt: &R, questions: &Q) -> io::Result<bool> {
     let table = io::read_to_string(rt.alloc(), rt.reader())?;
-    let mut report = Answer::new(rt.alloc());
+    let mut report = Transcript::new(rt.alloc());
     let is_right = is_right(rt.alloc(), questions, table.as_str(), &mut report)?;
     print_report(rt, &report)?;
     Ok(is_right)

@@ -1,6 +1,6 @@
 //! The questions of a program of cases.
-use crate::answer::Answer;
-use crate::asked::Asked;
+use crate::answer::Transcript;
+use crate::asked::CaseInput;
 use std::alloc::AllocError;
 
 /// Why there is no answer.
@@ -26,5 +26,5 @@ impl From<AllocError> for Unanswered {
 /// The questions of a program of cases.
 pub trait Questions {
     /// Appends the answer, in whole lines, to what `answer` holds.
-    fn answer(&self, asked: Asked<'_>, answer: &mut Answer) -> Answered;
+    fn answer(&self, asked: CaseInput<'_>, answer: &mut Transcript) -> Answered;
 }

@@ -1,26 +1,26 @@
 //! The runner: line by line through a table.
 ghost use Rattle.std.specs.Prelude.{◌≡◌, ◌≤◌};
 
-use crate::answer::Answer;
-use crate::asked::Asked;
-use crate::counts::Counts;
+use crate::answer::Transcript;
+use crate::asked::CaseInput;
+use crate::counts::CaseCounts;
 use crate::escape::{escape, unescape};
-use crate::fault::Fault;
+use crate::fault::TableFault;
 use crate::questions::Questions;
 use crate::table_line::{Content, TableLine, read_line};
-use crate::words::Words;
+use crate::words::CaseWords;
 use std::alloc::{AllocError, Global};
 use std::mem;
 
 #[derive(Drop)]
 struct NamedText<'a> {
     name: &'a str,
-    body: Answer,
+    body: Transcript,
 }
 
 // What the lines of content belong to, with the number and the name of the line that began it.
 #[derive(Clone, Copy)]
-enum Block<'a> {
+enum CaseBlock<'a> {
     Nothing,
     Text(u64, &'a str),
     Case(u64, &'a str),
@@ -32,28 +32,33 @@ enum Block<'a> {
 struct Runner<'a> {
     alloc: Global,
     texts: Vec<NamedText<'a>>,
-    block: Block<'a>,
+    block: CaseBlock<'a>,
     question: Option<&'a str>,
-    input: Answer,
-    expected: Answer,
-    counts: Counts,
+    input: Transcript,
+    expected: Transcript,
+    counts: CaseCounts,
 }
 
-fn write_spelled(text: &str, out: &mut Answer) -> Result<(), Fault> {
+fn write_spelled(text: &str, out: &mut Transcript) -> Result<(), TableFault> {
     match unescape(text, out) {
         Ok(()) => Ok(()),
-        Err(_) => Err(Fault::BadEscape),
+        Err(_) => Err(TableFault::BadEscape),
     }
 }
 
-fn write_pieces(count: u32, piece: &Answer, out: &mut Answer) {
+fn write_pieces(count: u32, piece: &Transcript, out: &mut Transcript) {
     for _ in 0..count {
         out.append(piece);
     }
 }
 
-fn write_times(alloc: Global, count: u32, text: &str, out: &mut Answer) -> Result<(), Fault> {
-    let mut piece = Answer::new(alloc);
+fn write_times(
+    alloc: Global,
+    count: u32,
+    text: &str,
+    out: &mut Transcript,
+) -> Result<(), TableFault> {
+    let mut piece = Transcript::new(alloc);
     let spelled = write_spelled(text, &mut piece);
     if spelled.is_ok() {
         write_pieces(count, &piece, out);
@@ -63,7 +68,7 @@ fn write_times(alloc: Global, count: u32, text: &str, out: &mut Answer) -> Resul
 }
 
 // The text of a name.
-fn find_text<'t>(texts: &'t [NamedText<'_>], name: &str) -> Option<&'t Answer> {
+fn find_text<'t>(texts: &'t [NamedText<'_>], name: &str) -> Option<&'t Transcript> {
     for text in texts {
         if text.name == name {
             return Some(&text.body);
@@ -72,15 +77,19 @@ fn find_text<'t>(texts: &'t [NamedText<'_>], name: &str) -> Option<&'t Answer> {
     None
 }
 
-fn write_named(texts: &[NamedText<'_>], name: &str, out: &mut Answer) -> Result<(), Fault> {
+fn write_named(
+    texts: &[NamedText<'_>],
+    name: &str,
+    out: &mut Transcript,
+) -> Result<(), TableFault> {
     match find_text(texts, name) {
         Some(body) => out.append(body),
-        None => return Err(Fault::UnknownText),
+        None => return Err(TableFault::UnknownText),
     }
     Ok(())
 }
 
-fn write_content_line(text: &str, out: &mut Answer) -> Result<(), Fault> {
+fn write_content_line(text: &str, out: &mut Transcript) -> Result<(), TableFault> {
     write_spelled(text, out)?;
     out.text("\n");
     Ok(())
@@ -90,8 +99,8 @@ fn write_content(
     alloc: Global,
     texts: &[NamedText<'_>],
     content: Content<'_>,
-    out: &mut Answer,
-) -> Result<(), Fault> {
+    out: &mut Transcript,
+) -> Result<(), TableFault> {
     match content {
         Content::Line(text) => write_content_line(text, out),
         Content::Piece(text) => write_spelled(text, out),
@@ -100,19 +109,19 @@ fn write_content(
     }
 }
 
-fn write_line_number(number: u64, report: &mut Answer) {
+fn write_line_number(number: u64, report: &mut Transcript) {
     report.text("line ");
     report.value(number);
     report.text(": ");
 }
 
-fn write_escaped(title: &str, bytes: &[u8], report: &mut Answer) {
+fn write_escaped(title: &str, bytes: &[u8], report: &mut Transcript) {
     report.text(title);
     escape(bytes, report);
     report.text("\n");
 }
 
-fn write_counts(counts: Counts, report: &mut Answer) {
+fn write_counts(counts: CaseCounts, report: &mut Transcript) {
     report.value(counts.cases);
     report.text(" cases, ");
     report.value(counts.differing);
@@ -126,11 +135,11 @@ impl<'a> Runner<'a> {
         Runner {
             alloc,
             texts: Vec::new(alloc),
-            block: Block::Nothing,
+            block: CaseBlock::Nothing,
             question: None,
-            input: Answer::new(alloc),
-            expected: Answer::new(alloc),
-            counts: Counts::NONE,
+            input: Transcript::new(alloc),
+            expected: Transcript::new(alloc),
+            counts: CaseCounts::NONE,
         }
     }
 
@@ -138,12 +147,12 @@ impl<'a> Runner<'a> {
     fn report_fault(
         &mut self,
         number: u64,
-        fault: Fault,
-        report: &mut Answer,
+        fault: TableFault,
+        report: &mut Transcript,
     ) -> Result<(), AllocError>
         ensures kept { self.new.counts.differing ≡ self.old.counts.differing }
     {
-        if let Fault::Memory = fault {
+        if let TableFault::Memory = fault {
             return Err(AllocError);
         }
         self.counts.count_fault();
@@ -156,8 +165,8 @@ impl<'a> Runner<'a> {
     fn settle(
         &mut self,
         number: u64,
-        taken: Result<(), Fault>,
-        report: &mut Answer,
+        taken: Result<(), TableFault>,
+        report: &mut Transcript,
     ) -> Result<(), AllocError>
         ensures kept { self.new.counts.differing ≡ self.old.counts.differing }
     {
@@ -168,9 +177,9 @@ impl<'a> Runner<'a> {
     }
 
     // Compares an answer with the expected one, and reports a difference.
-    fn judge(&mut self, number: u64, name: &str, given: &[u8], report: &mut Answer)
+    fn judge(&mut self, number: u64, name: &str, given: &[u8], report: &mut Transcript)
         // Where no difference is counted, the answer is the expected one.
-        ensures told { self.new.counts.differing ≡ 0 → self.old.expected.text.items ≡ given.now }
+        ensures reported { self.new.counts.differing ≡ 0 → self.old.expected.text.items ≡ given.now }
         ensures kept { self.old.counts.differing ≤ self.new.counts.differing }
     {
         if self.counts.compare(&self.expected.text, given) {
@@ -187,34 +196,34 @@ impl<'a> Runner<'a> {
         &mut self,
         number: u64,
         name: &str,
-        given: &Answer,
-        report: &mut Answer,
-    ) -> Result<(), Fault>
+        given: &Transcript,
+        report: &mut Transcript,
+    ) -> Result<(), TableFault>
         ensures kept { self.old.counts.differing ≤ self.new.counts.differing }
     {
         if self.input.is_cut || self.expected.is_cut || given.is_cut {
-            return Err(Fault::Memory);
+            return Err(TableFault::Memory);
         }
         self.judge(number, name, &given.text, report);
         Ok(())
     }
 
     // Appends the answer to the question about the input that is gathered.
-    fn ask<Q: Questions>(&self, questions: &Q, given: &mut Answer) -> Result<(), Fault> {
+    fn ask<Q: Questions>(&self, questions: &Q, given: &mut Transcript) -> Result<(), TableFault> {
         if self.expected.text.is_empty() {
-            return Err(Fault::NoAnswer);
+            return Err(TableFault::NoAnswer);
         }
         let Some(words) = self.question else {
-            return Err(Fault::NoQuestion);
+            return Err(TableFault::NoQuestion);
         };
-        let asked = Asked {
+        let asked = CaseInput {
             alloc: self.alloc,
-            words: Words::new(words),
+            words: CaseWords::new(words),
             input: &self.input.text,
         };
         match questions.answer(asked, given) {
             Ok(()) => Ok(()),
-            Err(unanswered) => Err(Fault::from(unanswered)),
+            Err(unanswered) => Err(TableFault::from(unanswered)),
         }
     }
 
@@ -224,11 +233,11 @@ impl<'a> Runner<'a> {
         questions: &Q,
         number: u64,
         name: &str,
-        report: &mut Answer,
-    ) -> Result<(), Fault>
+        report: &mut Transcript,
+    ) -> Result<(), TableFault>
         ensures kept { self.old.counts.differing ≤ self.new.counts.differing }
     {
-        let mut given = Answer::new(self.alloc);
+        let mut given = Transcript::new(self.alloc);
         let put = match self.ask(questions, &mut given) {
             Ok(()) => self.judge_written(number, name, &given, report),
             Err(fault) => Err(fault),
@@ -237,15 +246,15 @@ impl<'a> Runner<'a> {
         put
     }
 
-    fn keep_text(&mut self, name: &'a str) -> Result<(), Fault>
+    fn keep_text(&mut self, name: &'a str) -> Result<(), TableFault>
         ensures kept { self.new.counts ≡ self.old.counts }
     {
         if find_text(&self.texts, name).is_some() {
-            return Err(Fault::NameTaken);
+            return Err(TableFault::NameTaken);
         }
-        let body = mem::replace(&mut self.input, Answer::new(self.alloc));
+        let body = mem::replace(&mut self.input, Transcript::new(self.alloc));
         if self.texts.push(NamedText { name, body }).is_err() {
-            return Err(Fault::Memory);
+            return Err(TableFault::Memory);
         }
         Ok(())
     }
@@ -258,51 +267,55 @@ impl<'a> Runner<'a> {
     }
 
     // Ends the text or the case that the lines so far belong to.
-    fn close<Q: Questions>(&mut self, questions: &Q, report: &mut Answer) -> Result<(), AllocError>
+    fn close<Q: Questions>(
+        &mut self,
+        questions: &Q,
+        report: &mut Transcript,
+    ) -> Result<(), AllocError>
         ensures kept { self.old.counts.differing ≤ self.new.counts.differing }
     {
         let (number, closed) = match self.block {
-            Block::Nothing | Block::Rows(_) => (0, Ok(())),
-            Block::Text(number, name) => (number, self.keep_text(name)),
-            Block::Case(number, name) => (number, self.put(questions, number, name, report)),
+            CaseBlock::Nothing | CaseBlock::Rows(_) => (0, Ok(())),
+            CaseBlock::Text(number, name) => (number, self.keep_text(name)),
+            CaseBlock::Case(number, name) => (number, self.put(questions, number, name, report)),
         };
-        self.block = Block::Nothing;
+        self.block = CaseBlock::Nothing;
         self.question = None;
         self.clear();
         self.settle(number, closed, report)
     }
 
-    fn add_input(&mut self, content: Content<'_>) -> Result<(), Fault>
+    fn add_input(&mut self, content: Content<'_>) -> Result<(), TableFault>
         ensures kept { self.new.counts ≡ self.old.counts }
     {
         match self.block {
-            Block::Text(..) | Block::Case(..) => {
+            CaseBlock::Text(..) | CaseBlock::Case(..) => {
                 write_content(self.alloc, &self.texts, content, &mut self.input)
             }
-            _ => Err(Fault::Misplaced),
+            _ => Err(TableFault::Misplaced),
         }
     }
 
-    fn add_expected(&mut self, content: Content<'_>) -> Result<(), Fault>
+    fn add_expected(&mut self, content: Content<'_>) -> Result<(), TableFault>
         ensures kept { self.new.counts ≡ self.old.counts }
     {
         match self.block {
-            Block::Case(..) => {
+            CaseBlock::Case(..) => {
                 write_content(self.alloc, &self.texts, content, &mut self.expected)
             }
-            _ => Err(Fault::Misplaced),
+            _ => Err(TableFault::Misplaced),
         }
     }
 
-    fn take_question(&mut self, words: &'a str) -> Result<(), Fault>
+    fn take_question(&mut self, words: &'a str) -> Result<(), TableFault>
         ensures kept { self.new.counts ≡ self.old.counts }
     {
         match self.block {
-            Block::Case(..) if self.question.is_none() => {
+            CaseBlock::Case(..) if self.question.is_none() => {
                 self.question = Some(words);
                 Ok(())
             }
-            _ => Err(Fault::Misplaced),
+            _ => Err(TableFault::Misplaced),
         }
     }
 
@@ -312,16 +325,16 @@ impl<'a> Runner<'a> {
     }
 
     // The name of the case that a row belongs to.
-    fn name_of_rows(&self) -> Result<&'a str, Fault> {
+    fn name_of_rows(&self) -> Result<&'a str, TableFault> {
         match self.block {
-            Block::Rows(name) => Ok(name),
-            Block::Case(_, name) if self.is_bare() => Ok(name),
-            _ => Err(Fault::Misplaced),
+            CaseBlock::Rows(name) => Ok(name),
+            CaseBlock::Case(_, name) if self.is_bare() => Ok(name),
+            _ => Err(TableFault::Misplaced),
         }
     }
 
     // Replaces what was gathered with a row's content.
-    fn gather(&mut self, input: &str, answer: &str) -> Result<(), Fault>
+    fn gather(&mut self, input: &str, answer: &str) -> Result<(), TableFault>
         ensures kept { self.new.counts ≡ self.old.counts }
     {
         self.clear();
@@ -335,12 +348,12 @@ impl<'a> Runner<'a> {
         number: u64,
         input: &str,
         answer: &str,
-        report: &mut Answer,
-    ) -> Result<(), Fault>
+        report: &mut Transcript,
+    ) -> Result<(), TableFault>
         ensures kept { self.old.counts.differing ≤ self.new.counts.differing }
     {
         let name = self.name_of_rows()?;
-        self.block = Block::Rows(name);
+        self.block = CaseBlock::Rows(name);
         self.gather(input, answer)?;
         self.put(questions, number, name, report)
     }
@@ -348,16 +361,16 @@ impl<'a> Runner<'a> {
     fn begin<Q: Questions>(
         &mut self,
         questions: &Q,
-        block: Block<'a>,
-        report: &mut Answer,
-    ) -> Result<(), Fault>
+        block: CaseBlock<'a>,
+        report: &mut Transcript,
+    ) -> Result<(), TableFault>
         ensures kept { self.old.counts.differing ≤ self.new.counts.differing }
     {
         let closed = self.close(questions, report);
         self.block = block;
         match closed {
             Ok(()) => Ok(()),
-            Err(_) => Err(Fault::Memory),
+            Err(_) => Err(TableFault::Memory),
         }
     }
 
@@ -366,14 +379,14 @@ impl<'a> Runner<'a> {
         questions: &Q,
         number: u64,
         line: TableLine<'a>,
-        report: &mut Answer,
-    ) -> Result<(), Fault>
+        report: &mut Transcript,
+    ) -> Result<(), TableFault>
         ensures kept { self.old.counts.differing ≤ self.new.counts.differing }
     {
         match line {
             TableLine::Nothing => Ok(()),
-            TableLine::Text(name) => self.begin(questions, Block::Text(number, name), report),
-            TableLine::Case(name) => self.begin(questions, Block::Case(number, name), report),
+            TableLine::Text(name) => self.begin(questions, CaseBlock::Text(number, name), report),
+            TableLine::Case(name) => self.begin(questions, CaseBlock::Case(number, name), report),
             TableLine::Ask(words) => self.take_question(words),
             TableLine::Row(input, answer) => self.row(questions, number, input, answer, report),
             TableLine::Input(content) => self.add_input(content),
@@ -386,7 +399,7 @@ impl<'a> Runner<'a> {
         questions: &Q,
         number: u64,
         line: &'a str,
-        report: &mut Answer,
+        report: &mut Transcript,
     ) -> Result<(), AllocError>
         ensures kept { self.old.counts.differing ≤ self.new.counts.differing }
     {
@@ -401,7 +414,7 @@ impl<'a> Runner<'a> {
         &mut self,
         questions: &Q,
         table: &'a str,
-        report: &mut Answer,
+        report: &mut Transcript,
     ) -> Result<(), AllocError> {
         let mut number = 0u64;
         for line in table.lines() {
@@ -418,8 +431,8 @@ pub fn run_table<Q: Questions>(
     alloc: Global,
     questions: &Q,
     table: &str,
-    report: &mut Answer,
-) -> Result<Counts, AllocError> {
+    report: &mut Transcript,
+) -> Result<CaseCounts, AllocError> {
     let mut runner = Runner::new(alloc);
     let taken = runner.take_all(questions, table, report);
     let counts = runner.counts;

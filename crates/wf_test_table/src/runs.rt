@@ -1,11 +1,11 @@
 //! Lines that come many times, one after another.
-use crate::answer::Answer;
+use crate::answer::Transcript;
 use std::alloc::Global;
 
 /// A line, with its line feed, and how often it came.
 #[derive(Drop)]
 pub struct Runs {
-    line: Answer,
+    line: Transcript,
     times: usize,
 }
 
@@ -13,13 +13,13 @@ impl Runs {
     /// Before the first line.
     pub fn new(alloc: Global) -> Self {
         Runs {
-            line: Answer::new(alloc),
+            line: Transcript::new(alloc),
             times: 0,
         }
     }
 
     /// Appends the line and how often it came, as `3 times: LINE`, if there was one.
-    pub fn write(&self, answer: &mut Answer) {
+    pub fn write(&self, answer: &mut Transcript) {
         if self.times == 0 {
             return;
         }
@@ -29,7 +29,7 @@ impl Runs {
     }
 
     /// Counts the next line; where it is another one, appends the line before and how often that came.
-    pub fn take(&mut self, line: &Answer, answer: &mut Answer) {
+    pub fn take(&mut self, line: &Transcript, answer: &mut Transcript) {
         if self.line.text.as_slice() != line.text.as_slice() {
             self.write(answer);
             self.times = 0;

@@ -15,8 +15,8 @@
 //!
 //! White space beside a row's INPUT and ANSWER doesn't belong to them.
 
-use crate::fault::Fault;
-use crate::words::Words;
+use crate::fault::TableFault;
+use crate::words::CaseWords;
 
 /// What a line of content adds.
 #[derive(Clone, Copy)]
@@ -48,18 +48,18 @@ fn behind<'a>(line: &'a str, word: &str) -> Option<&'a str> {
     rest.strip_prefix(' ')
 }
 
-fn read_times(rest: &str) -> Result<Content<'_>, Fault> {
+fn read_times(rest: &str) -> Result<Content<'_>, TableFault> {
     let Some((count, text)) = rest.split_once(' ') else {
-        return Err(Fault::BadCount);
+        return Err(TableFault::BadCount);
     };
-    match Words::new(count).number() {
+    match CaseWords::new(count).number() {
         Ok(count) => Ok(Content::Times(count, text)),
-        Err(_) => Err(Fault::BadCount),
+        Err(_) => Err(TableFault::BadCount),
     }
 }
 
 // The content that a line adds, from after its first character.
-fn read_content(rest: &str) -> Result<Content<'_>, Fault> {
+fn read_content(rest: &str) -> Result<Content<'_>, TableFault> {
     if let Some(text) = behind(rest, ".") {
         return Ok(Content::Piece(text));
     }
@@ -71,28 +71,28 @@ fn read_content(rest: &str) -> Result<Content<'_>, Fault> {
     }
     match behind(rest, "") {
         Some(text) => Ok(Content::Line(text)),
-        None => Err(Fault::UnknownLine),
+        None => Err(TableFault::UnknownLine),
     }
 }
 
-fn read_row(rest: &str) -> Result<TableLine<'_>, Fault> {
+fn read_row(rest: &str) -> Result<TableLine<'_>, TableFault> {
     match rest.split_once("=>") {
         Some((input, answer)) => Ok(TableLine::Row(input.trim(), answer.trim())),
-        None => Err(Fault::NoArrow),
+        None => Err(TableFault::NoArrow),
     }
 }
 
-fn read_content_line(line: &str) -> Result<TableLine<'_>, Fault> {
+fn read_content_line(line: &str) -> Result<TableLine<'_>, TableFault> {
     if let Some(rest) = line.strip_prefix('<') {
         return Ok(TableLine::Input(read_content(rest)?));
     }
     match line.strip_prefix('>') {
         Some(rest) => Ok(TableLine::Expected(read_content(rest)?)),
-        None => Err(Fault::UnknownLine),
+        None => Err(TableFault::UnknownLine),
     }
 }
 
-fn line_with_word(line: &str) -> Result<TableLine<'_>, Fault> {
+fn line_with_word(line: &str) -> Result<TableLine<'_>, TableFault> {
     if let Some(rest) = behind(line, "for") {
         return read_row(rest);
     }
@@ -109,12 +109,12 @@ fn line_with_word(line: &str) -> Result<TableLine<'_>, Fault> {
 }
 
 /// Reads a line, given without its line feed.
-pub(crate) fn read_line(line: &str) -> Result<TableLine<'_>, Fault> {
+pub(crate) fn read_line(line: &str) -> Result<TableLine<'_>, TableFault> {
     if line.is_empty() || line.starts_with('#') {
         return Ok(TableLine::Nothing);
     }
     if line.trim_end().len() < line.len() {
-        return Err(Fault::SpaceAtEnd);
+        return Err(TableFault::SpaceAtEnd);
     }
     line_with_word(line)
 }

@@ -4,20 +4,20 @@ use std::mem;
 
 /// The words that are left.
 #[derive(Clone, Copy)]
-pub struct Words<'a> {
+pub struct CaseWords<'a> {
     rest: &'a str,
 }
 
-impl<'a> Words<'a> {
+impl<'a> CaseWords<'a> {
     /// The words of a text.
-    pub fn new(words: &'a str) -> Words<'a> {
-        Words { rest: words }
+    pub fn new(words: &'a str) -> CaseWords<'a> {
+        CaseWords { rest: words }
     }
 
     /// The words of an input, which has to be UTF-8.
-    pub fn of(input: &'a [u8]) -> Result<Words<'a>, Unanswered> {
+    pub fn of(input: &'a [u8]) -> Result<CaseWords<'a>, Unanswered> {
         match str::from_utf8(input) {
-            Ok(words) => Ok(Words::new(words)),
+            Ok(words) => Ok(CaseWords::new(words)),
             Err(_) => Err(Unanswered::BadWords),
         }
     }

@@ -3,7 +3,7 @@ use Rattle.std.proofs.Common.{◌≡◌, ◌≢◌, ℕ, zero, suc, ◌+◌, ◌
 use Rattle.std.proofs.Math.Nat.{one-le-pow}
 use Rattle.std.proofs.lemmas.Nat.{mod_below}
 use Rattle.wf_text.specs.NumberText.{fraction_digits}
-use Rattle.wf_text.specs.NumberTextLaws.{fraction_digits-zero, fraction_digits-suc}
+use Rattle.wf_text.specs.NumberTextTheorems.{fraction_digits-zero, fraction_digits-suc}
 
 -- the first digit, followed by those of the rest
 pub next_digit : (places parts unit : ℕ) → 0 < places → parts ≢ 0 → unit ≡ 10 ^ (places - 1)

@@ -2,4 +2,4 @@ pub mod NumberLemmas
 mod NumberJoined
 mod NumberCut
 mod Fraction
-mod NumberWriting
+mod NumberWriteSequences

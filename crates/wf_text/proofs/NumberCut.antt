@@ -6,7 +6,7 @@ use Rattle.std.specs.List.{list_all, prefix_len}
 use Rattle.std.proofs.lemmas.Bool.{ne_eqb, lt-ltb, le-leb, and_parts, and_from, or_parts, or_from}
 use Rattle.std.proofs.lemmas.Bool.Decides.{nat_tests}
 use Rattle.wf_text.specs.declared.fault.NumberFault.TheVariants.{BadNumber, OutOfRange}
-use Rattle.wf_text.specs.Number.{Numeral, is_negative, is_sign, after_sign, leading_digits, after_digits, fraction_digits, after_fraction, spelled_onto, signed, is_power_digits, signed_power, power_of, numeral, in_range, number}
+use Rattle.wf_text.specs.Number.{Numeral, is_negative, is_sign, after_sign, leading_digits, after_digits, fraction_digits, after_fraction, spelled_onto, with_sign, is_power_digits, signed_power, power_of, numeral, in_range, number}
 use Rattle.wf_text.specs.NumberForm.{Sign, Unsigned, Plus, Minus, sign_text, is_minus, Fraction, NoPoint, WithPoint, fraction_text, behind_point, SmallE, CapitalE, Ending, NoPower, WithPower, ending_text, power_of_ten, Written, text_of, parts_of, AreDigits, ArePowerDigits, IsEnding, IsWritten, HasParts}
 use Rattle.wf_text.proofs.NumberJoined.{has_parts}
 
@@ -67,7 +67,7 @@ behind_sign_no_sign [] NoPoint ending e least = absurd (omega arith)
 is_power_digits-true : (digits : List ℕ) → ArePowerDigits digits → is_power_digits digits ≡ true
 is_power_digits-true digits p = and_from _ _ (and_from _ _ (lt-ltb _ _ p.least) (le-leb _ _ p.most)) p.digits
 
-signed_power_is_read : (sign : Sign) (digits : List ℕ) → ArePowerDigits digits → signed_power (sign_text sign ++ digits) ≡ Some (signed (is_minus sign) (spelled_onto 0 digits))
+signed_power_is_read : (sign : Sign) (digits : List ℕ) → ArePowerDigits digits → signed_power (sign_text sign ++ digits) ≡ Some (with_sign (is_minus sign) (spelled_onto 0 digits))
 signed_power_is_read sign digits p =
     let cut = sign_is_cut sign digits (digits_begin_with_no_sign digits p.digits p.least) in
     rw (cut.rest, cut.minus, is_power_digits-true digits p) refl
@@ -113,7 +113,7 @@ written_is_cut w h =
     rw (sign.minus, sign.rest, whole.front, whole.rest, fraction.digits, fraction.rest, power_is_read w.ending h.ending, some) refl
 
 pub parts_are_cut : (text : List ℕ) (parts : Numeral) → HasParts text parts → numeral text ≡ Some parts
-parts_are_cut text parts h = ap numeral (sym h.spells) ∙ written_is_cut h.written h.is_written ∙ ap Some h.says
+parts_are_cut text parts h = ap numeral (sym h.spells) ∙ written_is_cut h.written h.is_written ∙ ap Some h.sends
 
 -- ---- what the text means
 

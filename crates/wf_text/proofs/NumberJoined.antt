@@ -6,7 +6,7 @@ use Rattle.std.specs.List.{prefix_len}
 use Rattle.std.proofs.lemmas.Bool.{cases_eq, cases_Bool, ne_eqb, eqb-false, ltb-true, leb-true, and_parts}
 use Rattle.std.proofs.lemmas.List.{take-append-drop}
 use Rattle.std.proofs.lemmas.Option.{cond_some, same_Some, none-some}
-use Rattle.wf_text.specs.Number.{Numeral, is_negative, after_sign, leading_digits, after_digits, fraction_digits, after_fraction, spelled_onto, signed, is_power_digits, signed_power, power_of, numeral_from, numeral}
+use Rattle.wf_text.specs.Number.{Numeral, is_negative, after_sign, leading_digits, after_digits, fraction_digits, after_fraction, spelled_onto, with_sign, is_power_digits, signed_power, power_of, numeral_from, numeral}
 use Rattle.wf_text.specs.NumberForm.{Sign, Unsigned, Plus, Minus, sign_text, is_minus, Fraction, NoPoint, WithPoint, fraction_text, behind_point, Mark, SmallE, CapitalE, mark_byte, Ending, NoPower, WithPower, ending_text, power_of_ten, AreDigits, ArePowerDigits, IsEnding, HasParts}
 
 -- ---- digits
@@ -73,27 +73,27 @@ record HasPower (text : List ℕ) (power : ℤ) : Type 0 where
   digits : List ℕ
   are_digits : ArePowerDigits digits
   joined : sign_text sign ++ digits ≡ text
-  said : signed (is_minus sign) (spelled_onto 0 digits) ≡ power
+  stated : with_sign (is_minus sign) (spelled_onto 0 digits) ≡ power
 
 has_power : (text : List ℕ) (power : ℤ) → signed_power text ≡ Some power → HasPower text power
 has_power text power e =
     let s = has_sign text in
     let found = cond_some _ _ _ e in
-    record { sign = s.sign; digits = after_sign text; are_digits = are_power_digits (after_sign text) found.0; joined = s.joined; said = rw s.minus found.1 }
+    record { sign = s.sign; digits = after_sign text; are_digits = are_power_digits (after_sign text) found.0; joined = s.joined; stated = rw s.minus found.1 }
 
 record HasEnding (text : List ℕ) (power : ℤ) : Type 0 where
   ending : Ending
   is_ending : IsEnding ending
   joined : ending_text ending ≡ text
-  said : power_of_ten ending ≡ power
+  stated : power_of_ten ending ≡ power
 
 ends_with : (mark : Mark) (b : ℕ) (rest : List ℕ) (power : ℤ) → b ≡ mark_byte mark → signed_power rest ≡ Some power → HasEnding (b ∷ rest) power
 ends_with mark b rest power is_mark e =
     let p = has_power rest power e in
-    record { ending = WithPower mark p.sign p.digits; is_ending = p.are_digits; joined = rw (is_mark, p.joined) refl; said = p.said }
+    record { ending = WithPower mark p.sign p.digits; is_ending = p.are_digits; joined = rw (is_mark, p.joined) refl; stated = p.stated }
 
 has_ending : (text : List ℕ) (power : ℤ) → power_of text ≡ Some power → HasEnding text power
-has_ending [] power e = record { ending = NoPower; is_ending = tt; joined = refl; said = same_Some _ _ e }
+has_ending [] power e = record { ending = NoPower; is_ending = tt; joined = refl; stated = same_Some _ _ e }
 has_ending (b ∷ rest) power e = elim (cases_eq b 101) [
   | inl small ↦ ends_with SmallE b rest power small (rw small at e)
   | inr other ↦ elim (cases_eq b 69) [
@@ -136,5 +136,5 @@ has_parts text parts e =
       written = record { sign = s.sign; whole = leading_digits behind_sign; fraction = f.fraction; ending = t.ending };
       is_written = record { whole = digits_are_cut behind_sign; fraction = f.are_digits; least = rw f.digits made.least; ending = t.is_ending };
       spells = rw (t.joined, f.joined, digits_join behind_sign) s.joined;
-      says = rw (s.minus, f.digits, t.said) made.parts_are;
+      sends = rw (s.minus, f.digits, t.stated) made.parts_are;
     }

@@ -4,7 +4,7 @@ pub mod Micro
 pub mod Number
 pub mod NumberForm
 pub mod NumberText
-pub mod NumberTextLaws
+pub mod NumberTextTheorems
 pub mod NumberDraft
 pub mod Text
 pub mod ValueList

@@ -53,8 +53,8 @@ spelled_onto value digits = fold (λ v b. v * 10 + (b - 48)) value digits
 abbrev pub number_of_digits : List ℕ → ℕ
 number_of_digits digits = spelled_onto 0 digits
 
-abbrev pub signed : Bool → ℕ → ℤ
-signed negative magnitude = if negative then neg_ℤ (pos magnitude) else pos magnitude
+abbrev pub with_sign : Bool → ℕ → ℤ
+with_sign negative magnitude = if negative then neg_ℤ (pos magnitude) else pos magnitude
 
 -- the text is one to three digits
 abbrev pub is_power_digits : List ℕ → Bool
@@ -62,7 +62,7 @@ is_power_digits digits = nat_lt 0 (length digits) && nat_le (length digits) most
 
 -- one to three digits after an optional sign
 abbrev pub signed_power : List ℕ → Option ℤ
-signed_power text = if is_power_digits (after_sign text) then Some (signed (is_negative text) (spelled_onto 0 (after_sign text))) else None
+signed_power text = if is_power_digits (after_sign text) then Some (with_sign (is_negative text) (spelled_onto 0 (after_sign text))) else None
 
 abbrev pub is_power_mark : ℕ → Bool
 is_power_mark b = b == 101 || b == 69
@@ -97,7 +97,7 @@ has_too_many_digits n = nat_lt most_whole_digits (length n.whole) || nat_lt most
 -- the number in millionths, unless it has too many digits or is too great
 unfoldable pub in_range : Numeral → Result ℤ NumberFault
 in_range n = if has_too_many_digits n || nat_lt most_millionths (magnitude n) then Err OutOfRange
-    else Ok (signed n.negative (magnitude n))
+    else Ok (with_sign n.negative (magnitude n))
 
 -- what the text of a number means
 unfoldable pub number : List ℕ → Result ℤ NumberFault

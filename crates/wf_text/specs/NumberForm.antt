@@ -7,7 +7,7 @@ use Rattle.std.specs.Char.{is_ascii_digit}
 use Rattle.std.specs.List.{list_all}
 use Rattle.wf_text.specs.declared.fault.NumberFault.TheVariants.{BadNumber}
 use Rattle.wf_text.specs.Limit.{most_power_digits}
-use Rattle.wf_text.specs.Number.{Numeral, numeral, spelled_onto, signed, in_range, number}
+use Rattle.wf_text.specs.Number.{Numeral, numeral, spelled_onto, with_sign, in_range, number}
 
 -- no sign, `+` or `-`
 pub data Sign : Type 0 where
@@ -55,7 +55,7 @@ ending_text (WithPower mark sign digits) = mark_byte mark ∷ (sign_text sign ++
 
 abbrev pub power_of_ten : Ending → ℤ
 power_of_ten NoPower = pos 0
-power_of_ten (WithPower mark sign digits) = signed (is_minus sign) (spelled_onto 0 digits)
+power_of_ten (WithPower mark sign digits) = with_sign (is_minus sign) (spelled_onto 0 digits)
 
 -- a written number, from left to right
 pub record Written : Type 0 where
@@ -97,7 +97,7 @@ pub record HasParts (text : List ℕ) (parts : Numeral) : Type 0 where
   pub written : Written
   pub is_written : IsWritten written
   pub spells : text_of written ≡ text
-  pub says : parts_of written ≡ parts
+  pub sends : parts_of written ≡ parts
 
 -- reading cuts a text into parts iff the text has those parts
 abbrev pub CutIntoItsParts : Type 0

@@ -3,7 +3,7 @@ ghost use Rattle.std.specs.Prelude.{◌≡◌, ◌+◌, ◌*◌, ◌/◌, ◌^�
 ghost use Rattle.std.specs.Char.{is_ascii_digit};
 ghost use Rattle.std.specs.List.{prefix_len};
 ghost use Rattle.wf_text.specs.Micro.{IsMicro};
-ghost use Rattle.wf_text.specs.Number.{Numeral as NumeralValue, is_negative, after_sign, leading_digits, after_digits, fraction_digits, after_fraction, spelled_onto, is_sign, is_power_digits, is_power_mark, signed_power, power_of, numeral_from, numeral, scaled, signed, has_too_many_digits, magnitude, in_range};
+ghost use Rattle.wf_text.specs.Number.{Numeral as NumeralValue, is_negative, after_sign, leading_digits, after_digits, fraction_digits, after_fraction, spelled_onto, is_sign, is_power_digits, is_power_mark, signed_power, power_of, numeral_from, numeral, scaled, with_sign, has_too_many_digits, magnitude, in_range};
 ghost use Rattle.wf_text.specs.Limit.{most_fraction_digits, most_millionths, most_power_digits, most_whole_digits};
 
 use crate::digits::are_digits;
@@ -253,7 +253,7 @@ impl<'a> Numeral<'a> {
         if magnitude > MOST_MILLIONTHS {
             return Err(NumberFault::OutOfRange);
         }
-        Ok(signed(self.negative, magnitude))
+        Ok(with_sign(self.negative, magnitude))
     }
 }
 
@@ -279,9 +279,9 @@ fn places(power: i16, fraction: &[u8]) -> i32
     6 + i32::from(power) - fraction.len() as i32
 }
 
-fn signed(negative: bool, magnitude: u64) -> i64
+fn with_sign(negative: bool, magnitude: u64) -> i64
     requires { magnitude < 2 ^ 63 }
-    ensures { result ≡ signed negative magnitude }
+    ensures { result ≡ with_sign negative magnitude }
 {
     let magnitude = magnitude as i64;
     if negative { -magnitude } else { magnitude }

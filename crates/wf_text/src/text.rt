@@ -49,7 +49,7 @@ impl Text {
             (λ fault. is_memory fault ≡ false → is_text bytes.now ≡ false) }
         ensures first { IfErr result (λ fault. IsFirstFault fault bytes.now) }
     {
-        let text = checked(bytes)?;
+        let text = check_text(bytes)?;
         match Text::from_str(alloc, text) {
             Ok(text) => Ok(text),
             Err(_) => Err(TextFault::OutOfMemory),
@@ -100,7 +100,7 @@ fn is_layout(c: char) -> bool
 /// The bytes as a `str`, if they are a text. An error is the first that applies, in the order of [`TextFault`]; it is never
 /// `OutOfMemory`, since nothing is copied.
 #[tactic(auto, unfolding(crate::specs::Text::is_text))]
-pub fn checked(bytes: &[u8]) -> Result<&str, TextFault>
+pub fn check_text(bytes: &[u8]) -> Result<&str, TextFault>
     ensures value { IfOk result (λ text. text.now ≡ bytes.now) }
     ensures within { IfOk result (λ text. IsText text.now) }
     ensures refused { IfErr result (λ fault. is_text bytes.now ≡ false) }

@@ -58,7 +58,7 @@ impl ValueList {
 
 /// The bytes as a `str`, if they are the inside of a list.
 #[tactic(auto, unfolding(crate::specs::ValueList::is_value_list))]
-pub fn checked_list(bytes: &[u8]) -> Option<&str>
+pub fn check_list(bytes: &[u8]) -> Option<&str>
     ensures value { IfSome result (λ inside. inside.now ≡ bytes.now) }
     ensures within { IfSome result (λ inside. IsValueList inside.now) }
     ensures refused { IfNone result (is_value_list bytes.now ≡ false) }

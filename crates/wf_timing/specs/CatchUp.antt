@@ -1,7 +1,7 @@
 -- Whose turn it is to be asked, and when.
 use Rattle.std.specs.Prelude.{◌≡◌, ℕ, ◌+◌, ◌<◌, ◌≤◌, ◌⊎◌, Bool, true, false, nat_le, List, length, slice_index_or, Option, Some, None, if◌then◌else◌}
 use Rattle.wf_timing.specs.declared.catch_up.CatchUp.{CatchUp}
-use Rattle.wf_timing.specs.declared.catch_up.Question.{Question}
+use Rattle.wf_timing.specs.declared.catch_up.PendingQuestion.{PendingQuestion}
 use Rattle.wf_timing.specs.Moment.{later, second}
 
 -- the number of definitions in a whole answer
@@ -9,12 +9,12 @@ abbrev pub whole_answer : ℕ
 whole_answer = 8
 
 -- a whole answer to the question was published
-abbrev pub is_brought_on : Option Question → ℕ → Bool
+abbrev pub is_brought_on : Option PendingQuestion → ℕ → Bool
 is_brought_on None published = false
 is_brought_on (Some question) published = nat_le (question.published + whole_answer) published
 
 -- the first peer whose turn it may be: after a whole answer that of the last question
-abbrev pub turn_in : Option Question → (next published : ℕ) → ℕ
+abbrev pub turn_in : Option PendingQuestion → (next published : ℕ) → ℕ
 turn_in None next published = next
 turn_in (Some question) next published = if nat_le (question.published + whole_answer) published then question.peer else next
 

@@ -9,7 +9,7 @@ pub const WHOLE_ANSWER: u16 = 8;
 
 /// A question that was asked.
 #[derive(Clone, Copy, Debug, PartialEq, Eq)]
-pub struct Question {
+pub struct PendingQuestion {
     /// The peer that was asked.
     pub peer: usize,
     /// The sequence that the node had published then.
@@ -24,7 +24,7 @@ pub struct CatchUp {
     /// The moment from which a peer is asked.
     pub due: u64,
     /// The last question.
-    pub question: Option<Question>,
+    pub question: Option<PendingQuestion>,
 }
 
 impl CatchUp {
@@ -53,8 +53,8 @@ impl CatchUp {
     }
 
     /// The peer to ask now, by which peers are connected (this node never is) and the last published sequence; None if nobody is to be
-    /// asked yet, or nobody is connected. The one who is asked is asked again at once after a whole answer; otherwise, a second later,
-    /// it is the next one's turn.
+    /// asked yet, or nobody is connected. The one who is asked is asked again at once after a whole answer; otherwise, a second
+    /// later, it is the next one's turn.
     pub fn ask(&mut self, now: u64, published: u16, connected: &[bool]) -> Option<usize>
         requires { published ≤ 4096 }
         ensures asked { IfSome result (λ peer. IsAskedOf self.old now published connected.now peer self.new) }
@@ -68,13 +68,13 @@ impl CatchUp {
         let peer = first_connected(connected, turn)?;
         self.next = peer + 1;
         self.due = now.saturating_add(SECOND);
-        self.question = Some(Question { peer, published });
+        self.question = Some(PendingQuestion { peer, published });
         Some(peer)
     }
 }
 
 /// Whether a whole answer to the question was published.
-fn is_brought_on(question: Option<Question>, published: u16) -> bool
+fn is_brought_on(question: Option<PendingQuestion>, published: u16) -> bool
     requires { published ≤ 4096 }
     ensures { result ≡ is_brought_on question published }
 {

@@ -13,7 +13,7 @@ use Rattle.wf_text.specs.ValueList.{is_value_list}
 use Rattle.wf_token.specs.declared.token.Token.{Token as LexedToken}
 use Rattle.wf_text.specs.Booleans.{not_true}
 use Rattle.wf_token.specs.Lexeme.{begins, ends_word, goes_on, stays_in_list}
-use Rattle.wf_token.specs.SpellingLaws.{prepend_all-append, prepend_all-some}
+use Rattle.wf_token.specs.SpellingTheorems.{prepend_all-append, prepend_all-some}
 use Rattle.wf_token.specs.Token.{Token, Word, Quoted, Braced, Between, BehindSlash, LineComment, BlockComment, BehindStar, InWord, InString, InList, Goes, is_white, is_quote, is_hash, ends_line, is_slash, is_star, is_plain, opens_list, closes_list, step_between, step_in_word, step_in_string, step_in_list, step, at_end, prepend, prepend_all, tokens_from, token_value, token_values}
 
 -- the kinds of bytes exclude each other

@@ -1,6 +1,6 @@
 pub mod Token
 pub mod Lexeme
 pub mod Spelling
-pub mod SpellingLaws
-pub mod WordLaws
-pub mod Utf8Laws
+pub mod SpellingTheorems
+pub mod WordTheorems
+pub mod Utf8Theorems

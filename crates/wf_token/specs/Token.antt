@@ -71,7 +71,7 @@ pub data State : Type 0 where
 pub data Step : Type 0 where
   Goes : State → Step
   Ends : Token → State → Step
-  Refuses : Step
+  Rejects : Step
 
 -- the step between tokens
 unfoldable pub step_between : ℕ → Step
@@ -81,7 +81,7 @@ step_between b =
     if is_quote b then Goes (InString b []) else
     if is_slash b then Goes BehindSlash else
     if is_plain b then Goes (InWord (b ∷ [])) else
-    if opens_list b then Goes (InList []) else Refuses
+    if opens_list b then Goes (InList []) else Rejects
 
 -- a word ends before white space, `#` or a quote; that byte then counts as one between tokens
 unfoldable pub step_in_word : List ℕ → ℕ → Step
@@ -89,20 +89,20 @@ step_in_word w b =
     if is_plain b then Goes (InWord (w ++ b ∷ [])) else
     if is_white b then Ends (Word w) Between else
     if is_hash b then Ends (Word w) LineComment else
-    if is_quote b then Ends (Word w) (InString b []) else Refuses
+    if is_quote b then Ends (Word w) (InString b []) else Rejects
 
 -- a string ends at the next quote of its kind, and its bytes are a valid text
 unfoldable pub step_in_string : ℕ → List ℕ → ℕ → Step
 step_in_string q s b =
     if b == q
-    then (if is_text s then Ends (Quoted s) Between else Refuses)
+    then (if is_text s then Ends (Quoted s) Between else Rejects)
     else Goes (InString q (s ++ b ∷ []))
 
 -- a list ends at the next `}`, and its bytes are a valid list: quotes and `#` are bytes like others
 unfoldable pub step_in_list : List ℕ → ℕ → Step
 step_in_list s b =
     if closes_list b
-    then (if is_value_list s then Ends (Braced s) Between else Refuses)
+    then (if is_value_list s then Ends (Braced s) Between else Rejects)
     else Goes (InList (s ++ b ∷ []))
 
 unfoldable pub step : State → ℕ → Step
@@ -140,7 +140,7 @@ prepend_all (t ∷ ts) rest = prepend t (prepend_all ts rest)
 abbrev pub follow : Step → (State → Option (List Token)) → Option (List Token)
 follow (Goes p) rest = rest p
 follow (Ends t p) rest = prepend t (rest p)
-follow Refuses rest = None
+follow Rejects rest = None
 
 -- the tokens of the rest of a text, from a state
 unfoldable pub tokens_from : State → List ℕ → Option (List Token)

@@ -11,8 +11,8 @@ use crate::lexeme::Lexeme;
 use crate::token::{LexFault, LexFaultKind, Token, TokenKind, Tokens};
 use std::alloc::{AllocError, Global};
 use wf_text::limits::MOST_TEXT_BYTES;
-use wf_text::text::{checked, is_text_character};
-use wf_text::value_list::checked_list;
+use wf_text::text::{check_text, is_text_character};
+use wf_text::value_list::check_list;
 
 /// U+FEFF in UTF-8.
 const BYTE_ORDER_MARK: [u8; 3] = [0xEF, 0xBB, 0xBF];
@@ -200,14 +200,14 @@ fn word(bytes: &[u8]) -> Lexeme<'_>
 fn is_text(bytes: &[u8]) -> bool
     ensures { result ≡ is_text bytes.now }
 {
-    checked(bytes).is_ok()
+    check_text(bytes).is_ok()
 }
 
 /// Whether the bytes are the inside of a list.
 fn is_value_list(bytes: &[u8]) -> bool
     ensures { result ≡ is_value_list bytes.now }
 {
-    checked_list(bytes).is_some()
+    check_list(bytes).is_some()
 }
 
 /// Whether a string, or a list, may contain the character.
@@ -386,8 +386,12 @@ pub fn tokenize<'a>(alloc: Global, bytes: &'a [u8]) -> Result<Tokens<'a>, AllocE
         match lexeme(rest) {
             Lexeme::Gap { after } => rest = after,
             Lexeme::Found { kind, text, after } => {
-                let place = bytes.len() - rest.len();
-                tokens.push(Token { kind, place, text })?;
+                let byte_offset = bytes.len() - rest.len();
+                tokens.push(Token {
+                    kind,
+                    byte_offset,
+                    text,
+                })?;
                 rest = after;
             }
             Lexeme::End => {
@@ -397,10 +401,10 @@ pub fn tokenize<'a>(alloc: Global, bytes: &'a [u8]) -> Result<Tokens<'a>, AllocE
                 });
             }
             Lexeme::Fault { kind, at } => {
-                let place = bytes.len() - at.len();
+                let byte_offset = bytes.len() - at.len();
                 return Ok(Tokens {
                     tokens,
-                    fault: Some(LexFault { kind, place }),
+                    fault: Some(LexFault { kind, byte_offset }),
                 });
             }
         }

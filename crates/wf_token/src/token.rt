@@ -19,7 +19,7 @@ pub struct Token<'a> {
     /// What it stands between.
     pub kind: TokenKind,
     /// Its byte offset in the file; that of a string is its opening quote's, that of a list its opening brace's.
-    pub place: usize,
+    pub byte_offset: usize,
     /// Its bytes, without quotes or braces.
     pub text: &'a [u8],
 }
@@ -39,7 +39,7 @@ pub struct LexFault {
     /// Which error it is.
     pub kind: LexFaultKind,
     /// Its byte offset in the file.
-    pub place: usize,
+    pub byte_offset: usize,
 }
 
 /// The tokens of a text up to its end, or up to its first error.

@@ -2,15 +2,15 @@
 use Rattle.std.proofs.Common.{◌≡◌, ◌⊎◌, ℕ, zero, suc, ◌<◌, ◌≤◌, Bool, List, [], ◌∷◌, ◌++◌, slice_get, Some, refl, sym, ap, subst, ◌∙◌, inl, inr, arith}
 use Rattle.std.proofs.lemmas.Bool.{cases_lt}
 use Rattle.std.proofs.lemmas.Option.{none-some}
-use Rattle.wf_law.specs.Laws.{IsBeginning, Agreement}
-use Rattle.wf_model.specs.Stored.{definition_at}
+use Rattle.wf_safety.specs.Theorems.{IsBeginning, Agreement}
+use Rattle.wf_model.specs.DurableState.{definition_at}
 use Rattle.wf_model.specs.World.{Node, World, after}
 use Rattle.wf_model.specs.Chosen.{IsChosen, history_of, history}
 use Rattle.wf_trace.specs.Deed.{new_node}
-use Rattle.wf_trace.specs.Trace.{Entry, of_process, said_by, IsTrace, Shows}
-use Rattle.wf_trace.specs.Laws.{IsReached, published_at, OneDefinition, HasOneHistory, OneHistory}
+use Rattle.wf_trace.specs.Trace.{Entry, of_process, outputs_by, IsTrace, Refines}
+use Rattle.wf_trace.specs.Theorems.{IsReachable, published_at, OneDefinition, HasOneHistory, OneHistory}
 use Rattle.wf_trace.proofs.Entries.{trace_is_run}
-use Rattle.wf_trace.proofs.Growing.{begins_itself, begins_through, grows_to_last}
+use Rattle.wf_trace.proofs.Growth.{begins_itself, begins_through, grows_to_last}
 
 -- ---- lists of which one begins the other
 
@@ -42,16 +42,16 @@ one_begins (x ∷ xs) (y ∷ ys) alike =
 
 -- ---- at the end
 
-module _ {V : Type 0} (law : Agreement V) (same : V → V → Bool) (n : ℕ) (entries : List (Entry V)) (nodes : ℕ → Node V) (trace : IsTrace same n entries nodes) where
-  reached : IsReached same n nodes (said_by entries)
+module _ {V : Type 0} (theorem : Agreement V) (same : V → V → Bool) (n : ℕ) (entries : List (Entry V)) (nodes : ℕ → Node V) (trace : IsTrace same n entries nodes) where
+  reached : IsReachable same n nodes (outputs_by entries)
   reached = trace_is_run V same n entries nodes trace
 
   world : World V
   world = after same n reached.events
 
-  shown : Shows n nodes (said_by entries) world
+  shown : Refines n nodes (outputs_by entries) world
   unfolding world
-  shown = reached.shows
+  shown = reached.refines
 
   last_history : (i : ℕ) → i < n → history world i ≡ (nodes i).stored.history
   unfolding history history_of
@@ -60,12 +60,12 @@ module _ {V : Type 0} (law : Agreement V) (same : V → V → Bool) (n : ℕ) (e
   last_chosen : (i s : ℕ) (d : V) → i < n → definition_at (nodes i).stored.history s ≡ Some d → IsChosen n world.sent s d
   unfolding world
   last_chosen i s d is_member at =
-      (law.facts same n reached.events).published_is_chosen i s d (ap (λ ds. definition_at ds s) (last_history i is_member) ∙ at)
+      (theorem.facts same n reached.events).published_is_chosen i s d (ap (λ ds. definition_at ds s) (last_history i is_member) ∙ at)
 
   last_alike : (i j s : ℕ) (c d : V) → i < n → j < n → definition_at (nodes i).stored.history s ≡ Some c → definition_at (nodes j).stored.history s ≡ Some d → c ≡ d
   unfolding world
   last_alike i j s c d is_member other_member at other =
-      (law.facts same n reached.events).one_chosen s c d (last_chosen i s c is_member at) (last_chosen j s d other_member other)
+      (theorem.facts same n reached.events).one_chosen s c d (last_chosen i s c is_member at) (last_chosen j s d other_member other)
 
   -- ---- at any moments
 
@@ -132,7 +132,7 @@ module _ {V : Type 0} (law : Agreement V) (same : V → V → Bool) (n : ℕ) (e
       }
 
 pub one_definition_each : (V : Type 0) → Agreement V → OneDefinition V
-one_definition_each V law = λ same n entries nodes trace. one_definition law same n entries nodes trace
+one_definition_each V theorem = λ same n entries nodes trace. one_definition theorem same n entries nodes trace
 
 pub one_history_of_all : (V : Type 0) → Agreement V → OneHistory V
-one_history_of_all V law = λ same n entries nodes trace. one_history law same n entries nodes trace
+one_history_of_all V theorem = λ same n entries nodes trace. one_history theorem same n entries nodes trace

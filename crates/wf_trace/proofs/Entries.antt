@@ -3,11 +3,11 @@ use Rattle.std.proofs.Common.{◌≡◌, ◌≢◌, ℕ, ◌<◌, ◌==◌, Bool
 use Rattle.std.proofs.lemmas.Bool.{cases_eq}
 use Rattle.std.proofs.lemmas.List.{length-replicate}
 use Rattle.wf_model.specs.Message.{Message}
-use Rattle.wf_model.specs.StepsLaws.{steps_in_turn}
+use Rattle.wf_model.specs.StepsTheorems.{steps_in_turn}
 use Rattle.wf_model.specs.World.{Node, World, steps, start, after}
 use Rattle.wf_trace.specs.Deed.{IsDone, new_node}
-use Rattle.wf_trace.specs.Trace.{Entry, of_process, said_by, IsLife, IsHeard, AreHeard, AreMembers, GoOn, Shows}
-use Rattle.wf_trace.specs.Laws.{EntriesAreEvents, IsLed, TraceIsRun, PartsAreOne}
+use Rattle.wf_trace.specs.Trace.{Entry, of_process, outputs_by, IsLife, IsReceived, AreReceived, AreMembers, GoOn, Refines}
+use Rattle.wf_trace.specs.Theorems.{EntriesAreEvents, IsReachableFrom, TraceIsRun, PartsAreOne}
 use Rattle.wf_trace.proofs.Nodes.{set_there, set_elsewhere, all_alike}
 use Rattle.wf_trace.proofs.Deeds.{Becomes, deed_is_events}
 
@@ -55,82 +55,82 @@ module _ {V : Type 0} (same : V → V → Bool) (n : ℕ) (sent : List (Message 
         (subst (λ (es : List (Entry V)). IsLife same n j (nodes j) es (nodes_after j)) (other_first j entry entries (λ e. other (sym e))) (go.lives j less))
   ]
 
-  rest_goes_on : GoOn same n (sent ++ entry.said) (put_node nodes entry.process middle) entries nodes_after
-  rest_goes_on = record { members = go.members.1; lives = later_life; heard = go.heard.1 }
+  rest_goes_on : GoOn same n (sent ++ entry.outputs) (put_node nodes entry.process middle) entries nodes_after
+  rest_goes_on = record { members = go.members.1; lives = later_life; received = go.received.1 }
 
-  module _ (w : World V) (shows : Shows n nodes sent w) where
-    becomes : Becomes same w entry.process middle entry.said
-    becomes = deed_is_events same w entry.process (nodes entry.process) (shows.each entry.process go.members.0) entry.deed entry.said middle
-        (subst (λ (ms : List (Message V)). IsHeard ms entry.deed) (sym shows.messages) go.heard.0)
-        (subst (λ k. IsDone same k entry.process (nodes entry.process) entry.deed entry.said middle) (sym shows.as_many) own_life.1)
+  module _ (w : World V) (refines : Refines n nodes sent w) where
+    becomes : Becomes same w entry.process middle entry.outputs
+    becomes = deed_is_events same w entry.process (nodes entry.process) (refines.each entry.process go.members.0) entry.deed entry.outputs middle
+        (subst (λ (ms : List (Message V)). IsReceived ms entry.deed) (sym refines.messages) go.received.0)
+        (subst (λ k. IsDone same k entry.process (nodes entry.process) entry.deed entry.outputs middle) (sym refines.as_many) own_life.1)
 
     there : (j : ℕ) → j < n → slice_get (slice_set w.nodes entry.process middle) j ≡ Some (put_node nodes entry.process middle j)
     there j less = elim (cases_eq j entry.process) [
       | inl own ↦ subst (λ k. slice_get (slice_set w.nodes entry.process middle) k ≡ Some (put_node nodes entry.process middle k)) (sym own)
-          (set_there w.nodes entry.process middle (nodes entry.process) (shows.each entry.process go.members.0) ∙ ap Some (sym (put_own nodes entry.process entry.process middle refl)))
-      | inr other ↦ set_elsewhere w.nodes entry.process j middle other ∙ shows.each j less ∙ ap Some (sym (put_other nodes entry.process j middle other))
+          (set_there w.nodes entry.process middle (nodes entry.process) (refines.each entry.process go.members.0) ∙ ap Some (sym (put_own nodes entry.process entry.process middle refl)))
+      | inr other ↦ set_elsewhere w.nodes entry.process j middle other ∙ refines.each j less ∙ ap Some (sym (put_other nodes entry.process j middle other))
     ]
 
-    shown : Shows n (put_node nodes entry.process middle) (sent ++ entry.said) (steps same w becomes.events)
-    shown = subst (Shows n (put_node nodes entry.process middle) (sent ++ entry.said)) (sym becomes.world) (record {
-      as_many = length-set w.nodes entry.process middle ∙ shows.as_many;
+    shown : Refines n (put_node nodes entry.process middle) (sent ++ entry.outputs) (steps same w becomes.events)
+    shown = subst (Refines n (put_node nodes entry.process middle) (sent ++ entry.outputs)) (sym becomes.world) (record {
+      as_many = length-set w.nodes entry.process middle ∙ refines.as_many;
       each = there;
-      messages = ap (λ (ms : List (Message V)). ms ++ entry.said) shows.messages;
+      messages = ap (λ (ms : List (Message V)). ms ++ entry.outputs) refines.messages;
     })
 
-    led_on : IsLed same n (steps same w becomes.events) nodes_after ((sent ++ entry.said) ++ said_by entries) → IsLed same n w nodes_after (sent ++ said_by (entry ∷ entries))
-    unfolding said_by
-    led_on led = record {
-      events = becomes.events ++ led.events;
-      shows = subst (Shows n nodes_after (sent ++ (entry.said ++ said_by entries))) (sym (steps_in_turn V same w becomes.events led.events))
-          (subst (λ (ms : List (Message V)). Shows n nodes_after ms (steps same (steps same w becomes.events) led.events)) (append_assoc sent entry.said (said_by entries)) led.shows);
+    reachable_on : IsReachableFrom same n (steps same w becomes.events) nodes_after ((sent ++ entry.outputs) ++ outputs_by entries) → IsReachableFrom same n w nodes_after (sent ++ outputs_by (entry ∷ entries))
+    unfolding outputs_by
+    reachable_on reachable = record {
+      events = becomes.events ++ reachable.events;
+      refines = subst (Refines n nodes_after (sent ++ (entry.outputs ++ outputs_by entries))) (sym (steps_in_turn V same w becomes.events reachable.events))
+          (subst (λ (ms : List (Message V)). Refines n nodes_after ms (steps same (steps same w becomes.events) reachable.events)) (append_assoc sent entry.outputs (outputs_by entries)) reachable.refines);
     }
 
 -- ---- all of them
 
 module _ {V : Type 0} (same : V → V → Bool) (n : ℕ) where
-  none_left : (sent : List (Message V)) (nodes nodes_after : ℕ → Node V) (w : World V) → GoOn same n sent nodes [] nodes_after → Shows n nodes sent w → IsLed same n w nodes_after (sent ++ said_by [])
-  unfolding steps of_process said_by
-  none_left sent nodes nodes_after w go shows = record {
+  none_left : (sent : List (Message V)) (nodes nodes_after : ℕ → Node V) (w : World V) → GoOn same n sent nodes [] nodes_after → Refines n nodes sent w → IsReachableFrom same n w nodes_after (sent ++ outputs_by [])
+  unfolding steps of_process outputs_by
+  none_left sent nodes nodes_after w go refines = record {
     events = [];
-    shows = record {
-      as_many = shows.as_many;
-      each = λ i less. shows.each i less ∙ ap Some (sym (go.lives i less));
-      messages = shows.messages ∙ sym (append-nil sent);
+    refines = record {
+      as_many = refines.as_many;
+      each = λ i less. refines.each i less ∙ ap Some (sym (go.lives i less));
+      messages = refines.messages ∙ sym (append-nil sent);
     };
   }
 
-  lead_on : (entries : List (Entry V)) (sent : List (Message V)) (nodes nodes_after : ℕ → Node V) (w : World V) → GoOn same n sent nodes entries nodes_after → Shows n nodes sent w →
-      IsLed same n w nodes_after (sent ++ said_by entries)
-  lead_on [] sent nodes nodes_after w go shows = none_left sent nodes nodes_after w go shows
-  lead_on (entry ∷ entries) sent nodes nodes_after w go shows =
-      led_on same n sent nodes nodes_after entry entries go w shows
-      (lead_on entries (sent ++ entry.said) (put_node nodes entry.process (middle same n sent nodes nodes_after entry entries go)) nodes_after
-      (steps same w (becomes same n sent nodes nodes_after entry entries go w shows).events)
-      (rest_goes_on same n sent nodes nodes_after entry entries go) (shown same n sent nodes nodes_after entry entries go w shows))
+  reach_on : (entries : List (Entry V)) (sent : List (Message V)) (nodes nodes_after : ℕ → Node V) (w : World V) → GoOn same n sent nodes entries nodes_after → Refines n nodes sent w →
+      IsReachableFrom same n w nodes_after (sent ++ outputs_by entries)
+  reach_on [] sent nodes nodes_after w go refines = none_left sent nodes nodes_after w go refines
+  reach_on (entry ∷ entries) sent nodes nodes_after w go refines =
+      reachable_on same n sent nodes nodes_after entry entries go w refines
+      (reach_on entries (sent ++ entry.outputs) (put_node nodes entry.process (middle same n sent nodes nodes_after entry entries go)) nodes_after
+      (steps same w (becomes same n sent nodes nodes_after entry entries go w refines).events)
+      (rest_goes_on same n sent nodes nodes_after entry entries go) (shown same n sent nodes nodes_after entry entries go w refines))
 
 pub entries_are_events : (V : Type 0) → EntriesAreEvents V
-entries_are_events V = λ same n sent nodes nodes_after entries w go shows. lead_on same n entries sent nodes nodes_after w go shows
+entries_are_events V = λ same n sent nodes nodes_after entries w go refines. reach_on same n entries sent nodes nodes_after w go refines
 
 -- ---- from the start on
 
-starts : {V : Type 0} (n : ℕ) → Shows {V = V} n (λ i. new_node) [] (start n)
+starts : {V : Type 0} (n : ℕ) → Refines {V = V} n (λ i. new_node) [] (start n)
 unfolding start
 starts n = record { as_many = length-replicate n _; each = λ i less. all_alike n i _ less; messages = refl }
 
 pub trace_is_run : (V : Type 0) → TraceIsRun V
 unfolding after
 trace_is_run V = λ same n entries nodes trace.
-    let led = lead_on same n entries [] (λ i. new_node) nodes (start n) trace (starts n) in
-    record { events = led.events; shows = led.shows }
+    let reachable = reach_on same n entries [] (λ i. new_node) nodes (start n) trace (starts n) in
+    record { events = reachable.events; refines = reachable.refines }
 
 -- ---- two parts, one after the other
 
 module _ {V : Type 0} where
-  said_in_turn : (entries later : List (Entry V)) → said_by (entries ++ later) ≡ said_by entries ++ said_by later
-  unfolding said_by
-  said_in_turn [] later = refl
-  said_in_turn (entry ∷ entries) later = ap (λ ms. entry.said ++ ms) (said_in_turn entries later) ∙ sym (append_assoc entry.said (said_by entries) (said_by later))
+  outputs_in_turn : (entries later : List (Entry V)) → outputs_by (entries ++ later) ≡ outputs_by entries ++ outputs_by later
+  unfolding outputs_by
+  outputs_in_turn [] later = refl
+  outputs_in_turn (entry ∷ entries) later = ap (λ ms. entry.outputs ++ ms) (outputs_in_turn entries later) ∙ sym (append_assoc entry.outputs (outputs_by entries) (outputs_by later))
 
   of_none : (i : ℕ) (later : List (Entry V)) → of_process i later ≡ of_process i [] ++ of_process i later
   unfolding of_process
@@ -151,16 +151,16 @@ module _ {V : Type 0} where
   members_in_turn n [] later are more = more
   members_in_turn n (entry ∷ entries) later are more = (are.0, members_in_turn n entries later are.1 more)
 
-  heard_in_turn : (sent : List (Message V)) (entries later : List (Entry V)) → AreHeard sent entries → AreHeard (sent ++ said_by entries) later → AreHeard sent (entries ++ later)
-  unfolding said_by
-  heard_in_turn sent [] later heard more = subst (λ (ms : List (Message V)). AreHeard ms later) (append-nil sent) more
-  heard_in_turn sent (entry ∷ entries) later heard more =
-      (heard.0, heard_in_turn (sent ++ entry.said) entries later heard.1 (subst (λ (ms : List (Message V)). AreHeard ms later) (sym (append_assoc sent entry.said (said_by entries))) more))
+  received_in_turn : (sent : List (Message V)) (entries later : List (Entry V)) → AreReceived sent entries → AreReceived (sent ++ outputs_by entries) later → AreReceived sent (entries ++ later)
+  unfolding outputs_by
+  received_in_turn sent [] later received more = subst (λ (ms : List (Message V)). AreReceived ms later) (append-nil sent) more
+  received_in_turn sent (entry ∷ entries) later received more =
+      (received.0, received_in_turn (sent ++ entry.outputs) entries later received.1 (subst (λ (ms : List (Message V)). AreReceived ms later) (sym (append_assoc sent entry.outputs (outputs_by entries))) more))
 
 pub parts_are_one : (V : Type 0) → PartsAreOne V
 parts_are_one V = λ same n sent nodes now nodes_after entries later go more. record {
   members = members_in_turn n entries later go.members more.members;
   lives = λ i less. subst (λ (es : List (Entry V)). IsLife same n i (nodes i) es (nodes_after i)) (sym (of_both i entries later))
       (life_in_turn same n i (nodes i) (now i) (nodes_after i) (of_process i entries) (of_process i later) (go.lives i less) (more.lives i less));
-  heard = heard_in_turn sent entries later go.heard more.heard;
+  received = received_in_turn sent entries later go.received more.received;
 }

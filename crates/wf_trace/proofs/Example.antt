@@ -4,9 +4,9 @@ use Rattle.wf_ballot.specs.Ballot.{below}
 use Rattle.wf_ballot.specs.Majority.{count_nodes, is_majority_of}
 use Rattle.wf_model.specs.Examples.{Map, a, ballot, just, no_votes, same_map}
 use Rattle.wf_model.specs.Message.{Message, Prepare, Promise, Accept, Accepted, Chosen, first_vote, from_sequence}
-use Rattle.wf_model.specs.Stored.{nothing_stored, published, next_sequence, definition_at, put, raised, with_record}
-use Rattle.wf_model.specs.Working.{at_start, nobody, and_node, better, better_each, carried, proposed, same_ballot, same_phase, is_at, is_in_window, leading_at}
-use Rattle.wf_model.specs.Table.{Input, Propose, Deliver, store, quiet, says, stores, with_proposal, rounds_full, round_known, refuse_round, refuse_proposal, refuse_retry, refusal, begin_at, ask_votes, lead, propose_by, on_propose, votes_from, promise_to, prepare_open, on_prepare, votes_at, vote_for, accept_open, on_accept, hears, with_promise, asking_votes, leadership_of, promised, on_promise, with_vote, ended, ends, after_publishing, voted, on_accepted, on_chosen, on_message, row}
+use Rattle.wf_model.specs.DurableState.{nothing_stored, published, next_sequence, definition_at, put, raised, with_record}
+use Rattle.wf_model.specs.VolatileState.{at_start, nobody, and_node, better, better_each, carried, proposed, same_ballot, same_phase, is_at, is_in_window, leading_at}
+use Rattle.wf_model.specs.Table.{Input, Propose, Deliver, store, quiet, only_sends, stores, with_proposal, rounds_full, round_known, reject_round, reject_proposal, reject_retry, step_rejection, begin_at, ask_votes, lead, propose_by, on_propose, votes_from, promise_to, prepare_open, on_prepare, votes_at, vote_for, accept_open, on_accept, is_new_response, with_promise, asking_votes, leadership_of, promised, on_promise, with_vote, ended, ends, after_publishing, voted, on_accepted, on_chosen, on_message, transition}
 use Rattle.wf_model.specs.World.{Node, Turn, stored_after, kept_part, turn_running, turn_of}
 use Rattle.wf_trace.specs.Deed.{Takes, IsDone, new_node}
 use Rattle.wf_trace.specs.Trace.{of_process, IsLife, IsTrace}
@@ -16,19 +16,19 @@ use Rattle.wf_trace.specs.Examples.{three_publish, IsPublished}
 
 node_with : {V : Type 0} → Option (Turn V) → Node V → Node V
 node_with None node = node
-node_with (Some turn) node = record { stored = stored_after turn; working = Some turn.row.working }
+node_with (Some turn) node = record { stored = stored_after turn; volatile = Some turn.transition.volatile }
 
-said_with : {V : Type 0} → Option (Turn V) → List (Message V)
-said_with None = []
-said_with (Some turn) = turn.row.messages
+outputs_with : {V : Type 0} → Option (Turn V) → List (Message V)
+outputs_with None = []
+outputs_with (Some turn) = turn.transition.messages
 
 done_with : {V : Type 0} (same : V → V → Bool) (n i : ℕ) (before : Node V) (input : Input V) (turn : Option (Turn V)) → turn_of same n i (Some before) (Some input) ≡ turn →
-    IsDone same n i before (Takes input) (said_with turn) (node_with turn before)
-unfolding node_with said_with
+    IsDone same n i before (Takes input) (outputs_with turn) (node_with turn before)
+unfolding node_with outputs_with
 done_with same n i before input None effect = inr (record { same_node = refl; silent = refl })
 done_with same n i before input (Some turn) effect = inl (record { turn = turn; effect = effect; messages = refl; node = refl })
 
-takes : (i : ℕ) (before : Node Map) (input : Input Map) → IsDone same_map 3 i before (Takes input) (said_with (turn_of same_map 3 i (Some before) (Some input))) (node_with (turn_of same_map 3 i (Some before) (Some input)) before)
+takes : (i : ℕ) (before : Node Map) (input : Input Map) → IsDone same_map 3 i before (Takes input) (outputs_with (turn_of same_map 3 i (Some before) (Some input))) (node_with (turn_of same_map 3 i (Some before) (Some input)) before)
 takes i before input = done_with same_map 3 i before input (turn_of same_map 3 i (Some before) (Some input)) refl
 
 -- the node after the input
@@ -37,7 +37,7 @@ next i before input = node_with (turn_of same_map 3 i (Some before) (Some input)
 
 -- unfolds all definitions that a step computes with
 abbrev computed : ℕ
-unfolding below count_nodes is_majority_of nothing_stored published next_sequence definition_at put raised with_record at_start nobody and_node better better_each carried proposed same_ballot same_phase is_at is_in_window leading_at first_vote from_sequence store quiet says stores with_proposal rounds_full round_known refuse_round refuse_proposal refuse_retry refusal begin_at ask_votes lead propose_by on_propose votes_from promise_to prepare_open on_prepare votes_at vote_for accept_open on_accept hears with_promise asking_votes leadership_of promised on_promise with_vote ended ends after_publishing voted on_accepted on_chosen on_message row stored_after kept_part turn_running turn_of same_map of_process three_publish node_with said_with next
+unfolding below count_nodes is_majority_of nothing_stored published next_sequence definition_at put raised with_record at_start nobody and_node better better_each carried proposed same_ballot same_phase is_at is_in_window leading_at first_vote from_sequence store quiet only_sends stores with_proposal rounds_full round_known reject_round reject_proposal reject_retry step_rejection begin_at ask_votes lead propose_by on_propose votes_from promise_to prepare_open on_prepare votes_at vote_for accept_open on_accept is_new_response with_promise asking_votes leadership_of promised on_promise with_vote ended ends after_publishing voted on_accepted on_chosen on_message transition stored_after kept_part turn_running turn_of same_map of_process three_publish node_with outputs_with next
 computed = 0
 
 -- ---- the three nodes
@@ -57,11 +57,11 @@ proposed_0 = next 0 new_node (Propose a)
 promised_0 : Node Map
 promised_0 = next 0 proposed_0 prepare
 
-told_0 : Node Map
-told_0 = next 0 promised_0 (Deliver (Promise 0 1 (ballot 1 0) no_votes))
+reported_0 : Node Map
+reported_0 = next 0 promised_0 (Deliver (Promise 0 1 (ballot 1 0) no_votes))
 
 asked_0 : Node Map
-asked_0 = next 0 told_0 (Deliver (Promise 1 1 (ballot 1 0) no_votes))
+asked_0 = next 0 reported_0 (Deliver (Promise 1 1 (ballot 1 0) no_votes))
 
 voted_0 : Node Map
 voted_0 = next 0 asked_0 accept
@@ -82,23 +82,23 @@ voted_1 : Node Map
 voted_1 = next 1 promised_1 accept
 
 stopped_1 : Node Map
-stopped_1 = record { stored = voted_1.stored; working = None }
+stopped_1 = record { stored = voted_1.stored; volatile = None }
 
 restarted_1 : Node Map
-restarted_1 = record { stored = voted_1.stored; working = Some at_start }
+restarted_1 = record { stored = voted_1.stored; volatile = Some at_start }
 
 published_1 : Node Map
 published_1 = next 1 restarted_1 chosen
 
 -- the promise that process 2 stored before it crashed
 turn_2 : Turn Map
-turn_2 = record { stored = nothing_stored; row = row same_map 3 2 nothing_stored at_start prepare }
+turn_2 = record { stored = nothing_stored; transition = transition same_map 3 2 nothing_stored at_start prepare }
 
 crashed_2 : Node Map
-crashed_2 = record { stored = stored_after turn_2; working = None }
+crashed_2 = record { stored = stored_after turn_2; volatile = None }
 
 restarted_2 : Node Map
-restarted_2 = record { stored = stored_after turn_2; working = Some at_start }
+restarted_2 = record { stored = stored_after turn_2; volatile = Some at_start }
 
 published_2 : Node Map
 published_2 = next 2 restarted_2 chosen
@@ -110,7 +110,7 @@ last (suc (suc i)) = published_2
 
 -- unfolds the nodes too
 abbrev all : ℕ
-unfolding computed prepare accept chosen proposed_0 promised_0 told_0 asked_0 voted_0 counted_0 chosen_0 published_0 promised_1 voted_1 stopped_1 restarted_1 published_1 turn_2 crashed_2 restarted_2 published_2 last
+unfolding computed prepare accept chosen proposed_0 promised_0 reported_0 asked_0 voted_0 counted_0 chosen_0 published_0 promised_1 voted_1 stopped_1 restarted_1 published_1 turn_2 crashed_2 restarted_2 published_2 last
 all = 0
 
 -- ---- the lives
@@ -124,11 +124,11 @@ life_0 = (
     promised_0,
     takes 0 proposed_0 prepare,
     (
-      told_0,
+      reported_0,
       takes 0 promised_0 (Deliver (Promise 0 1 (ballot 1 0) no_votes)),
       (
         asked_0,
-        takes 0 told_0 (Deliver (Promise 1 1 (ballot 1 0) no_votes)),
+        takes 0 reported_0 (Deliver (Promise 1 1 (ballot 1 0) no_votes)),
         (
           voted_0,
           takes 0 asked_0 accept,
@@ -191,7 +191,7 @@ unfolding three_publish
 trace = record {
   members = (lit< tt, (lit< tt, (lit< tt, (lit< tt, (lit< tt, (lit< tt, (lit< tt, (lit< tt, (lit< tt, (lit< tt, (lit< tt, (lit< tt, (lit< tt, (lit< tt, (lit< tt, (lit< tt, tt))))))))))))))));
   lives = lives;
-  heard = (tt, (inl refl, (inl refl, (inl refl, (tt, (inr (inl refl), (inr (inr (inl refl)), (inr (inr (inr (inl refl))), (inr (inr (inr (inl refl))), (tt, (inr (inr (inr (inr (inr (inl refl))))), (inr (inr (inr (inr (inl refl)))), (inr (inr (inr (inr (inr (inr (inl refl)))))), (inr (inr (inr (inr (inr (inr (inl refl)))))), (tt, (inr (inr (inr (inr (inr (inr (inl refl)))))), tt))))))))))))))));
+  received = (tt, (inl refl, (inl refl, (inl refl, (tt, (inr (inl refl), (inr (inr (inl refl)), (inr (inr (inr (inl refl))), (inr (inr (inr (inl refl))), (tt, (inr (inr (inr (inr (inr (inl refl))))), (inr (inr (inr (inr (inl refl)))), (inr (inr (inr (inr (inr (inr (inl refl)))))), (inr (inr (inr (inr (inr (inr (inl refl)))))), (tt, (inr (inr (inr (inr (inr (inr (inl refl)))))), tt))))))))))))))));
 }
 
 each_published : (i : ℕ) → i < 3 → (last i).stored.history ≡ just a

@@ -1,7 +1,7 @@
 mod Nodes
 mod Deeds
 mod Entries
-mod Growing
+mod Growth
 mod Agreement
-mod Merging
+mod Merge
 mod Example

@@ -1,5 +1,5 @@
 pub mod Deed
 pub mod Trace
 pub mod Order
-pub mod Laws
+pub mod Theorems
 pub mod Examples

@@ -5,24 +5,24 @@ use Rattle.wf_model.specs.Message.{Message}
 use Rattle.wf_model.specs.Table.{Input}
 use Rattle.wf_model.specs.World.{Node}
 use Rattle.wf_trace.specs.Deed.{Deed, Takes, Crashes, Stops, Restarts, new_node}
-use Rattle.wf_trace.specs.Trace.{Entry, of_process, said_by, IsLife, IsInputOf, IsTrace}
+use Rattle.wf_trace.specs.Trace.{Entry, of_process, outputs_by, IsLife, IsInputOf, IsTrace}
 
 -- the process of that number took this input, and sent these messages by it
 pub record Item (V : Type 0) : Type 0 where
   pub process : ℕ
   pub input : Input V
-  pub said : List (Message V)
+  pub outputs : List (Message V)
 
 -- what is seen of a deed of process i by which it sent these messages
 abbrev pub seen_of : {V : Type 0} → ℕ → List (Message V) → Deed V → List (Item V)
-seen_of i said (Takes input) = record { process = i; input = input; said = said } ∷ []
-seen_of i said (Crashes input kept) = record { process = i; input = input; said = said } ∷ []
-seen_of i said Stops = []
-seen_of i said Restarts = []
+seen_of i outputs (Takes input) = record { process = i; input = input; outputs = outputs } ∷ []
+seen_of i outputs (Crashes input kept) = record { process = i; input = input; outputs = outputs } ∷ []
+seen_of i outputs Stops = []
+seen_of i outputs Restarts = []
 
 unfoldable pub seen : {V : Type 0} → List (Entry V) → List (Item V)
 seen [] = []
-seen (entry ∷ entries) = seen_of entry.process entry.said entry.deed ++ seen entries
+seen (entry ∷ entries) = seen_of entry.process entry.outputs entry.deed ++ seen entries
 
 -- the items of one process, in their order
 unfoldable pub items_of : {V : Type 0} → ℕ → List (Item V) → List (Item V)
@@ -30,14 +30,14 @@ items_of i [] = []
 items_of i (item ∷ items) = if item.process == i then item ∷ items_of i items else items_of i items
 
 -- all messages that were sent, in their order
-unfoldable pub said_in : {V : Type 0} → List (Item V) → List (Message V)
-said_in [] = []
-said_in (item ∷ items) = item.said ++ said_in items
+unfoldable pub outputs_in : {V : Type 0} → List (Item V) → List (Message V)
+outputs_in [] = []
+outputs_in (item ∷ items) = item.outputs ++ outputs_in items
 
 -- Each item is of one of the n processes, and a message that it delivers is one of these or of those that earlier items sent.
 abbrev pub AreTaken : {V : Type 0} → ℕ → List (Message V) → List (Item V) → Type 0
 AreTaken n sent [] = ⊤
-AreTaken n sent (item ∷ items) = (item.process < n) × IsInputOf sent item.input × AreTaken n (sent ++ item.said) items
+AreTaken n sent (item ∷ items) = (item.process < n) × IsInputOf sent item.input × AreTaken n (sent ++ item.outputs) items
 
 -- each entry is of process i
 abbrev pub AreOf : {V : Type 0} → ℕ → List (Entry V) → Type 0
@@ -55,7 +55,7 @@ pub record AreOneTrace {V : Type 0} (same : V → V → Bool) (n : ℕ) (items :
   pub entries : List (Entry V)
   pub trace : IsTrace same n entries nodes
   pub each : (i : ℕ) → i < n → of_process i entries ≡ lives i
-  pub messages : said_by entries ≡ said_in items
+  pub messages : outputs_by entries ≡ outputs_in items
 
 -- Lives of n processes are one trace, if one order of time has what is seen of them, and each message is delivered after it was sent.
 abbrev pub LivesAreOneTrace : Type 0 → Type 0

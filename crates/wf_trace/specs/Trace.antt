@@ -11,7 +11,7 @@ use Rattle.wf_trace.specs.Deed.{Deed, Takes, Crashes, Stops, Restarts, IsDone, n
 pub record Entry (V : Type 0) : Type 0 where
   pub process : ℕ
   pub deed : Deed V
-  pub said : List (Message V)
+  pub outputs : List (Message V)
 
 -- the entries of one process, in their order
 unfoldable pub of_process : {V : Type 0} → ℕ → List (Entry V) → List (Entry V)
@@ -19,9 +19,9 @@ of_process i [] = []
 of_process i (entry ∷ entries) = if entry.process == i then entry ∷ of_process i entries else of_process i entries
 
 -- all messages that the entries sent, in their order
-unfoldable pub said_by : {V : Type 0} → List (Entry V) → List (Message V)
-said_by [] = []
-said_by (entry ∷ entries) = entry.said ++ said_by entries
+unfoldable pub outputs_by : {V : Type 0} → List (Entry V) → List (Message V)
+outputs_by [] = []
+outputs_by (entry ∷ entries) = entry.outputs ++ outputs_by entries
 
 -- ---- one process
 
@@ -29,7 +29,7 @@ said_by (entry ∷ entries) = entry.said ++ said_by entries
 abbrev pub IsLife : {V : Type 0} → (V → V → Bool) → ℕ → ℕ → Node V → List (Entry V) → Node V → Type 0
 IsLife same n i before [] after = after ≡ before
 IsLife {V} same n i before (entry ∷ entries) after =
-    (middle : Node V) × IsDone same n i before entry.deed entry.said middle × IsLife same n i middle entries after
+    (middle : Node V) × IsDone same n i before entry.deed entry.outputs middle × IsLife same n i middle entries after
 
 -- the node after so many of its life's entries, or after all if there are fewer
 abbrev pub node_at : {V : Type 0} (same : V → V → Bool) (n i : ℕ) (before : Node V) (entries : List (Entry V)) (after : Node V) →
@@ -48,16 +48,16 @@ IsInputOf sent table.CatchUp = ⊤
 IsInputOf sent (table.Deliver message) = IsIn message sent
 
 -- what a deed delivers is one of these; a stop and a restart deliver nothing
-abbrev pub IsHeard : {V : Type 0} → List (Message V) → Deed V → Type 0
-IsHeard sent (Takes input) = IsInputOf sent input
-IsHeard sent (Crashes input kept) = IsInputOf sent input
-IsHeard sent Stops = ⊤
-IsHeard sent Restarts = ⊤
+abbrev pub IsReceived : {V : Type 0} → List (Message V) → Deed V → Type 0
+IsReceived sent (Takes input) = IsInputOf sent input
+IsReceived sent (Crashes input kept) = IsInputOf sent input
+IsReceived sent Stops = ⊤
+IsReceived sent Restarts = ⊤
 
 -- Each delivered message was sent before: it is one of these, or of those that earlier entries sent, by whichever process.
-abbrev pub AreHeard : {V : Type 0} → List (Message V) → List (Entry V) → Type 0
-AreHeard sent [] = ⊤
-AreHeard sent (entry ∷ entries) = IsHeard sent entry.deed × AreHeard (sent ++ entry.said) entries
+abbrev pub AreReceived : {V : Type 0} → List (Message V) → List (Entry V) → Type 0
+AreReceived sent [] = ⊤
+AreReceived sent (entry ∷ entries) = IsReceived sent entry.deed × AreReceived (sent ++ entry.outputs) entries
 
 -- ---- all of them
 
@@ -71,14 +71,14 @@ AreMembers n (entry ∷ entries) = (entry.process < n) × AreMembers n entries
 pub record GoOn {V : Type 0} (same : V → V → Bool) (n : ℕ) (sent : List (Message V)) (nodes : ℕ → Node V) (entries : List (Entry V)) (after : ℕ → Node V) : Type 0 where
   pub members : AreMembers n entries
   pub lives : (i : ℕ) → i < n → IsLife same n i (nodes i) (of_process i entries) (after i)
-  pub heard : AreHeard sent entries
+  pub received : AreReceived sent entries
 
 -- the entries from the start on: all processes are new, and nothing was sent
 abbrev pub IsTrace : {V : Type 0} → (V → V → Bool) → ℕ → List (Entry V) → (ℕ → Node V) → Type 0
 IsTrace same n entries nodes = GoOn same n [] (λ i. new_node) entries nodes
 
 -- the world has n nodes, these ones, and exactly these messages were sent in it
-pub record Shows {V : Type 0} (n : ℕ) (nodes : ℕ → Node V) (sent : List (Message V)) (w : World V) : Type 0 where
+pub record Refines {V : Type 0} (n : ℕ) (nodes : ℕ → Node V) (sent : List (Message V)) (w : World V) : Type 0 where
   pub as_many : length w.nodes ≡ n
   pub each : (i : ℕ) → i < n → slice_get w.nodes i ≡ Some (nodes i)
   pub messages : w.sent ≡ sent

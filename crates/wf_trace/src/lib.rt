@@ -4,15 +4,15 @@
 //! **Model.** A deed (`specs/Deed.antt`) is what a process does at one moment: it takes an input, crashes within the step of one,
 //! stops or starts again. An entry is a deed with its process and the messages that it sent. The entries of one process are its
 //! life: they lead its node from one value to the next, where a step is the step table's transition. Entries of all processes go on
-//! from some nodes and sent messages to the nodes after (`GoOn` of `specs/Trace.antt`): each process's are its life, and each message
-//! that is delivered was sent before, by whichever of them. A trace is that from the start: all nodes are new, and nothing was sent.
+//! from some nodes and sent messages to the nodes after (`GoOn` of `specs/Trace.antt`): each process's are its life, and each
+//! message that is delivered was sent before, by whichever of them. A trace is that from the start: all nodes are new, and nothing was sent.
 //!
 //! A life says only which node values lead to which, so a process can show its own without computing the model, and without
 //! knowing the others'. That its input had no effect is always allowed: it may have been rejected, or lost for want of memory.
 //!
 //! **Promises.** From any world of the model that shows the nodes, some events lead to one that shows them after the entries, with
-//! all that they sent appended, in order ([`entries_are_events`]). So a trace is a run, and each theorem of `wf_law` holds of its
-//! nodes and messages ([`a_trace_is_a_run`]). Lives of single processes are a trace, if there is one order of time of the inputs that they
+//! all that they sent appended, in order ([`entries_are_events`]). So a trace is a run, and each theorem of `wf_safety` holds of
+//! its nodes and messages ([`a_trace_is_a_run`]). Lives of single processes are a trace, if there is one order of time of the inputs that they
 //! take and the messages that they send, and each message is delivered after it was sent (`specs/Order.antt`,
 //! [`lives_are_one_trace`]). No process ever loses a published definition ([`lists_grow`]). No two processes, at any
 //! two moments, have published different definitions under one sequence, and there is one history of which each published list, at
@@ -25,9 +25,9 @@
 ghost use Rattle.wf_model.specs.Examples.{a};
 ghost use Rattle.wf_trace.specs.Examples.{three_publish, IsPublished};
 ghost use Rattle.wf_trace.specs.Order.{LivesAreOneTrace};
-ghost use Rattle.wf_trace.specs.Laws.{EntriesAreEvents, ListsGrow, OneDefinition, OneHistory, PartsAreOne, TraceIsRun};
+ghost use Rattle.wf_trace.specs.Theorems.{EntriesAreEvents, ListsGrow, OneDefinition, OneHistory, PartsAreOne, TraceIsRun};
 
-use wf_law::agreement;
+use wf_safety::agreement;
 
 /// From any world of the model that shows the processes' nodes, some events lead to one that shows their nodes after the entries,
 /// and has all messages that the entries sent appended, in order.
@@ -36,7 +36,7 @@ pub fn entries_are_events<V>()
 {}
 
 /// A trace is a run of the model: some events lead from its start to exactly the nodes at the trace's end, and to all messages that
-/// were sent, in order. So each theorem of `wf_law` holds of these nodes and messages.
+/// were sent, in order. So each theorem of `wf_safety` holds of these nodes and messages.
 pub fn a_trace_is_a_run<V>()
     ensures { TraceIsRun V }
 {}

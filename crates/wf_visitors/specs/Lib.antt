@@ -1,4 +1,4 @@
-pub mod Reply
-pub mod Said
+pub mod ServerReply
+pub mod Responses
 pub mod Turn
 pub mod Visitors

@@ -3,7 +3,7 @@ use Rattle.std.specs.Prelude.{◌≡◌, ℕ, List}
 use Rattle.wf_client.specs.Client.{Client}
 
 -- bytes may have come, and nothing else has changed
-pub record IsHearing (old new : Client) : Type 0 where
+pub record IsReceiving (old new : Client) : Type 0 where
   pub phase : new.phase ≡ old.phase
   pub since : new.since ≡ old.since
   pub outgoing : new.outgoing ≡ old.outgoing

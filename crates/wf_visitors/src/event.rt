@@ -7,7 +7,7 @@ use std::fmt;
 pub enum Level {
     /// Nothing to do.
     Info,
-    /// Something was lost or refused, or a request wasn't fulfilled.
+    /// Something was lost or rejected, or a request wasn't fulfilled.
     Warn,
     /// A part of the work has stopped.
     Error,
@@ -24,7 +24,7 @@ impl fmt::Display for Level {
 }
 
 /// An event of a log, which is displayed as its line.
-pub trait Entry: fmt::Display {
+pub trait LogEntry: fmt::Display {
     /// How much it matters.
     fn level(&self) -> Level;
 }
@@ -46,7 +46,7 @@ pub enum Visit<'a> {
     },
 }
 
-impl Entry for Visit<'_> {
+impl LogEntry for Visit<'_> {
     fn level(&self) -> Level {
         match self {
             Visit::Answered { .. } => Level::Info,

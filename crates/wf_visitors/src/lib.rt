@@ -1,11 +1,12 @@
 //! Clients of a server that never blocks, with their sockets, whatever answers them.
 //!
-//! - [`Visitors`] has a listener and slots: it accepts clients, reads their requests, and writes what a [`Server`] responds. When all
+//! - [`Visitors`] has a listener and slots: it accepts clients, reads their requests, and writes what a [`Server`] responds. When
+//! all
 //!   slots are taken the unfinished request that has waited longest gives way (`wf_client`).
-//! - [`Log`] writes each [`Entry`] as a line on standard error; a [`Visit`] is one of a client.
+//! - [`Log`] writes each [`LogEntry`] as a line on standard error; a [`Visit`] is one of a client.
 //! - [`Counts`] counts requests by path and status.
 //!
-//! **Promises.** What is written to a client is what the server responded to the bytes that had come from it ([`Visitors::always_said`],
+//! **Promises.** What is written to a client is what the server responded to the bytes that had come from it ([`Visitors::always_responded`],
 //! [`Visitors::serve`]).
 //!
 //! **Doesn't.** What sockets and clocks do has no model.
@@ -28,9 +29,9 @@ mod visitors;
 pub use clock::{micros, now};
 pub use context::Context;
 pub use counts::Counts;
-pub use event::{Entry, Level, Visit};
+pub use event::{Level, LogEntry, Visit};
 pub use listener::listen;
 pub use log::Log;
-pub use server::{Reply, Server};
+pub use server::{Server, ServerReply};
 pub use socket::{Done, read, register, register_again, write};
 pub use visitors::Visitors;

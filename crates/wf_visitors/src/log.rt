@@ -1,6 +1,6 @@
 //! A log on standard error.
 
-use crate::event::Entry;
+use crate::event::LogEntry;
 use jiff::Timestamp;
 use std::time::Clock;
 
@@ -24,7 +24,7 @@ impl<'a, R: Clock + Eprint> Log<'a, R> {
     }
 
     /// Writes the line of an event.
-    pub fn write<E: Entry>(&self, event: &E) {
+    pub fn write<E: LogEntry>(&self, event: &E) {
         if self.is_on {
             put(self.rt, event);
         }
@@ -32,7 +32,7 @@ impl<'a, R: Clock + Eprint> Log<'a, R> {
 }
 
 /// Writes the line of an event.
-fn put<R: Clock + Eprint, E: Entry>(rt: &R, event: &E) {
+fn put<R: Clock + Eprint, E: LogEntry>(rt: &R, event: &E) {
     let level = event.level();
     match now(rt) {
         Some(time) => {

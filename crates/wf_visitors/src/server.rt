@@ -1,14 +1,14 @@
 //! What answers requests.
 ghost use Rattle.std.specs.Prelude.{◌≡◌, ℕ, Bool, List};
-ghost use Rattle.wf_visitors.specs.Reply.{nothing, IsReply};
+ghost use Rattle.wf_visitors.specs.ServerReply.{nothing, IsReply};
 
 use std::alloc::Global;
-use wf_client::incoming::Incoming;
-use wf_client::outgoing::Outgoing;
+use wf_client::partial_request::Incoming;
+use wf_client::response_buffer::Outgoing;
 
 /// What came of a request.
 #[derive(Clone, Copy, PartialEq, Eq)]
-pub enum Reply {
+pub enum ServerReply {
     /// It isn't whole: it lacks at least this many bytes. Nothing was written.
     Lacks(usize),
     /// There is none, or no memory for an answer. Nothing was written.
@@ -27,7 +27,7 @@ pub trait Server {
     ghost stays: { Self → Self → Type 0 } = { λ _ _. Unit {0} };
 
     /// Reads the request of a client, and writes the response.
-    fn answer(&mut self, alloc: Global, incoming: &Incoming, outgoing: &mut Outgoing) -> Reply
+    fn answer(&mut self, alloc: Global, incoming: &Incoming, outgoing: &mut Outgoing) -> ServerReply
         requires { outgoing.old ≡ nothing }
         ensures { IsReply (stays self.old self.new) (responds self.old incoming.now.bytes incoming.now.is_closed outgoing.new.bytes self.new)
             result outgoing.old outgoing.new };

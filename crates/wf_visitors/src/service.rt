@@ -1,18 +1,18 @@
 //! How clients come, ask, are answered and go.
 ghost use Rattle.std.specs.Prelude.{◌≡◌, ℕ, List, [], IfOk, IfSome};
 ghost use Rattle.wf_client.specs.Client.{Client as ClientValue};
-ghost use Rattle.wf_visitors.specs.Said.{AreSaid, MaySay};
-ghost use Rattle.wf_visitors.specs.Visitors.{said_of, AnswersOne, IsResponding};
+ghost use Rattle.wf_visitors.specs.Responses.{AreResponses, MayRespond};
+ghost use Rattle.wf_visitors.specs.Visitors.{responses_of, AnswersOne, IsResponding};
 
 use crate::clock::micros;
 use crate::context::Context;
 use crate::counts::Counts;
 use crate::event::Visit;
 use crate::request_line::request_line;
-use crate::server::{Reply, Server};
+use crate::server::{Server, ServerReply};
 use crate::slots::{free_slots, put_in, take_out};
 use crate::socket::{end_writing, register, register_again};
-use crate::turn::{Left, drop_rest, give, hear};
+use crate::turn::{ClientTurn, drop_rest, give, receive};
 use crate::visitors::Visitors;
 use http_server::Log as Past;
 use mio::net::{TcpListener, TcpStream};
@@ -21,7 +21,7 @@ use std::net::SocketAddr;
 use std::time::Clock;
 use wf_client::client::{Client, Phase};
 use wf_client::limits::BUDGET_BYTES;
-use wf_client::outgoing::Outgoing;
+use wf_client::response_buffer::Outgoing;
 use wf_client::slots::{place, weight};
 
 /// The most connections accepted in one turn.
@@ -47,11 +47,11 @@ impl Visitors {
         listener: Option<TcpListener>,
         first: usize,
     ) -> Result<Self, AllocError>
-        ensures { IfOk result (λ visitors. said_of visitors ≡ []) }
+        ensures { IfOk result (λ visitors. responses_of visitors ≡ []) }
     {
         let sockets = free_sockets(alloc, count)?;
         let slots = free_slots(alloc, count)?;
-        let said = Past::new();
+        let responses = Past::new();
         Ok(Visitors {
             listener,
             sockets,
@@ -59,7 +59,7 @@ impl Visitors {
             first,
             next: 0,
             counts: Counts::new(alloc),
-            said,
+            responses,
         })
     }
 
@@ -87,15 +87,15 @@ impl Visitors {
     }
 
     /// Always: what is still written to a client, or was, is the response that one of the answered clients was sent. The call does nothing.
-    pub fn always_said(&self)
-        ensures { ∥ AreSaid (said_of self.now) self.now.slots.items ∥₁ }
+    pub fn always_responded(&self)
+        ensures { ∥ AreResponses (responses_of self.now) self.now.slots.items ∥₁ }
     {
-        let _ = &self.said;
+        let _ = &self.responses;
     }
 
     /// Accepts connections, as long as there are some, slots for them, and room in the budget.
     pub fn accept<R: Clock + Eprint + AllocGlobal>(&mut self, context: &Context<'_, '_, R>)
-        ensures { said_of self.new ≡ said_of self.old }
+        ensures { responses_of self.new ≡ responses_of self.old }
     {
         for _ in 0..MOST_ACCEPTED {
             if !self.has_room() {
@@ -123,14 +123,14 @@ impl Visitors {
     }
 
     /// Puts a newcomer into a slot, in the place of the client there.
-    #[tactic(auto, using(crate::proofs::Answered::may_say_new))]
+    #[tactic(auto, using(crate::proofs::Answered::may_respond_new))]
     fn admit<R: Clock + Eprint + AllocGlobal>(
         &mut self,
         context: &Context<'_, '_, R>,
         mut stream: TcpStream,
         index: usize,
     )
-        ensures { said_of self.new ≡ said_of self.old }
+        ensures { responses_of self.new ≡ responses_of self.old }
     {
         if let Some((socket, client)) = self.take(index) {
             drop(socket);
@@ -151,8 +151,8 @@ impl Visitors {
 
     /// Takes the client and its socket out of a slot.
     fn take(&mut self, index: usize) -> Option<(TcpStream, Client)>
-        ensures said { said_of self.new ≡ said_of self.old }
-        ensures may { IfSome result (λ found. MaySay (said_of self.old) found.1) }
+        ensures responses { responses_of self.new ≡ responses_of self.old }
+        ensures may { IfSome result (λ found. MayRespond (responses_of self.old) found.1) }
     {
         let stream = take_socket(&mut self.sockets, index);
         let client = take_out(&mut self.slots, index);
@@ -164,8 +164,8 @@ impl Visitors {
 
     /// Puts a client and its socket into a slot.
     fn put(&mut self, index: usize, stream: TcpStream, client: Client)
-        requires { MaySay (said_of self.old) client }
-        ensures { said_of self.new ≡ said_of self.old }
+        requires { MayRespond (responses_of self.old) client }
+        ensures { responses_of self.new ≡ responses_of self.old }
     {
         if let Some(socket) = self.sockets.get_mut(index) {
             *socket = Some(stream);
@@ -175,15 +175,15 @@ impl Visitors {
 
     /// What came for the client in a slot, or was taken by it.
     pub fn turn<R: AllocGlobal>(&mut self, context: &Context<'_, '_, R>, index: usize)
-        ensures { said_of self.new ≡ said_of self.old }
+        ensures { responses_of self.new ≡ responses_of self.old }
     {
         let Some((mut stream, mut client)) = self.take(index) else {
             return;
         };
         let token = self.token(index);
         match go_on(context, &mut stream, &mut client, token) {
-            Left::Here => self.put_back(context, stream, client, index),
-            Left::Gone => {}
+            ClientTurn::Here => self.put_back(context, stream, client, index),
+            ClientTurn::Gone => {}
         }
     }
 
@@ -195,8 +195,8 @@ impl Visitors {
         client: Client,
         index: usize,
     )
-        requires { MaySay (said_of self.old) client }
-        ensures { said_of self.new ≡ said_of self.old }
+        requires { MayRespond (responses_of self.old) client }
+        ensures { responses_of self.new ≡ responses_of self.old }
     {
         match client.phase() {
             Phase::Taking => {
@@ -206,12 +206,12 @@ impl Visitors {
                     self.put(index, stream, client);
                 }
             }
-            Phase::Asking | Phase::Parting => self.put(index, stream, client),
+            Phase::Asking | Phase::Lingering => self.put(index, stream, client),
         }
     }
 
     /// Lets a client part that has taken its answer. One whose request was rejected may still send; any other is closed.
-    #[tactic(auto, using(crate::proofs::Answered::may_say_parted))]
+    #[tactic(auto, using(crate::proofs::Answered::may_respond_parted))]
     fn part<R: AllocGlobal>(
         &mut self,
         context: &Context<'_, '_, R>,
@@ -219,14 +219,14 @@ impl Visitors {
         mut client: Client,
         index: usize,
     )
-        requires may { MaySay (said_of self.old) client }
+        requires may { MayRespond (responses_of self.old) client }
         requires takes { client.phase ≡ Phase.Taking }
-        ensures { said_of self.new ≡ said_of self.old }
+        ensures { responses_of self.new ≡ responses_of self.old }
     {
         let mut stream = end_writing(stream);
         let is_rejection = client.incoming.len() != 0;
         part(context, &mut client);
-        if drop_rest(&mut stream) == Left::Gone || !is_rejection {
+        if drop_rest(&mut stream) == ClientTurn::Gone || !is_rejection {
             drop(client);
             return;
         }
@@ -235,7 +235,7 @@ impl Visitors {
 
     /// The next slot whose request is to be answered now, in turn; None if there is none, or the budget is used up.
     pub fn next(&mut self) -> Option<usize>
-        ensures { said_of self.new ≡ said_of self.old }
+        ensures { responses_of self.new ≡ responses_of self.old }
     {
         if !self.has_room() {
             return None;
@@ -283,7 +283,7 @@ impl Visitors {
         server: &mut S,
         index: usize,
     ) -> bool
-        ensures { AnswersOne S.Server server.old (said_of self.old) result server.new (said_of self.new) }
+        ensures { AnswersOne S.Server server.old (responses_of self.old) result server.new (responses_of self.new) }
     {
         let is_answered = self.answer(context, server, index);
         self.turn(context, index);
@@ -300,7 +300,7 @@ impl Visitors {
         server: &mut S,
         index: usize,
     ) -> bool
-        ensures { AnswersOne S.Server server.old (said_of self.old) result server.new (said_of self.new) }
+        ensures { AnswersOne S.Server server.old (responses_of self.old) result server.new (responses_of self.new) }
     {
         let Some((mut stream, mut client)) = self.take(index) else {
             return false;
@@ -311,15 +311,15 @@ impl Visitors {
         }
         let begun = micros(context.rt);
         match respond(context.alloc(), server, &mut client) {
-            Reply::Lacks(count) => {
+            ServerReply::Lacks(count) => {
                 client.incoming.lack(count);
                 register_again(context.registry, &mut stream, self.token(index));
                 self.put(index, stream, client);
                 false
             }
-            Reply::Nothing => false,
-            Reply::Sent { status, bytes } => {
-                self.said = self.said.and(&client, &0);
+            ServerReply::Nothing => false,
+            ServerReply::Sent { status, bytes } => {
+                self.responses = self.responses.and(&client, &0);
                 self.note(
                     context,
                     &client,
@@ -338,7 +338,7 @@ impl Visitors {
 
     /// Counts the request of a client that was answered, and writes its line.
     fn note<R: Clock + Eprint>(&mut self, context: &Context<'_, '_, R>, client: &Client, sent: Sent)
-        ensures { said_of self.new ≡ said_of self.old }
+        ensures { responses_of self.new ≡ responses_of self.old }
     {
         let Sent {
             status,
@@ -361,7 +361,7 @@ impl Visitors {
 
     /// Ends the phases whose time is over: a request counts as ended, and any other client is closed.
     pub fn tick(&mut self, time: u64)
-        ensures { said_of self.new ≡ said_of self.old }
+        ensures { responses_of self.new ≡ responses_of self.old }
     {
         for index in 0..self.count() {
             self.end_phase(index, time);
@@ -371,7 +371,7 @@ impl Visitors {
     /// Ends the phase of the client in a slot if its time is over.
     #[tactic(auto, using(crate::proofs::Answered::asks_yet))]
     fn end_phase(&mut self, index: usize, time: u64)
-        ensures { said_of self.new ≡ said_of self.old }
+        ensures { responses_of self.new ≡ responses_of self.old }
     {
         if self.has_time(index, time) {
             return;
@@ -410,30 +410,30 @@ fn take_socket(sockets: &mut Vec<Option<TcpStream>>, index: usize) -> Option<Tcp
 }
 
 /// Lets the connection of a client go on in its phase.
-#[tactic(auto, using(crate::proofs::Answered::may_say_still))]
+#[tactic(auto, using(crate::proofs::Answered::may_respond_still))]
 fn go_on<R>(
     context: &Context<'_, '_, R>,
     stream: &mut TcpStream,
     client: &mut Client,
     token: usize,
-) -> Left
-    ensures { (said : List (ClientValue × ℕ)) → MaySay said client.old → MaySay said client.new }
+) -> ClientTurn
+    ensures { (responses : List (ClientValue × ℕ)) → MayRespond responses client.old → MayRespond responses client.new }
 {
     match client.phase() {
         Phase::Asking => {
             if client.incoming.may_be_whole() {
-                Left::Here
+                ClientTurn::Here
             } else {
-                hear(context.registry, stream, client, token)
+                receive(context.registry, stream, client, token)
             }
         }
         Phase::Taking => give(stream, client),
-        Phase::Parting => drop_rest(stream),
+        Phase::Lingering => drop_rest(stream),
     }
 }
 
 /// Lets a server answer a client.
-fn respond<S: Server>(alloc: Global, server: &mut S, client: &mut Client) -> Reply
+fn respond<S: Server>(alloc: Global, server: &mut S, client: &mut Client) -> ServerReply
     ensures { IsResponding S.Server server.old client.old result server.new client.new }
 {
     let mut outgoing = Outgoing::new(alloc);
@@ -458,5 +458,5 @@ fn part<R: AllocGlobal>(context: &Context<'_, '_, R>, client: &mut Client)
     ensures { client.new.outgoing ≡ client.old.outgoing }
 {
     client.incoming.clear(context.alloc());
-    client.begin(Phase::Parting, context.time);
+    client.begin(Phase::Lingering, context.time);
 }

@@ -1,6 +1,6 @@
 //! What a client's turn reads and writes.
 ghost use Rattle.std.specs.Prelude.{◌≡◌};
-ghost use Rattle.wf_visitors.specs.Turn.{IsGiving, IsHearing};
+ghost use Rattle.wf_visitors.specs.Turn.{IsGiving, IsReceiving};
 
 use crate::socket::{Done, read, register_again, write};
 use mio::Registry;
@@ -15,7 +15,7 @@ const MOST_PIECES: usize = 16;
 
 /// What a turn of a client leaves.
 #[derive(Clone, Copy, PartialEq, Eq)]
-pub(crate) enum Left {
+pub(crate) enum ClientTurn {
     /// It stays.
     Here,
     /// It has gone.
@@ -23,57 +23,57 @@ pub(crate) enum Left {
 }
 
 /// Reads what came of a request, a bounded part of it.
-#[tactic(auto, using(crate::proofs::Answered::hearing_twice))]
-pub(crate) fn hear(
+#[tactic(auto, using(crate::proofs::Answered::receiving_twice))]
+pub(crate) fn receive(
     registry: &Registry,
     stream: &mut TcpStream,
     client: &mut Client,
     token: usize,
-) -> Left
-    ensures { IsHearing client.old client.new }
+) -> ClientTurn
+    ensures { IsReceiving client.old client.new }
 {
     for _ in 0..MOST_PIECES {
-        match hear_piece(stream, client) {
+        match receive_piece(stream, client) {
             Moved::More => {}
             Moved::Done(left) => return left,
         }
     }
     register_again(registry, stream, token);
-    Left::Here
+    ClientTurn::Here
 }
 
 /// Whether more may be read or written.
 #[derive(Clone, Copy, PartialEq, Eq)]
 enum Moved {
     More,
-    Done(Left),
+    Done(ClientTurn),
 }
 
 /// Reads a piece of a request.
-fn hear_piece(stream: &mut TcpStream, client: &mut Client) -> Moved
-    ensures { IsHearing client.old client.new }
+fn receive_piece(stream: &mut TcpStream, client: &mut Client) -> Moved
+    ensures { IsReceiving client.old client.new }
 {
     let mut piece = [0u8; PIECE_BYTES];
     match read(stream, &mut piece) {
         Done::Bytes(count) => {
             let count = count.min(PIECE_BYTES);
             if client.incoming.take_in(&piece[..count]).is_err() {
-                return Moved::Done(Left::Gone);
+                return Moved::Done(ClientTurn::Gone);
             }
             Moved::More
         }
-        Done::Blocked => Moved::Done(Left::Here),
+        Done::Blocked => Moved::Done(ClientTurn::Here),
         Done::Closed => {
             client.incoming.close();
-            Moved::Done(Left::Here)
+            Moved::Done(ClientTurn::Here)
         }
-        Done::Failed => Moved::Done(Left::Gone),
+        Done::Failed => Moved::Done(ClientTurn::Gone),
     }
 }
 
 /// Writes what a client takes of its answer.
 #[tactic(auto, using(crate::proofs::Answered::giving_twice))]
-pub(crate) fn give(stream: &mut TcpStream, client: &mut Client) -> Left
+pub(crate) fn give(stream: &mut TcpStream, client: &mut Client) -> ClientTurn
     ensures { IsGiving client.old client.new }
 {
     for _ in 0..u64::MAX {
@@ -82,7 +82,7 @@ pub(crate) fn give(stream: &mut TcpStream, client: &mut Client) -> Left
             Moved::Done(left) => return left,
         }
     }
-    Left::Here
+    ClientTurn::Here
 }
 
 /// Writes once what a client takes of its answer.
@@ -90,7 +90,7 @@ fn give_piece(stream: &mut TcpStream, client: &mut Client) -> Moved
     ensures { IsGiving client.old client.new }
 {
     if client.outgoing.is_taken() {
-        return Moved::Done(Left::Here);
+        return Moved::Done(ClientTurn::Here);
     }
     match write(stream, client.outgoing.rest()) {
         Done::Bytes(count) => {
@@ -98,20 +98,20 @@ fn give_piece(stream: &mut TcpStream, client: &mut Client) -> Moved
             client.outgoing.advance(count);
             Moved::More
         }
-        Done::Blocked => Moved::Done(Left::Here),
-        Done::Closed | Done::Failed => Moved::Done(Left::Gone),
+        Done::Blocked => Moved::Done(ClientTurn::Here),
+        Done::Closed | Done::Failed => Moved::Done(ClientTurn::Gone),
     }
 }
 
 /// Drops what a client still sends.
-pub(crate) fn drop_rest(stream: &mut TcpStream) -> Left {
+pub(crate) fn drop_rest(stream: &mut TcpStream) -> ClientTurn {
     let mut piece = [0u8; PIECE_BYTES];
     for _ in 0..MOST_PIECES {
         match read(stream, &mut piece) {
             Done::Bytes(_) => {}
-            Done::Blocked => return Left::Here,
-            Done::Closed | Done::Failed => return Left::Gone,
+            Done::Blocked => return ClientTurn::Here,
+            Done::Closed | Done::Failed => return ClientTurn::Gone,
         }
     }
-    Left::Gone
+    ClientTurn::Gone
 }

@@ -1,4 +1,4 @@
-ghost use Rattle.wf_visitors.specs.Said.{AreSaid};
+ghost use Rattle.wf_visitors.specs.Responses.{AreResponses};
 
 use crate::counts::Counts;
 use http_server::Log as Past;
@@ -17,6 +17,6 @@ pub struct Visitors {
     // the slot that is served first
     pub(crate) next: usize,
     pub(crate) counts: Counts,
-    pub(crate) said: Past<Client, usize>,
-    ghost answered: { ∥ AreSaid said.items slots.items ∥₁ },
+    pub(crate) responses: Past<Client, usize>,
+    ghost answered: { ∥ AreResponses responses.items slots.items ∥₁ },
 }

@@ -3,14 +3,14 @@ use Rattle.std.proofs.Common.{◌≡◌, ℕ, Bool, true, false, cond, ltb, List
 use Rattle.std.proofs.lemmas.Bool.{ltb-false, lt-ltb, le-ltb}
 use Rattle.std.proofs.lemmas.List.{take-append-le}
 use Rattle.std.specs.Int.{w32, from_be_bytes}
-use Rattle.wf_codec.specs.declared.kind.Kind.{Kind}
-use Rattle.wf_codec.specs.declared.kind.Kind.TheVariants as kinds
+use Rattle.wf_codec.specs.declared.kind.MessageKind.{MessageKind}
+use Rattle.wf_codec.specs.declared.kind.MessageKind.TheVariants as kinds
 use Rattle.wf_codec.specs.declared.fault.DecodeFault.{DecodeFault}
 use Rattle.wf_codec.specs.declared.fault.DecodeFault.TheVariants as decoder
-use Rattle.wf_codec.specs.Kind.{most_body_bytes, kind_byte, kind_of_byte}
+use Rattle.wf_codec.specs.MessageKind.{most_body_bytes, kind_byte, kind_of_byte}
 use Rattle.wf_codec.specs.Fault.{kind_in, length_in, behind_header, body_in, check_version, check_kind, check_longest, check_length, check_whole, check_fields, first_failing, first_fault, texts_of_kind, texts_in, HasFault, IsNoText}
 use Rattle.wf_codec.specs.Message.{HasOneOf}
-use Rattle.wf_codec.specs.Law.{IsLongestBody, IsUnfinished, LacksBody, IsRefusal, BeginsWithNone}
+use Rattle.wf_codec.specs.Theorem.{IsLongestBody, IsUnfinished, LacksBody, IsRejection, BeginsWithNone}
 use Rattle.wf_wire.specs.declared.fault.InboxFault.{InboxFault}
 use Rattle.wf_wire.specs.declared.fault.InboxFault.TheVariants as inbox
 use Rattle.wf_wire.specs.InboxFault.{decode_fault}
@@ -34,7 +34,7 @@ two_same None q checks others o wants e not_short = one_same q checks others o w
 two_same (Some x) q checks others o wants e not_short = e
 
 -- the header isn't whole
-header_lacks : (kind : Option Kind) (fields : Option DecodeFault) → first_failing (None ∷ check_length kind None ∷ short ∷ fields ∷ []) ≡ short
+header_lacks : (kind : Option MessageKind) (fields : Option DecodeFault) → first_failing (None ∷ check_length kind None ∷ short ∷ fields ∷ []) ≡ short
 header_lacks None fields = refl
 header_lacks (Some kind) fields = refl
 
@@ -109,34 +109,34 @@ texts_on (v ∷ k ∷ a ∷ b ∷ c ∷ d ∷ bytes) more e =
 
 -- ---- an error remains
 
-fault_on : (fault : InboxFault) (bytes more : List ℕ) → IsRefusal (decode_fault fault) → HasFault bytes (decode_fault fault) → HasFault (bytes ++ more) (decode_fault fault)
-fault_on inbox.BadVersion bytes more refusal e = first_on bytes more (Some decoder.BadVersion) e (λ is. absurd cc)
-fault_on inbox.BadKind bytes more refusal e = first_on bytes more (Some decoder.BadKind) e (λ is. absurd cc)
-fault_on inbox.BadField bytes more refusal e = first_on bytes more (Some decoder.BadField) e (λ is. absurd cc)
-fault_on inbox.TooLong bytes more refusal e = first_on bytes more (Some decoder.TooLong) e (λ is. absurd cc)
-fault_on inbox.NotCanonical bytes more refusal carries = record {
+fault_on : (fault : InboxFault) (bytes more : List ℕ) → IsRejection (decode_fault fault) → HasFault bytes (decode_fault fault) → HasFault (bytes ++ more) (decode_fault fault)
+fault_on inbox.BadVersion bytes more rejection e = first_on bytes more (Some decoder.BadVersion) e (λ is. absurd cc)
+fault_on inbox.BadKind bytes more rejection e = first_on bytes more (Some decoder.BadKind) e (λ is. absurd cc)
+fault_on inbox.BadField bytes more rejection e = first_on bytes more (Some decoder.BadField) e (λ is. absurd cc)
+fault_on inbox.TooLong bytes more rejection e = first_on bytes more (Some decoder.TooLong) e (λ is. absurd cc)
+fault_on inbox.NotCanonical bytes more rejection carries = record {
   no_fault = first_on bytes more None carries.no_fault (λ is. absurd cc);
   no_text = subst (λ (texts : List (List ℕ)). HasOneOf IsNoText texts) (sym (texts_on bytes more carries.no_fault)) carries.no_text;
 }
-fault_on inbox.Memory bytes more refusal e = absurd refusal
+fault_on inbox.Memory bytes more rejection e = absurd rejection
 
 pub wrong_on : (bytes more : List ℕ) (fault : InboxFault) → IsWrong bytes fault → IsWrong (bytes ++ more) fault
 wrong_on bytes more fault wrong = record {
-  has_fault = fault_on fault bytes more wrong.refusal wrong.has_fault;
-  refusal = wrong.refusal;
+  has_fault = fault_on fault bytes more wrong.rejection wrong.has_fault;
+  rejection = wrong.rejection;
   never = λ later. subst (λ (t : List ℕ). BeginsWithNone t) (sym (append_assoc bytes more later)) (wrong.never (more ++ later));
 }
 
 -- ---- bytes have one error
 
 -- the first failing check of bytes with this error
-told : InboxFault → Option DecodeFault
-told inbox.NotCanonical = None
-told inbox.BadVersion = Some decoder.BadVersion
-told inbox.BadKind = Some decoder.BadKind
-told inbox.BadField = Some decoder.BadField
-told inbox.TooLong = Some decoder.TooLong
-told inbox.Memory = Some decoder.Memory
+reported : InboxFault → Option DecodeFault
+reported inbox.NotCanonical = None
+reported inbox.BadVersion = Some decoder.BadVersion
+reported inbox.BadKind = Some decoder.BadKind
+reported inbox.BadField = Some decoder.BadField
+reported inbox.TooLong = Some decoder.TooLong
+reported inbox.Memory = Some decoder.Memory
 
 -- the error with this first failing check
 back : Option DecodeFault → InboxFault
@@ -149,32 +149,32 @@ back (Some decoder.NotCanonical) = inbox.Memory
 back (Some decoder.Short) = inbox.Memory
 back (Some decoder.Memory) = inbox.Memory
 
-told_back : (fault : InboxFault) → back (told fault) ≡ fault
-unfolding back told
-told_back inbox.NotCanonical = refl
-told_back inbox.BadVersion = refl
-told_back inbox.BadKind = refl
-told_back inbox.BadField = refl
-told_back inbox.TooLong = refl
-told_back inbox.Memory = refl
+reported_back : (fault : InboxFault) → back (reported fault) ≡ fault
+unfolding back reported
+reported_back inbox.NotCanonical = refl
+reported_back inbox.BadVersion = refl
+reported_back inbox.BadKind = refl
+reported_back inbox.BadField = refl
+reported_back inbox.TooLong = refl
+reported_back inbox.Memory = refl
 
-is_told : (fault : InboxFault) (bytes : List ℕ) → IsRefusal (decode_fault fault) → HasFault bytes (decode_fault fault) → first_fault bytes ≡ told fault
-unfolding told
-is_told inbox.NotCanonical bytes refusal carries = carries.no_fault
-is_told inbox.BadVersion bytes refusal e = e
-is_told inbox.BadKind bytes refusal e = e
-is_told inbox.BadField bytes refusal e = e
-is_told inbox.TooLong bytes refusal e = e
-is_told inbox.Memory bytes refusal e = absurd refusal
+is_reported : (fault : InboxFault) (bytes : List ℕ) → IsRejection (decode_fault fault) → HasFault bytes (decode_fault fault) → first_fault bytes ≡ reported fault
+unfolding reported
+is_reported inbox.NotCanonical bytes rejection carries = carries.no_fault
+is_reported inbox.BadVersion bytes rejection e = e
+is_reported inbox.BadKind bytes rejection e = e
+is_reported inbox.BadField bytes rejection e = e
+is_reported inbox.TooLong bytes rejection e = e
+is_reported inbox.Memory bytes rejection e = absurd rejection
 
 pub one_error : (bytes : List ℕ) (fault other : InboxFault) → IsWrong bytes fault → IsWrong bytes other → fault ≡ other
 one_error bytes fault other wrong again =
-    let same : told fault ≡ told other = sym (is_told fault bytes wrong.refusal wrong.has_fault) ∙ is_told other bytes again.refusal again.has_fault in
-    sym (told_back fault) ∙ ap back same ∙ told_back other
+    let same : reported fault ≡ reported other = sym (is_reported fault bytes wrong.rejection wrong.has_fault) ∙ is_reported other bytes again.rejection again.has_fault in
+    sym (reported_back fault) ∙ ap back same ∙ reported_back other
 
 -- ---- part of a message has no error
 
-kind_again : (kind : Kind) → kind_of_byte (kind_byte kind) ≡ Some kind
+kind_again : (kind : MessageKind) → kind_of_byte (kind_byte kind) ≡ Some kind
 unfolding kind_of_byte
 kind_again kinds.Prepare = refl
 kind_again kinds.Promise = refl
@@ -185,7 +185,7 @@ kind_again kinds.Chosen = refl
 kind_again kinds.Ask = refl
 
 -- the checks after that of the kind, of part of a message
-lacks_is_short : (v k : ℕ) (kind : Kind) (bytes : List ℕ) → IsLongestBody most_body_bytes → LacksBody kind bytes →
+lacks_is_short : (v k : ℕ) (kind : MessageKind) (bytes : List ℕ) → IsLongestBody most_body_bytes → LacksBody kind bytes →
     first_failing (check_longest (length_in (v ∷ k ∷ bytes)) ∷ check_length (Some kind) (length_in (v ∷ k ∷ bytes)) ∷ check_whole (length_in (v ∷ k ∷ bytes)) (behind_header (v ∷ k ∷ bytes))
     ∷ check_fields (Some kind) (body_in (v ∷ k ∷ bytes)) ∷ []) ≡ short
 unfolding length_in
@@ -203,12 +203,12 @@ unfolding first_fault kind_in length_in
 part_is_short [] longest unfinished = refl
 part_is_short (v ∷ []) longest same = rw same refl
 part_is_short (v ∷ k ∷ bytes) longest unfinished =
-    let kind : Kind = unfinished.1.0 in
+    let kind : MessageKind = unfinished.1.0 in
     let is : kind_of_byte k ≡ Some kind = ap kind_of_byte unfinished.1.1 ∙ kind_again kind in
     rw (unfinished.0, is) (lacks_is_short v k kind bytes longest unfinished.1.2)
 
-not_short : (fault : InboxFault) → told fault ≡ short → ⊥
-unfolding told
+not_short : (fault : InboxFault) → reported fault ≡ short → ⊥
+unfolding reported
 not_short inbox.NotCanonical e = absurd cc
 not_short inbox.BadVersion e = absurd cc
 not_short inbox.BadKind e = absurd cc
@@ -218,4 +218,4 @@ not_short inbox.Memory e = absurd cc
 
 pub no_error_in_part : (bytes : List ℕ) (fault : InboxFault) → IsLongestBody most_body_bytes → IsUnfinished bytes → IsWrong bytes fault → ⊥
 no_error_in_part bytes fault longest unfinished wrong =
-    not_short fault (sym (is_told fault bytes wrong.refusal wrong.has_fault) ∙ part_is_short bytes longest unfinished)
+    not_short fault (sym (is_reported fault bytes wrong.rejection wrong.has_fault) ∙ part_is_short bytes longest unfinished)

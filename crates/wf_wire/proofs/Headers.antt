@@ -7,11 +7,11 @@ use Rattle.std.specs.Int.{w32, from_be_bytes, to_be_bytes}
 use Rattle.wf_ballot.specs.Frame.{frame}
 use Rattle.wf_def.specs.Definition.{Definition}
 use Rattle.wf_model.specs.Message.{Message}
-use Rattle.wf_codec.specs.declared.kind.Kind.{Kind}
-use Rattle.wf_codec.specs.Kind.{most_body_bytes, kind_byte}
+use Rattle.wf_codec.specs.declared.kind.MessageKind.{MessageKind}
+use Rattle.wf_codec.specs.MessageKind.{most_body_bytes, kind_byte}
 use Rattle.wf_codec.specs.Message.{texts}
-use Rattle.wf_codec.specs.Spelling.{message_version, header_length, kind_of, body, text_spelling, Spells}
-use Rattle.wf_codec.specs.Law.{IsLongestBody, BeginsWithNone, IsUnfinished, LacksBody, stated_length}
+use Rattle.wf_codec.specs.Encoding.{message_version, header_length, kind_of, body, text_spelling, Spells}
+use Rattle.wf_codec.specs.Theorem.{IsLongestBody, BeginsWithNone, IsUnfinished, LacksBody, stated_length}
 use Rattle.wf_wire.specs.Header.{known_length, IsFilled}
 use Rattle.wf_wire.specs.Stream.{most_message_bytes, IsPart}
 
@@ -39,7 +39,7 @@ known_within (v ∷ k ∷ a ∷ b ∷ []) = omega arith
 known_within (v ∷ k ∷ a ∷ b ∷ c ∷ []) = omega arith
 known_within (v ∷ k ∷ a ∷ b ∷ c ∷ d ∷ bytes) = omega arith
 
-lacks_known : (kind : Kind) (a b c d : ℕ) (bytes : List ℕ) → IsLongestBody most_body_bytes → LacksBody kind (a ∷ b ∷ c ∷ d ∷ bytes) →
+lacks_known : (kind : MessageKind) (a b c d : ℕ) (bytes : List ℕ) → IsLongestBody most_body_bytes → LacksBody kind (a ∷ b ∷ c ∷ d ∷ bytes) →
     length bytes < min (from_be_bytes w32 (a ∷ b ∷ c ∷ d ∷ [])) most_body_bytes
 lacks_known kind a b c d bytes longest (inl few) = absurd (omega (arith, few))
 lacks_known kind a b c d bytes longest (inr lacks) =
@@ -60,7 +60,7 @@ part_is_shorter (v ∷ k ∷ a ∷ b ∷ c ∷ d ∷ bytes) longest unfinished =
 pub part_within : (bytes : List ℕ) → IsLongestBody most_body_bytes → IsUnfinished bytes → length bytes < most_message_bytes
 part_within bytes longest unfinished = omega (arith, part_is_shorter bytes longest unfinished, known_within bytes)
 
-lacks_on : (kind : Kind) (a b c d : ℕ) (bytes more : List ℕ) → IsLongestBody most_body_bytes → LacksBody kind (a ∷ b ∷ c ∷ d ∷ bytes) →
+lacks_on : (kind : MessageKind) (a b c d : ℕ) (bytes more : List ℕ) → IsLongestBody most_body_bytes → LacksBody kind (a ∷ b ∷ c ∷ d ∷ bytes) →
     length (bytes ++ more) < min (from_be_bytes w32 (a ∷ b ∷ c ∷ d ∷ [])) most_body_bytes → LacksBody kind (a ∷ b ∷ c ∷ d ∷ (bytes ++ more))
 lacks_on kind a b c d bytes more longest (inl few) short = absurd (omega (arith, few))
 lacks_on kind a b c d bytes more longest (inr lacks) short = inr (lacks.0, omega (arith, short))
@@ -89,7 +89,7 @@ spelled_parts m spelled after bytes spells e =
     ∙ ap (λ (t : List ℕ). message_version ∷ kind_byte (kind_of (texts m)) ∷ t) (append_assoc (to_be_bytes w32 (length (body (texts m)))) (body (texts m)) after)
 
 -- bytes that lack their body don't have as many as the length states
-lacks_some : (kind : Kind) (n : ℕ) (behind : List ℕ) → IsLongestBody most_body_bytes → n ≤ length behind → LacksBody kind (to_be_bytes w32 n ++ behind) → ⊥
+lacks_some : (kind : MessageKind) (n : ℕ) (behind : List ℕ) → IsLongestBody most_body_bytes → n ≤ length behind → LacksBody kind (to_be_bytes w32 n ++ behind) → ⊥
 lacks_some kind n behind longest enough (inl few) = omega (arith, few, length-append (to_be_bytes w32 n) behind)
 lacks_some kind n behind longest enough (inr lacks) =
     let front : take 4 (to_be_bytes w32 n ++ behind) ≡ to_be_bytes w32 n = take-append_seam (to_be_bytes w32 n) behind in

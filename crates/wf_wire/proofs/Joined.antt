@@ -6,13 +6,13 @@ use Rattle.std.proofs.lemmas.Bool.{cases_lt}
 use Rattle.std.specs.Prelude.{OnErr}
 use Rattle.wf_def.specs.Definition.{Definition}
 use Rattle.wf_model.specs.Message.{Message}
-use Rattle.wf_codec.specs.Kind.{most_body_bytes}
-use Rattle.wf_codec.specs.Spelling.{header_length}
-use Rattle.wf_codec.specs.Law.{IsLongestBody}
+use Rattle.wf_codec.specs.MessageKind.{most_body_bytes}
+use Rattle.wf_codec.specs.Encoding.{header_length}
+use Rattle.wf_codec.specs.Theorem.{IsLongestBody}
 use Rattle.wf_wire.specs.declared.fault.InboxFault.{InboxFault}
 use Rattle.wf_wire.specs.Header.{known_length, IsFilled}
 use Rattle.wf_wire.specs.Stream.{Splits, IsPart, Reads, IsWrong, Breaks}
-use Rattle.wf_wire.specs.Reading.{TakesOne, TakesNone}
+use Rattle.wf_wire.specs.WireReader.{TakesOne, TakesNone}
 use Rattle.wf_wire.proofs.Faults.{wrong_on}
 use Rattle.wf_wire.proofs.Headers.{all_moved, front_stays, part_is_shorter, part_on}
 

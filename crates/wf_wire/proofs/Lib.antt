@@ -2,4 +2,4 @@ pub mod Faults
 pub mod Headers
 pub mod Streams
 pub mod Joined
-pub mod Splitting
+pub mod Split

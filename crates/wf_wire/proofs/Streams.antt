@@ -3,11 +3,11 @@ use Rattle.std.proofs.Common.{◌≡◌, ℕ, ◌<◌, ◌≤◌, List, [], ◌�
 use Rattle.std.proofs.lemmas.List.{map-append, take-append-drop}
 use Rattle.wf_def.specs.Definition.{Definition}
 use Rattle.wf_model.specs.Message.{Message}
-use Rattle.wf_codec.specs.Spelling.{Spells}
-use Rattle.wf_codec.specs.Law.{NoneIsEmpty, BeginsWith, BeginsWithNone}
+use Rattle.wf_codec.specs.Encoding.{Spells}
+use Rattle.wf_codec.specs.Theorem.{NoneIsEmpty, BeginsWith, BeginsWithNone}
 use Rattle.wf_wire.specs.declared.fault.InboxFault.{InboxFault}
 use Rattle.wf_wire.specs.Stream.{Splits, IsPart, Reads, IsWrong, Breaks}
-use Rattle.wf_wire.specs.Reading.{TakesOne, TakesNone}
+use Rattle.wf_wire.specs.WireReader.{TakesOne, TakesNone}
 
 -- ---- one message after the other
 

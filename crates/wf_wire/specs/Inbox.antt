@@ -2,7 +2,7 @@
 use Rattle.std.specs.Prelude.{◌≡◌, ℕ, List, [], ◌++◌, length, Option, Some, None}
 use Rattle.wf_def.specs.Definition.{Definition}
 use Rattle.wf_model.specs.Message.{Message}
-use Rattle.wf_codec.specs.Law.{IsRefusal}
+use Rattle.wf_codec.specs.Theorem.{IsRejection}
 use Rattle.wf_wire.specs.declared.fault.InboxFault.{InboxFault}
 use Rattle.wf_wire.specs.InboxFault.{decode_fault}
 use Rattle.wf_wire.specs.Stream.{IsPart, Reads, Breaks}
@@ -20,12 +20,12 @@ state_of (Some fault) rest = Failed fault
 -- An open inbox keeps nothing or part of a message. A failed one keeps no bytes, and an error of the stream.
 abbrev pub IsInbox : Option InboxFault → List ℕ → Type 0
 IsInbox None rest = IsPart rest
-IsInbox (Some fault) rest = IsRefusal (decode_fault fault) × (rest ≡ [])
+IsInbox (Some fault) rest = IsRejection (decode_fault fault) × (rest ≡ [])
 
 -- the number of bytes that it keeps
-abbrev pub kept_bytes : InboxState → ℕ
-kept_bytes (Open rest) = length rest
-kept_bytes (Failed fault) = 0
+abbrev pub pending_bytes : InboxState → ℕ
+pending_bytes (Open rest) = length rest
+pending_bytes (Failed fault) = 0
 
 -- The rest before, followed by the piece, is these messages followed by the rest after, which begins with none.
 abbrev pub IsFed : InboxState → List ℕ → List (Message Definition) → InboxState → Type 0

@@ -2,5 +2,5 @@ pub mod InboxFault
 pub mod Stream
 pub mod Inbox
 pub mod Header
-pub mod Reading
-pub mod Law
+pub mod WireReader
+pub mod Theorem

@@ -2,10 +2,10 @@
 use Rattle.std.specs.Prelude.{◌≡◌, ℕ, ◌+◌, List, [], ◌∷◌, ◌++◌}
 use Rattle.wf_def.specs.Definition.{Definition}
 use Rattle.wf_model.specs.Message.{Message}
-use Rattle.wf_codec.specs.Kind.{most_body_bytes}
-use Rattle.wf_codec.specs.Spelling.{header_length, Spells}
+use Rattle.wf_codec.specs.MessageKind.{most_body_bytes}
+use Rattle.wf_codec.specs.Encoding.{header_length, Spells}
 use Rattle.wf_codec.specs.Fault.{HasFault}
-use Rattle.wf_codec.specs.Law.{BeginsWithNone, NeverBegins, IsRefusal, IsUnfinished}
+use Rattle.wf_codec.specs.Theorem.{BeginsWithNone, NeverBegins, IsRejection, IsUnfinished}
 use Rattle.wf_wire.specs.declared.fault.InboxFault.{InboxFault}
 use Rattle.wf_wire.specs.InboxFault.{decode_fault}
 
@@ -31,7 +31,7 @@ pub record Reads (stream : List ℕ) (messages : List (Message Definition)) (res
 -- the bytes have this error of the decoder: they never begin with a message, whatever follows
 pub record IsWrong (bytes : List ℕ) (fault : InboxFault) : Type 0 where
   pub has_fault : HasFault bytes (decode_fault fault)
-  pub refusal : IsRefusal (decode_fault fault)
+  pub rejection : IsRejection (decode_fault fault)
   pub never : NeverBegins bytes
 
 -- the stream is whole messages followed by bytes that have this error

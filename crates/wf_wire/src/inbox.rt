@@ -1,10 +1,10 @@
 ghost use Rattle.std.specs.Prelude.{◌≡◌, ◌≢◌, ◌<◌, [], map, IfOk, IfErr, IsErrOf};
 ghost use Rattle.wf_codec.specs.Message.{view};
 ghost use Rattle.wf_wire.specs.Stream.{most_message_bytes};
-ghost use Rattle.wf_wire.specs.Inbox.{Open, Failed, kept_bytes, IsFed, IsBroken};
+ghost use Rattle.wf_wire.specs.Inbox.{Open, Failed, pending_bytes, IsFed, IsBroken};
 
 use crate::fault::InboxFault;
-use crate::joining::take_in;
+use crate::piece_join::take_in;
 use std::alloc::Global;
 use std::marker::Model;
 use wf_codec::{BODY_BYTES, HEADER_BYTES, Message, longest_body, no_spelling_is_empty};
@@ -64,7 +64,7 @@ impl Inbox {
             (result ≡ Err fault) × (self.new ≡ self.old) }
 
         ensures memory { IsErrOf result InboxFault.Memory → self.new ≡ self.old }
-        ensures kept { kept_bytes self.new < most_message_bytes }
+        ensures pending { pending_bytes self.new < most_message_bytes }
     {
         // The theorem: no body is longer than the longest.
         longest_body();
@@ -85,8 +85,8 @@ impl Inbox {
 
     /// The number of bytes that are kept: those of part of a message.
     #[tactic(auto, using(crate::proofs::Headers::part_within))]
-    pub fn kept(&self) -> usize
-        ensures value { result ≡ kept_bytes self.now }
+    pub fn pending(&self) -> usize
+        ensures value { result ≡ pending_bytes self.now }
         ensures most { result < most_message_bytes }
     {
         // The theorem: no body is longer than the longest.

@@ -20,10 +20,10 @@
 mod fault;
 mod header;
 mod inbox;
-mod joining;
-mod law;
-mod reading;
+mod piece_join;
+mod theorem;
+mod whole_messages;
 
 pub use fault::InboxFault;
 pub use inbox::{Inbox, MESSAGE_BYTES};
-pub use law::{cuts_do_not_matter, streams_split_one_way};
+pub use theorem::{cuts_do_not_matter, streams_split_one_way};

@@ -1,9 +1,9 @@
-pub mod AnswerLaw
-pub mod EntriesLaw
-pub mod HistoryLaw
-pub mod JudgedLaw
-pub mod KeptPicturesLaw
+pub mod AnswerTheorem
+pub mod EntriesTheorem
+pub mod HistoryTheorem
+pub mod PlanTheorem
+pub mod CachedPicturesTheorem
 pub mod LayerLines
-pub mod LayersLaw
-pub mod RejectionLaw
-pub mod ServiceLaw
+pub mod LayersTheorem
+pub mod RejectionTheorem
+pub mod ServiceTheorem

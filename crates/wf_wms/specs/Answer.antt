@@ -16,8 +16,8 @@ use Rattle.wf_wms.specs.declared.exception.Exception.{Exception}
 use Rattle.wf_wms.specs.declared.exception.Exception.TheVariants as exception
 use Rattle.wf_wms.specs.declared.kind.Kind.{Kind}
 use Rattle.wf_wms.specs.declared.kind.Kind.TheVariants as kind
-use Rattle.wf_wms.specs.declared.operation.Operation.{Operation}
-use Rattle.wf_wms.specs.declared.operation.Operation.TheVariants.{Capabilities, Map}
+use Rattle.wf_wms.specs.declared.operation.WmsOperation.{WmsOperation}
+use Rattle.wf_wms.specs.declared.operation.WmsOperation.TheVariants.{Capabilities, Map}
 
 -- an answer: its kind, its media type and its bytes
 pub record AnswerValue : Type 0 where
@@ -44,7 +44,7 @@ first_failing (None ∷ checks) = first_failing checks
 first_failing (Some e ∷ checks) = Some e
 
 -- the operation that REQUEST names (7.1)
-abbrev pub operation_of : Option (List ℕ) → Result Operation Exception
+abbrev pub operation_of : Option (List ℕ) → Result WmsOperation Exception
 operation_of None = Err (exception.MissingParameter Request)
 operation_of (Some request) = if bytes_eq request (codes "GetCapabilities") then Ok Capabilities
     else (if bytes_eq request (codes "GetMap") then Ok Map else Err exception.OperationNotSupported)
@@ -78,7 +78,7 @@ unfoldable pub metadata_answer : ℕ → Definition → List (List ℕ × List �
 metadata_answer s d pairs = rejection_or_metadata (metadata_fault s pairs) s d
 
 -- the answer to an operation, where GetMap isn't supported
-abbrev pub description_to : Result Operation Exception → ℕ → Definition → List (List ℕ × List ℕ) → AnswerValue
+abbrev pub description_to : Result WmsOperation Exception → ℕ → Definition → List (List ℕ × List ℕ) → AnswerValue
 description_to (Err e) s d pairs = rejection e
 description_to (Ok Capabilities) s d pairs = metadata_answer s d pairs
 description_to (Ok Map) s d pairs = rejection exception.OperationNotSupported
@@ -107,7 +107,7 @@ IsMapAnswer d (Err e) answer = answer ≡ rejection e
 IsMapAnswer d (Ok request) answer = IsPictureOf d request answer
 
 -- the answer to an operation
-abbrev pub IsAnswerTo : Result Operation Exception → ℕ → Definition → List (List ℕ × List ℕ) → AnswerValue → Type 0
+abbrev pub IsAnswerTo : Result WmsOperation Exception → ℕ → Definition → List (List ℕ × List ℕ) → AnswerValue → Type 0
 IsAnswerTo (Err e) s d pairs answer = answer ≡ rejection e
 IsAnswerTo (Ok Capabilities) s d pairs answer = answer ≡ metadata_answer s d pairs
 IsAnswerTo (Ok Map) s d pairs answer = IsMapAnswer d (map_request s d pairs) answer
@@ -117,14 +117,14 @@ or_own s (Ok other) = other
 or_own s (Err e) = s
 
 -- the sequence of the map that an operation describes or draws: for GetMap the one that MAPSEQ names, else the server's
-abbrev pub subject_of : Result Operation Exception → ℕ → List (List ℕ × List ℕ) → ℕ
+abbrev pub subject_of : Result WmsOperation Exception → ℕ → List (List ℕ × List ℕ) → ℕ
 subject_of (Err e) s pairs = s
 subject_of (Ok Capabilities) s pairs = s
 subject_of (Ok Map) s pairs = or_own s (map_sequence s pairs)
 
 -- The answer to an operation at the sequence s of a history, whose first entry has sequence 1. It depends on the history only
 -- through the map that is described or drawn.
-pub record IsAnswerOn (operation : Result Operation Exception) (s : ℕ) (history : List Definition) (pairs : List (List ℕ × List ℕ)) (answer : AnswerValue) : Type 0 where
+pub record IsAnswerOn (operation : Result WmsOperation Exception) (s : ℕ) (history : List Definition) (pairs : List (List ℕ × List ℕ)) (answer : AnswerValue) : Type 0 where
   pub map : Definition
   pub is_published : map_at history (subject_of operation s pairs) ≡ Some map
   pub is_answer : IsAnswerTo operation s map pairs answer

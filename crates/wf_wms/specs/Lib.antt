@@ -2,8 +2,8 @@ pub mod Answer
 pub mod Background
 pub mod Capabilities
 pub mod Exception
-pub mod Judged
-pub mod KeptPictures
+pub mod Plan
+pub mod CachedPictures
 pub mod Limit
 pub mod MapRequest
 pub mod Query

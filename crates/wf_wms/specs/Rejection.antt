@@ -11,8 +11,8 @@ use Rattle.wf_wms.specs.Query.{pairs_of, parameter}
 use Rattle.wf_wms.specs.declared.exception.Exception.{Exception}
 use Rattle.wf_wms.specs.declared.exception.Exception.TheVariants as exception
 use Rattle.wf_wms.specs.declared.exception.Parameter.TheVariants as parameters
-use Rattle.wf_wms.specs.declared.operation.Operation.{Operation}
-use Rattle.wf_wms.specs.declared.operation.Operation.TheVariants.{Capabilities, Map}
+use Rattle.wf_wms.specs.declared.operation.WmsOperation.{WmsOperation}
+use Rattle.wf_wms.specs.declared.operation.WmsOperation.TheVariants.{Capabilities, Map}
 
 -- a check that passes, or its exception
 abbrev pub passed : Option Exception → Result ⊤ Exception
@@ -49,7 +49,7 @@ map_text pairs = do
   from_sequence (parameter (codes "MAPSEQ") pairs) pairs
 
 -- REQUEST first, then the checks of the operation that it names
-abbrev pub operation_text : Result Operation Exception → List (List ℕ × List ℕ) → Result ⊤ Exception
+abbrev pub operation_text : Result WmsOperation Exception → List (List ℕ × List ℕ) → Result ⊤ Exception
 operation_text (Err e) pairs = Err e
 operation_text (Ok Capabilities) pairs = metadata_text pairs
 operation_text (Ok Map) pairs = map_text pairs
@@ -67,7 +67,7 @@ TextsAreRejectedAlike = (s : ℕ) (history : List Definition) (query : List ℕ)
 
 -- REQUEST first, then the checks of the operation that it names, up to the first one that looks at a map: for GetCapabilities these
 -- are all; for GetMap whether this server has published the map of MAPSEQ, and then FORMAT and LAYERS
-abbrev pub operation_at : Result Operation Exception → ℕ → List (List ℕ × List ℕ) → Result ⊤ Exception
+abbrev pub operation_at : Result WmsOperation Exception → ℕ → List (List ℕ × List ℕ) → Result ⊤ Exception
 operation_at (Err e) s pairs = Err e
 operation_at (Ok Capabilities) s pairs = passed (metadata_fault s pairs)
 operation_at (Ok Map) s pairs = do

@@ -7,8 +7,8 @@ use Rattle.wf_wms.specs.Answer.{operation_of}
 use Rattle.wf_wms.specs.MapRequest.{map_sequence, picture_in}
 use Rattle.wf_wms.specs.Query.{pairs_of, parameter}
 use Rattle.wf_wms.specs.declared.exception.Exception.{Exception}
-use Rattle.wf_wms.specs.declared.operation.Operation.{Operation}
-use Rattle.wf_wms.specs.declared.operation.Operation.TheVariants.{Capabilities, Map}
+use Rattle.wf_wms.specs.declared.operation.WmsOperation.{WmsOperation}
+use Rattle.wf_wms.specs.declared.operation.WmsOperation.TheVariants.{Capabilities, Map}
 
 -- a requested picture: the sequence of the map that it is of, and the request for it
 abbrev pub Wanted : Type 0
@@ -30,7 +30,7 @@ wanted_at (Err e) history pairs = None
 wanted_at (Ok m) history pairs = wanted_of m (map_at history m) pairs
 
 -- by the operation
-abbrev pub wanted_by : Result Operation Exception → ℕ → List Definition → List (List ℕ × List ℕ) → Option Wanted
+abbrev pub wanted_by : Result WmsOperation Exception → ℕ → List Definition → List (List ℕ × List ℕ) → Option Wanted
 wanted_by (Err e) s history pairs = None
 wanted_by (Ok Capabilities) s history pairs = None
 wanted_by (Ok Map) s history pairs = wanted_at (map_sequence s pairs) history pairs

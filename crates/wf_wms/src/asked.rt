@@ -5,7 +5,7 @@ use wf_picture::request::PictureRequest;
 
 /// A request for a picture of a map.
 #[derive(Drop)]
-pub(crate) struct Asked {
+pub(crate) struct QueriedPicture {
     /// The update sequence of the map.
     pub sequence: u16,
     pub request: PictureRequest,
@@ -13,8 +13,8 @@ pub(crate) struct Asked {
 
 /// A checked query.
 #[derive(Drop)]
-pub(crate) enum Judged {
+pub(crate) enum Plan {
     /// The answer, complete: no picture is requested.
     Ready(Answer),
-    Picture(Asked),
+    Picture(QueriedPicture),
 }

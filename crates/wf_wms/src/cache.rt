@@ -4,11 +4,11 @@ ghost use Rattle.lru.specs.LruCache.{lru_cache};
 ghost use Rattle.wf_def.specs.Definition.{Definition};
 ghost use Rattle.wf_paint.specs.Exact.{quotient};
 ghost use Rattle.wf_paint.specs.Limit.{shared_tiles};
-ghost use Rattle.wf_wms.specs.KeptPictures.{most_kept, background_of, cache_of, entry_of, risen, AllKept, IsCellOf, IsKept, IsTaken, IsTileAt, IsTileOf, IsUsed};
+ghost use Rattle.wf_wms.specs.CachedPictures.{most_cached, background_of, cache_of, entry_of, risen, AllCached, IsCellOf, IsCached, IsTaken, IsTileAt, IsTileOf, IsUsed};
 
-use crate::asked::Asked;
+use crate::asked::QueriedPicture;
 use crate::key::Key;
-use crate::maps::Maps;
+use crate::maps::MapSource;
 use lru::LruCache;
 use std::alloc::{AllocError, Global};
 use std::marker::Model;
@@ -19,9 +19,9 @@ use wf_paint::cell::GridCell;
 use wf_paint::limits::{SHARED_TILES, TILE_PIXELS};
 use wf_paint::pixmap::Pixmap;
 use wf_paint::view::View;
-use wf_picture::law::tiles_are_crops_of_one_picture;
 use wf_picture::picture::{cut, labelled};
 use wf_picture::size::Size;
+use wf_picture::theorem::tiles_are_crops_of_one_picture;
 
 /// The size of a tile.
 const TILE: Size = Size {
@@ -30,10 +30,11 @@ const TILE: Size = Size {
 };
 
 /// A cache of pictures: each has 1,024 by 1,024 pixels of a map's grid, and sixteen tiles are cut out of it. When it is full, the
-/// least recently used is dropped. It counts what was drawn, what was taken and what couldn't be kept; a count stays at its highest.
+/// least recently used is dropped. It counts what was drawn, what was taken and what couldn't be kept; a count stays at its
+/// highest.
 #[derive(Drop)]
 pub struct Cache {
-    kept: LruCache<Key, Pixmap>,
+    cached: LruCache<Key, Pixmap>,
     // how many pictures were drawn
     drawings: u64,
     // how many tiles were cut out of a picture that was kept
@@ -43,25 +44,25 @@ pub struct Cache {
 }
 
 impl Model for Cache {
-    ghost use Rattle.wf_wms.specs.KeptPictures.{CacheValue, cache_of};
+    ghost use Rattle.wf_wms.specs.CachedPictures.{CacheValue, cache_of};
 
     ghost Value = { CacheValue };
 
-    ghost view = { λ c. cache_of c.kept c.drawings c.taken c.unkept };
+    ghost view = { λ c. cache_of c.cached c.drawings c.taken c.unkept };
 }
 
 impl Cache {
     /// An empty cache for `capacity` pictures, 1 to 64, whose counts are 0. A picture takes 3 MB. Returns Ok unless allocation fails.
     pub fn new(alloc: Global, capacity: usize) -> Result<Self, AllocError>
         requires least { 1 ≤ capacity }
-        requires most { capacity ≤ most_kept }
+        requires most { capacity ≤ most_cached }
         ensures empty { IfOk result (λ cache. cache ≡ cache_of (lru_cache [] capacity) 0 0 0) }
         ensures capacity { IfOk result (λ cache. cache.cap ≡ capacity) }
-        ensures kept { IfOk result (λ cache. (history : List Definition) → AllKept history cache) }
+        ensures cached { IfOk result (λ cache. (history : List Definition) → AllCached history cache) }
     {
         let capacity = NonZeroUsize::new(capacity).unwrap();
         Ok(Cache {
-            kept: LruCache::new(alloc, capacity)?,
+            cached: LruCache::new(alloc, capacity)?,
             drawings: 0,
             taken: 0,
             unkept: 0,
@@ -98,11 +99,11 @@ impl Cache {
         key: Key,
         view: &View,
     ) -> Result<Vec<u8>, AllocError>
-        requires kept { AllKept history.now.definitions self.old }
+        requires cached { AllCached history.now.definitions self.old }
         requires tile { IsTileAt history.now.definitions key view.now }
         ensures file { IfOk result
             (λ file. IsTileOf history.now.definitions key view.now file.items) }
-        ensures kept { AllKept history.now.definitions self.new }
+        ensures cached { AllCached history.now.definitions self.new }
         ensures used { OnOk result (IsUsed key self.old self.new) }
         ensures unchanged { OnErr result (self.new ≡ self.old) }
         ensures capacity { self.new.cap ≡ self.old.cap }
@@ -125,12 +126,12 @@ impl Cache {
         key: Key,
         view: &View,
     ) -> Result<Vec<u8>, AllocError>
-        requires kept { AllKept history.now.definitions self.old }
+        requires cached { AllCached history.now.definitions self.old }
         requires tile { IsTileAt history.now.definitions key view.now }
         requires absent { entry_of key self.old.entries ≡ None }
         ensures file { IfOk result
             (λ file. IsTileOf history.now.definitions key view.now file.items) }
-        ensures kept { AllKept history.now.definitions self.new }
+        ensures cached { AllCached history.now.definitions self.new }
         ensures used { OnOk result (IsUsed key self.old self.new) }
         ensures unchanged { OnErr result (self.new ≡ self.old) }
         ensures capacity { self.new.cap ≡ self.old.cap }
@@ -147,35 +148,35 @@ impl Cache {
     fn touch(&mut self, key: &Key)
         requires { IsSome (entry_of key.now self.old.entries) }
         ensures taken { IsTaken key.now self.old self.new }
-        ensures kept { (history : List Definition) →
-            AllKept history self.old → AllKept history self.new }
+        ensures cached { (history : List Definition) →
+            AllCached history self.old → AllCached history self.new }
         ensures capacity { self.new.cap ≡ self.old.cap }
     {
-        let _ = self.kept.promote(key);
+        let _ = self.cached.promote(key);
         self.taken = risen(self.taken);
     }
 
     /// The key's picture, if it is kept.
     fn find(&self, key: &Key) -> Option<&Pixmap>
-        ensures kept { IfSome result (λ pixmap. (history : List Definition) →
-            AllKept history self.now → IsKept history key.now pixmap.now) }
+        ensures cached { IfSome result (λ pixmap. (history : List Definition) →
+            AllCached history self.now → IsCached history key.now pixmap.now) }
         ensures there { OnSome result (IsSome (entry_of key.now self.now.entries)) }
         ensures absent { IfNone result (entry_of key.now self.now.entries ≡ None) }
     {
-        self.kept.peek(key)
+        self.cached.peek(key)
     }
 
     /// Counts a drawn picture, and keeps it; if an allocation fails, it is counted as one that isn't kept.
     fn keep(&mut self, key: Key, pixmap: Pixmap)
         requires { entry_of key self.old.entries ≡ None }
         ensures used { IsUsed key self.old self.new }
-        ensures kept { (history : List Definition) →
-            AllKept history self.old → IsKept history key pixmap → AllKept history self.new }
+        ensures cached { (history : List Definition) →
+            AllCached history self.old → IsCached history key pixmap → AllCached history self.new }
         ensures capacity { self.new.cap ≡ self.old.cap }
     {
         self.drawings = risen(self.drawings);
-        let is_kept = put(&mut self.kept, key, pixmap);
-        if is_kept {
+        let is_cached = put(&mut self.cached, key, pixmap);
+        if is_cached {
             return;
         }
         self.unkept = risen(self.unkept);
@@ -184,17 +185,17 @@ impl Cache {
 
 /// Puts a new entry before the others, of which the last goes if there is no room for it. Returns false if an allocation fails, and
 /// then the entries are unchanged.
-fn put(kept: &mut LruCache<Key, Pixmap>, key: Key, pixmap: Pixmap) -> bool
-    requires { entry_of key kept.old.entries ≡ None }
-    ensures put { result ≡ true → kept.new ≡ lru_cache
-        ((key, pixmap) ∷ take (kept.old.cap - 1) kept.old.entries) kept.old.cap }
-    ensures same { result ≡ false → kept.new ≡ kept.old }
+fn put(cached: &mut LruCache<Key, Pixmap>, key: Key, pixmap: Pixmap) -> bool
+    requires { entry_of key cached.old.entries ≡ None }
+    ensures put { result ≡ true → cached.new ≡ lru_cache
+        ((key, pixmap) ∷ take (cached.old.cap - 1) cached.old.entries) cached.old.cap }
+    ensures same { result ≡ false → cached.new ≡ cached.old }
 {
-    kept.put(key, pixmap).is_ok()
+    cached.put(key, pixmap).is_ok()
 }
 
 /// A count with one more, which stays at its highest.
-#[tactic(auto, unfolding(crate::specs::KeptPictures::risen))]
+#[tactic(auto, unfolding(crate::specs::CachedPictures::risen))]
 fn risen(count: u64) -> u64
     ensures { result ≡ risen count }
 {
@@ -203,13 +204,13 @@ fn risen(count: u64) -> u64
 
 impl Key {
     /// The key of the picture that the requested tile, that of this cell, is cut out of.
-    pub(crate) fn of(asked: Asked, cell: GridCell) -> Self
+    pub(crate) fn of(asked: QueriedPicture, cell: GridCell) -> Self
         ensures sequence { result.sequence ≡ asked.sequence }
         ensures layers { result.layers.items ≡ asked.request.layers }
         ensures background { background_of result ≡ asked.request.background }
         ensures cell { IsCellOf result cell }
     {
-        let Asked { sequence, request } = asked;
+        let QueriedPicture { sequence, request } = asked;
         let background = request.background();
         Key {
             sequence,

@@ -6,20 +6,20 @@ ghost use Rattle.wf_wms.specs.Answer.{check_service, check_sequence, description
 use crate::answer::Answer;
 use crate::comparison::Comparison;
 use crate::exception::{Exception, Parameter};
-use crate::operation::Operation;
+use crate::operation::WmsOperation;
 use crate::query::Query;
 use crate::update_sequence::comparison;
 use std::alloc::{AllocError, Global};
 use wf_def::map::MapDef;
 
 /// The operation that REQUEST names (OGC 06-042, 7.1).
-pub(crate) fn operation(request: Option<&str>) -> Result<Operation, Exception>
+pub(crate) fn operation(request: Option<&str>) -> Result<WmsOperation, Exception>
     ensures { result ≡ operation_of (option_map (λ text. text.now) request.entry) }
 {
     match request {
         None => Err(Exception::MissingParameter(Parameter::Request)),
-        Some("GetCapabilities") => Ok(Operation::Capabilities),
-        Some("GetMap") => Ok(Operation::Map),
+        Some("GetCapabilities") => Ok(WmsOperation::Capabilities),
+        Some("GetMap") => Ok(WmsOperation::Map),
         Some(_) => Err(Exception::OperationNotSupported),
     }
 }
@@ -81,7 +81,7 @@ pub fn describe(alloc: Global, seq: u16, map: &MapDef, query: &[u8]) -> Result<A
     let query = Query::read(alloc, query)?;
     match operation(query.parameter("REQUEST")) {
         Err(exception) => Answer::rejection(alloc, exception),
-        Ok(Operation::Capabilities) => metadata_answer(alloc, seq, map, &query),
-        Ok(Operation::Map) => Answer::rejection(alloc, Exception::OperationNotSupported),
+        Ok(WmsOperation::Capabilities) => metadata_answer(alloc, seq, map, &query),
+        Ok(WmsOperation::Map) => Answer::rejection(alloc, Exception::OperationNotSupported),
     }
 }

@@ -1,20 +1,24 @@
 //! Draws the requested picture, or cuts it out of a kept one.
 ghost use Rattle.std.specs.Prelude.{◌≡◌, IfOk, OnErr, OnOk, Some};
-ghost use Rattle.wf_wms.specs.Judged.{IsAskedOf, IsPictureFor};
-ghost use Rattle.wf_wms.specs.KeptPictures.{AllKept, IsAfter};
+ghost use Rattle.wf_wms.specs.Plan.{IsAskedOf, IsPictureFor};
+ghost use Rattle.wf_wms.specs.CachedPictures.{AllCached, IsAfter};
 
 use crate::answer::Answer;
-use crate::asked::Asked;
+use crate::asked::QueriedPicture;
 use crate::cache::Cache;
 use crate::key::Key;
-use crate::maps::Maps;
+use crate::maps::MapSource;
 use std::alloc::{AllocError, Global};
 use wf_learner::History;
 use wf_paint::cell::GridCell;
 use wf_picture::picture::{draw, view_of};
 
 /// The answer with the picture, drawn without a cache.
-pub(crate) fn drawn<M: Maps>(alloc: Global, maps: &M, asked: Asked) -> Result<Answer, AllocError>
+pub(crate) fn drawn<M: MapSource>(
+    alloc: Global,
+    maps: &M,
+    asked: QueriedPicture,
+) -> Result<Answer, AllocError>
     requires { IsAskedOf (M.definitions maps.now) asked }
     ensures { IfOk result (λ answer. IsPictureFor (M.definitions maps.now) asked answer) }
 {
@@ -24,16 +28,16 @@ pub(crate) fn drawn<M: Maps>(alloc: Global, maps: &M, asked: Asked) -> Result<An
 
 /// The same answer. A tile of the map's grid is cut out of the cache's picture, which is drawn if it isn't kept yet; another picture is
 /// drawn beside the cache. An error leaves the cache unchanged.
-pub(crate) fn drawn_by(
+pub(crate) fn draw_by(
     alloc: Global,
     cache: &mut Cache,
     history: &History,
-    asked: Asked,
+    asked: QueriedPicture,
 ) -> Result<Answer, AllocError>
     requires asked { IsAskedOf history.now.definitions asked }
-    requires kept { AllKept history.now.definitions cache.old }
+    requires cached { AllCached history.now.definitions cache.old }
     ensures answer { IfOk result (λ answer. IsPictureFor history.now.definitions asked answer) }
-    ensures kept { AllKept history.now.definitions cache.new }
+    ensures cached { AllCached history.now.definitions cache.new }
     ensures used { OnOk result (IsAfter history.now.definitions
         (Some (asked.sequence, asked.request)) cache.old cache.new) }
     ensures unchanged { OnErr result (cache.new ≡ cache.old) }

@@ -1,11 +1,11 @@
 //! The maps of a history.
 
-use crate::maps::Maps;
+use crate::maps::MapSource;
 use wf_ballot::Seq;
 use wf_def::map::MapDef;
 use wf_learner::History;
 
-impl Maps for History {
+impl MapSource for History {
     ghost definitions = { λ history. history.definitions };
 
     fn published_map(&self, seq: u16) -> &MapDef {

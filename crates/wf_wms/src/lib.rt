@@ -11,14 +11,15 @@
 //!   one map alone
 //! - [`describe`] returns the defined answer about one map definition, where GetMap isn't supported
 //! - a query has one answer, and it depends on the history only through the map that it describes or draws
-//!   ([`law::each_query_has_one_answer`])
-//! - apart from GetMap the answer is what `describe` returns ([`law::answers_are_descriptions`])
+//!   ([`theorem::each_query_has_one_answer`])
+//! - apart from GetMap the answer is what `describe` returns ([`theorem::answers_are_descriptions`])
 //! - a request that its text alone rejects has one answer at every server, whatever it has published
-//!   ([`law::texts_are_rejected_alike`]); `specs/Rejection.antt` has the checks that look neither at a map nor at a sequence
+//!   ([`theorem::texts_are_rejected_alike`]); `specs/Rejection.antt` has the checks that look neither at a map nor at a sequence
 //! - [`service::answer_cached`] returns the same answer by a [`cache::Cache`] of pictures, if each entry is its key's picture in
-//!   this history (`specs/KeptPictures.antt`); each still is afterwards, also in any history that extends this one
-//!   ([`law::kept_pictures_outlast_growth`])
-//! - which entries there are afterwards, and the counts: a tile is cut out of its picture if that is kept, which is the most recently
+//!   this history (`specs/CachedPictures.antt`); each still is afterwards, also in any history that extends this one
+//!   ([`theorem::cached_pictures_outlast_growth`])
+//! - which entries there are afterwards, and the counts: a tile is cut out of its picture if that is kept, which is the most
+//! recently
 //!   used then; one that isn't is drawn and kept, unless an allocation to keep it fails, in place of the least recently used if the
 //!   cache is full; nothing else changes the cache
 //!
@@ -32,6 +33,7 @@ mod background;
 mod bounding_box;
 pub mod cache;
 mod capabilities;
+mod checks;
 mod comparison;
 mod crs;
 mod description;
@@ -40,10 +42,8 @@ mod entries;
 mod exception;
 mod format;
 mod history;
-mod judging;
 mod key;
 mod kind;
-pub mod law;
 mod layers;
 pub mod limits;
 mod map_request;
@@ -56,6 +56,7 @@ pub mod report;
 pub mod service;
 mod size;
 mod styles;
+pub mod theorem;
 mod update_sequence;
 mod xml;
 

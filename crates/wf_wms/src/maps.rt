@@ -6,7 +6,7 @@ ghost use Rattle.wf_learner.specs.History.{map_at};
 use wf_def::map::MapDef;
 
 /// A server's source of maps.
-pub(crate) trait Maps {
+pub(crate) trait MapSource {
     /// The published definitions; the first has sequence 1.
     ghost definitions: { Self → List Definition };
 

@@ -1,6 +1,6 @@
 //! The maps of a server with one published map.
 
-use crate::maps::Maps;
+use crate::maps::MapSource;
 use std::alloc::{AllocError, Global};
 use std::marker::Model;
 use wf_def::map::MapDef;
@@ -38,8 +38,8 @@ impl<'a> OnlyMap<'a> {
     }
 }
 
-#[tactic(auto, using(crate::proofs::HistoryLaw::empty_there, crate::proofs::HistoryLaw::only_there))]
-impl<'a> Maps for OnlyMap<'a> {
+#[tactic(auto, using(crate::proofs::HistoryTheorem::empty_there, crate::proofs::HistoryTheorem::only_there))]
+impl<'a> MapSource for OnlyMap<'a> {
     ghost definitions = { λ maps. maps };
 
     fn published_map(&self, seq: u16) -> &MapDef {

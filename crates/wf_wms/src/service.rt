@@ -1,14 +1,14 @@
 //! Requests to a server that publishes a history.
 ghost use Rattle.std.specs.Prelude.{◌≡◌, ◌≤◌, ◌∷◌, [], IfOk, OnErr, OnOk, length};
 ghost use Rattle.wf_wms.specs.Answer.{IsAnswerOf};
-ghost use Rattle.wf_wms.specs.KeptPictures.{AllKept, IsCacheAfter};
+ghost use Rattle.wf_wms.specs.CachedPictures.{AllCached, IsCacheAfter};
 
 use crate::answer::Answer;
-use crate::asked::Judged;
+use crate::asked::Plan;
 use crate::cache::Cache;
-use crate::drawing::{drawn, drawn_by};
-use crate::judging::judged;
-use crate::maps::Maps;
+use crate::checks::plan;
+use crate::drawing::{draw_by, drawn};
+use crate::maps::MapSource;
 use crate::only_map::OnlyMap;
 use std::alloc::{AllocError, Global};
 use wf_def::map::MapDef;
@@ -40,18 +40,18 @@ pub fn answer_cached(
     query: &[u8],
 ) -> Result<Answer, AllocError>
     requires seq { seq ≤ length history.now.definitions }
-    requires kept { AllKept history.now.definitions cache.old }
+    requires cached { AllCached history.now.definitions cache.old }
     ensures answer { IfOk result
         (λ answer. IsAnswerOf seq history.now.definitions query.now answer) }
-    ensures kept { AllKept history.now.definitions cache.new }
+    ensures cached { AllCached history.now.definitions cache.new }
     ensures used { OnOk result
         (IsCacheAfter seq history.now.definitions query.now cache.old cache.new) }
     ensures unchanged { OnErr result (cache.new ≡ cache.old) }
     ensures capacity { cache.new.cap ≡ cache.old.cap }
 {
-    match judged(alloc, seq, history, query)? {
-        Judged::Ready(answer) => Ok(answer),
-        Judged::Picture(asked) => drawn_by(alloc, cache, history, asked),
+    match plan(alloc, seq, history, query)? {
+        Plan::Ready(answer) => Ok(answer),
+        Plan::Picture(asked) => draw_by(alloc, cache, history, asked),
     }
 }
 
@@ -67,7 +67,7 @@ pub fn preview(alloc: Global, map: &MapDef, query: &[u8]) -> Result<Answer, Allo
 }
 
 // The answer to a query at an update sequence that the maps have, without a cache.
-fn answer_from<M: Maps>(
+fn answer_from<M: MapSource>(
     alloc: Global,
     seq: u16,
     maps: &M,
@@ -76,8 +76,8 @@ fn answer_from<M: Maps>(
     requires { seq ≤ length (M.definitions maps.now) }
     ensures { IfOk result (λ answer. IsAnswerOf seq (M.definitions maps.now) query.now answer) }
 {
-    match judged(alloc, seq, maps, query)? {
-        Judged::Ready(answer) => Ok(answer),
-        Judged::Picture(asked) => drawn(alloc, maps, asked),
+    match plan(alloc, seq, maps, query)? {
+        Plan::Ready(answer) => Ok(answer),
+        Plan::Picture(asked) => drawn(alloc, maps, asked),
     }
 }

@@ -5,7 +5,7 @@ ghost use Rattle.wf_wms.specs.UpdateSequence.{comparison_of, sequence_rule};
 use crate::comparison::Comparison;
 use wf_text::digits::{are_digits, number_of_digits};
 
-fn compared(number: u64, seq: u16) -> Comparison
+fn compare(number: u64, seq: u16) -> Comparison
     ensures { result ≡ comparison_of number seq }
 {
     let seq = u64::from(seq);
@@ -28,7 +28,7 @@ pub(crate) fn comparison(value: Option<&str>, seq: u16) -> Comparison
     if text.is_empty() {
         Comparison::Absent
     } else if are_digits(text.as_bytes()) {
-        compared(number_of_digits(text.as_bytes()), seq)
+        compare(number_of_digits(text.as_bytes()), seq)
     } else {
         Comparison::NoNumber
     }

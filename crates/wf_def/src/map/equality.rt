@@ -2,7 +2,7 @@
 ghost use Rattle.std.specs.Prelude.{◌≡◌, ◌↔◌, IsTrue};
 ghost use Rattle.std.specs.Cmp.{partial_equiv_from_equiv};
 ghost use Rattle.wf_def.specs.Equality.{definition_eq};
-ghost use Rattle.wf_def.specs.EqualityLaws.{definition_eq_equiv};
+ghost use Rattle.wf_def.specs.EqualityTheorems.{definition_eq_equiv};
 
 use super::MapDef;
 

@@ -1,13 +1,13 @@
 //! What the keywords of FEATURE fill.
 
-use wf_def::feature::Parts;
+use wf_def::feature::ShapeParts;
 use wf_def::text::Text;
 
 /// FEATURE.
 #[derive(Drop)]
 pub struct FeatureSlots {
     /// The parts of the shape.
-    pub parts: Parts,
+    pub parts: ShapeParts,
     /// The keywords that come at most once.
     pub single: FeatureOnce,
 }

@@ -1,4 +1,4 @@
-use Rattle.wf_model.proofs.Rows.{records_fit}
+use Rattle.wf_model.proofs.Transitions.{records_fit}
 use Rattle.wf_model.proofs.records_fit.Goals as goal
 
 pub returns : goal.returns

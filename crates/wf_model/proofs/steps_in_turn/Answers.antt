@@ -1,4 +1,4 @@
-use Rattle.wf_model.specs.StepsLaws.{steps_in_turn}
+use Rattle.wf_model.specs.StepsTheorems.{steps_in_turn}
 use Rattle.wf_model.proofs.steps_in_turn.Goals as goal
 
 pub returns : goal.returns

@@ -8,7 +8,7 @@ ghost use Rattle.wf_spelling.specs.Scan.{Scans};
 
 use crate::scan::cursor::Cursor;
 use crate::scan::line::{scan_alone, scan_point, scan_with_rare_text};
-use wf_def::feature::{Feature, Part, Parts};
+use wf_def::feature::{Feature, Part, ShapeParts};
 
 /// Scans points up to a line that isn't a point.
 fn scan_points(cursor: &mut Cursor<'_>) -> Option<Part>
@@ -42,11 +42,11 @@ fn scan_part(cursor: &mut Cursor<'_>) -> Option<Part>
 }
 
 /// Scans the parts of a shape.
-fn scan_parts(cursor: &mut Cursor<'_>) -> Option<Parts>
+fn scan_parts(cursor: &mut Cursor<'_>) -> Option<ShapeParts>
     ensures { IfSome result (λ parts. Scans cursor.old (text_of (flat_map part_lines parts))
         cursor.new) }
 {
-    let mut parts = Parts::new(cursor.alloc());
+    let mut parts = ShapeParts::new(cursor.alloc());
     for _ in 0..cursor.len() {
         if !cursor.is_at(b"POINTS") {
             break;

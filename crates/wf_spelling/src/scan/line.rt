@@ -16,7 +16,7 @@ use wf_def::expression::Expression;
 use wf_def::extent::Extent;
 use wf_def::micro::Micro;
 use wf_def::point::Point;
-use wf_def::text::{Text, ValueList, checked_list};
+use wf_def::text::{Text, ValueList, check_list};
 
 /// Scans a line of one keyword.
 #[inline(always)]
@@ -59,7 +59,7 @@ fn scan_list(cursor: &mut Cursor<'_>) -> Option<ValueList>
     ensures { IfSome result (λ list. Scans cursor.old (braced list) cursor.new) }
 {
     let bytes = cursor.braced()?;
-    let inside = checked_list(bytes)?;
+    let inside = check_list(bytes)?;
     match ValueList::from_str(cursor.alloc(), inside) {
         Ok(list) => Some(list),
         Err(_) => None,

@@ -43,14 +43,14 @@ fn scan_projection(cursor: &mut Cursor<'_>) -> Projection
 
 /// The texts of a map's WEB block.
 #[derive(Drop)]
-struct Service {
+struct WebTexts {
     title: Text,
     abstract_text: Text,
     address: Text,
 }
 
 /// Scans a map's WEB block.
-fn scan_web(cursor: &mut Cursor<'_>) -> Option<Service>
+fn scan_web(cursor: &mut Cursor<'_>) -> Option<WebTexts>
     ensures { IfSome result (λ s. Scans cursor.old
         (text_of (web_lines_of s.title s.abstract_text s.address)) cursor.new) }
 {
@@ -68,7 +68,7 @@ fn scan_web(cursor: &mut Cursor<'_>) -> Option<Service>
     };
     scan_alone(cursor, "END");
     scan_alone(cursor, "END");
-    Some(Service {
+    Some(WebTexts {
         title,
         abstract_text,
         address,
@@ -94,7 +94,7 @@ fn scan_heading(cursor: &mut Cursor<'_>) -> Option<MapDef>
         drop(name);
         return None;
     };
-    let Service {
+    let WebTexts {
         title,
         abstract_text,
         address,
@@ -161,7 +161,7 @@ fn scan_layers(cursor: &mut Cursor<'_>) -> Option<Layers>
 }
 
 /// The map, without the memory that it doesn't need: a list of layers has room for nine at first, and most maps have fewer.
-fn fitted(map: MapDef) -> MapDef
+fn fit(map: MapDef) -> MapDef
     ensures { result ≡ map }
 {
     let mut whole = map;
@@ -180,7 +180,7 @@ fn scan_map(cursor: &mut Cursor<'_>) -> Option<MapDef>
     };
     scan_alone(cursor, "END");
     match layers.into_map(map) {
-        Ok(map) => Some(fitted(map)),
+        Ok(map) => Some(fit(map)),
         Err(_) => None,
     }
 }

@@ -11,7 +11,7 @@ use wf_def::micro::Micro;
 /// The number of millionths in a unit.
 const UNIT: u64 = 1_000_000;
 
-/// The same, as a fraction is counted.
+/// The number of millionths in a unit, as a fraction is counted.
 const ALL_PARTS: u32 = 1_000_000;
 
 /// The number of digits of a fraction in millionths.

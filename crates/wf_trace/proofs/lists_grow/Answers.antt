@@ -1,4 +1,4 @@
-use Rattle.wf_trace.proofs.Growing.{lists_grow}
+use Rattle.wf_trace.proofs.Growth.{lists_grow}
 use Rattle.wf_trace.proofs.lists_grow.Goals as goal
 
 pub returns : goal.returns

@@ -1,4 +1,4 @@
-use Rattle.wf_trace.proofs.Merging.{lives_are_one_trace}
+use Rattle.wf_trace.proofs.Merge.{lives_are_one_trace}
 use Rattle.wf_trace.proofs.lives_are_one_trace.Goals as goal
 
 pub returns : goal.returns

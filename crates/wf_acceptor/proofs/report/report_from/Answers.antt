@@ -1,6 +1,6 @@
 -- All votes of the window are copied, as many as the slot has.
 use Rattle.std.proofs.Common.{◌≡◌, length, refl, ap, ◌∙◌}
-use Rattle.wf_model.specs.Working.{window}
+use Rattle.wf_model.specs.VolatileState.{window}
 use Rattle.wf_acceptor.specs.Slots.{by_slot}
 use Rattle.wf_acceptor.specs.Prepared.{reported}
 use Rattle.wf_acceptor.proofs.Reported.{as_many_reported}

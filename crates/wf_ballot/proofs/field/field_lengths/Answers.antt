@@ -1,4 +1,4 @@
-use Rattle.wf_ballot.specs.FieldLaws.{length-node_bytes, length-seq_bytes, length-round_bytes, length-ballot_bytes}
+use Rattle.wf_ballot.specs.FieldTheorems.{length-node_bytes, length-seq_bytes, length-round_bytes, length-ballot_bytes}
 use Rattle.wf_ballot.proofs.field.field_lengths.Goals as goal
 
 pub returns : goal.returns

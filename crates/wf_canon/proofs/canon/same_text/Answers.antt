@@ -1,5 +1,5 @@
 use Rattle.std.proofs.Common.{◌∙◌}
-use Rattle.wf_canon.proofs.MeaningLaw.{other_has_no_canon, unlike, why_refused_again}
+use Rattle.wf_canon.proofs.MeaningTheorem.{other_has_no_canon, unlike, why_rejected_again}
 use Rattle.wf_canon.proofs.canon.same_text.Goals as goal
 
 pub returns-then-ne-clause-cause : goal.returns-then-ne-clause-cause
@@ -9,4 +9,4 @@ returns-then-ne-clause-cause c =
 
 pub returns-in-Err-clause-cause : goal.returns-in-Err-clause-cause
 returns-in-Err-clause-cause c =
-    rw c.refused_again.ensures (why_refused_again c.in-Err.fault c.args.bytes.now c.args.def.now c.requires.short c.requires.meant c.in-Err.ensures.cause)
+    rw c.reject_again.ensures (why_rejected_again c.in-Err.fault c.args.bytes.now c.args.def.now c.requires.short c.requires.meant c.in-Err.ensures.cause)

@@ -1,7 +1,7 @@
 -- The number of the line that follows the bytes so far.
 use Rattle.std.proofs.Common.{◌≡◌, ◌+◌, take}
 use Rattle.std.specs.List.{count_by}
-use Rattle.wf_check.specs.Line.{is_feed}
+use Rattle.wf_check.specs.NumberedLine.{is_feed}
 use Rattle.wf_check.proofs.line.line_number.Given as goal
 
 abbrev pub invariant-loop-byte : goal.invariant-loop-byte

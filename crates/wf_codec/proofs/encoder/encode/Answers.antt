@@ -1,6 +1,6 @@
 use Rattle.std.proofs.Common.{sym, arith}
 use Rattle.wf_codec.specs.Message.{view, texts}
-use Rattle.wf_codec.specs.Spelling.{body}
+use Rattle.wf_codec.specs.Encoding.{body}
 use Rattle.wf_codec.proofs.Encoded.{put_together, length-text_spelling, on_error}
 use Rattle.wf_codec.proofs.encoder.encode.Goals as goal
 

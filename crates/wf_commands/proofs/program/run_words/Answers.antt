@@ -7,7 +7,7 @@ returns-in-Serve-clause-run g c = (
   c.in-Ok.line,
   c.in-Ok.ensures.asked,
   served_line _ _ _ _ _ _ _ _ _ c.in-Ok.line c.in-Serve.service c.in-Serve.is c.serve.result c.served.result c.served.ensures
-      c.serve.ensures.served c.serve.ensures.writes c.end.ensures.told c.end.ensures.status,
+      c.serve.ensures.served c.serve.ensures.writes c.end.ensures.reported_as c.end.ensures.status,
 )
 
 pub returns-in-Tape-clause-run : goal.returns-in-Tape-clause-run
@@ -15,5 +15,5 @@ returns-in-Tape-clause-run g c = (
   c.in-Ok.line,
   c.in-Ok.ensures.asked,
   listed_line _ _ _ _ _ _ _ _ _ c.in-Ok.line c.in-Tape.file c.in-Tape.map c.in-Tape.is c.run_tape.result
-      c.run_tape.ensures.done c.run_tape.ensures.writes c.end-in-Tape.ensures.told c.end-in-Tape.ensures.status,
+      c.run_tape.ensures.done c.run_tape.ensures.writes c.end-in-Tape.ensures.reported_as c.end-in-Tape.ensures.status,
 )

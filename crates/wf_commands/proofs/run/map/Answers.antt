@@ -1,4 +1,4 @@
-use Rattle.wf_commands.proofs.Judged.{means_known, fault_known}
+use Rattle.wf_commands.proofs.Examined.{means_known, fault_known}
 use Rattle.wf_commands.proofs.run.map.Goals as goal
 
 pub returns-in-Ok-clause-ok : goal.returns-in-Ok-clause-ok

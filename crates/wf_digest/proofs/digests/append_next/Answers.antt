@@ -1,7 +1,7 @@
 -- The definition of the next sequence gives the next digest.
 use Rattle.std.proofs.Common.{◌≡◌, ◌≤◌, length, vec_len, rules}
 use Rattle.std.specs.Prelude.{Some}
-use Rattle.wf_model.specs.Stored.{definition_at}
+use Rattle.wf_model.specs.DurableState.{definition_at}
 use Rattle.wf_digest.proofs.Chain.{grown}
 use Rattle.wf_digest.proofs.digests.append_next.Goals as goal
 

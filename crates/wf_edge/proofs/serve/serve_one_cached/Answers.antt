@@ -1,8 +1,8 @@
-use Rattle.wf_edge.specs.Growth.{kept_on, moved_grown}
+use Rattle.wf_edge.specs.Growth.{cached_on, moved_grown}
 use Rattle.wf_edge.proofs.serve.serve_one_cached.Goals as goal
 
-pub returns-clause-kept : goal.returns-clause-kept
-returns-clause-kept g c =
-    kept_on c.kept_pictures_outlast_growth.ensures c.args.node.now.parts.history c.serve_with.new.node.parts.history c.serve_with.new.pictures
+pub returns-clause-cached : goal.returns-clause-cached
+returns-clause-cached g c =
+    cached_on c.cached_pictures_outlast_growth.ensures c.args.node.now.parts.history c.serve_with.new.node.parts.history c.serve_with.new.pictures
     (moved_grown g.T.Tape c.args.node.now c.serve_with.new.node c.serve_with.result.messages c.serve_with.ensures.serves.moves)
-    c.serve_with.ensures.kept
+    c.serve_with.ensures.cached

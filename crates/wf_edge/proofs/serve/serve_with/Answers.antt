@@ -1,5 +1,5 @@
 use Rattle.std.proofs.Common.{refl}
-use Rattle.wf_edge.specs.EndingLaws.{fault_serves, read_serves}
+use Rattle.wf_edge.specs.ResponseEndTheorems.{fault_serves, read_serves}
 use Rattle.wf_edge.proofs.serve.serve_with.Goals as goal
 
 pub returns-in-Ok-clause-serves : goal.returns-in-Ok-clause-serves
@@ -10,6 +10,6 @@ returns-in-Ok-clause-serves g c =
 
 pub returns-in-Err-clause-serves : goal.returns-in-Err-clause-serves
 returns-in-Err-clause-serves g c =
-    fault_serves g.S.Source g.K.Sink g.T.Tape c.args.source.now c.read.new.source c.args.sink.now c.say_fault.new.sink c.args.node.now c.in-Err.fault
-    c.say_fault.result c.in-Err.ensures.err c.in-Err.ensures.reads c.say_fault.ensures.said c.say_fault.ensures.writes c.say_fault.ensures.last
+    fault_serves g.S.Source g.K.Sink g.T.Tape c.args.source.now c.read.new.source c.args.sink.now c.write_error.new.sink c.args.node.now c.in-Err.fault
+    c.write_error.result c.in-Err.ensures.err c.in-Err.ensures.reads c.write_error.ensures.completion c.write_error.ensures.writes c.write_error.ensures.last
     c.new.result c.new.ensures.items

@@ -2,4 +2,4 @@
 use Rattle.wf_farm.proofs.catch_up.deliver.Goals as goal
 
 pub returns-clause-taken : goal.returns-clause-taken
-returns-clause-taken g c = record { said = c.hand-messages.result.messages.items; takes = c.hand-messages.ensures.takes; cause = c.hand-messages.ensures.cause }
+returns-clause-taken g c = record { outputs = c.hand-messages.result.messages.items; takes = c.hand-messages.ensures.takes; cause = c.hand-messages.ensures.cause }

@@ -1,8 +1,6 @@
 -- The node that has come furthest of those so far.
 use Rattle.std.proofs.Common.{◌≡◌, arith, ap, inl, inr}
-use Rattle.std.proofs.lemmas.Bool.{cases_lt}
-use Rattle.wf_farm.specs.CatchUp.{rank_at}
-use Rattle.wf_farm.specs.Nodes.{nodes_of}
+use Rattle.wf_farm.proofs.Common.{cases_lt, rank_at, nodes_of}
 use Rattle.wf_farm.proofs.Level.{all_ranked}
 use Rattle.wf_farm.proofs.catch_up.furthest.Goals as goal
 
@@ -16,9 +14,9 @@ loop-number-preserved g c = record {
     | inl before ↦ omega (arith, c.loop-number.invariant.most k before, c.further-most.ensures.first)
     | inr last ↦
         let it : k ≡ c.loop-number.number = omega (arith, last, less) in
-        omega (arith, ap (rank_at (nodes_of c.args.places.now)) it, c.further-most.ensures.second)
+        omega (arith, ap (rank_at (nodes_of c.args.hosts.now)) it, c.further-most.ensures.second)
   ];
 }
 
 pub returns-clause-most : goal.returns-clause-most
-returns-clause-most g c = all_ranked c.args.places.now c.loop-number.most (λ k less. c.loop-number.invariant.most k (omega (arith, less, c.loop-number-test.false)))
+returns-clause-most g c = all_ranked c.args.hosts.now c.loop-number.most (λ k less. c.loop-number.invariant.most k (omega (arith, less, c.loop-number-test.false)))

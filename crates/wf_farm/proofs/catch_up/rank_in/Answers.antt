@@ -1,7 +1,6 @@
 -- A stopped node has come nowhere.
 use Rattle.std.proofs.Common.{refl, sym, subst}
-use Rattle.wf_farm.specs.CatchUp.{rank}
-use Rattle.wf_farm.specs.Nodes.{node_in}
+use Rattle.wf_farm.proofs.Common.{rank, node_in}
 use Rattle.wf_farm.proofs.catch_up.rank_in.Goals as goal
 use Rattle.std.proofs.Common.{◌≡◌, Some}
 

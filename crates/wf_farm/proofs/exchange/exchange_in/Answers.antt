@@ -1,29 +1,29 @@
 -- The node is asked, and then its messages are delivered.
 use Rattle.std.proofs.Common.{arith}
-use Rattle.wf_farm.specs.Nodes.{nodes_of}
+use Rattle.wf_farm.proofs.Common.{nodes_of}
 use Rattle.wf_farm.proofs.Nodes.{changed_entries, entries_twice, in_turn_of}
 use Rattle.wf_farm.proofs.exchange.exchange_in.Goals as goal
 
 pub deliver_each-requires : goal.deliver_each-requires
 deliver_each-requires g c = record {
   some = omega (arith, c.requires.within, c.asked-messages.ensures.entries.as_many);
-  in_turn = in_turn_of g.T.Tape.honest g.T.Tape.images g.T.Tape.never_fails c.asked-messages.new.places (c.asked-messages.ensures.entries.members c.requires.members);
+  in_turn = in_turn_of g.T.Tape.durable g.T.Tape.images g.T.Tape.never_fails c.asked-messages.new.hosts (c.asked-messages.ensures.entries.members c.requires.members);
 }
 
 pub returns-clause-exchange : goal.returns-clause-exchange
 returns-clause-exchange g c = record {
-  said = c.asked-messages.result;
-  middle = nodes_of c.asked-messages.new.places;
+  outputs = c.asked-messages.result;
+  middle = nodes_of c.asked-messages.new.hosts;
   asked = c.asked-messages.ensures.asked;
   delivered = c.deliver_each.ensures.delivered;
   handed = c.deliver_each.ensures.handed;
 }
 
-pub returns-clause-led : goal.returns-clause-led
-returns-clause-led g c =
-    c.deliveries_lead_on.ensures (nodes_of c.args.places.now) (nodes_of c.asked-messages.new.places) (nodes_of c.deliver_each.new.entries) c.asked-messages.result.items c.deliver_each.result.deliveries
-    c.asked-messages.ensures.says c.deliver_each.ensures.delivered
+pub returns-clause-reachable : goal.returns-clause-reachable
+returns-clause-reachable g c =
+    c.deliveries_are_reachable.ensures (nodes_of c.args.hosts.now) (nodes_of c.asked-messages.new.hosts) (nodes_of c.deliver_each.new.entries) c.asked-messages.result.items c.deliver_each.result.deliveries
+    c.asked-messages.ensures.only_sends c.deliver_each.ensures.delivered
 
 pub returns-clause-entries : goal.returns-clause-entries
-returns-clause-entries g c = entries_twice g.T.Tape c.args.places.now c.asked-messages.new.places c.deliver_each.new.entries c.asked-messages.ensures.entries
-    (changed_entries g.T.Tape c.asked-messages.new.places c.deliver_each.new.entries c.deliver_each.ensures.changed)
+returns-clause-entries g c = entries_twice g.T.Tape c.args.hosts.now c.asked-messages.new.hosts c.deliver_each.new.entries c.asked-messages.ensures.entries
+    (changed_entries g.T.Tape c.asked-messages.new.hosts c.deliver_each.new.entries c.deliver_each.ensures.changed)

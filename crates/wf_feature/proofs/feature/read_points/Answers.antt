@@ -1,6 +1,6 @@
 use Rattle.std.proofs.Common.{◌≡◌, ◌++◌, [], ◌∷◌, false, is_some, length, sym, ◌∙◌, rules}
 use Rattle.wf_block.specs.Grammar.{end}
-use Rattle.wf_feature.proofs.PointsLaw.{points_more, points_fit}
+use Rattle.wf_feature.proofs.PointsTheorem.{points_more, points_fit}
 use Rattle.wf_feature.proofs.feature.read_points.Goals as goal
 
 -- a point after those so far

@@ -1,12 +1,12 @@
 use Rattle.std.proofs.Common.{◌++◌, rules, subst}
-use Rattle.wf_http.specs.Front.{IsHeadRefusal}
-use Rattle.wf_http.proofs.HeadLaw.{fault_of_refusal, head_looked_for}
+use Rattle.wf_http.specs.Front.{IsHeadError}
+use Rattle.wf_http.proofs.HeadTheorem.{fault_of_http_error, head_looked_for}
 use Rattle.wf_http.proofs.front.read_more.Goals as goal
 
 pub returns-in-Err-parse-clause-err : goal.returns-in-Err-parse-clause-err
 returns-in-Err-parse-clause-err g c = λ start taken.
-    fault_of_refusal start _ _ _ _ c.in-Ok.field-0 c.in-Err-parse.refusal taken c.in-Ok.ensures.read (search rules)
-    (λ more. subst (λ bs. IsHeadRefusal (bs ++ more) c.in-Err-parse.refusal) c.as_slice-in-Ok.ensures.value (c.in-Err-parse.ensures.refused more))
+    fault_of_http_error start _ _ _ _ c.in-Ok.field-0 c.in-Err-parse.http_error taken c.in-Ok.ensures.read (search rules)
+    (λ more. subst (λ bs. IsHeadError (bs ++ more) c.in-Err-parse.http_error) c.as_slice-in-Ok.ensures.value (c.in-Err-parse.ensures.refused more))
 
 pub returns-in-Ok-parse-clause-takes : goal.returns-in-Ok-parse-clause-takes
 returns-in-Ok-parse-clause-takes g c = λ piece start same taken.

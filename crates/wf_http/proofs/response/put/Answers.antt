@@ -1,6 +1,6 @@
 use Rattle.std.proofs.Common.{subst}
-use Rattle.wf_http.specs.Breaking.{IsWriting}
-use Rattle.wf_http.proofs.BreakingLaw.{writing_breaks}
+use Rattle.wf_http.specs.WriteEnd.{IsWriting}
+use Rattle.wf_http.proofs.WriteEndTheorem.{writing_breaks}
 use Rattle.wf_http.proofs.response.put.Goals as goal
 
 pub returns-in-Err : goal.returns-in-Err

@@ -1,6 +1,6 @@
 use Rattle.std.proofs.Common.{◌++◌, take, sym, subst}
-use Rattle.wf_http.specs.Breaking.{IsWriting}
-use Rattle.wf_http.proofs.BreakingLaw.{writing_begins, writing_fails}
+use Rattle.wf_http.specs.WriteEnd.{IsWriting}
+use Rattle.wf_http.proofs.WriteEndTheorem.{writing_begins, writing_fails}
 use Rattle.wf_http.proofs.response.put_pair.Goals as goal
 
 pub returns-in-Ok : goal.returns-in-Ok

@@ -1,6 +1,6 @@
 use Rattle.std.proofs.Common.{subst, arith}
-use Rattle.wf_http.specs.Breaking.{IsWriting}
-use Rattle.wf_http.proofs.BreakingLaw.{rest_of_first, rest_of_second}
+use Rattle.wf_http.specs.WriteEnd.{IsWriting}
+use Rattle.wf_http.proofs.WriteEndTheorem.{rest_of_first, rest_of_second}
 use Rattle.wf_http.proofs.response.put_rest.Goals as goal
 
 pub returns-then-count-one : goal.returns-then-count-one

@@ -1,7 +1,7 @@
 -- What is appended to nothing is the record's encoding.
 use Rattle.std.proofs.Common.{ap, ◌++◌, ◌∙◌}
 use Rattle.wf_journal.specs.Record.{view}
-use Rattle.wf_journal.specs.Spelling.{spelling}
+use Rattle.wf_journal.specs.Encoding.{spelling}
 use Rattle.wf_journal.proofs.encoder.encode.Goals as goal
 
 pub returns : goal.returns

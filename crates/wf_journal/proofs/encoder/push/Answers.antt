@@ -1,13 +1,13 @@
 use Rattle.std.proofs.Common.{sym, ap, ◌∙◌}
 use Rattle.wf_journal.specs.declared.header.Header.{Header}
-use Rattle.wf_journal.specs.declared.kind.Kind.{Kind}
+use Rattle.wf_journal.specs.declared.kind.RecordKind.{RecordKind}
 use Rattle.wf_journal.specs.Record.{view, texts}
-use Rattle.wf_journal.specs.Spelling.{body}
+use Rattle.wf_journal.specs.Encoding.{body}
 use Rattle.wf_journal.specs.Version.{version_written}
 use Rattle.wf_journal.proofs.Written.{written}
 use Rattle.wf_journal.proofs.encoder.push.Goals as goal
 
-abbrev written_of : Kind → Header
+abbrev written_of : RecordKind → Header
 written_of kind = record { version = version_written; kind = kind }
 
 pub returns-clause-spelled : goal.returns-clause-spelled

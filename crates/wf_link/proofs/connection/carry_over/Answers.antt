@@ -1,7 +1,7 @@
 -- The message crossed between the two ends.
 use Rattle.std.proofs.Common.{length}
 use Rattle.wf_codec.specs.Message.{view}
-use Rattle.wf_codec.specs.Spelling.{spelling}
+use Rattle.wf_codec.specs.Encoding.{spelling}
 use Rattle.wf_link.specs.Cause.{IsOneMessage}
 use Rattle.wf_link.proofs.Causes.{lost_for}
 use Rattle.wf_link.proofs.Ends.{has_crossed, was_lost}

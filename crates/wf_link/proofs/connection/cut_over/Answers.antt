@@ -3,7 +3,7 @@ use Rattle.std.proofs.Common.{inl, length}
 use Rattle.std.specs.Prelude.{Err}
 use Rattle.wf_codec.specs.Message.{view}
 use Rattle.wf_link.specs.Cause.{BeginsNoMessage}
-use Rattle.wf_link.specs.Crossing.{front_of}
+use Rattle.wf_link.specs.MessageCrossing.{front_of}
 use Rattle.wf_link.proofs.Causes.{lost_for, on_lost}
 use Rattle.wf_link.proofs.Crossed.{on_each_ok}
 use Rattle.wf_link.proofs.Ends.{has_sent, lost_behind, was_lost}

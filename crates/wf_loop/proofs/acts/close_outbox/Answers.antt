@@ -1,4 +1,4 @@
-use Rattle.wf_loop.proofs.Going.{relinked}
+use Rattle.wf_loop.proofs.Continuation.{relinked}
 use Rattle.wf_loop.proofs.acts.close_outbox.Goals as goal
 
 pub returns : goal.returns

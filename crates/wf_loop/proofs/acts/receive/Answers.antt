@@ -1,4 +1,4 @@
-use Rattle.wf_loop.proofs.Going.{received}
+use Rattle.wf_loop.proofs.Continuation.{received}
 use Rattle.wf_loop.proofs.acts.receive.Goals as goal
 
 pub returns : goal.returns

@@ -1,4 +1,4 @@
-use Rattle.wf_loop.proofs.Going.{keeps_reopened}
+use Rattle.wf_loop.proofs.Continuation.{keeps_reopened}
 use Rattle.wf_loop.proofs.acts.reopen.Goals as goal
 
 pub returns-clause-earlier : goal.returns-clause-earlier

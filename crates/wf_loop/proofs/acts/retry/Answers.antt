@@ -1,4 +1,4 @@
-use Rattle.wf_loop.proofs.Going.{acted}
+use Rattle.wf_loop.proofs.Continuation.{acted}
 use Rattle.wf_loop.proofs.acts.retry.Goals as goal
 
 pub returns : goal.returns

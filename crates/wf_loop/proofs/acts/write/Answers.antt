@@ -1,4 +1,4 @@
-use Rattle.wf_loop.proofs.Going.{written}
+use Rattle.wf_loop.proofs.Continuation.{written}
 use Rattle.wf_loop.proofs.acts.write.Goals as goal
 
 pub returns : goal.returns

@@ -1,5 +1,5 @@
 use Rattle.std.proofs.Common.{◌≡◌}
-use Rattle.wf_loop.specs.Going.{GoesOn}
+use Rattle.wf_loop.specs.Continuation.{GoesOn}
 use Rattle.wf_loop.proofs.turn.act_on_all.Given as goal
 
 abbrev pub invariant-loop-token : goal.invariant-loop-token

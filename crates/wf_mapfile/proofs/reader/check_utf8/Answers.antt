@@ -9,4 +9,4 @@ pub returns-in-Ok-clause-ok : goal.returns-in-Ok-clause-ok
 returns-in-Ok-clause-ok c = is_utf8-from_IsUtf8 _ c.in-Ok.ensures.cases.1
 
 pub returns-in-Err-clause-err : goal.returns-in-Err-clause-err
-returns-in-Err-clause-err c = (false_from_ne_true _ (λ e. c.in-Err.ensures.cases.0 (IsUtf8-from_is_utf8 c.args.bytes.now e)), ap (λ (place : ℕ). Err (NotUtf8 place)) (c.valid_up_to.ensures ∙ c.in-Err.ensures.valid_len))
+returns-in-Err-clause-err c = (false_from_ne_true _ (λ e. c.in-Err.ensures.cases.0 (IsUtf8-from_is_utf8 c.args.bytes.now e)), ap (λ (byte_offset : ℕ). Err (NotUtf8 byte_offset)) (c.valid_up_to.ensures ∙ c.in-Err.ensures.valid_len))

@@ -1,5 +1,5 @@
 use Rattle.std.proofs.Common.{◌∙◌, sym}
-use Rattle.wf_mapfile.proofs.RejectionLaw.{map_alone, map_and_more}
+use Rattle.wf_mapfile.proofs.RejectionTheorem.{map_alone, map_and_more}
 use Rattle.wf_mapfile.proofs.reader.read_file.Goals as goal
 
 pub returns-in-None-clause-meaning : goal.returns-in-None-clause-meaning

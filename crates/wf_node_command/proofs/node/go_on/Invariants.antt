@@ -1,4 +1,4 @@
-use Rattle.wf_loop.specs.Going.{KeepsEarlier}
+use Rattle.wf_loop.specs.Continuation.{KeepsEarlier}
 use Rattle.wf_loop.specs.Hub.{process_of}
 use Rattle.wf_node_command.proofs.node.go_on.Given as goal
 

@@ -1,8 +1,8 @@
-use Rattle.std.proofs.Common.{◌≡◌, pos, FitsSigned, w64, to_z-of_z, rules, refl, ap, ◌∙◌}
+use Rattle.std.proofs.Common.{◌≡◌, pos, FitsSigned, w64, to_z-of_z, rules, ap, ◌∙◌}
 use Rattle.std.specs.Int.{w128}
 use Rattle.wf_paint.specs.Level.{level_at, row_level}
 use Rattle.wf_paint.specs.Position.{PositionValue, centre, turned}
-use Rattle.wf_paint.specs.Coverage.{deviation, margin}
+use Rattle.wf_paint.specs.Coverage.{deviation}
 use Rattle.wf_paint.proofs.AlongLemmas.{upward_levels}
 use Rattle.wf_paint.proofs.along.turned_deviations.Goals as goal
 
@@ -15,10 +15,3 @@ returns-clause-value c = λ u v.
     let origin : c.deviation.result ≡ deviation (turned (centre (pos 0) (pos 0))) c.args.low c.args.high =
     c.deviation.ensures.value ∙ ap (λ (p : PositionValue). deviation p c.args.low c.args.high) (c.turned.ensures ∙ ap (λ (p : PositionValue). turned p) c.centre.ensures) in
     rw (to_z-of_z origins, to_z-of_z runs, to_z-of_z rises, origin, c.rise.ensures.value, c.run.ensures.value) (upward_levels u v c.args.low c.args.high)
-
-pub returns-clause-even : goal.returns-clause-even
-unfolding margin
-returns-clause-even c =
-    let margins : FitsSigned w128 c.margin.result = search rules in
-    let runs : FitsSigned w64 c.run.result = search rules in
-    rw (to_z-of_z margins, to_z-of_z runs, c.margin.ensures.value, c.run.ensures.value) refl

@@ -7,12 +7,12 @@ pub returns-then-is_in_margin : goal.returns-then-is_in_margin
 returns-then-is_in_margin c =
     let start = c.ranges.start in
     let margin = c.ranges.margin in
-    let judged : c.is_in_margin.result ≡ is_in_margin c.args.margin c.args.start = simp to_z-of_z at c.is_in_margin.ensures in
-    IsSpanOf-all (λ u. is_in_margin c.args.margin c.args.start) c.args.most (λ u. sym judged ∙ c.if-is_in_margin.true)
+    let compared : c.is_in_margin.result ≡ is_in_margin c.args.margin c.args.start = simp to_z-of_z at c.is_in_margin.ensures in
+    IsSpanOf-all (λ u. is_in_margin c.args.margin c.args.start) c.args.most (λ u. sym compared ∙ c.if-is_in_margin.true)
 
 pub returns-else-is_in_margin : goal.returns-else-is_in_margin
 returns-else-is_in_margin c =
     let start = c.ranges.start in
     let margin = c.ranges.margin in
-    let judged : c.is_in_margin.result ≡ is_in_margin c.args.margin c.args.start = simp to_z-of_z at c.is_in_margin.ensures in
-    IsSpanOf-none (λ u. is_in_margin c.args.margin c.args.start) c.args.most (λ u. sym judged ∙ c.if-is_in_margin.false)
+    let compared : c.is_in_margin.result ≡ is_in_margin c.args.margin c.args.start = simp to_z-of_z at c.is_in_margin.ensures in
+    IsSpanOf-none (λ u. is_in_margin c.args.margin c.args.start) c.args.most (λ u. sym compared ∙ c.if-is_in_margin.false)

@@ -3,37 +3,47 @@ use Rattle.wf_paint.specs.Exact.{opposite, product}
 use Rattle.wf_paint.specs.Strip.{is_in_strip}
 use Rattle.wf_paint.specs.Limit.{pixel_side}
 use Rattle.wf_paint.proofs.SpanLemmas.{rows_start, rows_end, rows_more}
-use Rattle.wf_paint.proofs.StripLemmas.{edge_stepped, edge_moves, end_further, even_margin, rising_row, strip_row, strip_before, strip_after}
+use Rattle.wf_paint.proofs.StripLemmas.{low_edge, high_edge, edge_moves, rising_row, strip_row, strip_before, strip_after}
 use Rattle.wf_paint.proofs.strip.draw_cut.Goals as goal
 
 pub loop-row-init : goal.loop-row-init
-loop-row-init c = (
-  rows_start (is_in_strip c.args.levels c.args.rows c.args.columns) c.args.rows.from c.args.color c.args.canvas.now
-      (λ column row wide high before. strip_before c.args.levels c.args.rows c.args.columns column row before),
-  edge_stepped c.args.levels (opposite c.args.levels.margin) c.args.rows.from c.args.low c.requires.low,
-)
+loop-row-init c =
+    let strip = c.args.strip in
+    let ends = c.args.ends in (
+      rows_start (is_in_strip strip.levels strip.rows strip.columns) strip.rows.from c.args.color c.args.canvas.now
+          (λ column row wide high before. strip_before strip.levels strip.rows strip.columns column row before),
+      (
+        low_edge strip.levels strip.rows.from ends c.requires.ends,
+        high_edge strip.levels strip.rows.from ends c.sum-high.result c.requires.ends c.sum-high.ensures.value c.sum-high.ensures.rest c.sum-high.ensures.within,
+      ),
+    )
 
 pub loop-row-preserved : goal.loop-row-preserved
 loop-row-preserved c =
-    let levels = c.args.levels in
-    let low = c.requires.low in
-    let edge = c.loop-row.invariant.1 in
-    let high = end_further levels.margin levels.origin (product (pos pixel_side) levels.up) (product (pos c.args.width) (pos c.args.low.step)) c.args.low.step c.loop-row.row
-    c.loop-row.end c.further.result edge.ends (c.further.ensures.value c.args.low.step)
-    (even_margin c.args.width c.args.low.step levels.across levels.margin c.requires.rising c.requires.even low.across) c.further.ensures.rest in (
-      rows_more (is_in_strip levels c.args.rows c.args.columns) c.loop-row.row c.part-span.result c.args.color
+    let levels = c.args.strip.levels in
+    let rows = c.args.strip.rows in
+    let columns = c.args.strip.columns in
+    let ends = c.requires.ends in
+    let step = c.args.ends.step in
+    let edges = c.loop-row.invariant.1 in (
+      rows_more (is_in_strip levels rows columns) c.loop-row.row c.part-span.result c.args.color
           c.args.canvas.now c.loop-row.canvas c.cover.new.self c.loop-row.invariant.0
-          (rw c.part-span.ensures.part.value (strip_row levels c.args.rows c.args.columns _ c.args.canvas.now.width c.loop-row.row
+          (rw c.part-span.ensures.part.value (strip_row levels rows columns _ c.args.canvas.now.width c.loop-row.row
           c.requires.columns c.loop-row.auto.row c.loop-row-test.true
-          (rising_row levels levels.margin c.args.low.step c.loop-row.row c.args.columns.to c.loop-row.end c.further.result _ low.across edge.ends high
+          (rising_row levels levels.margin step c.loop-row.row columns.to c.loop-row.low c.loop-row.high _ ends.across edges.0.ends edges.1.ends
           c.part-span.ensures.part.from c.part-span.ensures.part.to c.part-span.ensures.part.to_within)))
           c.cover.ensures,
-      edge_moves (opposite levels.margin) levels.origin (product (pos pixel_side) levels.up) c.args.low.step c.loop-row.row c.loop-row.end c.args.low.change c.sum-end.result
-          edge low.moves c.sum-end.ensures.value c.sum-end.ensures.rest c.sum-end.ensures.within,
+      (
+        edge_moves (opposite levels.margin) levels.origin (product (pos pixel_side) levels.up) step c.loop-row.row c.loop-row.low c.args.ends.change c.sum-low.result
+            edges.0 ends.moves c.sum-low.ensures.value c.sum-low.ensures.rest c.sum-low.ensures.within,
+        edge_moves levels.margin levels.origin (product (pos pixel_side) levels.up) step c.loop-row.row c.loop-row.high c.args.ends.change c.sum-high-in-loop-row.result
+            edges.1 ends.moves c.sum-high-in-loop-row.ensures.value c.sum-high-in-loop-row.ensures.rest c.sum-high-in-loop-row.ensures.within,
+      ),
     )
 
 pub returns : goal.returns
 returns c =
-    rows_end (is_in_strip c.args.levels c.args.rows c.args.columns) c.loop-row.row c.args.color c.args.canvas.now c.loop-row.canvas
-    (λ column row wide high after. strip_after c.args.levels c.args.rows c.args.columns column row (omega arith))
+    let strip = c.args.strip in
+    rows_end (is_in_strip strip.levels strip.rows strip.columns) c.loop-row.row c.args.color c.args.canvas.now c.loop-row.canvas
+    (λ column row wide high after. strip_after strip.levels strip.rows strip.columns column row (omega arith))
     c.loop-row.invariant.0

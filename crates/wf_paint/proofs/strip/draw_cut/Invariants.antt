@@ -9,5 +9,6 @@ use Rattle.wf_paint.proofs.strip.draw_cut.Given as goal
 
 abbrev pub invariant-loop-row : goal.invariant-loop-row
 invariant-loop-row l =
-    IsColored (below_row l.row (is_in_strip l.fn.levels l.fn.rows l.columns)) l.color l.initial.canvas l.canvas
-    × IsEdge (opposite l.fn.levels.margin) l.fn.levels.origin (product (pos pixel_side) l.fn.levels.up) l.low.step l.row l.end
+    IsColored (below_row l.row (is_in_strip l.strip.levels l.strip.rows l.strip.columns)) l.color l.initial.canvas l.canvas
+    × (IsEdge (opposite l.strip.levels.margin) l.strip.levels.origin (product (pos pixel_side) l.strip.levels.up) l.ends.step l.row l.low
+    × IsEdge l.strip.levels.margin l.strip.levels.origin (product (pos pixel_side) l.strip.levels.up) l.ends.step l.row l.high)

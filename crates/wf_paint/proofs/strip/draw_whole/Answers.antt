@@ -1,86 +1,78 @@
-use Rattle.std.proofs.Common.{◌≡◌, ℕ, ◌+◌, ◌-◌, ◌*◌, ◌/◌, pos, refl, subst, arith}
-use Rattle.wf_paint.specs.Exact.{opposite, product}
-use Rattle.wf_paint.specs.Strip.{IsBetween, IsEnd, IsStepped}
+use Rattle.std.proofs.Common.{◌+◌, pos, ◌+ℤ◌, ◌≤ℤ◌, arith}
+use Rattle.std.proofs.lemmas.Int.{ints}
+use Rattle.wf_paint.specs.Exact.{opposite, product, plus}
+use Rattle.wf_paint.specs.Strip.{is_in_strip, most_between, IsBetween, IsEnd}
 use Rattle.wf_paint.specs.Limit.{pixel_side}
-use Rattle.wf_paint.proofs.StripLemmas.{strip_joined, strip_none, end_leaps, stepped_from, stays_part, between_near}
+use Rattle.wf_paint.proofs.SpanLemmas.{rows_start, rows_end, rows_more}
+use Rattle.wf_paint.proofs.StripLemmas.{low_edge, edge_moves, apart_most, end_beyond, wide_row, strip_before, strip_after}
 use Rattle.wf_paint.proofs.strip.draw_whole.Goals as goal
 
-pub loop-index-init : goal.loop-index-init
-loop-index-init c =
-    let levels = c.args.levels in
-    let low = c.requires.low in
-    let first : c.args.rows.from ≡ c.args.rows.from + 16 * 0 = omega arith in (
-      strip_none levels c.args.columns c.args.rows.from (c.args.rows.from + 16 * 0) c.args.color c.args.canvas.now (omega arith),
-      stepped_from levels (opposite levels.margin) c.args.rows.from (c.args.rows.from + 16 * 0) c.args.low c.args.low.now low
-          (subst (λ (r : ℕ). IsEnd (opposite levels.margin) levels.origin (product (pos pixel_side) levels.up) c.args.low.step r c.args.low.now) first low.begins)
-          low.near,
+pub loop-row-init : goal.loop-row-init
+loop-row-init c =
+    let strip = c.args.strip in (
+      rows_start (is_in_strip strip.levels strip.rows strip.columns) strip.rows.from c.args.color c.args.canvas.now
+          (λ column row wide high before. strip_before strip.levels strip.rows strip.columns column row before),
+      low_edge strip.levels strip.rows.from c.args.ends c.requires.ends,
     )
 
-pub draw_whole_block-requires : goal.draw_whole_block-requires
-draw_whole_block-requires c =
-    let levels = c.args.levels in
-    let row = c.args.rows.from + 16 * c.loop-index.index in
-    let edge = c.loop-index.invariant.1 in
-    let next : IsEnd (opposite levels.margin) levels.origin (product (pos pixel_side) levels.up) c.args.low.step (row + 16) c.sum-next.result =
-    end_leaps levels (opposite levels.margin) row c.args.low.step c.loop-index.end c.in-Some.leap c.sum-next.result edge.begins c.in-Some.ensures.value c.sum-next.ensures.value c.sum-next.ensures.rest in
-    let high = c.loop-index.invariant.0.height in
-    let wide = c.loop-index.invariant.0.width in
-    rw (c.span-few.ensures, c.restart-here.ensures) (record {
-      up = c.requires.up;
-      rising = c.requires.rising;
-      even = c.requires.even;
-      order = omega arith;
-      rows = omega arith;
-      most_rows = omega arith;
-      columns = omega arith;
-      low = edge;
-      between = stays_part levels c.args.low.step c.args.width row (row + 16) c.args.rows c.args.columns (omega arith) (omega arith) c.requires.between;
-      block = refl;
-      next = next;
-      after = c.requires.between.each (row + 16) (omega arith) (omega arith) c.sum-next.result next;
-    })
+pub count-requires : goal.count-requires
+unfolding plus
+count-requires c =
+    let between : IsBetween c.args.strip.columns (most_between c.args.ends.gap) c.loop-row.low = c.requires.between.each c.loop-row.row (omega arith) (omega arith) c.loop-row.low c.loop-row.invariant.1.ends in
+    record { least = omega (arith, ints, between.from); most = omega (arith, ints, between.to) }
 
-pub draw_whole_rows-requires-2 : goal.draw_whole_rows-requires-2
-draw_whole_rows-requires-2 c =
-    let levels = c.args.levels in
-    let blocks = (c.args.rows.to - c.args.rows.from - 1) / 16 in
-    let row = c.args.rows.from + 16 * blocks in
-    let last : c.loop-index.index ≡ blocks = omega arith in
-    let edge : IsStepped levels (opposite levels.margin) row (record { now = c.loop-index.end; change = c.args.low.change; step = c.args.low.step }) = rw last at c.loop-index.invariant.1 in
-    let high = c.loop-index.invariant.0.height in
-    let wide = c.loop-index.invariant.0.width in
-    rw (c.span-last.ensures, c.restart.ensures) (record {
-      rising = c.requires.rising;
-      even = c.requires.even;
-      order = omega arith;
-      rows = omega arith;
-      most_rows = omega arith;
-      columns = omega arith;
-      low = edge;
-      between = stays_part levels c.args.low.step c.args.width row c.args.rows.to c.args.rows c.args.columns (omega arith) (omega arith) c.requires.between;
-    })
+pub count-requires-in-loop-row : goal.count-requires-in-loop-row
+unfolding plus
+count-requires-in-loop-row c =
+    let edge = c.loop-row.invariant.1 in
+    let between : IsBetween c.args.strip.columns (most_between c.args.ends.gap) c.loop-row.low = c.requires.between.each c.loop-row.row (omega arith) (omega arith) c.loop-row.low edge.ends in
+    let most : c.sum-high.result.whole ≤ℤ (c.loop-row.low.whole +ℤ pos (most_between c.args.ends.gap)) =
+    apart_most c.args.ends.step c.loop-row.low c.args.ends.gap c.sum-high.result edge.ends.rest c.requires.ends.gap_rest c.requires.some c.sum-high.ensures.value in
+    record { least = omega (arith, ints, c.sum-high.ensures.least, c.requires.some); most = omega (arith, ints, most, between.most) }
 
-pub loop-index-preserved : goal.loop-index-preserved
-loop-index-preserved c =
-    let levels = c.args.levels in
-    let row = c.args.rows.from + 16 * c.loop-index.index in
-    let more : c.args.rows.from + 16 * (c.loop-index.index + 1) ≡ row + 16 = omega arith in
-    let edge = c.loop-index.invariant.1 in
-    let next : IsEnd (opposite levels.margin) levels.origin (product (pos pixel_side) levels.up) c.args.low.step (row + 16) c.sum-next.result =
-    end_leaps levels (opposite levels.margin) row c.args.low.step c.loop-index.end c.in-Some.leap c.sum-next.result edge.begins c.in-Some.ensures.value c.sum-next.ensures.value c.sum-next.ensures.rest in
-    let between : IsBetween c.args.columns c.args.width c.sum-next.result = c.requires.between.each (row + 16) (omega arith) (omega arith) c.sum-next.result next in
-    rw more (
-      strip_joined levels c.args.columns c.args.rows.from row (row + 16) c.args.color c.args.canvas.now c.loop-index.canvas c.draw_whole_block.new.canvas (omega arith) (omega arith)
-          c.loop-index.invariant.0 (rw c.span-few.ensures at c.draw_whole_block.ensures),
-      stepped_from levels (opposite levels.margin) c.args.rows.from (row + 16) c.args.low c.sum-next.result c.requires.low next
-          (between_near c.args.columns c.args.width c.sum-next.result (omega arith) between),
+pub cover_few-requires : goal.cover_few-requires
+unfolding plus
+cover_few-requires c =
+    let edge = c.loop-row.invariant.1 in
+    let between : IsBetween c.args.strip.columns (most_between c.args.ends.gap) c.loop-row.low = c.requires.between.each c.loop-row.row (omega arith) (omega arith) c.loop-row.low edge.ends in
+    let most : c.sum-high.result.whole ≤ℤ (c.loop-row.low.whole +ℤ pos (most_between c.args.ends.gap)) =
+    apart_most c.args.ends.step c.loop-row.low c.args.ends.gap c.sum-high.result edge.ends.rest c.requires.ends.gap_rest c.requires.some c.sum-high.ensures.value in
+    let wide = c.loop-row.invariant.0.width in
+    let high = c.loop-row.invariant.0.height in
+    record {
+      row_within = omega arith;
+      least = omega (arith, ints, c.sum-high.ensures.least, c.requires.some);
+      most = omega (arith, ints, most, between.most);
+      to_within = omega (arith, ints, most, between.to);
+    }
+
+pub loop-row-preserved : goal.loop-row-preserved
+unfolding plus
+loop-row-preserved c =
+    let levels = c.args.strip.levels in
+    let rows = c.args.strip.rows in
+    let columns = c.args.strip.columns in
+    let ends = c.requires.ends in
+    let step = c.args.ends.step in
+    let edge = c.loop-row.invariant.1 in
+    let between : IsBetween columns (most_between c.args.ends.gap) c.loop-row.low = c.requires.between.each c.loop-row.row (omega arith) (omega arith) c.loop-row.low edge.ends in
+    let most : c.sum-high.result.whole ≤ℤ (c.loop-row.low.whole +ℤ pos (most_between c.args.ends.gap)) =
+    apart_most step c.loop-row.low c.args.ends.gap c.sum-high.result edge.ends.rest ends.gap_rest c.requires.some c.sum-high.ensures.value in
+    let upper : IsEnd levels.margin levels.origin (product (pos pixel_side) levels.up) step c.loop-row.row c.sum-high.result =
+    end_beyond levels.margin levels.origin (product (pos pixel_side) levels.up) step c.loop-row.row c.loop-row.low c.args.ends.gap c.sum-high.result edge.ends ends.apart c.sum-high.ensures.value c.sum-high.ensures.rest in (
+      rows_more (is_in_strip levels rows columns) c.loop-row.row (record { from = c.count.result; to = c.count.result + c.count-in-loop-row.result }) c.args.color
+          c.args.canvas.now c.loop-row.canvas c.cover_few.new.self c.loop-row.invariant.0
+          (wide_row levels step c.loop-row.row c.count-in-loop-row.result c.args.canvas.now.width c.count.result rows columns c.loop-row.low c.sum-high.result
+          ends.across c.requires.columns (omega arith) (omega arith) edge.ends upper
+          (omega (arith, ints)) (omega (arith, ints)) (omega (arith, ints, between.from)) (omega (arith, ints, most, between.to)))
+          c.cover_few.ensures,
+      edge_moves (opposite levels.margin) levels.origin (product (pos pixel_side) levels.up) step c.loop-row.row c.loop-row.low c.args.ends.change c.sum-low.result
+          edge ends.moves c.sum-low.ensures.value c.sum-low.ensures.rest c.sum-low.ensures.within,
     )
 
 pub returns : goal.returns
 returns c =
-    let levels = c.args.levels in
-    let blocks = (c.args.rows.to - c.args.rows.from - 1) / 16 in
-    let row = c.args.rows.from + 16 * blocks in
-    let last : c.loop-index.index ≡ blocks = omega arith in
-    strip_joined levels c.args.columns c.args.rows.from row c.args.rows.to c.args.color c.args.canvas.now c.loop-index.canvas c.draw_whole_rows-2.new.canvas (omega arith) (omega arith)
-    (rw last at c.loop-index.invariant.0) (rw c.span-last.ensures at c.draw_whole_rows-2.ensures)
+    let strip = c.args.strip in
+    rows_end (is_in_strip strip.levels strip.rows strip.columns) c.loop-row.row c.args.color c.args.canvas.now c.loop-row.canvas
+    (λ column row wide high after. strip_after strip.levels strip.rows strip.columns column row (omega arith))
+    c.loop-row.invariant.0

@@ -1,10 +1,13 @@
-use Rattle.std.proofs.Common.{◌+◌, ◌*◌}
-use Rattle.wf_paint.specs.Exact.{opposite}
+use Rattle.std.proofs.Common.{pos}
+use Rattle.wf_paint.specs.Exact.{opposite, product}
 use Rattle.wf_paint.specs.Shown.{IsColored}
-use Rattle.wf_paint.specs.Strip.{is_in_strip, IsStepped}
+use Rattle.wf_paint.specs.Strip.{is_in_strip}
+use Rattle.wf_paint.specs.Limit.{pixel_side}
+use Rattle.wf_paint.proofs.SpanLemmas.{below_row}
+use Rattle.wf_paint.proofs.StripLemmas.{IsEdge}
 use Rattle.wf_paint.proofs.strip.draw_whole.Given as goal
 
-abbrev pub invariant-loop-index : goal.invariant-loop-index
-invariant-loop-index l =
-    IsColored (is_in_strip l.fn.levels (record { from = l.fn.rows.from; to = l.fn.rows.from + 16 * l.index }) l.fn.columns) l.color l.initial.canvas l.canvas
-    × IsStepped l.fn.levels (opposite l.fn.levels.margin) (l.fn.rows.from + 16 * l.index) (record { now = l.end; change = l.low.change; step = l.low.step })
+abbrev pub invariant-loop-row : goal.invariant-loop-row
+invariant-loop-row l =
+    IsColored (below_row l.row (is_in_strip l.fn.strip.levels l.fn.strip.rows l.fn.strip.columns)) l.color l.initial.canvas l.canvas
+    × IsEdge (opposite l.fn.strip.levels.margin) l.fn.strip.levels.origin (product (pos pixel_side) l.fn.strip.levels.up) l.ends.step l.row l.low

@@ -4,16 +4,16 @@ use Rattle.std.specs.Prelude.{codes}
 use Rattle.std.proofs.lemmas.List.{append_cancel_left}
 use Rattle.std.specs.Int.{w16, to_be_bytes}
 use Rattle.wf_peer.specs.Greeting.{body_bytes, greeting_bytes, peer_version}
-use Rattle.wf_peer.specs.Reply.{IsReply, rejection_byte, rejection_bytes, reply_bytes}
+use Rattle.wf_peer.specs.GreetingReply.{IsReply, rejection_byte, rejection_bytes, reply_bytes}
 use Rattle.wf_peer.specs.declared.fault.GreetingFault.{GreetingFault}
 use Rattle.wf_peer.specs.declared.greeting.Greeting.{Greeting}
-use Rattle.wf_peer.specs.declared.rejection.Rejection.{Rejection}
-use Rattle.wf_peer.specs.declared.reply.Reply.{Reply}
-use Rattle.wf_peer.specs.declared.reply.Reply.TheVariants as replies
+use Rattle.wf_peer.specs.declared.rejection.PeerRejection.{PeerRejection}
+use Rattle.wf_peer.specs.declared.reply.GreetingReply.{GreetingReply}
+use Rattle.wf_peer.specs.declared.reply.GreetingReply.TheVariants as replies
 use Rattle.wf_peer.proofs.reply.decode_reply.Goals as goal
 
 -- by which of the two the reply is
-either : (P : Reply → Type 0) → ((g : Greeting) → P (replies.Greeting g)) → ((why : Rejection) → P (replies.Rejected why)) → (reply : Reply) → P reply
+either : (P : GreetingReply → Type 0) → ((g : Greeting) → P (replies.Greeting g)) → ((why : PeerRejection) → P (replies.Rejected why)) → (reply : GreetingReply) → P reply
 either P of_greeting of_rejection (replies.Greeting g) = of_greeting g
 either P of_greeting of_rejection (replies.Rejected why) = of_rejection why
 
@@ -33,7 +33,7 @@ cause_there bytes a b rest k marked versioned e =
 
 pub returns-in-Err-clause-each : goal.returns-in-Err-clause-each
 unfolding rejection_bytes greeting_bytes
-returns-in-Err-clause-each c = either (λ (reply : Reply). (rest : List ℕ) → IsReply reply → c.args.bytes.now ≡ reply_bytes reply ++ rest → ◌≡◌ {A = Result Reply GreetingFault} (Err c.in-Err.fault) (Ok reply))
+returns-in-Err-clause-each c = either (λ (reply : GreetingReply). (rest : List ℕ) → IsReply reply → c.args.bytes.now ≡ reply_bytes reply ++ rest → ◌≡◌ {A = Result GreetingReply GreetingFault} (Err c.in-Err.fault) (Ok reply))
     (λ g rest is e. absurd (not_both c.args.bytes.now _ ((to_be_bytes w16 peer_version ++ body_bytes g) ++ rest) c.in-Some.ensures e))
     (λ why rest is e.
     let here : c.in_ok-after_version-in-Some.field-0.now ≡ rejection_byte why ∷ rest =

@@ -2,9 +2,9 @@
 use Rattle.std.proofs.Common.{◌∙◌, refl}
 use Rattle.std.specs.String.{string_bytes}
 use Rattle.wf_play.specs.Session.{stage}
-use Rattle.wf_play.proofs.Ending.{breaks_there, ends_there}
+use Rattle.wf_play.proofs.PlayEnd.{breaks_there, ends_there}
 use Rattle.wf_play.proofs.Last.{order_is_not_last, written_last}
-use Rattle.wf_play.proofs.Running.{none_played, one_played}
+use Rattle.wf_play.proofs.ScriptRun.{none_played, one_played}
 use Rattle.wf_play.proofs.run.perform_all.Goals as goal
 
 pub loop-number-init : goal.loop-number-init
@@ -20,7 +20,7 @@ loop-number-preserved g c = record {
   plays =
       one_played c.loop-number.number c.args.session.now.script c.loop-number.session.script c.perform.new.self.torn (stage c.args.session.now) (stage c.loop-number.session) (stage c.perform.new.self)
       (g.K.Sink.written c.args.sink.now) (g.K.Sink.written c.loop-number.sink) (g.K.Sink.written c.write_all.new.sink) (string_bytes c.loop-number.out) (string_bytes c.perform.new.out)
-      c.loop-number.invariant.script c.loop-number.invariant.plays c.in_default.ensures.does c.loop-number.invariant.empty c.in_default.ensures.tells
+      c.loop-number.invariant.script c.loop-number.invariant.plays c.in_default.ensures.does c.loop-number.invariant.empty c.in_default.ensures.reports
       (rw c.as_bytes.ensures.value at c.in-Ok.ensures.whole);
   script = c.in_default.ensures.script ∙ c.loop-number.invariant.script;
   empty = c.clear.ensures.bytes;
@@ -38,7 +38,7 @@ pub returns-in-Err-write_all-clause-ended : goal.returns-in-Err-write_all-clause
 returns-in-Err-write_all-clause-ended g c =
     breaks_there c.loop-number.number c.args.session.now.script c.loop-number.session.script (stage c.args.session.now) (stage c.loop-number.session) (g.K.Sink.written c.args.sink.now) (g.K.Sink.written c.loop-number.sink) c.loop-number.invariant.script c.loop-number.invariant.plays
     c.perform.new.self.torn (stage c.perform.new.self) (g.K.Sink.written c.write_all.new.sink) (string_bytes c.loop-number.out) (string_bytes c.perform.new.out) c.in-Err-write_all.field-0 c.in_default.ensures.does c.loop-number.invariant.empty
-    c.in_default.ensures.tells (rw c.as_bytes.ensures.value at c.in-Err-write_all.ensures.part.1)
+    c.in_default.ensures.reports (rw c.as_bytes.ensures.value at c.in-Err-write_all.ensures.part.1)
 
 pub returns-in-Err-clause-last : goal.returns-in-Err-clause-last
 returns-in-Err-clause-last g c = order_is_not_last g.K.Sink _ _ c.args.sink.now c.loop-number.sink c.in-Err.fault c.in-Err.ensures.fault

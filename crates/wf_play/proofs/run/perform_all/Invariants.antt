@@ -2,7 +2,7 @@
 use Rattle.std.proofs.Common.{◌≡◌, []}
 use Rattle.std.specs.String.{string_bytes}
 use Rattle.wf_play.specs.Session.{stage}
-use Rattle.wf_play.specs.Running.{HavePlayed}
+use Rattle.wf_play.specs.ScriptRun.{HavePlayed}
 use Rattle.wf_play.proofs.run.perform_all.Given as goal
 
 abbrev pub invariant-loop-number : goal.invariant-loop-number

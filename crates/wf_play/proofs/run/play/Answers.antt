@@ -1,8 +1,8 @@
 -- All orders are performed on a new farm.
 use Rattle.wf_play.specs.Session.{stage}
-use Rattle.wf_play.proofs.Ending.{begun, not_begun, on_fault}
-use Rattle.wf_play.proofs.Running.{all_played}
-use Rattle.wf_play.proofs.Telling.{also_ok}
+use Rattle.wf_play.proofs.PlayEnd.{begun, not_begun, on_fault}
+use Rattle.wf_play.proofs.ScriptRun.{all_played}
+use Rattle.wf_play.proofs.Report.{also_ok}
 use Rattle.wf_play.proofs.run.play.Goals as goal
 
 pub returns-in-Ok-clause-plays : goal.returns-in-Ok-clause-plays

@@ -1,7 +1,7 @@
 -- What is played is the script that the input is.
-use Rattle.wf_play.proofs.Ending.{both_faults, input_begun, nothing_begun}
+use Rattle.wf_play.proofs.PlayEnd.{both_faults, input_begun, nothing_begun}
 use Rattle.wf_play.proofs.Last.{input_is_not_last}
-use Rattle.wf_play.proofs.Telling.{also_ok}
+use Rattle.wf_play.proofs.Report.{also_ok}
 use Rattle.wf_play.proofs.run.run_script.Goals as goal
 
 pub returns-in-Ok-clause-plays : goal.returns-in-Ok-clause-plays

@@ -15,9 +15,9 @@ returns-in-Ok-clause-end g c =
 
 pub returns-in-Err-clause-err : goal.returns-in-Err-clause-err
 returns-in-Err-clause-err g c =
-    whole_fault c.a_beginning_is_judged_alike.ensures (g.S.Source.left c.args.source.now) c.in_ok-bytes.bytes.items c.in-Err.fault c.in_ok-bytes.ensures.first
+    whole_fault c.a_beginning_is_examined_alike.ensures (g.S.Source.left c.args.source.now) c.in_ok-bytes.bytes.items c.in-Err.fault c.in_ok-bytes.ensures.first
     (rw c.deref.ensures.value at c.in-Err.ensures.value)
 
 pub returns-in-Ok-clause-means : goal.returns-in-Ok-clause-means
 returns-in-Ok-clause-means g c =
-    whole_meaning c.a_beginning_is_judged_alike.ensures (g.S.Source.left c.args.source.now) c.in_ok-bytes.bytes.items c.in-Ok.script c.in_ok-bytes.ensures.first (rw c.deref.ensures.value at c.in-Ok.ensures.value)
+    whole_meaning c.a_beginning_is_examined_alike.ensures (g.S.Source.left c.args.source.now) c.in_ok-bytes.bytes.items c.in-Ok.script c.in_ok-bytes.ensures.first (rw c.deref.ensures.value at c.in-Ok.ensures.value)

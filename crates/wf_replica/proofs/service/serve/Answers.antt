@@ -10,4 +10,4 @@ returns-in-Ok-clause-served c =
 
 pub returns-in-Err-clause-served : goal.returns-in-Err-clause-served
 returns-in-Err-clause-served c =
-    OfFault c.in-Err.fault (subst (λ (input : List ℕ). IsRequestFault input c.in-Err.fault) c.reader.ensures.rest c.in-Err.ensures.err) c.say_fault.ensures.said
+    OfFault c.in-Err.fault (subst (λ (input : List ℕ). IsRequestFault input c.in-Err.fault) c.reader.ensures.rest c.in-Err.ensures.err) c.write_error.ensures.completion

@@ -1,7 +1,7 @@
 -- Each line is one of the map's text, up to the one that ends it.
 use Rattle.std.proofs.Common.{rules, ◌≡◌, ◌∙◌, ◌++◌, ◌∷◌, [], Some, length, sym, ap, arith}
 use Rattle.wf_script.specs.Text.{on_from}
-use Rattle.wf_script.proofs.Going.{one_line, map_ended, map_goes_on}
+use Rattle.wf_script.proofs.LineSteps.{one_line, map_ended, map_goes_on}
 use Rattle.wf_script.proofs.draft.text_of_map.Goals as goal
 
 pub returns-then-ends_map-clause-value : goal.returns-then-ends_map-clause-value

@@ -2,9 +2,9 @@
 use Rattle.std.proofs.Common.{rules, ◌≡◌, ◌∙◌, sym, ap, false}
 use Rattle.std.specs.Prelude.{Ok, Err}
 use Rattle.wf_script.specs.Fault.{fault_of, is_memory}
-use Rattle.wf_script.specs.Reading.{◌>>=◌, at_line}
+use Rattle.wf_script.specs.ReadContract.{◌>>=◌, at_line}
 use Rattle.wf_script.specs.Words.{is_skipped}
-use Rattle.wf_script.proofs.Going.{head_line, same_want}
+use Rattle.wf_script.proofs.LineSteps.{head_line, same_want}
 use Rattle.wf_script.proofs.script.first_line.Goals as goal
 
 pub returns-in-Ok-clause-value : goal.returns-in-Ok-clause-value

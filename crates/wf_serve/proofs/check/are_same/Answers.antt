@@ -2,7 +2,7 @@
 use Rattle.std.proofs.Common.{◌∙◌, sym}
 use Rattle.std.proofs.lemmas.Bool.Decides.{not_from_Decides}
 use Rattle.wf_def.specs.Equality.{definition_eq}
-use Rattle.wf_def.specs.EqualityLaws.{definition_eq-Decides}
+use Rattle.wf_def.specs.EqualityTheorems.{definition_eq-Decides}
 use Rattle.wf_serve.proofs.check.are_same.Goals as goal
 
 pub returns-clause-same : goal.returns-clause-same

@@ -1,6 +1,6 @@
 -- All sequences of the first history were compared.
 use Rattle.std.proofs.Common.{arith}
-use Rattle.wf_serve.proofs.Differing.{all_agree}
+use Rattle.wf_serve.proofs.Difference.{all_agree}
 use Rattle.wf_serve.proofs.check.first_difference.Goals as goal
 
 pub returns-clause-none : goal.returns-clause-none

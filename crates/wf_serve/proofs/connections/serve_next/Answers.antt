@@ -6,8 +6,8 @@ use Rattle.wf_serve.proofs.connections.serve_next.Goals as goal
 pub returns-in_default-clause-answered : goal.returns-in_default-clause-answered
 returns-in_default-clause-answered g c = inr refl
 
-pub returns-in_default-clause-led : goal.returns-in_default-clause-led
-returns-in_default-clause-led g c = c.leading_goes_on.ensures.still (nodes_in c.args.farm.now)
+pub returns-in_default-clause-reachable : goal.returns-in_default-clause-reachable
+returns-in_default-clause-reachable g c = c.reachability_goes_on.ensures.still (nodes_in c.args.farm.now)
 
 pub returns-in_default-clause-room : goal.returns-in_default-clause-room
 returns-in_default-clause-room g c = λ room have. have
@@ -21,5 +21,5 @@ returns-clause-answered g c = inl (record {
   connection = c.serve_connection-outcome.ensures.connection;
 })
 
-pub returns-clause-led : goal.returns-clause-led
-returns-clause-led g c = c.serve_connection-outcome.ensures.headline.led
+pub returns-clause-reachable : goal.returns-clause-reachable
+returns-clause-reachable g c = c.serve_connection-outcome.ensures.headline.reachable

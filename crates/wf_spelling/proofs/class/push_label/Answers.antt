@@ -1,4 +1,4 @@
-use Rattle.wf_spelling.proofs.Writing.{both, last_line}
+use Rattle.wf_spelling.proofs.WriteSequences.{both, last_line}
 use Rattle.wf_spelling.proofs.class.push_label.Goals as goal
 
 pub returns : goal.returns

@@ -1,5 +1,5 @@
 use Rattle.wf_spelling.specs.Canon.{style_lines}
-use Rattle.wf_spelling.proofs.Writing.{nothing, one_more, taken}
+use Rattle.wf_spelling.proofs.WriteSequences.{nothing, one_more, taken}
 use Rattle.wf_spelling.proofs.class.push_styles.Goals as goal
 
 pub loop-style-init : goal.loop-style-init

@@ -1,5 +1,5 @@
 use Rattle.wf_spelling.specs.Canon.{part_lines}
-use Rattle.wf_spelling.proofs.Writing.{nothing, one_more, taken}
+use Rattle.wf_spelling.proofs.WriteSequences.{nothing, one_more, taken}
 use Rattle.wf_spelling.proofs.feature.push_parts.Goals as goal
 
 pub loop-part-init : goal.loop-part-init

@@ -1,5 +1,5 @@
 use Rattle.wf_spelling.specs.Canon.{point_line}
-use Rattle.wf_spelling.proofs.Writing.{nothing, one_line_more, taken}
+use Rattle.wf_spelling.proofs.WriteSequences.{nothing, one_line_more, taken}
 use Rattle.wf_spelling.proofs.feature.push_points.Goals as goal
 
 pub loop-point-init : goal.loop-point-init

@@ -1,5 +1,5 @@
 use Rattle.wf_spelling.specs.Canon.{class_lines}
-use Rattle.wf_spelling.proofs.Writing.{nothing, one_more, taken}
+use Rattle.wf_spelling.proofs.WriteSequences.{nothing, one_more, taken}
 use Rattle.wf_spelling.proofs.layer.push_classes.Goals as goal
 
 pub loop-class-init : goal.loop-class-init

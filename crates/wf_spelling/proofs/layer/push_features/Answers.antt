@@ -1,5 +1,5 @@
 use Rattle.wf_spelling.specs.Canon.{feature_lines}
-use Rattle.wf_spelling.proofs.Writing.{nothing, one_more, taken}
+use Rattle.wf_spelling.proofs.WriteSequences.{nothing, one_more, taken}
 use Rattle.wf_spelling.proofs.layer.push_features.Goals as goal
 
 pub loop-feature-init : goal.loop-feature-init

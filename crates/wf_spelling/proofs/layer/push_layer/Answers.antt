@@ -1,4 +1,4 @@
-use Rattle.wf_spelling.proofs.Writing.{pieces, both, last_line}
+use Rattle.wf_spelling.proofs.WriteSequences.{pieces, both, last_line}
 use Rattle.wf_spelling.proofs.layer.push_layer.Goals as goal
 
 pub returns : goal.returns

@@ -1,4 +1,4 @@
-use Rattle.wf_spelling.proofs.Writing.{both}
+use Rattle.wf_spelling.proofs.WriteSequences.{both}
 use Rattle.wf_spelling.proofs.line.push_next_whole.Goals as goal
 
 pub returns : goal.returns

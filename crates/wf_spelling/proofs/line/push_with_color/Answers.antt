@@ -1,4 +1,4 @@
-use Rattle.wf_spelling.proofs.Writing.{both}
+use Rattle.wf_spelling.proofs.WriteSequences.{both}
 use Rattle.wf_token.specs.Spelling.{line}
 use Rattle.wf_spelling.proofs.line.push_with_color.Goals as goal
 

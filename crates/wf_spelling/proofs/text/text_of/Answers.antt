@@ -1,6 +1,6 @@
 use Rattle.std.proofs.Common.{sym, ◌∙◌}
 use Rattle.wf_spelling.specs.Canon.{canon}
-use Rattle.wf_spelling.proofs.Writing.{whole_text, is_long, is_short}
+use Rattle.wf_spelling.proofs.WriteSequences.{whole_text, is_long, is_short}
 use Rattle.wf_spelling.proofs.text.text_of.Goals as goal
 
 pub returns-then-is_too_long-clause-cause : goal.returns-then-is_too_long-clause-cause

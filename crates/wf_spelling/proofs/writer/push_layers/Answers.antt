@@ -1,7 +1,7 @@
 use Rattle.std.proofs.Common.{ℕ, List}
 use Rattle.wf_def.specs.Definition.{LayerDefinition}
 use Rattle.wf_spelling.specs.Canon.{layer_lines}
-use Rattle.wf_spelling.proofs.Writing.{nothing, one_more, next_taken}
+use Rattle.wf_spelling.proofs.WriteSequences.{nothing, one_more, next_taken}
 use Rattle.wf_spelling.proofs.writer.push_layers.Goals as goal
 
 pub loop-index-init : goal.loop-index-init

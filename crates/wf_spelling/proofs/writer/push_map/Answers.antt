@@ -1,5 +1,5 @@
 use Rattle.wf_spelling.specs.Canon.{canon}
-use Rattle.wf_spelling.proofs.Writing.{pieces, both, last_line}
+use Rattle.wf_spelling.proofs.WriteSequences.{pieces, both, last_line}
 use Rattle.wf_spelling.proofs.writer.push_map.Goals as goal
 
 pub returns-clause-written : goal.returns-clause-written

@@ -1,5 +1,5 @@
 use Rattle.std.proofs.Common.{rules}
-use Rattle.wf_stream.specs.KnownLaws.{takes_after}
+use Rattle.wf_stream.specs.KnownTheorems.{takes_after}
 use Rattle.wf_stream.proofs.stream.read_onto.Goals as goal
 
 pub returns-in-Err-clause-most : goal.returns-in-Err-clause-most

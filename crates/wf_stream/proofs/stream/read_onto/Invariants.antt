@@ -1,5 +1,5 @@
 use Rattle.std.proofs.Common.{◌≡◌, ◌≤◌, ◌-◌}
-use Rattle.wf_stream.specs.Reading.{ReadsPiece}
+use Rattle.wf_stream.specs.Effects.{ReadsPiece}
 use Rattle.wf_stream.proofs.stream.read_onto.Given as goal
 
 -- the bytes counted were taken from the front and appended, and no read has failed

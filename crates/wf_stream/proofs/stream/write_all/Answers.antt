@@ -1,5 +1,5 @@
 use Rattle.std.proofs.Common.{rules}
-use Rattle.wf_stream.specs.KnownLaws.{keeps_same, told_before, write_step}
+use Rattle.wf_stream.specs.KnownTheorems.{keeps_same, reported_before, write_step}
 use Rattle.wf_stream.proofs.stream.write_all.Goals as goal
 
 pub loop-rest-preserved : goal.loop-rest-preserved
@@ -11,7 +11,7 @@ loop-rest-preserved g c =
 pub returns-in-Err-clause-last : goal.returns-in-Err-clause-last
 returns-in-Err-clause-last g c = record {
   before = c.loop-rest.sink;
-  appended = (told_before _ _ _ c.args.bytes.now c.loop-rest.rest.now c.loop-rest.invariant.0 (keeps_same (g.S.Sink.written c.loop-rest.sink))).1;
+  appended = (reported_before _ _ _ c.args.bytes.now c.loop-rest.rest.now c.loop-rest.invariant.0 (keeps_same (g.S.Sink.written c.loop-rest.sink))).1;
   calm = c.loop-rest.invariant.1;
   failed = c.in-Err.ensures.failed;
 }

@@ -6,15 +6,15 @@ use Rattle.wf_disk.specs.Call.{error_of}
 use Rattle.wf_tape.proofs.calls.put_second.Goals as goal
 
 pub returns-in-Ok-clause-ok : goal.returns-in-Ok-clause-ok
-returns-in-Ok-clause-ok g c = λ honest. second_synced c.args.bytes.now (g.D.Disk.folder c.write_second.new.disk) (g.D.Disk.folder c.sync.new.self) c.sync.result (c.in-Ok.ensures.ok honest) (c.sync.ensures.leaves honest)
+returns-in-Ok-clause-ok g c = λ durable. second_synced c.args.bytes.now (g.D.Disk.folder c.write_second.new.disk) (g.D.Disk.folder c.sync.new.self) c.sync.result (c.in-Ok.ensures.ok durable) (c.sync.ensures.leaves durable)
 
 pub returns-in-Ok-clause-kept : goal.returns-in-Ok-clause-kept
-returns-in-Ok-clause-kept g c = λ honest. (kept_on (g.D.Disk.folder c.args.disk.now) (g.D.Disk.folder c.write_second.new.disk) (g.D.Disk.folder c.sync.new.self) (c.write_second.ensures.kept honest) (sync_kept (g.D.Disk.folder c.write_second.new.disk) (g.D.Disk.folder c.sync.new.self) (error_of c.sync.result) (c.sync.ensures.leaves honest)))
+returns-in-Ok-clause-kept g c = λ durable. (kept_on (g.D.Disk.folder c.args.disk.now) (g.D.Disk.folder c.write_second.new.disk) (g.D.Disk.folder c.sync.new.self) (c.write_second.ensures.kept durable) (sync_kept (g.D.Disk.folder c.write_second.new.disk) (g.D.Disk.folder c.sync.new.self) (error_of c.sync.result) (c.sync.ensures.leaves durable)))
 
 pub returns-in-Ok-clause-passes : goal.returns-in-Ok-clause-passes
-returns-in-Ok-clause-passes g c = λ honest.
-    passes_both g.D.Disk (MayLeave (g.D.Disk.folder c.args.disk.now)) c.args.disk.now c.write_second.new.disk c.sync.new.self (g.met.D.Disk.nested honest c.sync.new.self) (c.write_second.ensures.passes honest)
-    (passes_one g.D.Disk (MayLeave (g.D.Disk.folder c.args.disk.now)) c.write_second.new.disk c.sync.new.self (c.sync.ensures.time honest) (c.sync.ensures.inside honest) (kept_images (g.D.Disk.folder c.args.disk.now) (g.D.Disk.folder c.write_second.new.disk) (c.write_second.ensures.kept honest)) (kept_images (g.D.Disk.folder c.args.disk.now) (g.D.Disk.folder c.sync.new.self) (kept_on (g.D.Disk.folder c.args.disk.now) (g.D.Disk.folder c.write_second.new.disk) (g.D.Disk.folder c.sync.new.self) (c.write_second.ensures.kept honest) (sync_kept (g.D.Disk.folder c.write_second.new.disk) (g.D.Disk.folder c.sync.new.self) (error_of c.sync.result) (c.sync.ensures.leaves honest)))))
+returns-in-Ok-clause-passes g c = λ durable.
+    passes_both g.D.Disk (MayLeave (g.D.Disk.folder c.args.disk.now)) c.args.disk.now c.write_second.new.disk c.sync.new.self (g.met.D.Disk.nested durable c.sync.new.self) (c.write_second.ensures.passes durable)
+    (passes_one g.D.Disk (MayLeave (g.D.Disk.folder c.args.disk.now)) c.write_second.new.disk c.sync.new.self (c.sync.ensures.time durable) (c.sync.ensures.inside durable) (kept_images (g.D.Disk.folder c.args.disk.now) (g.D.Disk.folder c.write_second.new.disk) (c.write_second.ensures.kept durable)) (kept_images (g.D.Disk.folder c.args.disk.now) (g.D.Disk.folder c.sync.new.self) (kept_on (g.D.Disk.folder c.args.disk.now) (g.D.Disk.folder c.write_second.new.disk) (g.D.Disk.folder c.sync.new.self) (c.write_second.ensures.kept durable) (sync_kept (g.D.Disk.folder c.write_second.new.disk) (g.D.Disk.folder c.sync.new.self) (error_of c.sync.result) (c.sync.ensures.leaves durable)))))
 
 pub returns-in-Ok-clause-cause : goal.returns-in-Ok-clause-cause
 returns-in-Ok-clause-cause g c = counted_on (g.D.Disk.failed c.args.disk.now) (g.D.Disk.failed c.write_second.new.disk) (g.D.Disk.failed c.sync.new.self) tt c.sync.result c.in-Ok.ensures.cause c.sync.ensures.cause

@@ -9,34 +9,34 @@ use Rattle.wf_disk.specs.Call.{error_of}
 use Rattle.wf_tape.proofs.calls.replace.Goals as goal
 
 pub returns-in-Ok-clause-ok : goal.returns-in-Ok-clause-ok
-returns-in-Ok-clause-ok g c = λ honest. placed_synced c.args.bytes.now (g.D.Disk.folder c.put_second.new.disk) (g.D.Disk.folder c.place_second.new.disk) c.place_second.result (c.in-Ok.ensures.ok honest) (c.place_second.ensures.ok honest)
+returns-in-Ok-clause-ok g c = λ durable. placed_synced c.args.bytes.now (g.D.Disk.folder c.put_second.new.disk) (g.D.Disk.folder c.place_second.new.disk) c.place_second.result (c.in-Ok.ensures.ok durable) (c.place_second.ensures.ok durable)
 
 pub returns-in-Ok-clause-err : goal.returns-in-Ok-clause-err
-returns-in-Ok-clause-err g c = λ honest. placed_own c.args.bytes.now (g.D.Disk.folder c.args.disk.now) (g.D.Disk.folder c.put_second.new.disk) (g.D.Disk.folder c.place_second.new.disk) c.place_second.result (c.put_second.ensures.kept honest) (c.in-Ok.ensures.ok honest) (c.place_second.ensures.ok honest) (c.place_second.ensures.err honest)
+returns-in-Ok-clause-err g c = λ durable. placed_own c.args.bytes.now (g.D.Disk.folder c.args.disk.now) (g.D.Disk.folder c.put_second.new.disk) (g.D.Disk.folder c.place_second.new.disk) c.place_second.result (c.put_second.ensures.kept durable) (c.in-Ok.ensures.ok durable) (c.place_second.ensures.ok durable) (c.place_second.ensures.err durable)
 
 pub returns-in-Ok-clause-images : goal.returns-in-Ok-clause-images
-returns-in-Ok-clause-images g c = λ honest. placed_images c.args.bytes.now (g.D.Disk.folder c.args.disk.now) (g.D.Disk.folder c.put_second.new.disk) (g.D.Disk.folder c.place_second.new.disk) c.place_second.result (c.put_second.ensures.kept honest) (c.in-Ok.ensures.ok honest) (c.place_second.ensures.ok honest) (c.place_second.ensures.err honest)
+returns-in-Ok-clause-images g c = λ durable. placed_images c.args.bytes.now (g.D.Disk.folder c.args.disk.now) (g.D.Disk.folder c.put_second.new.disk) (g.D.Disk.folder c.place_second.new.disk) c.place_second.result (c.put_second.ensures.kept durable) (c.in-Ok.ensures.ok durable) (c.place_second.ensures.ok durable) (c.place_second.ensures.err durable)
 
 pub returns-in-Ok-clause-memory : goal.returns-in-Ok-clause-memory
-returns-in-Ok-clause-memory g c = λ honest memory.
-    let same = c.place_second.ensures.memory honest memory in
-    record { own = ap (λ (folder : Folder). folder.own) same ∙ (c.put_second.ensures.kept honest).own; earlier = ap (λ (folder : Folder). folder.earlier) same ∙ (c.put_second.ensures.kept honest).earlier }
+returns-in-Ok-clause-memory g c = λ durable memory.
+    let same = c.place_second.ensures.memory durable memory in
+    record { own = ap (λ (folder : Folder). folder.own) same ∙ (c.put_second.ensures.kept durable).own; earlier = ap (λ (folder : Folder). folder.earlier) same ∙ (c.put_second.ensures.kept durable).earlier }
 
 pub returns-in-Ok-clause-passes : goal.returns-in-Ok-clause-passes
-returns-in-Ok-clause-passes g c = λ honest.
-    passes_both g.D.Disk (λ image. (MayLeave (g.D.Disk.folder c.args.disk.now)) image ⊎ (image ≡ c.args.bytes.now)) c.args.disk.now c.put_second.new.disk c.place_second.new.disk (g.met.D.Disk.nested honest c.place_second.new.disk)
-    (passes_weaker g.D.Disk (MayLeave (g.D.Disk.folder c.args.disk.now)) (λ image. (MayLeave (g.D.Disk.folder c.args.disk.now)) image ⊎ (image ≡ c.args.bytes.now)) c.args.disk.now c.put_second.new.disk (c.put_second.ensures.passes honest) (λ image was. inl was))
-    (passes_weaker g.D.Disk (λ image. (MayLeave (g.D.Disk.folder c.put_second.new.disk)) image ⊎ IsLeftOf (g.D.Disk.folder c.put_second.new.disk).second image) (λ image. (MayLeave (g.D.Disk.folder c.args.disk.now)) image ⊎ (image ≡ c.args.bytes.now)) c.put_second.new.disk c.place_second.new.disk (c.place_second.ensures.passes honest)
-    (λ image left. elim (whole_second (g.D.Disk.folder c.put_second.new.disk) c.args.bytes.now image (c.in-Ok.ensures.ok honest) left) [ inl was ↦ inl (kept_images (g.D.Disk.folder c.args.disk.now) (g.D.Disk.folder c.put_second.new.disk) (c.put_second.ensures.kept honest) image was) | inr is ↦ inr is ]))
+returns-in-Ok-clause-passes g c = λ durable.
+    passes_both g.D.Disk (λ image. (MayLeave (g.D.Disk.folder c.args.disk.now)) image ⊎ (image ≡ c.args.bytes.now)) c.args.disk.now c.put_second.new.disk c.place_second.new.disk (g.met.D.Disk.nested durable c.place_second.new.disk)
+    (passes_weaker g.D.Disk (MayLeave (g.D.Disk.folder c.args.disk.now)) (λ image. (MayLeave (g.D.Disk.folder c.args.disk.now)) image ⊎ (image ≡ c.args.bytes.now)) c.args.disk.now c.put_second.new.disk (c.put_second.ensures.passes durable) (λ image was. inl was))
+    (passes_weaker g.D.Disk (λ image. (MayLeave (g.D.Disk.folder c.put_second.new.disk)) image ⊎ IsLeftOf (g.D.Disk.folder c.put_second.new.disk).second image) (λ image. (MayLeave (g.D.Disk.folder c.args.disk.now)) image ⊎ (image ≡ c.args.bytes.now)) c.put_second.new.disk c.place_second.new.disk (c.place_second.ensures.passes durable)
+    (λ image left. elim (whole_second (g.D.Disk.folder c.put_second.new.disk) c.args.bytes.now image (c.in-Ok.ensures.ok durable) left) [ inl was ↦ inl (kept_images (g.D.Disk.folder c.args.disk.now) (g.D.Disk.folder c.put_second.new.disk) (c.put_second.ensures.kept durable) image was) | inr is ↦ inr is ]))
 
 pub returns-in-Ok-clause-cause : goal.returns-in-Ok-clause-cause
 returns-in-Ok-clause-cause g c = counted_on (g.D.Disk.failed c.args.disk.now) (g.D.Disk.failed c.put_second.new.disk) (g.D.Disk.failed c.place_second.new.disk) tt c.place_second.result c.in-Ok.ensures.cause c.place_second.ensures.cause
 
 pub returns-in-Err-clause-err : goal.returns-in-Err-clause-err
-returns-in-Err-clause-err g c = λ honest. inl (c.put_second.ensures.kept honest).own
+returns-in-Err-clause-err g c = λ durable. inl (c.put_second.ensures.kept durable).own
 
 pub returns-in-Err-clause-images : goal.returns-in-Err-clause-images
-returns-in-Err-clause-images g c = λ honest image left. inl (kept_images (g.D.Disk.folder c.args.disk.now) (g.D.Disk.folder c.put_second.new.disk) (c.put_second.ensures.kept honest) image left)
+returns-in-Err-clause-images g c = λ durable image left. inl (kept_images (g.D.Disk.folder c.args.disk.now) (g.D.Disk.folder c.put_second.new.disk) (c.put_second.ensures.kept durable) image left)
 
 pub returns-in-Err-clause-passes : goal.returns-in-Err-clause-passes
-returns-in-Err-clause-passes g c = λ honest. passes_weaker g.D.Disk (MayLeave (g.D.Disk.folder c.args.disk.now)) (λ image. (MayLeave (g.D.Disk.folder c.args.disk.now)) image ⊎ (image ≡ c.args.bytes.now)) c.args.disk.now c.put_second.new.disk (c.put_second.ensures.passes honest) (λ image was. inl was)
+returns-in-Err-clause-passes g c = λ durable. passes_weaker g.D.Disk (MayLeave (g.D.Disk.folder c.args.disk.now)) (λ image. (MayLeave (g.D.Disk.folder c.args.disk.now)) image ⊎ (image ≡ c.args.bytes.now)) c.args.disk.now c.put_second.new.disk (c.put_second.ensures.passes durable) (λ image was. inl was)

@@ -1,4 +1,4 @@
-use Rattle.wf_text.proofs.NumberWriting.{pushed}
+use Rattle.wf_text.proofs.NumberWriteSequences.{pushed}
 use Rattle.wf_text.proofs.number_text.push.Goals as goal
 
 pub returns : goal.returns

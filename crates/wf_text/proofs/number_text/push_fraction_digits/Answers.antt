@@ -1,6 +1,6 @@
 use Rattle.std.proofs.Common.{arith, sym, ◌-◌}
 use Rattle.wf_text.proofs.Fraction.{next_digit, rest_below, no_digits, no_place_left}
-use Rattle.wf_text.proofs.NumberWriting.{nothing, both, same}
+use Rattle.wf_text.proofs.NumberWriteSequences.{nothing, both, same}
 use Rattle.wf_text.proofs.number_text.push_fraction_digits.Goals as goal
 
 pub loop-places-preserved : goal.loop-places-preserved

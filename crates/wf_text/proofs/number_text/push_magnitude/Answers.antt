@@ -1,5 +1,5 @@
 use Rattle.wf_text.specs.NumberText.{magnitude_text}
-use Rattle.wf_text.proofs.NumberWriting.{both}
+use Rattle.wf_text.proofs.NumberWriteSequences.{both}
 use Rattle.wf_text.proofs.number_text.push_magnitude.Goals as goal
 
 pub returns : goal.returns

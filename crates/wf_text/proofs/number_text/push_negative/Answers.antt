@@ -1,4 +1,4 @@
-use Rattle.wf_text.proofs.NumberWriting.{both}
+use Rattle.wf_text.proofs.NumberWriteSequences.{both}
 use Rattle.wf_text.proofs.number_text.push_negative.Goals as goal
 
 pub returns : goal.returns

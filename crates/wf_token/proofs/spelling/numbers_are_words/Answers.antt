@@ -1,4 +1,4 @@
-use Rattle.wf_token.specs.WordLaws.{number_is_word, decimal_is_word}
+use Rattle.wf_token.specs.WordTheorems.{number_is_word, decimal_is_word}
 use Rattle.wf_token.proofs.spelling.numbers_are_words.Goals as goal
 
 pub returns-clause-numbers : goal.returns-clause-numbers

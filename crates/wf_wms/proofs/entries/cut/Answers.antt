@@ -3,7 +3,7 @@ use Rattle.std.specs.Prelude.{Option, Some, None, MatchOption}
 use Rattle.std.specs.List.{position_or_len, before_first, after_first}
 use denote.Ref.{Bor}
 use Rattle.wf_wms.specs.MapRequest.{entries}
-use Rattle.wf_wms.proofs.EntriesLaw.{only_entry, first_entry}
+use Rattle.wf_wms.proofs.EntriesTheorem.{only_entry, first_entry}
 use Rattle.wf_wms.proofs.entries.cut.Goals as goal
 
 both : (text : List ℕ) (r : Option (Bor (List ℕ) × Bor (List ℕ))) →

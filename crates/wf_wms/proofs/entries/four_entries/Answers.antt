@@ -1,5 +1,5 @@
 use Rattle.std.proofs.Common.{sym}
-use Rattle.wf_wms.proofs.EntriesLaw as entries
+use Rattle.wf_wms.proofs.EntriesTheorem as entries
 use Rattle.wf_wms.proofs.entries.four_entries.Goals as goal
 
 pub returns-in_err-first : goal.returns-in_err-first

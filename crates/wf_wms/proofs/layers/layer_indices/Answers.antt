@@ -6,7 +6,7 @@ use Rattle.std.proofs.lemmas.Iterator.Splits.{YieldsList-from_slice_split}
 use Rattle.std.proofs.lemmas.List.{get_or_read, length_push, take_all}
 use Rattle.std.proofs.lemmas.List.Elements.{All-same}
 use Rattle.wf_wms.specs.MapRequest.{entries, layer_of}
-use Rattle.wf_wms.proofs.LayersLaw.{found_nowhere, layers_within, one_more_known, one_more_index, unknown_at}
+use Rattle.wf_wms.proofs.LayersTheorem.{found_nowhere, layers_within, one_more_known, one_more_index, unknown_at}
 use Rattle.wf_wms.proofs.layers.layer_indices.Goals as goal
 
 pub loop-name-preserved : goal.loop-name-preserved

@@ -1,5 +1,5 @@
 use Rattle.std.proofs.Common.{◌≡◌, ◌∙◌, ap, sym, true, false, arith, bytes_eq}
-use Rattle.wf_wms.proofs.LayersLaw.{layer_found, layer_not_found, passed_over}
+use Rattle.wf_wms.proofs.LayersTheorem.{layer_found, layer_not_found, passed_over}
 use Rattle.wf_wms.proofs.layers.layer_of.Goals as goal
 
 pub returns-then-eq-clause-index : goal.returns-then-eq-clause-index

@@ -2,7 +2,7 @@ use Rattle.std.proofs.Common.{◌∙◌, not, rules, tests}
 use Rattle.std.proofs.lemmas.Iterator.Search.{position_from_yields_List}
 use Rattle.std.proofs.lemmas.Iterator.Splits.{YieldsList-from_slice_split}
 use Rattle.wf_wms.specs.MapRequest.{entries, is_style}
-use Rattle.wf_wms.proofs.EntriesLaw.{found_within}
+use Rattle.wf_wms.proofs.EntriesTheorem.{found_within}
 use Rattle.wf_wms.proofs.styles.first_unknown.Goals as goal
 
 pub returns-clause-index : goal.returns-clause-index

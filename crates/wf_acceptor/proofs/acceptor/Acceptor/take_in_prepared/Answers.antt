@@ -4,7 +4,7 @@ use Rattle.std.proofs.lemmas.Option.{same_Some}
 use Rattle.std.specs.Ordering.{nat_cmp}
 use Rattle.std.specs.FinMap.{FinMap, insert}
 use Rattle.wf_ballot.specs.Ballot.{Ballot}
-use Rattle.wf_model.specs.Stored.{raised}
+use Rattle.wf_model.specs.DurableState.{raised}
 use Rattle.wf_def.specs.Definition.{Definition}
 use Rattle.wf_journal.specs.declared.record.Record.{Record}
 use Rattle.wf_journal.specs.declared.record.Record.TheVariants.{Accepted}

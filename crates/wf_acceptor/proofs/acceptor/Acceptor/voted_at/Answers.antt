@@ -2,7 +2,7 @@
 use Rattle.std.proofs.Common.{◌≡◌, Some, None, sym, ◌∙◌, ap}
 use Rattle.std.specs.Option.{option_copied}
 use Rattle.std.specs.FinMap as map
-use Rattle.wf_model.specs.Working.{same_ballot}
+use Rattle.wf_model.specs.VolatileState.{same_ballot}
 use Rattle.wf_model.specs.Table.{votes_at}
 use Rattle.wf_acceptor.specs.Acceptor.{Acceptor}
 use Rattle.wf_acceptor.proofs.acceptor.Acceptor.voted_at.Goals as goal

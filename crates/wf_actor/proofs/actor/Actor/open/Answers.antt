@@ -1,12 +1,12 @@
 use Rattle.std.proofs.Common.{sym, subst}
 use Rattle.wf_node.specs.Node.{Node}
-use Rattle.wf_actor.specs.Opening.{IsOpened}
+use Rattle.wf_actor.specs.Start.{IsOpened}
 use Rattle.wf_actor.proofs.Lives.{opened_from}
 use Rattle.wf_actor.proofs.actor.Actor.open.Goals as goal
 
 pub begin-requires-clause-opened : goal.begin-requires-clause-opened
 begin-requires-clause-opened g c = opened_from g.T.Tape c.args.tape c.args.id c.args.n c.in-Ok.node c.new.result.items c.and-read_from.result.items c.new.ensures c.and-read_from.ensures c.in-Ok.ensures.id c.in-Ok.ensures.n c.in-Ok.ensures.running
-    c.in-Ok.ensures.working c.in-Ok.ensures.found
+    c.in-Ok.ensures.volatile c.in-Ok.ensures.found
 
 pub returns-in-Ok-clause-opened : goal.returns-in-Ok-clause-opened
 returns-in-Ok-clause-opened g c =
@@ -14,7 +14,7 @@ returns-in-Ok-clause-opened g c =
       number = c.in-Ok.ensures.id;
       among = c.in-Ok.ensures.n;
       runs = c.in-Ok.ensures.running;
-      idle = c.in-Ok.ensures.working;
+      idle = c.in-Ok.ensures.volatile;
       found = c.in-Ok.ensures.found;
       stands = c.in-Ok.ensures.stands;
       images = c.in-Ok.ensures.images;

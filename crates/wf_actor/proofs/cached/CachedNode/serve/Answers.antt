@@ -1,5 +1,5 @@
 use Rattle.std.proofs.Common.{subst}
-use Rattle.wf_edge.specs.Serving.{MovesOnce}
+use Rattle.wf_edge.specs.RequestEffect.{MovesOnce}
 use Rattle.wf_node.specs.Node.{Node}
 use Rattle.wf_actor.proofs.cached.CachedNode.serve.Goals as goal
 

@@ -7,16 +7,16 @@ use Rattle.wf_node.specs.Node.{Node}
 use Rattle.wf_actor.specs.Life.{logged}
 use Rattle.wf_actor.specs.Queue.{queued}
 use Rattle.wf_actor.specs.Target.{includes}
-use Rattle.wf_actor.proofs.Hearing.{given_on, arrived_on}
+use Rattle.wf_actor.proofs.Receipt.{given_on, arrived_on}
 use Rattle.wf_actor.proofs.Lives.{keeps_numbers}
 use Rattle.wf_actor.proofs.Posted.{posted_nothing}
-use Rattle.wf_actor.proofs.Sending.{sent_on, queued_nothing}
+use Rattle.wf_actor.proofs.Dispatches.{sent_on, queued_nothing}
 use Rattle.wf_actor.proofs.process.Process.act.Goals as goal
 
 pub invariant_of-self : goal.invariant_of-self
 invariant_of-self g c =
     let p = c.args.self.now in
-    let said = c.in-Ok.messages.items in
+    let outputs = c.in-Ok.messages.items in
     let kept = keeps_numbers g.T.Tape c.args.input p.actor.node c.step.new.self.node (Ok c.in-Ok.messages) c.in-Ok.ensures.answer in
     record {
       most = p.most;
@@ -26,11 +26,11 @@ invariant_of-self g c =
       member = subst (λ (k : ℕ). k < p.n) (sym kept.0) p.member;
       linked = c.send.ensures.posted.as_many ∙ p.linked;
       sent = ∥∥₁_map p.sent (λ s.
-          sent_on p.backlog.messages.items p.links.items (logged p.actor.told.items) s (includes c.args.target c.id-own.result) c.args.target said c.send.new.backlog.messages.items c.send.new.links.items (logged c.step.new.self.told.items)
-          c.send.ensures.queue c.send.ensures.posted c.in-Ok.ensures.told);
-      heard = ∥∥₁_elim p.heard ∥∥₁_prop (λ h. ∥∥₁_map c.requires.come (λ come.
+          sent_on p.backlog.messages.items p.links.items (logged p.actor.emitted.items) s (includes c.args.target c.id-own.result) c.args.target outputs c.send.new.backlog.messages.items c.send.new.links.items (logged c.step.new.self.emitted.items)
+          c.send.ensures.queue c.send.ensures.posted c.in-Ok.ensures.emitted);
+      received = ∥∥₁_elim p.received ∥∥₁_prop (λ h. ∥∥₁_map c.requires.come (λ come.
           given_on p.came.items p.came.items p.actor.given.items c.step.new.self.given.items c.args.origin (given_to c.args.input) h come refl c.in-Ok.ensures.given));
-      arrived = ∥∥₁_map p.arrived (λ a. arrived_on p.came.items p.links.items a c.args.target (map view said) c.send.new.links.items p.came.items c.send.ensures.posted refl);
+      arrived = ∥∥₁_map p.arrived (λ a. arrived_on p.came.items p.links.items a c.args.target (map view outputs) c.send.new.links.items p.came.items c.send.ensures.posted refl);
     }
 
 pub returns-in-Ok : goal.returns-in-Ok
@@ -42,7 +42,7 @@ returns-in-Ok g c =
       answer = Ok c.in-Ok.messages;
       steps = c.in-Ok.ensures.answer;
       result_is = tt;
-      told = c.in-Ok.ensures.told;
+      emitted = c.in-Ok.ensures.emitted;
       given = c.in-Ok.ensures.given;
       gone = record {
         queue = c.send.ensures.queue ∙ ap (λ (k : ℕ). queued (includes c.args.target k) p.backlog.messages.items c.in-Ok.messages.items) own;
@@ -63,9 +63,9 @@ invariant_of-self-in-Err-1 g c =
       member = subst (λ (k : ℕ). k < p.n) (sym kept.0) p.member;
       linked = p.linked;
       sent = ∥∥₁_map p.sent (λ s.
-          sent_on p.backlog.messages.items p.links.items (logged p.actor.told.items) s (includes c.args.target c.id-own.result) c.args.target [] p.backlog.messages.items p.links.items (logged c.step.new.self.told.items)
-          (sym (queued_nothing (includes c.args.target c.id-own.result) p.backlog.messages.items p.backlog.bounded)) (posted_nothing c.args.target p.links.items) c.in-Err.ensures.told);
-      heard = ∥∥₁_elim p.heard ∥∥₁_prop (λ h. ∥∥₁_map c.requires.come (λ come.
+          sent_on p.backlog.messages.items p.links.items (logged p.actor.emitted.items) s (includes c.args.target c.id-own.result) c.args.target [] p.backlog.messages.items p.links.items (logged c.step.new.self.emitted.items)
+          (sym (queued_nothing (includes c.args.target c.id-own.result) p.backlog.messages.items p.backlog.bounded)) (posted_nothing c.args.target p.links.items) c.in-Err.ensures.emitted);
+      received = ∥∥₁_elim p.received ∥∥₁_prop (λ h. ∥∥₁_map c.requires.come (λ come.
           given_on p.came.items p.came.items p.actor.given.items c.step.new.self.given.items c.args.origin (given_to c.args.input) h come refl c.in-Err.ensures.given));
       arrived = p.arrived;
     }
@@ -78,7 +78,7 @@ returns-in-Err g c =
       answer = Err c.in-Err.fault;
       steps = c.in-Err.ensures.answer;
       result_is = refl;
-      told = c.in-Err.ensures.told;
+      emitted = c.in-Err.ensures.emitted;
       given = c.in-Err.ensures.given;
       gone = record {
         queue = sym (queued_nothing (includes c.args.target p.actor.node.id) p.backlog.messages.items p.backlog.bounded);

@@ -1,5 +1,5 @@
-use Rattle.wf_actor.proofs.Hearing.{none_given, none_arrived}
-use Rattle.wf_actor.proofs.Sending.{nothing_sent}
+use Rattle.wf_actor.proofs.Receipt.{none_given, none_arrived}
+use Rattle.wf_actor.proofs.Dispatches.{nothing_sent}
 use Rattle.wf_actor.specs.Life.{logged}
 use Rattle.wf_actor.proofs.process.Process.assemble.Goals as goal
 
@@ -11,7 +11,7 @@ invariant_of-result g c = record {
   among = c.requires.among;
   member = c.requires.member;
   linked = c.requires.links.as_many;
-  sent = ∣ nothing_sent c.args.parts.backlog.messages.items c.args.n c.args.parts.links.items (logged c.args.actor.told.items) c.requires.backlog c.requires.links ∣₁;
-  heard = ∣ none_given c.new.result.items c.args.actor.given.items c.requires.given ∣₁;
+  sent = ∣ nothing_sent c.args.parts.backlog.messages.items c.args.n c.args.parts.links.items (logged c.args.actor.emitted.items) c.requires.backlog c.requires.links ∣₁;
+  received = ∣ none_given c.new.result.items c.args.actor.given.items c.requires.given ∣₁;
   arrived = ∣ none_arrived c.new.result.items c.args.n c.args.parts.links.items c.requires.links ∣₁;
 }

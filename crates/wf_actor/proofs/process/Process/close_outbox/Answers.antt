@@ -3,9 +3,9 @@ use Rattle.std.proofs.Math.Logic.{∥∥₁_map}
 use Rattle.std.proofs.lemmas.Option.{slice_get_read}
 use Rattle.wf_actor.specs.Life.{logged}
 use Rattle.wf_actor.specs.declared.link.Link.{Link}
-use Rattle.wf_actor.proofs.Changing.{closed_put, same_arrived}
-use Rattle.wf_actor.proofs.Hearing.{arrived_set}
-use Rattle.wf_actor.proofs.Sending.{link_set}
+use Rattle.wf_actor.proofs.Changes.{closed_put, same_arrived}
+use Rattle.wf_actor.proofs.Receipt.{arrived_set}
+use Rattle.wf_actor.proofs.Dispatches.{link_set}
 use Rattle.wf_actor.proofs.process.Process.close_outbox.Goals as goal
 
 pub invariant_of-self : goal.invariant_of-self
@@ -21,8 +21,8 @@ invariant_of-self g c =
       among = p.among;
       member = p.member;
       linked = length-set p.links.items c.from-index.result c.close_outbox.new.self ∙ p.linked;
-      sent = ∥∥₁_map p.sent (λ s. link_set p.backlog.messages.items p.links.items (logged p.actor.told.items) s c.from-index.result link c.close_outbox.new.self at (closed_put link c.close_outbox.new.self c.close_outbox.ensures));
-      heard = p.heard;
+      sent = ∥∥₁_map p.sent (λ s. link_set p.backlog.messages.items p.links.items (logged p.actor.emitted.items) s c.from-index.result link c.close_outbox.new.self at (closed_put link c.close_outbox.new.self c.close_outbox.ensures));
+      received = p.received;
       arrived = ∥∥₁_map p.arrived (λ a. arrived_set p.came.items p.links.items a c.from-index.result link c.close_outbox.new.self at (same_arrived link c.close_outbox.new.self c.close_outbox.ensures.incoming.arrived));
     }
 

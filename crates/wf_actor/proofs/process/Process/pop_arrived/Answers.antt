@@ -2,10 +2,10 @@ use Rattle.std.proofs.Common.{◌≡◌, ◌<◌, ◌≤◌, ℕ, Some, length, 
 use Rattle.std.proofs.Math.Logic.{∥∥₁_map}
 use Rattle.std.proofs.lemmas.Option.{slice_get_read}
 use Rattle.wf_actor.specs.Life.{logged}
-use Rattle.wf_actor.proofs.Changing.{same_put, popped_outbox, popped_arrived}
+use Rattle.wf_actor.proofs.Changes.{same_put, popped_outbox, popped_arrived}
 use Rattle.wf_actor.proofs.Fronts.{arrived_there, arrived_past}
-use Rattle.wf_actor.proofs.Hearing.{arrived_set, first_come}
-use Rattle.wf_actor.proofs.Sending.{link_set}
+use Rattle.wf_actor.proofs.Receipt.{arrived_set, first_come}
+use Rattle.wf_actor.proofs.Dispatches.{link_set}
 use Rattle.wf_actor.proofs.process.Process.pop_arrived.Goals as goal
 
 pub invariant_of-self : goal.invariant_of-self
@@ -21,8 +21,8 @@ invariant_of-self g c =
       among = p.among;
       member = p.member;
       linked = length-set p.links.items c.from-index.result c.pop.new.self ∙ p.linked;
-      sent = ∥∥₁_map p.sent (λ s. link_set p.backlog.messages.items p.links.items (logged p.actor.told.items) s c.from-index.result link c.pop.new.self at (same_put link c.pop.new.self (popped_outbox link c.pop.new.self c.pop.result c.pop.ensures)));
-      heard = p.heard;
+      sent = ∥∥₁_map p.sent (λ s. link_set p.backlog.messages.items p.links.items (logged p.actor.emitted.items) s c.from-index.result link c.pop.new.self at (same_put link c.pop.new.self (popped_outbox link c.pop.new.self c.pop.result c.pop.ensures)));
+      received = p.received;
       arrived = ∥∥₁_map p.arrived (λ a. arrived_set p.came.items p.links.items a c.from-index.result link c.pop.new.self at (popped_arrived link c.pop.new.self c.pop.result c.pop.ensures));
     }
 

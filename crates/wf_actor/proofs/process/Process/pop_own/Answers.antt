@@ -1,7 +1,7 @@
 use Rattle.std.proofs.Math.Logic.{∥∥₁_map}
 use Rattle.std.specs.Option.{option_to_list}
 use Rattle.wf_actor.specs.Life.{logged}
-use Rattle.wf_actor.proofs.Sending.{fewer_left, first_told}
+use Rattle.wf_actor.proofs.Dispatches.{fewer_left, first_reported}
 use Rattle.wf_actor.proofs.process.Process.pop_own.Goals as goal
 
 pub invariant_of-self : goal.invariant_of-self
@@ -14,12 +14,12 @@ invariant_of-self g c =
       among = p.among;
       member = p.member;
       linked = p.linked;
-      sent = ∥∥₁_map p.sent (λ s. fewer_left p.backlog.messages.items p.links.items (logged p.actor.told.items) s (option_to_list c.pop.result) c.pop.new.self.messages.items c.pop.ensures.items);
-      heard = p.heard;
+      sent = ∥∥₁_map p.sent (λ s. fewer_left p.backlog.messages.items p.links.items (logged p.actor.emitted.items) s (option_to_list c.pop.result) c.pop.new.self.messages.items c.pop.ensures.items);
+      received = p.received;
       arrived = p.arrived;
     }
 
-pub returns-in-Some-clause-told : goal.returns-in-Some-clause-told
-returns-in-Some-clause-told g c =
+pub returns-in-Some-clause-emitted : goal.returns-in-Some-clause-emitted
+returns-in-Some-clause-emitted g c =
     let p = c.args.self.now in
-    ∥∥₁_map p.sent (λ s. first_told p.backlog.messages.items p.links.items (logged p.actor.told.items) s c.in-Some.message c.pop.new.self.messages.items c.in-Some.ensures.items)
+    ∥∥₁_map p.sent (λ s. first_reported p.backlog.messages.items p.links.items (logged p.actor.emitted.items) s c.in-Some.message c.pop.new.self.messages.items c.in-Some.ensures.items)

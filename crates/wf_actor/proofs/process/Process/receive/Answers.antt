@@ -3,9 +3,9 @@ use Rattle.std.proofs.Math.Logic.{∥∥₁_map}
 use Rattle.std.proofs.lemmas.Option.{slice_get_read}
 use Rattle.wf_actor.specs.Life.{logged}
 use Rattle.wf_actor.specs.Sent.{AreArrivedCome, AreSent}
-use Rattle.wf_actor.proofs.Changing.{same_put}
-use Rattle.wf_actor.proofs.Receiving.{received_given, received_arrived, received_outbox}
-use Rattle.wf_actor.proofs.Sending.{link_set}
+use Rattle.wf_actor.proofs.Changes.{same_put}
+use Rattle.wf_actor.proofs.Arrivals.{received_given, received_arrived, received_outbox}
+use Rattle.wf_actor.proofs.Dispatches.{link_set}
 use Rattle.wf_actor.proofs.process.Process.receive.Goals as goal
 
 pub invariant_of-self : goal.invariant_of-self
@@ -26,9 +26,9 @@ invariant_of-self g c =
       among = p.among;
       member = p.member;
       linked = length-set links c.from-index.result after ∙ p.linked;
-      sent = ∥∥₁_map p.sent (λ s. link_set p.backlog.messages.items links (logged p.actor.told.items) s c.from-index.result link after at
+      sent = ∥∥₁_map p.sent (λ s. link_set p.backlog.messages.items links (logged p.actor.emitted.items) s c.from-index.result link after at
           (same_put link after (received_outbox c.args.peer c.args.piece.now link after p.came.items came c.take_in.result c.take_in.ensures)));
-      heard = ∥∥₁_map p.heard (λ h. received_given c.args.peer c.args.piece.now link after p.came.items came c.take_in.result p.actor.given.items c.take_in.ensures h);
+      received = ∥∥₁_map p.received (λ h. received_given c.args.peer c.args.piece.now link after p.came.items came c.take_in.result p.actor.given.items c.take_in.ensures h);
       arrived = ∥∥₁_map p.arrived (λ a. subst (λ (k : ℕ). AreArrivedCome came (slice_set links k after)) (sym here)
           (received_arrived c.args.peer c.args.piece.now link after p.came.items came c.take_in.result links c.take_in.ensures there a));
     }

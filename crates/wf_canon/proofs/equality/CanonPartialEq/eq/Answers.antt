@@ -6,9 +6,9 @@ use Rattle.std.proofs.lemmas.Bool.Decides.{Decides-at, Decides-like, same_from_d
 use Rattle.std.proofs.lemmas.Slice.Eq.{bytes_eq-Decides}
 use Rattle.wf_def.specs.Definition.{Definition}
 use Rattle.wf_def.specs.Limits.{IsWithinLimits}
-use Rattle.wf_def.specs.EqualityLaws.{definition_eq-Decides}
+use Rattle.wf_def.specs.EqualityTheorems.{definition_eq-Decides}
 use Rattle.wf_spelling.specs.Canon.{canon}
-use Rattle.wf_canon.proofs.MeaningLaw.{one_definition}
+use Rattle.wf_canon.proofs.MeaningTheorem.{one_definition}
 use Rattle.wf_canon.proofs.equality.CanonPartialEq.eq.Goals as goal
 
 canon-Decides : (d e : Definition) → IsWithinLimits d → IsWithinLimits e → Decides (bytes_eq (canon d) (canon e)) (d ≡ e)

@@ -2,7 +2,7 @@ use Rattle.std.proofs.Common.{rules, arith}
 use Rattle.std.proofs.lemmas.Grind.{common_steps}
 use Rattle.std.proofs.lemmas.Bool.Decides.{Decides-at}
 use Rattle.wf_def.specs.Equality.{class_eq}
-use Rattle.wf_def.specs.EqualityLaws.{class_eq-Decides}
+use Rattle.wf_def.specs.EqualityTheorems.{class_eq-Decides}
 use Rattle.wf_def.proofs.equality.ClassPartialEq.eq.Goals as goal
 
 pub returns-then-eq-3-clause-equal : goal.returns-then-eq-3-clause-equal

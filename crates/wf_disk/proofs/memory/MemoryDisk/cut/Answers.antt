@@ -2,7 +2,7 @@
 use Rattle.std.proofs.Common.{sym, ap, subst, ◌∙◌}
 use Rattle.wf_disk.specs.Folder.{Folder, IsCrashed}
 use Rattle.wf_disk.specs.MemoryDisk.{cut_to}
-use Rattle.wf_disk.specs.FolderLaws.{cut_crashes}
+use Rattle.wf_disk.specs.FolderTheorems.{cut_crashes}
 use Rattle.wf_disk.proofs.memory.MemoryDisk.cut.Goals as goal
 
 pub returns-clause-crashed : goal.returns-clause-crashed

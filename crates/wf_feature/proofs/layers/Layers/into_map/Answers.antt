@@ -1,7 +1,7 @@
 use Rattle.std.proofs.Common.{◌≡◌, ◌++◌, List, true, sym, ap, ◌∙◌, rules}
 use Rattle.wf_def.specs.Limits.{has_layer, is_repeated}
 use Rattle.wf_feature.proofs.Unlike.{Entry}
-use Rattle.wf_feature.proofs.GatheredLaw.{InTurn, in_turn}
+use Rattle.wf_feature.proofs.GatheredTheorem.{InTurn, in_turn}
 use Rattle.wf_feature.proofs.layers.Layers.into_map.Goals as goal
 use Rattle.wf_feature.proofs.layers.Layers.into_map.Goals.{After-into_text}
 

@@ -1,4 +1,4 @@
-use Rattle.wf_feature.proofs.GatheredLaw.{no_layers}
+use Rattle.wf_feature.proofs.GatheredTheorem.{no_layers}
 use Rattle.wf_feature.proofs.layers.Layers.new.Goals as goal
 
 pub invariant_of-result : goal.invariant_of-result

@@ -3,7 +3,7 @@ use Rattle.std.specs.Prelude.{sum_by}
 use Rattle.wf_def.specs.Limits.{points_of_feature}
 use Rattle.wf_feature.specs.Layers.{features_left, points_left}
 use Rattle.wf_feature.proofs.Unlike.{Entry}
-use Rattle.wf_feature.proofs.GatheredLaw.{one_more, left_over}
+use Rattle.wf_feature.proofs.GatheredTheorem.{one_more, left_over}
 use Rattle.wf_feature.proofs.layers.Layers.push.Goals as goal
 
 -- the list with one more layer, if that may follow the others

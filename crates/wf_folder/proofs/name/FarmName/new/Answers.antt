@@ -7,4 +7,4 @@ use Rattle.wf_folder.proofs.name.FarmName.new.Goals as goal
 pub invariant_of-result : goal.invariant_of-result
 invariant_of-result c =
     let text : IsNameText c.args.text.now = search rules in
-    subst IsFarmName (sym c.padded.ensures) (padded_is_name c.args.text.now text)
+    subst IsFarmName (sym c.pad.ensures) (padded_is_name c.args.text.now text)

@@ -1,5 +1,5 @@
 use Rattle.std.proofs.Common.{◌∙◌}
-use Rattle.wf_http.proofs.FieldLaw.{first_value}
+use Rattle.wf_http.proofs.FieldTheorem.{first_value}
 use Rattle.wf_http.proofs.fields.Fields.first.Goals as goal
 
 pub returns : goal.returns

@@ -1,7 +1,7 @@
 use Rattle.std.proofs.Common.{◌++◌, ◌∙◌, [], refl, ap, subst}
-use Rattle.wf_http.specs.Breaking.{IsWriting}
+use Rattle.wf_http.specs.WriteEnd.{IsWriting}
 use Rattle.wf_http.specs.Response.{head_bytes}
-use Rattle.wf_http.proofs.BreakingLaw.{gathered_is, writing_starts}
+use Rattle.wf_http.proofs.WriteEndTheorem.{gathered_is, writing_starts}
 use Rattle.wf_http.proofs.response.Response.put_all.Goals as goal
 
 pub returns-then-gathering : goal.returns-then-gathering

@@ -1,5 +1,5 @@
 use Rattle.std.proofs.Common.{◌∙◌, [], subst}
-use Rattle.wf_http.specs.Breaking.{IsWriting}
+use Rattle.wf_http.specs.WriteEnd.{IsWriting}
 use Rattle.wf_http.proofs.Written.{lines_are_head}
 use Rattle.wf_http.proofs.response.Response.put_lines.Goals as goal
 

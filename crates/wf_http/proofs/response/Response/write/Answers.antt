@@ -1,7 +1,7 @@
 use Rattle.std.proofs.Common.{subst}
-use Rattle.wf_http.specs.Breaking.{IsWriting}
+use Rattle.wf_http.specs.WriteEnd.{IsWriting}
 use Rattle.wf_http.specs.Response.{response_bytes}
-use Rattle.wf_http.proofs.BreakingLaw.{writing_starts}
+use Rattle.wf_http.proofs.WriteEndTheorem.{writing_starts}
 use Rattle.wf_http.proofs.response.Response.write.Goals as goal
 
 pub returns-then-progress-clause-part : goal.returns-then-progress-clause-part

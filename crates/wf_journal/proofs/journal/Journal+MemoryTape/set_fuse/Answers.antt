@@ -6,6 +6,6 @@ use Rattle.wf_journal.proofs.journal.Journal+MemoryTape.set_fuse.Goals as goal
 
 pub invariant_of-self : goal.invariant_of-self
 invariant_of-self c = (
-  λ honest running. subst (λ (k : TapeValue). IsSettled k.bytes (IsImageOf k)) (sym c.set_fuse.ensures) (c.self.invariant.0 honest running),
+  λ durable running. subst (λ (k : TapeValue). IsSettled k.bytes (IsImageOf k)) (sym c.set_fuse.ensures) (c.self.invariant.0 durable running),
   λ running. refl,
 )

@@ -5,7 +5,7 @@ use Rattle.std.specs.Option.{option_copied}
 use Rattle.std.specs.Slice.{IsItemAt}
 use Rattle.wf_def.specs.Definition.{Definition}
 use Rattle.wf_learner.specs.History.{History}
-use Rattle.wf_learner.proofs.Told.{definition_before}
+use Rattle.wf_learner.proofs.Reported.{definition_before}
 use Rattle.wf_learner.proofs.history.History.definition.Goals as goal
 
 -- what is borrowed is the element, if there is one

@@ -1,4 +1,4 @@
-use Rattle.wf_loop.proofs.Answers.{one_more_answered}
+use Rattle.wf_loop.proofs.Answered.{one_more_answered}
 use Rattle.wf_loop.proofs.clients.Clients.serve_one.Goals as goal
 
 pub invariant_of-self : goal.invariant_of-self

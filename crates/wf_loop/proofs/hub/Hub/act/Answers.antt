@@ -1,4 +1,4 @@
-use Rattle.wf_loop.proofs.Going.{twice}
+use Rattle.wf_loop.proofs.Continuation.{twice}
 use Rattle.wf_loop.proofs.hub.Hub.act.Goals as goal
 
 pub returns-then-is_busy-clause-on : goal.returns-then-is_busy-clause-on

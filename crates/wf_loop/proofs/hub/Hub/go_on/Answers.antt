@@ -1,4 +1,4 @@
-use Rattle.wf_loop.proofs.Going.{keeps_going, twice, unchanged}
+use Rattle.wf_loop.proofs.Continuation.{keeps_going, twice, unchanged}
 use Rattle.wf_loop.proofs.hub.Hub.go_on.Goals as goal
 
 pub returns-in-Some-clause-on : goal.returns-in-Some-clause-on

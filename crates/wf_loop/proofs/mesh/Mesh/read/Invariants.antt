@@ -1,4 +1,4 @@
-use Rattle.wf_loop.specs.Going.{GoesOn}
+use Rattle.wf_loop.specs.Continuation.{GoesOn}
 use Rattle.wf_loop.proofs.mesh.Mesh.read.Given as goal
 
 abbrev pub invariant-loop : goal.invariant-loop

@@ -1,4 +1,4 @@
-use Rattle.wf_loop.proofs.Going.{twice}
+use Rattle.wf_loop.proofs.Continuation.{twice}
 use Rattle.wf_loop.proofs.pace.Pace.turn.Goals as goal
 
 pub returns-clause-on : goal.returns-clause-on

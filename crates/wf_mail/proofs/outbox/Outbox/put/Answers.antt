@@ -1,6 +1,6 @@
 use Rattle.std.proofs.Common.{◌+◌, ◌≤◌, length, arith}
 use Rattle.wf_codec.specs.Message.{view}
-use Rattle.wf_codec.specs.Spelling.{spelling}
+use Rattle.wf_codec.specs.Encoding.{spelling}
 use Rattle.wf_mail.specs.Outbox.{waiting_in}
 use Rattle.wf_mail.proofs.Outboxes.{puts_outbox_logged, is_put_logged, waits_behind, waiting_length}
 use Rattle.wf_mail.proofs.outbox.Outbox.put.Goals as goal

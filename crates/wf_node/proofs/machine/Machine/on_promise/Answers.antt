@@ -3,28 +3,28 @@ use Rattle.std.proofs.Common.{refl, ap, subst, ◌∙◌}
 use Rattle.wf_codec.specs.Message.{view_votes}
 use Rattle.wf_def.specs.Definition.{Definition}
 use Rattle.wf_model.specs.Message as model
-use Rattle.wf_model.specs.Table.{Deliver, Row}
+use Rattle.wf_model.specs.Table.{Deliver, Transition}
 use Rattle.wf_proposer.specs.Next.{Sends}
-use Rattle.wf_proposer.specs.Proposer.{row_of, working_of}
-use Rattle.wf_node.proofs.Acts.{act_done, act_sends, delivered, row_fits, row_promise}
-use Rattle.wf_node.proofs.Rows.{none_own, promise_stores_none}
+use Rattle.wf_proposer.specs.Proposer.{transition_of, volatile_of}
+use Rattle.wf_node.proofs.Acts.{act_done, act_sends, delivered, transition_fits, transition_promise}
+use Rattle.wf_node.proofs.Transitions.{none_own, promise_stores_none}
 use Rattle.wf_node.proofs.machine.Machine.on_promise.Goals as goal
 
 pub perform-requires-clause-fits : goal.perform-requires-clause-fits
 perform-requires-clause-fits g c =
-    row_fits c.args.self.now.kept.parts c.args.self.now.proposer (Deliver (model.Promise c.args.from c.args.report.slot c.args.ballot (view_votes c.args.report.votes))) (row_of c.args.self.now.proposer c.in-Ok.next) c.requires.fits c.requires.for_next
-    (c.in-Ok.ensures.row ∙ row_promise c.args.self.now.kept.parts c.args.self.now.proposer c.args.from c.args.report.slot c.args.ballot (view_votes c.args.report.votes))
+    transition_fits c.args.self.now.persistent.parts c.args.self.now.proposer (Deliver (model.Promise c.args.from c.args.report.slot c.args.ballot (view_votes c.args.report.votes))) (transition_of c.args.self.now.proposer c.in-Ok.next) c.requires.fits c.requires.for_next
+    (c.in-Ok.ensures.transition ∙ transition_promise c.args.self.now.persistent.parts c.args.self.now.proposer c.args.from c.args.report.slot c.args.ballot (view_votes c.args.report.votes))
 
 pub perform-requires-clause-own : goal.perform-requires-clause-own
-perform-requires-clause-own g c = none_own _ (ap (λ (r : Row Definition). r.entry) c.in-Ok.ensures.row ∙ promise_stores_none c.args.self.now.proposer.nodes (working_of c.args.self.now.proposer) c.args.from c.args.report.slot c.args.ballot (view_votes c.args.report.votes))
+perform-requires-clause-own g c = none_own _ (ap (λ (r : Transition Definition). r.entry) c.in-Ok.ensures.transition ∙ promise_stores_none c.args.self.now.proposer.nodes (volatile_of c.args.self.now.proposer) c.args.from c.args.report.slot c.args.ballot (view_votes c.args.report.votes))
 
 pub returns-in-Ok-clause-act : goal.returns-in-Ok-clause-act
 returns-in-Ok-clause-act g c =
-    act_done g.T.Tape (Deliver (model.Promise c.args.from c.args.report.slot c.args.ballot (view_votes c.args.report.votes))) (row_of c.args.self.now.proposer c.in-Ok.next) c.args.self.now.journal c.perform.new.self.journal c.args.self.now.kept.parts c.perform.new.self.kept.parts c.args.self.now.proposer c.perform.new.self.proposer c.perform.result
-    (delivered _ _ _) (c.in-Ok.ensures.row ∙ row_promise c.args.self.now.kept.parts c.args.self.now.proposer c.args.from c.args.report.slot c.args.ballot (view_votes c.args.report.votes)) c.perform.ensures.change
+    act_done g.T.Tape (Deliver (model.Promise c.args.from c.args.report.slot c.args.ballot (view_votes c.args.report.votes))) (transition_of c.args.self.now.proposer c.in-Ok.next) c.args.self.now.journal c.perform.new.self.journal c.args.self.now.persistent.parts c.perform.new.self.persistent.parts c.args.self.now.proposer c.perform.new.self.proposer c.perform.result
+    (delivered _ _ _) (c.in-Ok.ensures.transition ∙ transition_promise c.args.self.now.persistent.parts c.args.self.now.proposer c.args.from c.args.report.slot c.args.ballot (view_votes c.args.report.votes)) c.perform.ensures.change
 
 pub returns-in-Err-clause-act : goal.returns-in-Err-clause-act
 returns-in-Err-clause-act g c =
-    act_sends g.T.Tape _ _ (Deliver (model.Promise c.args.from c.args.report.slot c.args.ballot (view_votes c.args.report.votes))) c.in-Err.refusal c.fault_of.result c.args.self.now.journal c.args.self.now.kept.parts c.args.self.now.proposer c.fault_of.ensures
+    act_sends g.T.Tape _ _ (Deliver (model.Promise c.args.from c.args.report.slot c.args.ballot (view_votes c.args.report.votes))) c.in-Err.step_rejection c.fault_of.result c.args.self.now.journal c.args.self.now.persistent.parts c.args.self.now.proposer c.fault_of.ensures
     (delivered _ _ _) c.requires.running
-    (let short = c.in-Err.ensures.memory refl in (subst Sends (row_promise c.args.self.now.kept.parts c.args.self.now.proposer c.args.from c.args.report.slot c.args.ballot (view_votes c.args.report.votes)) short.0, short.1))
+    (let short = c.in-Err.ensures.memory refl in (subst Sends (transition_promise c.args.self.now.persistent.parts c.args.self.now.proposer c.args.from c.args.report.slot c.args.ballot (view_votes c.args.report.votes)) short.0, short.1))

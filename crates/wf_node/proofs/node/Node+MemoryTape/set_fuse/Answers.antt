@@ -3,7 +3,7 @@ use Rattle.std.proofs.Common.{◌≡◌, sym, subst, ◌∙◌}
 use Rattle.wf_tape.specs.MemoryTape as memory
 use Rattle.wf_tape.specs.MemoryTape.{IsImageOf, with_fuse}
 use Rattle.wf_node.specs.Images.{AllStandFor}
-use Rattle.wf_node.specs.StoredPart.{stored_of}
+use Rattle.wf_node.specs.DurablePart.{stored_of}
 use Rattle.wf_node.specs.Node.{Node, view_of}
 use Rattle.wf_node.proofs.node.Node+MemoryTape.set_fuse.Goals as goal
 
@@ -11,12 +11,12 @@ pub invariant_of-self : goal.invariant_of-self
 invariant_of-self c = record {
   same_node = c.self.invariant.same_node;
   for_next = c.self.invariant.for_next;
-  stands = λ honest running.
-      subst (λ (tape : memory.TapeValue). AllStandFor (stored_of c.self.inside.machine.kept) (IsImageOf tape)) (sym c.set_fuse.ensures.tape)
-      (c.self.invariant.stands honest (sym c.set_fuse.ensures.halted ∙ running));
+  stands = λ durable running.
+      subst (λ (tape : memory.TapeValue). AllStandFor (stored_of c.self.inside.machine.persistent) (IsImageOf tape)) (sym c.set_fuse.ensures.tape)
+      (c.self.invariant.stands durable (sym c.set_fuse.ensures.halted ∙ running));
 }
 
 pub returns : goal.returns
 returns c =
-    subst (λ (before : Node memory.TapeValue). view_of c.set_fuse.new.self c.self.inside.machine.kept.parts c.self.inside.machine.proposer ≡ record before { tape = with_fuse c.args.call c.args.kept before.tape }) c.self.view_is
-    (λ i. view_of (record { tape = c.set_fuse.ensures.tape i; halted = c.set_fuse.ensures.halted i }) c.self.inside.machine.kept.parts c.self.inside.machine.proposer)
+    subst (λ (before : Node memory.TapeValue). view_of c.set_fuse.new.self c.self.inside.machine.persistent.parts c.self.inside.machine.proposer ≡ record before { tape = with_fuse c.args.call c.args.kept before.tape }) c.self.view_is
+    (λ i. view_of (record { tape = c.set_fuse.ensures.tape i; halted = c.set_fuse.ensures.halted i }) c.self.inside.machine.persistent.parts c.self.inside.machine.proposer)

@@ -3,7 +3,7 @@ use Rattle.std.proofs.Common.{◌∙◌, sym, ap, subst}
 use Rattle.wf_spelling.specs.Canon.{canon}
 use Rattle.wf_farm.specs.Agreement.{HasOneHistory}
 use Rattle.wf_play.specs.Session.{Session}
-use Rattle.wf_play.proofs.Playing.{published_once, same_texts}
+use Rattle.wf_play.proofs.FarmCalls.{published_once, same_texts}
 use Rattle.wf_play.proofs.session.Session.are_unequal.Goals as goal
 
 pub returns : goal.returns

@@ -11,10 +11,10 @@ returns-clause-test c =
     subst (λ (farm : MemoryFarm). IfOk c.compare_nodes.result (λ equal. Compares farm c.args.first c.args.second c.args.query.now equal)) (ap (λ (s : Session). s.farm) c.self.view_is)
     c.compare_nodes.ensures.test
 
-pub returns-clause-law : goal.returns-clause-law
-returns-clause-law c =
+pub returns-clause-theorem : goal.returns-clause-theorem
+returns-clause-theorem c =
     subst (λ (farm : MemoryFarm). IfOk c.compare_nodes.result (λ equal. IsTrueWhereOne farm c.args.first c.args.second c.args.query.now equal)) (ap (λ (s : Session). s.farm) c.self.view_is)
-    c.compare_nodes.ensures.law
+    c.compare_nodes.ensures.theorem
 
 pub returns-clause-fault : goal.returns-clause-fault
 returns-clause-fault c =

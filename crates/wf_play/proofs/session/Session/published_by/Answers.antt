@@ -2,9 +2,9 @@ use Rattle.std.proofs.Common.{◌∙◌, ap, subst}
 use Rattle.std.specs.Prelude.{IfSome}
 use Rattle.wf_farm.specs.Farm.{MemoryFarm}
 use Rattle.wf_play.specs.Session.{Session}
-use Rattle.wf_model.specs.Stored.{definition_at}
+use Rattle.wf_model.specs.DurableState.{definition_at}
 use Rattle.wf_play.specs.Session.{IsPublished}
-use Rattle.wf_play.proofs.Playing.{published_there}
+use Rattle.wf_play.proofs.FarmCalls.{published_there}
 use Rattle.wf_play.proofs.session.Session.published_by.Goals as goal
 
 pub returns-in-Some : goal.returns-in-Some

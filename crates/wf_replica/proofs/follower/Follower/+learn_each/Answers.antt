@@ -1,7 +1,7 @@
 -- Nothing is learned, or the first definition and then the others.
 use Rattle.std.proofs.Common.{◌≡◌, ◌∙◌, suc, length, refl, ap, arith}
 use Rattle.wf_learner.specs.History.{History, next_of}
-use Rattle.wf_replica.proofs.Heard.{empty_list, full, learns_first, learns_none, whole, whole_list}
+use Rattle.wf_replica.proofs.Received.{empty_list, full, learns_first, learns_none, whole, whole_list}
 use Rattle.wf_replica.specs.Follower.{list_of}
 use Rattle.wf_replica.proofs.follower.Follower.+learn_each.Goals as goal
 
@@ -18,7 +18,7 @@ returns-in_default-clause-all g t c =
 pub returns-in_err-learn_at-in-len1-up-clause-learns :
     goal.returns-in_err-learn_at-in-len1-up-clause-learns
 returns-in_err-learn_at-in-len1-up-clause-learns g t c =
-    (0, learns_none c.args.self.now c.learn_at.new.self c.args.definitions.now c.in_err-learn_at-in-len1-up.ensures.same_heard c.in_err-learn_at-in-len1-up.ensures.same_list)
+    (0, learns_none c.args.self.now c.learn_at.new.self c.args.definitions.now c.in_err-learn_at-in-len1-up.ensures.same_received c.in_err-learn_at-in-len1-up.ensures.same_list)
 
 pub returns-in-empty-clause-learns : goal.returns-in-empty-clause-learns
 returns-in-empty-clause-learns g t c = (0, learns_none c.args.self.now c.args.self.now c.args.definitions.now refl refl)
@@ -36,5 +36,5 @@ returns-in_ok-learn_at-in-len1-up-clause-learns g t c =
       learns_first c.args.self.now c.learn_at.new.self c.learn_each.new.self c.in-Some.slot c.definition-item.result c.args.definitions.now _ later.0
           (whole c.args.definitions.now c.definition-item.result (omega (arith, c.in-len1-up.len_at_least)) c.definition-item.is)
           (c.in-Some.ensures.value ∙ ap (λ (h : History). next_of h.definitions) c.history-2.ensures)
-          c.in_ok-learn_at-in-len1-up.ensures.heard c.in_ok-learn_at-in-len1-up.ensures.list later.1,
+          c.in_ok-learn_at-in-len1-up.ensures.received c.in_ok-learn_at-in-len1-up.ensures.list later.1,
     )

@@ -1,6 +1,6 @@
 -- A map's name is found by its definition.
 use Rattle.std.proofs.Common.{◌∙◌, refl}
-use Rattle.wf_script.proofs.Naming.{named_there}
+use Rattle.wf_script.proofs.MapNames.{named_there}
 use Rattle.wf_script.proofs.maps.Maps.name_of.Goals as goal
 
 pub returns : goal.returns

@@ -1,6 +1,6 @@
 -- A map is found by its name.
 use Rattle.std.proofs.Common.{◌∙◌}
-use Rattle.wf_script.proofs.Naming.{found_by_name}
+use Rattle.wf_script.proofs.MapNames.{found_by_name}
 use Rattle.wf_script.proofs.maps.Maps.number_of.Goals as goal
 
 pub returns : goal.returns

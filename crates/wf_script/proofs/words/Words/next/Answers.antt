@@ -1,6 +1,6 @@
 -- How the word is cut off, and the words of what is left.
 use Rattle.std.proofs.Common.{◌∙◌, sym}
-use Rattle.wf_script.proofs.Parting.{Taken, no_word, next_word}
+use Rattle.wf_script.proofs.WordSplits.{Taken, no_word, next_word}
 use Rattle.wf_script.proofs.words.Words.next.Goals as goal
 
 pub returns-then-is_empty-clause-none : goal.returns-then-is_empty-clause-none

@@ -1,4 +1,4 @@
-use Rattle.wf_spelling.proofs.Scanning.{both, lines, last_line}
+use Rattle.wf_spelling.proofs.ScanSequences.{both, lines, last_line}
 use Rattle.wf_spelling.proofs.scan.class.scan_class.Goals as goal
 
 pub returns : goal.returns

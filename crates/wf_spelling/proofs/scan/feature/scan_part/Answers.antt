@@ -1,6 +1,6 @@
 use Rattle.std.proofs.Common.{map, [], ◌∷◌}
 use Rattle.wf_spelling.specs.Canon.{point_line, end_line}
-use Rattle.wf_spelling.proofs.Scanning.{both, lines, last_line, if_some}
+use Rattle.wf_spelling.proofs.ScanSequences.{both, lines, last_line, if_some}
 use Rattle.wf_spelling.proofs.ScannedBlock.{end_line_scanned}
 use Rattle.wf_spelling.proofs.scan.feature.scan_part.Goals as goal
 

@@ -1,5 +1,5 @@
 use Rattle.wf_spelling.specs.Canon.{part_lines}
-use Rattle.wf_spelling.proofs.Scanning.{nothing, one_more}
+use Rattle.wf_spelling.proofs.ScanSequences.{nothing, one_more}
 use Rattle.wf_spelling.proofs.scan.feature.scan_parts.Goals as goal
 
 pub loop-init : goal.loop-init

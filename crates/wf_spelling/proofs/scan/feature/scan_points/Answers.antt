@@ -1,5 +1,5 @@
 use Rattle.wf_spelling.specs.Canon.{point_line}
-use Rattle.wf_spelling.proofs.Scanning.{nothing, one_line_more}
+use Rattle.wf_spelling.proofs.ScanSequences.{nothing, one_line_more}
 use Rattle.wf_spelling.proofs.scan.feature.scan_points.Goals as goal
 
 pub loop-init : goal.loop-init

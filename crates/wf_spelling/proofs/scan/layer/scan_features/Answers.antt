@@ -1,5 +1,5 @@
 use Rattle.wf_spelling.specs.Canon.{feature_lines}
-use Rattle.wf_spelling.proofs.Scanning.{nothing, one_more}
+use Rattle.wf_spelling.proofs.ScanSequences.{nothing, one_more}
 use Rattle.wf_spelling.proofs.scan.layer.scan_features.Goals as goal
 
 pub loop-init : goal.loop-init

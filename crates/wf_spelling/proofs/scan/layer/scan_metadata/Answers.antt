@@ -1,4 +1,4 @@
-use Rattle.wf_spelling.proofs.Scanning.{both, last_line, if_some}
+use Rattle.wf_spelling.proofs.ScanSequences.{both, last_line, if_some}
 use Rattle.wf_spelling.proofs.scan.layer.scan_metadata.Goals as goal
 
 pub returns : goal.returns

@@ -1,4 +1,4 @@
-use Rattle.wf_spelling.proofs.Scanning.{both}
+use Rattle.wf_spelling.proofs.ScanSequences.{both}
 use Rattle.wf_spelling.proofs.scan.line.scan_quoted.Goals as goal
 
 pub returns : goal.returns

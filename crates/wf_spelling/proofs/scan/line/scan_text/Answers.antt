@@ -1,5 +1,5 @@
 use Rattle.std.proofs.Common.{refl}
-use Rattle.wf_spelling.proofs.Scanning.{both, if_some}
+use Rattle.wf_spelling.proofs.ScanSequences.{both, if_some}
 use Rattle.wf_spelling.proofs.scan.line.scan_text.Goals as goal
 
 pub returns-then-skip : goal.returns-then-skip

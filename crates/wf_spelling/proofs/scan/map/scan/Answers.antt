@@ -1,5 +1,5 @@
 use Rattle.std.proofs.Common.{refl}
-use Rattle.wf_spelling.proofs.Scanning.{whole_text}
+use Rattle.wf_spelling.proofs.ScanSequences.{whole_text}
 use Rattle.wf_spelling.proofs.scan.map.scan.Goals as goal
 
 pub returns-clause-value : goal.returns-clause-value

@@ -1,6 +1,6 @@
 use Rattle.wf_spelling.specs.Canon.{projection_lines}
 use Rattle.wf_spelling.specs.ScanMap.{web_lines_of}
-use Rattle.wf_spelling.proofs.Scanning.{both, lines}
+use Rattle.wf_spelling.proofs.ScanSequences.{both, lines}
 use Rattle.wf_spelling.proofs.scan.map.scan_heading.Goals as goal
 
 pub returns-clause-scanned : goal.returns-clause-scanned

@@ -1,7 +1,7 @@
 use Rattle.std.proofs.Common.{ℕ, List, refl}
 use Rattle.wf_def.specs.Definition.{LayerDefinition}
 use Rattle.wf_spelling.specs.Canon.{layer_lines}
-use Rattle.wf_spelling.proofs.Scanning.{nothing, one_more}
+use Rattle.wf_spelling.proofs.ScanSequences.{nothing, one_more}
 use Rattle.wf_spelling.proofs.scan.map.scan_layers.Goals as goal
 
 pub loop-init : goal.loop-init

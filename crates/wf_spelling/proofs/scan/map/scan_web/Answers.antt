@@ -1,4 +1,4 @@
-use Rattle.wf_spelling.proofs.Scanning.{both, last_line}
+use Rattle.wf_spelling.proofs.ScanSequences.{both, last_line}
 use Rattle.wf_spelling.proofs.scan.map.scan_web.Goals as goal
 
 pub returns : goal.returns

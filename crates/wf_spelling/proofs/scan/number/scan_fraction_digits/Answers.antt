@@ -1,5 +1,5 @@
 use Rattle.std.proofs.Common.{rules, ◌<◌}
-use Rattle.wf_spelling.proofs.Scanning.{nothing, if_some}
+use Rattle.wf_spelling.proofs.ScanSequences.{nothing, if_some}
 use Rattle.wf_spelling.proofs.ScannedNumber.{fraction_begins, fraction_goes_on, fraction_ends, fraction_most}
 use Rattle.wf_spelling.proofs.scan.number.scan_fraction_digits.Goals as goal
 

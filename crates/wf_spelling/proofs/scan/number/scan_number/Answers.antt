@@ -1,5 +1,5 @@
 use Rattle.std.proofs.Common.{refl}
-use Rattle.wf_spelling.proofs.Scanning.{both, if_some}
+use Rattle.wf_spelling.proofs.ScanSequences.{both, if_some}
 use Rattle.wf_spelling.proofs.ScannedNumber.{positive, negative, spelled_as, as_number, as_opposite}
 use Rattle.wf_spelling.proofs.scan.number.scan_number.Goals as goal
 

@@ -1,5 +1,5 @@
 use Rattle.std.proofs.Common.{arith}
-use Rattle.wf_spelling.proofs.Scanning.{then_nothing}
+use Rattle.wf_spelling.proofs.ScanSequences.{then_nothing}
 use Rattle.wf_spelling.proofs.ScannedNumber.{first_digit, digit_more}
 use Rattle.wf_spelling.proofs.scan.number.scan_whole.Goals as goal
 

@@ -4,16 +4,16 @@ use Rattle.wf_tape.proofs.Called.{reads, content_read, stays_sturdy, fails_sound
 use Rattle.wf_tape.proofs.memory.MemoryTapeTape.read.Goals as goal
 
 pub returns-clause-image : goal.returns-clause-image
-returns-clause-image c = λ honest. content_read c.args.self.now c.read_or_fail.result
+returns-clause-image c = λ durable. content_read c.args.self.now c.read_or_fail.result
 
 pub returns-clause-same : goal.returns-clause-same
-returns-clause-same c = λ honest. (reads c.args.self.now c.read_or_fail.new.self c.read_or_fail.result c.read_or_fail.ensures.called).same
+returns-clause-same c = λ durable. (reads c.args.self.now c.read_or_fail.new.self c.read_or_fail.result c.read_or_fail.ensures.called).same
 
 pub returns-clause-time : goal.returns-clause-time
-returns-clause-time c = λ honest. (reads c.args.self.now c.read_or_fail.new.self c.read_or_fail.result c.read_or_fail.ensures.called).time
+returns-clause-time c = λ durable. (reads c.args.self.now c.read_or_fail.new.self c.read_or_fail.result c.read_or_fail.ensures.called).time
 
 pub returns-clause-inside : goal.returns-clause-inside
-returns-clause-inside c = λ honest. (reads c.args.self.now c.read_or_fail.new.self c.read_or_fail.result c.read_or_fail.ensures.called).inside
+returns-clause-inside c = λ durable. (reads c.args.self.now c.read_or_fail.new.self c.read_or_fail.result c.read_or_fail.ensures.called).inside
 
 pub returns-clause-cause : goal.returns-clause-cause
 returns-clause-cause c = (reads c.args.self.now c.read_or_fail.new.self c.read_or_fail.result c.read_or_fail.ensures.called).cause

@@ -4,25 +4,25 @@ use Rattle.wf_tape.proofs.Called.{replaces, stays_sturdy, fails_soundly}
 use Rattle.wf_tape.proofs.memory.MemoryTapeTape.replace.Goals as goal
 
 pub returns-clause-ok : goal.returns-clause-ok
-returns-clause-ok c = λ honest. (replaces c.args.self.now c.replace_or_fail.new.self c.args.bytes.now c.replace_or_fail.result c.replace_or_fail.ensures.called).ok
+returns-clause-ok c = λ durable. (replaces c.args.self.now c.replace_or_fail.new.self c.args.bytes.now c.replace_or_fail.result c.replace_or_fail.ensures.called).ok
 
 pub returns-clause-synced : goal.returns-clause-synced
-returns-clause-synced c = λ honest. (replaces c.args.self.now c.replace_or_fail.new.self c.args.bytes.now c.replace_or_fail.result c.replace_or_fail.ensures.called).synced
+returns-clause-synced c = λ durable. (replaces c.args.self.now c.replace_or_fail.new.self c.args.bytes.now c.replace_or_fail.result c.replace_or_fail.ensures.called).synced
 
 pub returns-clause-err : goal.returns-clause-err
-returns-clause-err c = λ honest. (replaces c.args.self.now c.replace_or_fail.new.self c.args.bytes.now c.replace_or_fail.result c.replace_or_fail.ensures.called).err
+returns-clause-err c = λ durable. (replaces c.args.self.now c.replace_or_fail.new.self c.args.bytes.now c.replace_or_fail.result c.replace_or_fail.ensures.called).err
 
 pub returns-clause-images : goal.returns-clause-images
-returns-clause-images c = λ honest. (replaces c.args.self.now c.replace_or_fail.new.self c.args.bytes.now c.replace_or_fail.result c.replace_or_fail.ensures.called).images
+returns-clause-images c = λ durable. (replaces c.args.self.now c.replace_or_fail.new.self c.args.bytes.now c.replace_or_fail.result c.replace_or_fail.ensures.called).images
 
 pub returns-clause-memory : goal.returns-clause-memory
-returns-clause-memory c = λ honest. (replaces c.args.self.now c.replace_or_fail.new.self c.args.bytes.now c.replace_or_fail.result c.replace_or_fail.ensures.called).memory
+returns-clause-memory c = λ durable. (replaces c.args.self.now c.replace_or_fail.new.self c.args.bytes.now c.replace_or_fail.result c.replace_or_fail.ensures.called).memory
 
 pub returns-clause-time : goal.returns-clause-time
-returns-clause-time c = λ honest. (replaces c.args.self.now c.replace_or_fail.new.self c.args.bytes.now c.replace_or_fail.result c.replace_or_fail.ensures.called).time
+returns-clause-time c = λ durable. (replaces c.args.self.now c.replace_or_fail.new.self c.args.bytes.now c.replace_or_fail.result c.replace_or_fail.ensures.called).time
 
 pub returns-clause-inside : goal.returns-clause-inside
-returns-clause-inside c = λ honest. (replaces c.args.self.now c.replace_or_fail.new.self c.args.bytes.now c.replace_or_fail.result c.replace_or_fail.ensures.called).inside
+returns-clause-inside c = λ durable. (replaces c.args.self.now c.replace_or_fail.new.self c.args.bytes.now c.replace_or_fail.result c.replace_or_fail.ensures.called).inside
 
 pub returns-clause-cause : goal.returns-clause-cause
 returns-clause-cause c = (replaces c.args.self.now c.replace_or_fail.new.self c.args.bytes.now c.replace_or_fail.result c.replace_or_fail.ensures.called).cause

@@ -1,5 +1,5 @@
-use Rattle.wf_text.specs.NumberTextLaws.{number_text_short}
-use Rattle.wf_text.proofs.NumberWriting.{whole_text}
+use Rattle.wf_text.specs.NumberTextTheorems.{number_text_short}
+use Rattle.wf_text.proofs.NumberWriteSequences.{whole_text}
 use Rattle.wf_text.proofs.number_text.NumberText.of.Goals as goal
 
 pub returns : goal.returns

@@ -1,6 +1,6 @@
 use Rattle.std.proofs.Common.{◌≡◌}
-use Rattle.wf_visitors.specs.Visitors.{said_of}
+use Rattle.wf_visitors.specs.Visitors.{responses_of}
 use Rattle.wf_visitors.proofs.visitors.Visitors.tick.Given as goal
 
 abbrev pub invariant-loop-index : goal.invariant-loop-index
-invariant-loop-index l = said_of l.self ≡ said_of l.fn.self
+invariant-loop-index l = responses_of l.self ≡ responses_of l.fn.self

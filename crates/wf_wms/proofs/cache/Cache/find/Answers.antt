@@ -1,12 +1,12 @@
 use Rattle.std.proofs.Common.{◌≡◌, subst}
 use Rattle.std.specs.Prelude.{option_copied}
 use Rattle.std.specs.Map.{lookup}
-use Rattle.wf_wms.specs.KeptPictures.{CacheValue}
-use Rattle.wf_wms.proofs.KeptPicturesLaw.{eq, found_absent, found_in, found_there}
+use Rattle.wf_wms.specs.CachedPictures.{CacheValue}
+use Rattle.wf_wms.proofs.CachedPicturesTheorem.{eq, found_absent, found_in, found_there}
 use Rattle.wf_wms.proofs.cache.Cache.find.Goals as goal
 
-pub returns-clause-kept : goal.returns-clause-kept
-returns-clause-kept c =
+pub returns-clause-cached : goal.returns-clause-cached
+returns-clause-cached c =
     found_in c.args.self.now c.args.key.now c.peek.result
     (subst (λ (cache : CacheValue). option_copied c.peek.result ≡ lookup (eq c.args.key.now) cache.entries) c.self.view_is c.peek.ensures)
 

@@ -1,7 +1,7 @@
 use Rattle.std.proofs.Common.{rules}
 use Rattle.std.proofs.lemmas.Bool.Decides.{Decides-at}
 use Rattle.wf_def.specs.Equality.{definition_eq}
-use Rattle.wf_def.specs.EqualityLaws.{definition_eq-Decides}
+use Rattle.wf_def.specs.EqualityTheorems.{definition_eq-Decides}
 use Rattle.wf_def.proofs.map.equality.MapDefPartialEq.eq.Goals as goal
 
 pub returns-then-eq-6-clause-equal : goal.returns-then-eq-6-clause-equal

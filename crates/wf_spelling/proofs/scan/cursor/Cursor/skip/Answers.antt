@@ -1,7 +1,7 @@
 use Rattle.std.proofs.Common.{refl, Some}
 use Rattle.std.proofs.lemmas.Slice.Eq.{strip_prefix_is}
 use Rattle.std.proofs.lemmas.Bool.Decides.{Decides-eqb}
-use Rattle.wf_spelling.proofs.Scanning.{past}
+use Rattle.wf_spelling.proofs.ScanSequences.{past}
 use Rattle.wf_spelling.proofs.scan.cursor.Cursor.skip.Goals as goal
 
 pub returns-in-Some-clause-past : goal.returns-in-Some-clause-past

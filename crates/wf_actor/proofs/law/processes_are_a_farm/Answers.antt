@@ -1,5 +1,0 @@
-use Rattle.wf_actor.proofs.Farms.{processes_are_farm}
-use Rattle.wf_actor.proofs.law.processes_are_a_farm.Goals as goal
-
-pub returns : goal.returns
-returns g c = processes_are_farm g.T.Tape

@@ -1,8 +1,0 @@
-use Rattle.wf_codec.specs.Kind.{can_have}
-use Rattle.std.proofs.Common.{refl}
-use Rattle.wf_codec.specs.FormatLaws.{body_at_most}
-use Rattle.wf_codec.proofs.law.longest_body.Goals as goal
-
-pub returns : goal.returns
-unfolding can_have
-returns c = record { within = body_at_most; reached = refl }

@@ -1,5 +1,0 @@
-use Rattle.wf_codec.proofs.Judged.{none_begins_another}
-use Rattle.wf_codec.proofs.law.none_begins_another.Goals as goal
-
-pub returns : goal.returns
-returns c = none_begins_another c.one_text_one_map.ensures

@@ -1,0 +1,36 @@
+-- What a run of `serve` does, and its errors.
+use Rattle.std.specs.Prelude.{ℕ, List, Option, Result, Ok, Err, OnOk}
+use Rattle.wf_serve.specs.PortLine.{IsPrinted}
+use Rattle.wf_serve.specs.Served.{HasServed}
+use Rattle.wf_serve.specs.declared.fault.ServeFault.{ServeFault}
+use Rattle.wf_serve.specs.declared.fault.ServeFault.TheVariants as serving
+use Rattle.wf_service.specs.declared.service.Service.{Service}
+use Rattle.wf_tape.specs.declared.tape.Tape.{Ghosts as Tape}
+use Rattle.wf_commands.specs.declared.fault.RunFault.{RunFault}
+use Rattle.wf_commands.specs.declared.fault.RunFault.TheVariants as faults
+
+-- the result of a run, by the server's
+abbrev pub run_outcome : Result (Unit {0}) ServeFault → Result (Unit {0}) RunFault
+run_outcome (Ok done) = Ok done
+run_outcome (Err serving.Start) = Err faults.Serve
+run_outcome (Err serving.Write) = Err faults.Write
+
+-- The nodes were served, by the program's result. `serves` is what that means for the bytes written before and after, and the
+-- server's result.
+abbrev pub IsServing : (Option (List ℕ) → Option (List ℕ) → Result (Unit {0}) ServeFault → Type 0) → Option (List ℕ) → Option (List ℕ)
+    → Result (Unit {0}) RunFault → Type 0
+IsServing serves old new (Ok done) = serves old new (Ok done)
+IsServing serves old new (Err faults.Write) = serves old new (Err serving.Write)
+IsServing serves old new (Err faults.Serve) = serves old new (Err serving.Start)
+IsServing serves old new (Err (faults.Map fault)) = ⊥
+IsServing serves old new (Err (faults.Canon fault)) = ⊥
+IsServing serves old new (Err (faults.Script fault)) = ⊥
+IsServing serves old new (Err (faults.Tape fault)) = ⊥
+IsServing serves old new (Err faults.Read) = ⊥
+IsServing serves old new (Err faults.Wire) = ⊥
+
+-- What the machine's serving of a service is, on tapes in memory and in files: the line with the port is written, or a prefix of it; and
+-- if the nodes were served, these are as many as the service has, and they served its number of connections, as `HasServed` says.
+pub record IsMachineServing {M F : Type 0} (inside : Tape M) (outside : Tape F) (service : Service) (old new : Option (List ℕ)) (result : Result (Unit {0}) ServeFault) : Type 0 where
+  pub reported_as : IsPrinted service.port old new result
+  pub served : OnOk result (HasServed inside outside service)

@@ -1,5 +1,0 @@
-use Rattle.wf_disk.specs.FolderLaws.{is_cut_to_any}
-use Rattle.wf_disk.proofs.law.a_memory_disk_is_cut_to_any_image.Goals as goal
-
-pub returns : goal.returns
-returns c = is_cut_to_any

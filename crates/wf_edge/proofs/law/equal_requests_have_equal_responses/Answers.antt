@@ -1,5 +1,0 @@
-use Rattle.wf_edge.proofs.ServiceLaw.{one_response}
-use Rattle.wf_edge.proofs.law.equal_requests_have_equal_responses.Goals as goal
-
-pub returns : goal.returns
-returns g c = one_response _ g.T.Tape c.each_query_has_one_page.ensures

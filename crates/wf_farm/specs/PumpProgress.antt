@@ -1,0 +1,64 @@
+-- The progress of a pump, and how it ended.
+use Rattle.std.specs.Prelude.{◌≡◌, ◌<◌, ◌≤◌, ◌+◌, ℕ, ⊤, Bool, true, false, List, Result, Ok, Err, if◌then◌else◌, ◌==◌}
+use Rattle.wf_farm.specs.Common.{Message}
+use Rattle.wf_farm.specs.declared.fault.FarmFault.{FarmFault}
+use Rattle.wf_farm.specs.declared.progress.End.{End}
+use Rattle.wf_farm.specs.declared.progress.End.TheVariants.{Done, Stopped, Failed}
+use Rattle.wf_farm.specs.declared.progress.PumpProgress.{PumpProgress}
+use Rattle.wf_farm.specs.declared.carrier.CarrierFault.TheVariants as carrier
+use Rattle.wf_farm.specs.Carriage.{fault_after}
+use Rattle.wf_farm.specs.Pump.{NextMayAllocate, begun, most_deliveries}
+use Rattle.wf_farm.specs.NodeHost.{MemoryHost}
+
+-- one more delivery: on to the next of `round` targets, or the round is complete
+abbrev pub next : ℕ → PumpProgress → PumpProgress
+next targets p = if p.some + 1 == targets
+    then record { whole = p.whole + 1; some = 0; done = p.done + 1 }
+    else record { whole = p.whole; some = p.some + 1; done = p.done + 1 }
+
+-- the counts of the deliveries, where this many messages are sent by now
+pub record AreCounted (round first : ℕ) (p : PumpProgress) (lost sent : ℕ) : Type 0 where
+  pub part : p.some < round
+  pub within : first + p.whole + begun p.some ≤ sent
+  pub most : p.done ≤ most_deliveries
+  pub fewer : lost ≤ p.done
+
+-- the count of lost deliveries after one more delivery, by whether that is lost
+abbrev pub counted : ℕ → Bool → ℕ
+counted lost true = lost + 1
+counted lost false = lost
+
+-- the end once the limit of deliveries is reached, by whether some are left
+abbrev pub last_end : Bool → End
+last_end true = Stopped
+last_end false = Done
+
+-- each delivery was made
+abbrev pub IsMade : End → Type 0
+IsMade Done = ⊤
+IsMade Stopped = ⊤
+IsMade (Failed fault) = ⊥
+
+-- if a delivery wasn't made, an allocation failed
+abbrev pub IsForMemory : End → Type 0
+IsForMemory Done = ⊤
+IsForMemory Stopped = ⊤
+IsForMemory (Failed fault) = fault ≡ carrier.Memory
+
+-- nothing is left; the limit of deliveries is reached, and some are left; or one wasn't made before that
+abbrev pub IsEnd : ℕ → ℕ → PumpProgress → End → Type 0
+IsEnd first count p Done = (p.some ≡ 0) × (first + p.whole ≡ count)
+IsEnd first count p Stopped = (p.done ≡ most_deliveries) × (first + p.whole < count)
+IsEnd first count p (Failed fault) = p.done < most_deliveries
+
+-- Where a delivery wasn't made, it may allocate.
+abbrev pub MayEnd : List ℕ → ℕ → PumpProgress → List MemoryHost → List Message → End → Type 0
+MayEnd targets first p hosts sent Done = Unit {0}
+MayEnd targets first p hosts sent Stopped = Unit {0}
+MayEnd targets first p hosts sent (Failed fault) = NextMayAllocate targets first p.whole p.some hosts sent
+
+-- the result for each end
+abbrev pub outcome : PumpProgress → End → Result Bool FarmFault
+outcome p Done = Ok false
+outcome p Stopped = Ok true
+outcome p (Failed fault) = Err (fault_after fault p.done)

@@ -1,0 +1,129 @@
+//! The initial nodes of a farm, and a node that stops and restarts.
+
+ghost use Rattle.std.specs.Prelude.{◌≡◌, ◌<◌, ◌≤◌, ◌+◌, false, [], length, None, IfOk, IfErr, OnOk};
+ghost use Rattle.wf_model.specs.World.{start};
+ghost use Rattle.wf_node.specs.Images.{AllStandFor};
+ghost use Rattle.wf_node.specs.Node.{stored_of};
+ghost use Rattle.wf_tape.specs.MemoryTape.{IsImageOf, NeverFails};
+ghost use Rattle.wf_farm.specs.Cluster.{AreMembers, Refines};
+ghost use Rattle.wf_farm.specs.Reachability.{IsFresh};
+ghost use Rattle.wf_farm.specs.Fused.{FailsOnly};
+ghost use Rattle.wf_farm.specs.NodeHost.{IsMember, IsNode, tape_in};
+ghost use Rattle.wf_farm.specs.ReopenedNodes.{IsReopened};
+ghost use Rattle.wf_farm.specs.Start.{fresh_node, AreFresh};
+
+use crate::cluster::Cluster;
+use crate::host::NodeHost;
+use std::alloc::{AllocError, Global};
+use wf_ballot::NodeId;
+use wf_journal::records_are_read_one_way;
+use wf_node::Node;
+use wf_tape::MemoryTape;
+
+impl Cluster<MemoryTape> {
+    /// Returns n nodes, all running, with all parts empty, and no message.
+    #[tactic(auto, using(crate::proofs::Worlds::start_shown, crate::proofs::Worlds::start_members, crate::proofs::Worlds::start_sturdy, crate::proofs::Worlds::none_fresh))]
+    pub(crate) fn new(alloc: Global, n: u8) -> Result<Cluster<MemoryTape>, AllocError>
+        requires { n ≤ 64 }
+        ensures size { IfOk result (λ cluster. length cluster.hosts.items ≡ n) }
+        ensures members { IfOk result (λ cluster. AreMembers cluster.hosts.items) }
+        ensures refines { IfOk result (λ cluster.
+            Refines cluster.hosts.items cluster.sent.items (start n)) }
+        ensures sent { IfOk result (λ cluster. cluster.sent.items ≡ []) }
+        ensures fresh { IfOk result (λ cluster. AreFresh n 0 cluster.hosts.items) }
+        ensures sturdy { IfOk result (λ cluster. FailsOnly None cluster.hosts.items) }
+    {
+        let mut hosts = Vec::new(alloc);
+        for number in 0..n {
+            // The index is below 64, so it is a node number.
+            let id = NodeId::new(number).unwrap();
+            add_node(alloc, &mut hosts, id, n)?;
+        }
+        Ok(Cluster {
+            hosts,
+            sent: Vec::new(alloc),
+        })
+    }
+}
+
+/// Appends node `id` of n, with an empty tape.
+#[tactic(auto, using(crate::proofs::Worlds::one_more_fresh))]
+fn add_node(
+    alloc: Global,
+    hosts: &mut Vec<NodeHost<MemoryTape>>,
+    id: NodeId,
+    n: u8,
+) -> Result<(), AllocError>
+    requires most { n ≤ 64 }
+    requires member { id < n }
+    requires next { length hosts.old.items ≡ id }
+    requires fresh { AreFresh n 0 hosts.old.items }
+    ensures fresh { OnOk result (AreFresh n 0 hosts.new.items) }
+    ensures size { OnOk result (length hosts.new.items ≡ id + 1) }
+{
+    match first_node(alloc, id, n) {
+        Ok(host) => {
+            hosts.push(host)?;
+            Ok(())
+        }
+        Err(fault) => Err(fault),
+    }
+}
+
+/// Node `id` of n, with an empty tape.
+#[tactic(auto, using(crate::proofs::Steps::fresh_shown))]
+fn first_node(alloc: Global, id: NodeId, n: u8) -> Result<NodeHost<MemoryTape>, AllocError>
+    requires most { n ≤ 64 }
+    requires member { id < n }
+    ensures node { IfOk result (λ host. IsNode host fresh_node) }
+    ensures member { IfOk result (IsMember n id) }
+    ensures fuse { IfOk result (λ host. NeverFails (tape_in host)) }
+{
+    match open_fresh(alloc, id, n) {
+        Ok(node) => Ok(NodeHost::Running(node)),
+        Err(fault) => Err(fault),
+    }
+}
+
+/// Returns node `id` of n, on an empty tape in memory: it runs, with all parts empty. Err if an allocation fails.
+#[tactic(auto, using(crate::proofs::Steps::opened_fresh))]
+pub fn open_fresh(alloc: Global, id: NodeId, n: u8) -> Result<Node<MemoryTape>, AllocError>
+    requires most { n ≤ 64 }
+    requires member { id < n }
+    ensures fresh { IfOk result IsFresh }
+    ensures id { IfOk result (λ node. node.id ≡ id) }
+    ensures n { IfOk result (λ node. node.n ≡ n) }
+    ensures fuse { IfOk result (λ node. NeverFails node.tape) }
+{
+    // Theorem of the tape: an empty tape has no record.
+    records_are_read_one_way();
+    match Node::open(alloc, MemoryTape::new(Vec::new(alloc)), id, n) {
+        Ok(node) => Ok(node),
+        // An empty tape is rejected only for allocation failure.
+        Err((tape, _)) => {
+            drop(tape);
+            Err(AllocError)
+        }
+    }
+}
+
+/// Closes a node in memory and opens it again from its tape, as the same one of n nodes: it stops and restarts. Err if an allocation
+/// fails: the tape is returned, and stands for what the node had stored.
+pub fn reopen(alloc: Global, node: Node<MemoryTape>, n: u8) -> Result<Node<MemoryTape>, MemoryTape>
+    requires most { n ≤ 64 }
+    requires member { node.id < n }
+    ensures again { IfOk result (IsReopened node.tape.bytes node) }
+    ensures id { IfOk result (λ again. again.id ≡ node.id) }
+    ensures n { IfOk result (λ again. again.n ≡ n) }
+    ensures kept { IfErr result (λ tape.
+        node.halted ≡ false → AllStandFor (stored_of node) (IsImageOf tape)) }
+{
+    // Theorem of the tape: it stands for exactly one durable state.
+    records_are_read_one_way();
+    let id = node.id();
+    match Node::open(alloc, node.close(), id, n) {
+        Ok(again) => Ok(again),
+        // A tape in memory that a node left, and that has no fuse, is rejected only for allocation failure.
+        Err((tape, _)) => Err(tape),
+    }
+}

@@ -1,5 +1,0 @@
-use Rattle.wf_frame.specs.FrameLaws.{frames_are_read}
-use Rattle.wf_frame.proofs.law.frames_are_read.Goals as goal
-
-pub returns : goal.returns
-returns g c = frames_are_read g.K.FrameKind.format g.met.K.FrameKind.is_format

@@ -1,5 +1,0 @@
-use Rattle.wf_frame.specs.FrameLaws.{none_begins_another}
-use Rattle.wf_frame.proofs.law.none_begins_another.Goals as goal
-
-pub returns : goal.returns
-returns g c = none_begins_another g.K.FrameKind.format g.met.K.FrameKind.is_format

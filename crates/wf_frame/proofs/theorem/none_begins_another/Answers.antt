@@ -1,0 +1,5 @@
+use Rattle.wf_frame.specs.FrameTheorems.{none_begins_another}
+use Rattle.wf_frame.proofs.theorem.none_begins_another.Goals as goal
+
+pub returns : goal.returns
+returns g c = none_begins_another g.K.FrameKind.format g.met.K.FrameKind.is_format

@@ -1,5 +1,0 @@
-use Rattle.wf_law.proofs.Theorems.{kept_promises}
-use Rattle.wf_law.proofs.kept_promises.Goals as goal
-
-pub returns : goal.returns
-returns g c = kept_promises _

@@ -1,2 +1,0 @@
-pub mod Earlier
-pub mod Laws

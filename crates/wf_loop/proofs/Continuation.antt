@@ -1,0 +1,174 @@
+-- Whatever is done to a process, its run goes on.
+use Rattle.std.proofs.Common.{◌≡◌, ◌⊎◌, ℕ, ◌<◌, ◌≤◌, Bool, true, false, List, [], ◌∷◌, ◌++◌, length, Option, Some, None, Result, Ok, Err, OnErr, OnOk, refl, sym, subst, ap, ◌∙◌, inl, inr, append-nil, append_assoc}
+use Rattle.std.proofs.lemmas.Bool.{cases_Bool, cases_lt}
+use Rattle.wf_actor.specs.Life.{logged}
+use Rattle.wf_actor.specs.Process.{ReceivesFrom, ReceivesOwn, IsActed, IsGoingOn, IsLinkChanged, IsReception, IsSameActor, is_peer, emitted_by}
+use Rattle.wf_actor.specs.declared.actor.Actor.{Actor}
+use Rattle.wf_actor.specs.declared.link.Link.{Link}
+use Rattle.wf_actor.specs.declared.origin.Origin.{Origin}
+use Rattle.wf_actor.specs.declared.process.Process.{Process}
+use Rattle.wf_actor.specs.declared.target.Target.{Target}
+use Rattle.wf_def.specs.Definition.{Definition}
+use Rattle.wf_model.specs.declared.action.Action.{Action}
+use Rattle.wf_codec.specs.declared.message.Message.{Message}
+use Rattle.wf_edge.specs.declared.outcome.Outcome.{Outcome}
+use Rattle.wf_mail.specs.Mail.{IsBeginning}
+use Rattle.wf_node.specs.declared.fault.NodeFault.{NodeFault}
+use Rattle.wf_tape.specs.declared.tape.Tape.{Ghosts as Tape}
+use Rattle.wf_wire.specs.declared.fault.InboxFault.{InboxFault}
+use Rattle.wf_loop.specs.Answer.{IsAnswer, IsResponse}
+use Rattle.wf_loop.specs.Continuation.{GoesOn, IsEarlier, IsLater, IsOfRuns, KeepsEarlier}
+use Rattle.wf_loop.specs.declared.voter.Voter.{Voter}
+
+-- ---- beginnings of lists
+
+whole : {A : Type 0} (xs ys : List A) → ys ≡ xs → IsBeginning xs ys
+whole xs ys same = ([], append-nil xs ∙ sym same)
+
+grown : {A : Type 0} (xs more ys : List A) → ys ≡ xs ++ more → IsBeginning xs ys
+grown xs more ys is = (more, sym is)
+
+through : {A : Type 0} (xs ys zs : List A) → IsBeginning xs ys → IsBeginning ys zs → IsBeginning xs zs
+through xs ys zs (rest, e) (more, h) = (rest ++ more, sym (append_assoc xs rest more) ∙ subst (λ k. k ++ more ≡ zs) (sym e) h)
+
+-- ---- one of two ways, as a test says, or as an order does
+
+by_test : {P : Type 0} (test : Bool) → (test ≡ true → P) → (test ≡ false → P) → P
+by_test test holds fails = elim (cases_Bool test) [
+  | inl is ↦ holds is
+  | inr is ↦ fails is
+]
+
+by_order : {P : Type 0} (a b : ℕ) → (a < b → P) → (b ≤ a → P) → P
+by_order a b below above = elim (cases_lt a b) [
+  | inl is ↦ below is
+  | inr is ↦ above is
+]
+
+module _ {T : Type 0} (tapes : Tape T) where
+  -- ---- a run
+
+  later_same : (before after : Actor T tapes) → after ≡ before → IsLater tapes before after
+  later_same before after same = record {
+    number = ap (λ (a : Actor T tapes). a.node.id) same;
+    read_from = ap (λ (a : Actor T tapes). a.read_from.items) same;
+    began = ap (λ (a : Actor T tapes). a.began.items) same;
+    given = whole _ _ (ap (λ (a : Actor T tapes). a.given.items) same);
+    emitted = whole _ _ (ap (λ (a : Actor T tapes). logged a.emitted.items) same);
+  }
+
+  later_twice : (one two three : Actor T tapes) → IsLater tapes one two → IsLater tapes two three → IsLater tapes one three
+  later_twice one two three first second = record {
+    number = second.number ∙ first.number;
+    read_from = second.read_from ∙ first.read_from;
+    began = second.began ∙ first.began;
+    given = through _ _ _ first.given second.given;
+    emitted = through _ _ _ first.emitted second.emitted;
+  }
+
+  -- ---- a process
+
+  pub still : (process : Process T tapes) → GoesOn tapes process process
+  still process = record { actor = later_same process.actor process.actor refl; among = refl; ended = refl }
+
+  pub twice : (one two three : Process T tapes) → GoesOn tapes one two → GoesOn tapes two three → GoesOn tapes one three
+  twice one two three first second = record {
+    actor = later_twice one.actor two.actor three.actor first.actor second.actor;
+    among = second.among ∙ first.among;
+    ended = second.ended ∙ first.ended;
+  }
+
+  pub thrice : (one two three four : Process T tapes) → GoesOn tapes one two → GoesOn tapes two three → GoesOn tapes three four → GoesOn tapes one four
+  thrice one two three four first second third = twice one two four first (twice two three four second third)
+
+  pub unchanged : (before after : Process T tapes) → after ≡ before → GoesOn tapes before after
+  unchanged before after same = subst (λ (p : Process T tapes). GoesOn tapes before p) (sym same) (still before)
+
+  same_actor : (before after : Process T tapes) → IsSameActor before after → GoesOn tapes before after
+  same_actor before after is = record { actor = later_same before.actor after.actor is.actor; among = is.among; ended = is.ended }
+
+  going_on : (before after : Process T tapes) (outputs : List Message) → IsGoingOn before after → emitted_by after ≡ emitted_by before ++ outputs
+      → IsBeginning before.actor.given.items after.actor.given.items → GoesOn tapes before after
+  going_on before after outputs goes emitted given = record {
+    actor = record {
+      number = goes.number;
+      read_from = goes.read_from;
+      began = goes.began;
+      given = given;
+      emitted = grown _ outputs _ emitted;
+    };
+    among = goes.among;
+    ended = goes.ended;
+  }
+
+  -- an act
+  pub acted : {U : Type 0} (input : Action Definition Message) (origin : Origin) (target : Target) (before : Process T tapes) (result : Result U NodeFault) (after : Process T tapes)
+      → IsActed tapes input origin target before result after → GoesOn tapes before after
+  acted input origin target before result after is = going_on before after _ is.goes_on is.emitted (grown _ _ _ is.given)
+
+  -- a message of its own, or of a peer
+  pub heard_own : {U : Type 0} (before : Process T tapes) (result : Option (Result U NodeFault)) (after : Process T tapes) → ReceivesOwn tapes before result after → GoesOn tapes before after
+  heard_own before None after is = unchanged before after is.1
+  heard_own before (Some result) after is = twice before is.1 after (same_actor before is.1 is.2.rest) (going_on is.1 after _ is.3.goes_on is.3.emitted (grown _ _ _ is.3.given))
+
+  pub heard_from : {U : Type 0} (peer : ℕ) (before : Process T tapes) (result : Option (Result U NodeFault)) (after : Process T tapes) → ReceivesFrom tapes peer before result after → GoesOn tapes before after
+  heard_from peer before None after is = unchanged before after is.1
+  heard_from peer before (Some result) after is = twice before is.1 after (same_actor before is.1 is.2.rest) (going_on is.1 after _ is.3.goes_on is.3.emitted (grown _ _ _ is.3.given))
+
+  -- an end of a connection
+  pub relinked : (peer : ℕ) (change : Link → Link → Type 0) (before after : Process T tapes)
+      → (peer < length before.links.items → IsLinkChanged peer change before after) → (length before.links.items ≤ peer → after ≡ before) → GoesOn tapes before after
+  relinked peer change before after linked unlinked =
+      by_order peer (length before.links.items) (λ below. same_actor before after (linked below).rest) (λ above. unchanged before after (unlinked above))
+
+  pub written : {A B : Type 0} (peer : ℕ) (change : Link → Link → Type 0) (before after : Process T tapes)
+      → (peer < length before.links.items → IsLinkChanged peer change before after) → (length before.links.items ≤ peer → A × (after ≡ before) × B) → GoesOn tapes before after
+  written peer change before after linked unlinked = relinked peer change before after linked (λ above. (unlinked above).1)
+
+  pub received : {A : Type 0} (peer : ℕ) (piece : List ℕ) (before : Process T tapes) (result : Result ℕ InboxFault) (after : Process T tapes)
+      → (is_peer before peer ≡ true → IsReception peer piece before result after) → (is_peer before peer ≡ false → A × (after ≡ before)) → GoesOn tapes before after
+  received peer piece before result after from other =
+      by_test (is_peer before peer)
+      (λ is. let took = from is in record { actor = later_same before.actor after.actor took.actor; among = took.among; ended = took.ended })
+      (λ is. unchanged before after (other is).1)
+
+  -- a client's request, which was answered, or wasn't
+  pub answered : (before : Process T tapes) (came response : List ℕ) (outcome : Outcome) (after : Process T tapes) → IsAnswer tapes before came response outcome after → GoesOn tapes before after
+  answered before came response outcome after is = going_on before after _ is.goes_on is.emitted (whole _ _ is.given)
+
+  pub responded : (before : Process T tapes) (came response : List ℕ) (after : Process T tapes) → IsResponse tapes before came response after → GoesOn tapes before after
+  responded before came response after is = answered before came response is.outcome after is.answer
+
+  pub stayed : (before after : Voter T tapes) → (after ≡ before) ⊎ GoesOn tapes before.process after.process → GoesOn tapes before.process after.process
+  stayed before after (inl same) = unchanged before.process after.process (ap (λ (v : Voter T tapes). v.process) same)
+  stayed before after (inr is) = is
+
+  -- ---- what is earlier stays so
+
+  of_runs_later : (actor : Actor T tapes) (runs runs' : List (Actor T tapes × ℕ)) → runs' ≡ runs → IsOfRuns tapes actor runs → IsOfRuns tapes actor runs'
+  of_runs_later actor runs runs' same is = subst (λ (rs : List (Actor T tapes × ℕ)). IsOfRuns tapes actor rs) (sym same) is
+
+  of_runs_last : (actor run : Actor T tapes) (k : ℕ) (runs : List (Actor T tapes × ℕ)) → IsLater tapes actor run → IsOfRuns tapes actor (runs ++ (run, k) ∷ [])
+  of_runs_last actor run k [] later = inl later
+  of_runs_last actor run k (first ∷ runs) later = inr (of_runs_last actor run k runs later)
+
+  of_runs_more : (actor : Actor T tapes) (runs more : List (Actor T tapes × ℕ)) → IsOfRuns tapes actor runs → IsOfRuns tapes actor (runs ++ more)
+  of_runs_more actor [] more is = absurd is
+  of_runs_more actor (first ∷ runs) more (inl later) = inl later
+  of_runs_more actor (first ∷ runs) more (inr is) = inr (of_runs_more actor runs more is)
+
+  earlier_on : (past before now : Process T tapes) → GoesOn tapes before now → IsEarlier tapes past before → IsEarlier tapes past now
+  earlier_on past before now goes (inl later) = inl (later_twice past.actor before.actor now.actor later goes.actor)
+  earlier_on past before now goes (inr is) = inr (of_runs_later past.actor before.ended.items now.ended.items goes.ended is)
+
+  earlier_ended : (past before now : Process T tapes) (k : ℕ) → now.ended.items ≡ before.ended.items ++ (before.actor, k) ∷ [] → IsEarlier tapes past before → IsEarlier tapes past now
+  earlier_ended past before now k is (inl later) = inr (of_runs_later past.actor _ now.ended.items is (of_runs_last past.actor before.actor k before.ended.items later))
+  earlier_ended past before now k is (inr is_past) = inr (of_runs_later past.actor _ now.ended.items is (of_runs_more past.actor before.ended.items _ is_past))
+
+  pub keeps_going : (before after : Process T tapes) → GoesOn tapes before after → KeepsEarlier tapes before after
+  keeps_going before after goes = λ past earlier. earlier_on past before after goes earlier
+
+  pub keeps_reopened : {A B : Type 0} (result : Result A B) (before after : Process T tapes) → OnOk result (after.ended.items ≡ before.ended.items ++ (before.actor, 0) ∷ []) → OnErr result (after ≡ before)
+      → KeepsEarlier tapes before after
+  keeps_reopened (Ok done) before after ended same = λ past earlier. earlier_ended past before after 0 ended earlier
+  keeps_reopened (Err why) before after ended same = λ past earlier. subst (λ (p : Process T tapes). IsEarlier tapes past p) (sym same) earlier

@@ -1,5 +1,0 @@
-use Rattle.wf_loop.specs.Going.{GoesOn}
-use Rattle.wf_loop.proofs.turn.hear_all_own.Given as goal
-
-abbrev pub invariant-loop : goal.invariant-loop
-invariant-loop g l = GoesOn g.T.Tape l.fn.process l.process

@@ -1,0 +1,35 @@
+-- The life of a process goes on.
+use Rattle.std.specs.Prelude.{◌≡◌, ◌⊎◌, ℕ, List, [], ◌∷◌}
+use Rattle.wf_actor.specs.Life.{logged}
+use Rattle.wf_actor.specs.declared.actor.Actor.{Actor}
+use Rattle.wf_actor.specs.declared.process.Process.{Process}
+use Rattle.wf_mail.specs.Mail.{IsBeginning}
+use Rattle.wf_tape.specs.declared.tape.Tape.{Ghosts as Tape}
+
+-- One run goes on: the tape from which the node was opened, the node as it was opened, and its number stay; what was given to it, and what
+-- it returned, only grow.
+pub record IsLater {T : Type 0} (tapes : Tape T) (before after : Actor T tapes) : Type 0 where
+  pub number : after.node.id ≡ before.node.id
+  pub read_from : after.read_from.items ≡ before.read_from.items
+  pub began : after.began.items ≡ before.began.items
+  pub given : IsBeginning before.given.items after.given.items
+  pub emitted : IsBeginning (logged before.emitted.items) (logged after.emitted.items)
+
+-- The process goes on in its run: no other run began.
+pub record GoesOn {T : Type 0} (tapes : Tape T) (before after : Process T tapes) : Type 0 where
+  pub actor : IsLater tapes before.actor after.actor
+  pub among : after.n ≡ before.n
+  pub ended : after.ended.items ≡ before.ended.items
+
+-- one of these runs is a later moment of this one
+abbrev pub IsOfRuns : {T : Type 0} (tapes : Tape T) → Actor T tapes → List (Actor T tapes × ℕ) → Type 0
+IsOfRuns tapes actor [] = ⊥
+IsOfRuns tapes actor (run ∷ runs) = IsLater tapes actor run.0 ⊎ IsOfRuns tapes actor runs
+
+-- it is an earlier moment of the process: of its run, or of one that has ended
+abbrev pub IsEarlier : {T : Type 0} (tapes : Tape T) → (before now : Process T tapes) → Type 0
+IsEarlier tapes before now = IsLater tapes before.actor now.actor ⊎ IsOfRuns tapes before.actor now.ended.items
+
+-- whatever was an earlier moment of the process still is
+abbrev pub KeepsEarlier : {T : Type 0} (tapes : Tape T) → (before after : Process T tapes) → Type 0
+KeepsEarlier {T} tapes before after = (past : Process T tapes) → IsEarlier tapes past before → IsEarlier tapes past after

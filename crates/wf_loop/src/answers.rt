@@ -1,0 +1,78 @@
+//! How a process answers clients.
+
+ghost use Rattle.std.specs.Prelude.{◌≡◌};
+ghost use Rattle.wf_loop.specs.Answer.{IsAnswer, IsResponse, IsUnsent};
+ghost use Rattle.wf_loop.specs.Continuation.{GoesOn};
+ghost use Rattle.wf_visitors.specs.ServerReply.{nothing};
+
+use crate::voter::Voter;
+use std::alloc::Global;
+use wf_actor::Process;
+use wf_client::partial_request::Incoming;
+use wf_client::response_buffer::Outgoing;
+use wf_edge::outcome::Outcome;
+use wf_edge::resource::RequestedResource;
+use wf_edge::route::resolve;
+use wf_http::front::{Front, MOST_HEAD_BYTES};
+use wf_tape::Tape;
+use wf_visitors::{Server, ServerReply};
+
+impl<T: Tape> Server for Voter<T> {
+    ghost responds = { λ before came _ response after. IsResponse T.Tape before.process came response after.process };
+
+    ghost stays = { λ before after. GoesOn T.Tape before.process after.process };
+
+    fn answer(
+        &mut self,
+        alloc: Global,
+        incoming: &Incoming,
+        outgoing: &mut Outgoing,
+    ) -> ServerReply {
+        self.process.always_lived();
+        self.process.always_received();
+        let taken = self.process.cache().taken();
+        match serve(alloc, &mut self.process, incoming, outgoing) {
+            Outcome::ReadFailed => ServerReply::Lacks(missing(incoming)),
+            Outcome::NoRequest => ServerReply::Nothing,
+            Outcome::Sent(status, bytes) | Outcome::WriteFailed(status, bytes) => {
+                self.rejected.note(alloc, status, outgoing.bytes());
+                let is_cached = self.process.cache().taken() != taken;
+                self.pictures.note(outgoing.bytes(), is_cached);
+                ServerReply::Sent { status, bytes }
+            }
+        }
+    }
+}
+
+/// Lets a process serve what has come of a request.
+fn serve<T: Tape>(
+    alloc: Global,
+    process: &mut Process<T>,
+    incoming: &Incoming,
+    outgoing: &mut Outgoing,
+) -> Outcome
+    requires { outgoing.old ≡ nothing }
+    ensures sent { IsAnswer T.Tape process.old incoming.now.bytes outgoing.new.bytes result process.new }
+    ensures on { GoesOn T.Tape process.old process.new }
+    ensures unsent { IsUnsent result outgoing.old outgoing.new }
+{
+    process.serve(alloc, &mut incoming.reader(), outgoing)
+}
+
+/// The number of bytes that a request lacks at least.
+fn missing(incoming: &Incoming) -> usize {
+    match Front::read(&mut incoming.reader()) {
+        Ok(front) => {
+            let length = match resolve(&front) {
+                Ok(RequestedResource::Publish(length)) => length,
+                _ => 0,
+            };
+            // the front holds the first of the bytes that came, as many as a head may have
+            let unread = incoming.len().saturating_sub(MOST_HEAD_BYTES);
+            let came = front.behind().len().saturating_add(unread);
+            drop(front);
+            length.saturating_sub(came).max(1)
+        }
+        Err(_) => 1,
+    }
+}

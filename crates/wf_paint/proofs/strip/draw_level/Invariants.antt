@@ -1,7 +1,0 @@
-use Rattle.wf_paint.specs.Shown.{IsColored}
-use Rattle.wf_paint.specs.Strip.{is_in_strip}
-use Rattle.wf_paint.proofs.SpanLemmas.{below_row}
-use Rattle.wf_paint.proofs.strip.draw_level.Given as goal
-
-abbrev pub invariant-loop-row : goal.invariant-loop-row
-invariant-loop-row l = IsColored (below_row l.row (is_in_strip l.levels l.fn.rows l.columns)) l.color l.initial.canvas l.canvas

@@ -1,0 +1,5 @@
+use Rattle.wf_peer.proofs.Reported.{steps_report_no_more}
+use Rattle.wf_peer.proofs.theorem.steps_report_no_more.Goals as goal
+
+pub returns : goal.returns
+returns g c = steps_report_no_more _

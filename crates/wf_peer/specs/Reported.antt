@@ -1,0 +1,50 @@
+-- What the messages of a step tell of their node: no more than it has stored by then.
+use Rattle.std.specs.Prelude.{◌≡◌, ℕ, ◌≤◌, Bool, ⊤, List, [], ◌∷◌, Option, Some, None}
+use Rattle.wf_model.specs.Fits.{IsForNext, NotBelow}
+use Rattle.wf_model.specs.Message.{Message, Vote}
+use Rattle.wf_model.specs.DurableState.{DurableState, published}
+use Rattle.wf_model.specs.Table.{Input, Transition, transition, store}
+use Rattle.wf_model.specs.VolatileState.{Idle, Leadership, Overtaken, Proposing, Running, Won, VolatileState}
+use Rattle.wf_peer.specs.Progress.{IsNoLess}
+use Rattle.wf_peer.specs.Sender.{advanced_by}
+use Rattle.wf_peer.specs.declared.progress.Progress.{Progress}
+
+-- the progress of a node that has stored this, in this start of it
+abbrev pub progress_of : {V : Type 0} → Progress → DurableState V → Progress
+progress_of start stored = record start { round = stored.tried; promise = stored.promise; published = published stored }
+
+-- the round of a running proposal's ballot was tried, and that of a leadership's
+abbrev pub IsTriedBy : {V : Type 0} → Proposing V → ℕ → Type 0
+IsTriedBy Idle tried = ⊤
+IsTriedBy (Running proposal) tried = proposal.ballot.round ≤ tried
+IsTriedBy (Won s) tried = ⊤
+IsTriedBy (Overtaken s) tried = ⊤
+
+abbrev pub IsLedBy : {V : Type 0} → Option (Leadership V) → ℕ → Type 0
+IsLedBy None tried = ⊤
+IsLedBy (Some leadership) tried = leadership.ballot.round ≤ tried
+
+-- a node's volatile state goes with what it has stored, and no vote is above the promise
+pub record GoTogether {V : Type 0} (stored : DurableState V) (volatile : VolatileState V) : Type 0 where
+  pub for_next : IsForNext stored volatile.proposing
+  pub tried : IsTriedBy volatile.proposing stored.tried
+  pub led : IsLedBy volatile.leadership stored.tried
+  pub promised : (s : ℕ) (vote : Vote V) → stored.votes s ≡ Some vote → NotBelow stored.promise vote.ballot
+
+-- what was heard, if it is no more than the node's progress, is no more after each of these messages
+abbrev pub ReportNoMore : {V : Type 0} → Progress → List (Message V) → Type 0
+ReportNoMore progress [] = ⊤
+ReportNoMore progress (m ∷ rest) = ((heard : Progress) → IsNoLess heard progress → IsNoLess (advanced_by heard m) progress) × ReportNoMore progress rest
+
+-- a transition's record takes nothing back, and its messages tell no more than is stored by then
+pub record ReportsNoMore {V : Type 0} (start : Progress) (stored : DurableState V) (transition : Transition V) : Type 0 where
+  pub grows : IsNoLess (progress_of start stored) (progress_of start (store stored transition.entry))
+  pub reports : ReportNoMore (progress_of start (store stored transition.entry)) transition.messages
+
+abbrev pub StepsReportNoMore : Type 0 → Type 0
+StepsReportNoMore V = (same : V → V → Bool) (n me : ℕ) (start : Progress) (stored : DurableState V) (volatile : VolatileState V) (input : Input V) → GoTogether stored volatile →
+    ReportsNoMore start stored (transition same n me stored volatile input)
+
+-- What is no less than a progress is no less than one that this is no less than.
+abbrev pub NoLessIsTransitive : Type 0
+NoLessIsTransitive = (a b c : Progress) → IsNoLess a b → IsNoLess b c → IsNoLess a c

@@ -1,7 +1,0 @@
--- The reason why the answers aren't compared is written.
-use Rattle.wf_play.proofs.Telling.{also_ok, uncompared_told}
-use Rattle.wf_play.proofs.session.Session.tell_equal.Goals as goal
-
-pub returns-in-Err : goal.returns-in-Err
-returns-in-Err c =
-    also_ok c.tell_no_answer.result (uncompared_told c.args.self.now.farm c.args.first c.args.second c.args.query.now c.in-Err.fault _ _ c.in-Err.ensures.fault) c.tell_no_answer.ensures

@@ -1,0 +1,32 @@
+-- What is replied to a reader.
+use Rattle.std.specs.Prelude.{◌≡◌, ◌⊎◌, ℕ, ⊤, List, ◌++◌}
+use Rattle.wf_def.specs.Definition.{Definition}
+use Rattle.wf_reader.specs.Answerer.{IsReplyTo}
+use Rattle.wf_reader.specs.Question.{question_bytes}
+use Rattle.wf_reader.specs.Reply.{reply_bytes}
+use Rattle.wf_reader.specs.declared.answerer.Answerer.{Answerer}
+use Rattle.wf_reader.specs.declared.question.Question.{Question}
+use Rattle.wf_reader.specs.declared.rejection.QuestionRejection.TheVariants.{OtherVersion}
+use Rattle.wf_reader.specs.declared.reply.Reply.{Reply}
+use Rattle.wf_reader.specs.declared.reply.Reply.TheVariants.{Rejected}
+use Rattle.wf_readers_port.specs.declared.answered.QuestionOutcome.{QuestionOutcome}
+use Rattle.wf_readers_port.specs.declared.answered.QuestionOutcome.TheVariants as answered
+
+-- where a reply was written
+abbrev pub IfReplied : QuestionOutcome → Type 0 → Type 0
+IfReplied answered.Short P = ⊤
+IfReplied (answered.Replied why) P = P
+IfReplied answered.Malformed P = ⊤
+IfReplied answered.Memory P = ⊤
+
+-- The reply that the question has by that history was appended.
+pub record Replies (own : Answerer) (history : List Definition) (question : Question) (old new : List ℕ) : Type 0 where
+  pub reply : Reply
+  pub is_reply : IsReplyTo own history question reply
+  pub written : new ≡ old ++ reply_bytes reply
+
+-- Bytes begin with a question, and its reply was appended; or, that they are of another version.
+abbrev pub RepliesTo : Answerer → List Definition → List ℕ → List ℕ → List ℕ → Type 0
+RepliesTo own history bytes old new =
+    ((question : Question) × (rest : List ℕ) × (bytes ≡ question_bytes question ++ rest) × Replies own history question old new)
+    ⊎ (new ≡ old ++ reply_bytes (Rejected OtherVersion))

@@ -1,0 +1,94 @@
+//! What is replied to a reader.
+ghost use Rattle.std.specs.Prelude.{◌≡◌, ◌++◌, true};
+ghost use Rattle.wf_digest.specs.Digest.{AreDigestsOf};
+ghost use Rattle.wf_reader.specs.Reply.{reply_bytes};
+ghost use Rattle.wf_reader.specs.declared.rejection.QuestionRejection.TheVariants as cause;
+ghost use Rattle.wf_reader.specs.declared.reply.Reply.TheVariants as replies;
+ghost use Rattle.wf_readers_port.specs.QuestionReplies.{IfReplied, Replies, RepliesTo};
+
+use crate::answered::QuestionOutcome;
+use crate::published::PortView;
+use std::alloc::Global;
+use wf_reader::{
+    Question, QuestionFault, QuestionRejection, Reply, decode_question, encode_reply, reply_to,
+};
+
+/// Replies to the question that bytes begin with. What is written is the reply that the question has by the history, if the digests are
+/// the history's.
+pub(crate) fn answer(
+    alloc: Global,
+    published: &PortView<'_>,
+    bytes: &[u8],
+    out: &mut Vec<u8>,
+) -> QuestionOutcome
+    ensures { AreDigestsOf published.now.history.now.definitions published.now.digests.now →
+        IfReplied result (RepliesTo published.now.own.now published.now.history.now.definitions
+        bytes.now out.old.items out.new.items) }
+{
+    match decode_question(bytes) {
+        Ok(question) => reply_by_history(alloc, published, &question, out),
+        Err(QuestionFault::Short) => QuestionOutcome::Short,
+        Err(QuestionFault::OtherVersion(_)) => reject_version(out),
+        Err(QuestionFault::NotAReader | QuestionFault::Malformed) => QuestionOutcome::Malformed,
+    }
+}
+
+/// Replies to a question.
+fn reply_by_history(
+    alloc: Global,
+    published: &PortView<'_>,
+    question: &Question,
+    out: &mut Vec<u8>,
+) -> QuestionOutcome
+    ensures { AreDigestsOf published.now.history.now.definitions published.now.digests.now →
+        IfReplied result (Replies published.now.own.now published.now.history.now.definitions
+        question.now out.old.items out.new.items) }
+{
+    let PortView {
+        own,
+        history,
+        digests,
+    } = published;
+    match reply_to(alloc, own, history, digests, question) {
+        Ok(reply) => {
+            let why = rejection_of(&reply);
+            let is_put = put(&reply, out);
+            drop(reply);
+            if is_put {
+                QuestionOutcome::Replied(why)
+            } else {
+                QuestionOutcome::Memory
+            }
+        }
+        Err(_) => QuestionOutcome::Memory,
+    }
+}
+
+/// Says that a question is of another version.
+fn reject_version(out: &mut Vec<u8>) -> QuestionOutcome
+    ensures { IfReplied result (out.new.items ≡ out.old.items ++ reply_bytes (replies.Rejected cause.OtherVersion)) }
+{
+    let reply = Reply::Rejected(QuestionRejection::OtherVersion);
+    let is_put = put(&reply, out);
+    drop(reply);
+    if is_put {
+        QuestionOutcome::Replied(Some(QuestionRejection::OtherVersion))
+    } else {
+        QuestionOutcome::Memory
+    }
+}
+
+/// Why a reply rejects, if it does.
+fn rejection_of(reply: &Reply) -> Option<QuestionRejection> {
+    match reply {
+        Reply::Answer(_) => None,
+        Reply::Rejected(why) => Some(*why),
+    }
+}
+
+/// Appends a reply. Returns whether there was memory for it.
+fn put(reply: &Reply, out: &mut Vec<u8>) -> bool
+    ensures { result ≡ true → out.new.items ≡ out.old.items ++ reply_bytes reply.now }
+{
+    encode_reply(reply, out).is_ok()
+}

@@ -1,0 +1,53 @@
+-- Theorems about what replicas learn.
+use Rattle.std.specs.Prelude.{◌≡◌, ℕ, suc, ◌≤◌, List, [], length, take, Some}
+use Rattle.wf_career.specs.Career.{Career, Item, IsFarm}
+use Rattle.wf_career.specs.Replica.{IsServed}
+use Rattle.wf_def.specs.Definition.{Definition}
+use Rattle.wf_safety.specs.Theorems.{IsBeginning}
+use Rattle.wf_model.specs.Chosen.{IsIn}
+use Rattle.wf_model.specs.Message.{Message}
+use Rattle.wf_model.specs.DurableState.{definition_at}
+use Rattle.wf_model.specs.Table.{most_reports, reports_from}
+use Rattle.wf_reader.specs.Answerer.{next_reported}
+use Rattle.wf_tape.specs.declared.tape.Tape.{Ghosts as Tape}
+use Rattle.wf_wms.specs.Answer.{AnswerValue, AsksForMap, IsAnswerOf}
+use Rattle.wf_replica.specs.LearnedList.{learned, numbered}
+
+-- What an answer at a readers' port says is what a node answers when it is asked for the next definition.
+abbrev pub AnswersReport : Type 0
+AnswersReport = (source : List Definition) (published : ℕ) → numbered (suc published) (next_reported source published) ≡ reports_from source (suc published) most_reports
+
+-- A replica never goes back: what it has learned at one moment is a beginning of what it has learned at each later one.
+abbrev pub NeverGoesBack : Type 0
+NeverGoesBack = (received : List (Message Definition)) (k l : ℕ) → k ≤ l → IsBeginning (learned [] (take k received)) (learned [] (take l received))
+
+-- the message is one by which a list of a node of the farm, or of a replica of it, answered a question
+pub record IsReported {T : Type 0} (n : ℕ) (careers : ℕ → Career T) (m : Message Definition) : Type 0 where
+  pub source : List Definition
+  pub served : IsServed n careers source
+  pub asked : ℕ
+  pub reports : IsIn m (reports_from source asked most_reports)
+
+abbrev pub AreReported : {T : Type 0} → ℕ → (ℕ → Career T) → List (Message Definition) → Type 0
+AreReported n careers received = (m : Message Definition) → IsIn m received → IsReported n careers m
+
+-- So what a replica has learned at any moment is one of the lists of which `wf_career` says that all are beginnings of one history.
+abbrev pub LearnedAreServed : Type 0 → Type 0
+LearnedAreServed T = (n : ℕ) (careers : ℕ → Career T) (received : List (Message Definition)) → AreReported n careers received → (k : ℕ) → IsServed n careers (learned [] (take k received))
+
+-- A beginning of such a list is one, too: what is read of a tape that a replica wrote.
+abbrev pub BeginningsAreServed : Type 0 → Type 0
+BeginningsAreServed T = (n : ℕ) (careers : ℕ → Career T) (list : List Definition) → IsServed n careers list → (k : ℕ) → IsServed n careers (take k list)
+
+-- No two replicas, at any moments, have different definitions under one sequence.
+abbrev pub LearnedAgree : {T : Type 0} → Tape T → Type 0
+LearnedAgree {T} tapes = (n : ℕ) (careers : ℕ → Career T) (items : List Item) → IsFarm tapes n careers items →
+    (received other : List (Message Definition)) → AreReported n careers received → AreReported n careers other → (k l s : ℕ) (c d : Definition) →
+    definition_at (learned [] (take k received)) s ≡ Some c → definition_at (learned [] (take l other)) s ≡ Some d → c ≡ d
+
+-- Where they have published equally many maps, they answer a query of the web map service alike.
+abbrev pub LearnedAnswer : {T : Type 0} → Tape T → Type 0
+LearnedAnswer {T} tapes = (n : ℕ) (careers : ℕ → Career T) (items : List Item) → IsFarm tapes n careers items →
+    (received other : List (Message Definition)) → AreReported n careers received → AreReported n careers other → (k l s : ℕ) (query : List ℕ) (answer another : AnswerValue) →
+    length (learned [] (take k received)) ≡ s → length (learned [] (take l other)) ≡ s →
+    IsAnswerOf s (learned [] (take k received)) query answer → IsAnswerOf s (learned [] (take l other)) query another → another ≡ answer

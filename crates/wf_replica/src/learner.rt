@@ -1,0 +1,189 @@
+//! What a replica learns, and writes on its tape.
+
+ghost use Rattle.std.specs.Prelude.{◌≡◌, ◌≤◌, ◌<◌, ◌+◌, ◌++◌, ◌∷◌, ℕ, List, [], length, map, take, IfOk, IfSome, IsErrOf, None, OnErr, OnOk};
+ghost use Rattle.wf_ballot.specs.Sequence.{last_sequence};
+ghost use Rattle.wf_career.specs.Replica.{after_learning};
+ghost use Rattle.wf_codec.specs.Message.{view};
+ghost use Rattle.wf_digest.specs.Digest.{AreDigestsOf, digest_at};
+ghost use Rattle.wf_learner.specs.History.{next_of};
+ghost use Rattle.wf_model.specs.Message.{Chosen};
+ghost use Rattle.wf_replica.specs.Follower.{Grows, Learns, received_by, list_of};
+ghost use Rattle.wf_replica.specs.LearnedList.{learned, messages_of, numbered};
+ghost use Rattle.wf_wms.specs.CachedPictures.{AllCached, most_cached};
+
+use crate::follower::Follower;
+use crate::record::record_bytes;
+use crate::shelf::Shelf;
+use http_server::Log;
+use std::alloc::{AllocError, Global};
+use wf_ballot::Slot;
+use wf_canon::Canon;
+use wf_codec::Message;
+use wf_digest::Digests;
+use wf_folder::FarmName;
+use wf_learner::History;
+use wf_reader::Question;
+use wf_tape::Tape;
+use wf_wms::cache::Cache;
+
+impl<T: Tape + Drop> Follower<T> {
+    /// A replica that has learned nothing, with room for so many pictures. The only error is allocation failure; the tape is dropped.
+    #[tactic(auto, unfolding(crate::specs::LearnedList::learned))]
+    pub(crate) fn new(alloc: Global, tape: Option<T>, pictures: usize) -> Result<Self, AllocError>
+        requires least { 1 ≤ pictures }
+        requires most { pictures ≤ most_cached }
+        ensures { IfOk result (λ follower. list_of follower ≡ []) }
+    {
+        let digests = Digests::new(alloc)?;
+        let shelf = Shelf::new(alloc, pictures)?;
+        Ok(Follower {
+            shelf,
+            digests,
+            tape,
+            received: Log::new(),
+        })
+    }
+
+    /// The maps that it has published.
+    pub fn history(&self) -> &History
+        ensures { result.now ≡ self.now.shelf }
+    {
+        self.shelf.history()
+    }
+
+    /// The pictures that are cached, those of the published maps, with their counts. They can only be read.
+    pub fn cache(&self) -> &Cache
+        ensures { AllCached (list_of self.now) result.now }
+    {
+        self.shelf.cache()
+    }
+
+    /// The digests of these, as far as they could be had.
+    pub fn digests(&self) -> &Digests
+        ensures { result.now ≡ self.now.digests }
+    {
+        &self.digests
+    }
+
+    /// Extends the digests to the last published sequence, where an allocation failed before.
+    pub fn extend_digests(&mut self)
+        ensures list { list_of self.new ≡ list_of self.old }
+        ensures received { received_by self.new ≡ received_by self.old }
+    {
+        let _ = self.digests.extend(self.shelf.history());
+    }
+
+    /// Whether what it learns is on a tape. Otherwise its tape has failed.
+    pub fn has_tape(&self) -> bool {
+        self.tape.is_some()
+    }
+
+    /// What it has learned is what it heard, always. The call does nothing.
+    pub fn always_learned(&self)
+        ensures { learned [] (received_by self.now) ≡ list_of self.now }
+    {
+        let _ = &self.received;
+    }
+
+    /// The question for what is published next. None: an allocation failed before, and the digests lack the last sequences.
+    pub fn question(&self, farm: FarmName) -> Option<Question>
+        ensures farm { IfSome result (λ q. q.farm ≡ farm) }
+        ensures published { IfSome result (λ q. q.published ≡ length (list_of self.now)) }
+        ensures digest { AreDigestsOf (list_of self.now) self.now.digests → IfSome result (λ q. q.digest ≡ digest_at (list_of self.now) (length (list_of self.now))) }
+        ensures none { AreDigestsOf (list_of self.now) self.now.digests → result ≡ None → ⊥ }
+    {
+        let published = self.history().published();
+        match self.digests.at(published) {
+            Some(digest) => Some(Question {
+                farm,
+                published,
+                digest,
+            }),
+            None => None,
+        }
+    }
+
+    /// Learns definitions that are chosen for the next sequences, in their order, and writes them on its tape, which is synced before they
+    /// are published. The only error is allocation failure: some of them, from the first on, may have been learned. Once the last
+    /// sequence is published nothing more is learned. Where the tape fails the replica goes on without it.
+    pub fn learn(&mut self, alloc: Global, definitions: &[Canon]) -> Result<(), AllocError>
+        ensures learns { (k : ℕ) × Learns k self.old self.new definitions.now }
+        ensures all { OnOk result (list_of self.new ≡ take last_sequence (list_of self.old ++ definitions.now)) }
+        ensures grows { Grows self.old self.new }
+    {
+        let learned = self.learn_each(alloc, definitions);
+        if !definitions.is_empty() {
+            sync(&mut self.tape);
+        }
+        learned
+    }
+
+    /// Learns definitions, and appends them to its tape, which isn't synced yet.
+    fn learn_each(&mut self, alloc: Global, definitions: &[Canon]) -> Result<(), AllocError>
+        ensures learns { (k : ℕ) × Learns k self.old self.new definitions.now }
+        ensures all { OnOk result (list_of self.new ≡ take last_sequence (list_of self.old ++ definitions.now)) }
+    {
+        // A history is no longer than there are slots.
+        let _ = self.history().published();
+        let Some(slot) = self.history().next_slot() else {
+            return Ok(());
+        };
+        match definitions {
+            [] => Ok(()),
+            [definition, rest @ ..] => {
+                self.learn_at(alloc, slot, definition)?;
+                self.learn_each(alloc, rest)
+            }
+        }
+    }
+
+    /// Learns the definition of the next sequence, and appends it to its tape. An allocation failure changes nothing.
+    fn learn_at(&mut self, alloc: Global, slot: Slot, definition: &Canon) -> Result<(), AllocError>
+        requires { slot ≡ next_of (list_of self.old) }
+        ensures received { OnOk result (received_by self.new ≡ received_by self.old ++ Chosen slot definition.now ∷ []) }
+        ensures list { OnOk result (list_of self.new ≡ list_of self.old ++ definition.now ∷ []) }
+        ensures same_received { OnErr result (received_by self.new ≡ received_by self.old) }
+        ensures same_list { OnErr result (list_of self.new ≡ list_of self.old) }
+    {
+        let bytes = record_bytes(alloc, slot, definition)?;
+        let message = Message::Chosen(slot, definition.copy()?);
+        self.receive(message)?;
+        append(&mut self.tape, &bytes);
+        Ok(())
+    }
+
+    /// Hears a message. An allocation failure changes nothing.
+    #[tactic(auto, using(crate::proofs::Received::learned_more, crate::proofs::Received::messages_more))]
+    pub(crate) fn receive(&mut self, message: Message) -> Result<(), AllocError>
+        ensures received { OnOk result (received_by self.new ≡ received_by self.old ++ view message ∷ []) }
+        ensures list { OnOk result (list_of self.new ≡ after_learning (list_of self.old) (view message)) }
+        ensures same_received { OnErr result (received_by self.new ≡ received_by self.old) }
+        ensures same_list { OnErr result (list_of self.new ≡ list_of self.old) }
+    {
+        let received = self.received.and(&message, &0);
+        self.shelf.receive(message)?;
+        self.received = received;
+        let _ = self.digests.extend(self.shelf.history());
+        Ok(())
+    }
+}
+
+/// Appends bytes to a tape, which is dropped if it fails.
+fn append<T: Tape + Drop>(tape: &mut Option<T>, bytes: &[u8]) {
+    if let Some(mut held) = tape.take() {
+        match held.append(bytes) {
+            Ok(()) => *tape = Some(held),
+            Err(_) => drop(held),
+        }
+    }
+}
+
+/// Syncs a tape, which is dropped if it fails.
+fn sync<T: Tape + Drop>(tape: &mut Option<T>) {
+    if let Some(mut held) = tape.take() {
+        match held.sync() {
+            Ok(()) => *tape = Some(held),
+            Err(_) => drop(held),
+        }
+    }
+}

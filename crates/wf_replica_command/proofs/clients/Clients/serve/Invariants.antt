@@ -1,6 +1,0 @@
--- The replica goes on.
-use Rattle.wf_replica_command.specs.Going.{GoesOn}
-use Rattle.wf_replica_command.proofs.clients.Clients.serve.Given as goal
-
-abbrev pub invariant-loop : goal.invariant-loop
-invariant-loop g l = GoesOn l.fn.self.renderer.follower l.self.renderer.follower

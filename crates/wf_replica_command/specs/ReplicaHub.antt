@@ -1,0 +1,33 @@
+-- The replica of a hub, and the clients that it answered.
+use Rattle.std.specs.Prelude.{◌≡◌, ℕ, []}
+use Rattle.wf_career.specs.Career.{Career}
+use Rattle.wf_career.specs.Replica.{IsServed}
+use Rattle.wf_replica.specs.Follower.{received_by, list_of}
+use Rattle.wf_replica.specs.Theorems.{AreReported}
+use Rattle.wf_replica.specs.LearnedList.{learned}
+use Rattle.wf_replica.specs.declared.follower.Follower.{Follower}
+use Rattle.wf_replica_command.specs.Answer.{AreAnswered, AreInOrder}
+use Rattle.wf_replica_command.specs.declared.hub.ReplicaHub.{ReplicaHub}
+use Rattle.wf_tape.specs.declared.tape.Tape.{Ghosts as Tape}
+use Rattle.wf_visitors.specs.Visitors.{responses_of}
+
+-- the replica
+abbrev pub follower_of : {T : Type 0} {tapes : Tape T} → ReplicaHub T tapes → Follower T tapes
+follower_of hub = hub.clients.renderer.follower
+
+-- its list is what it has heard, message after message, as `wf_career`'s replica learns it
+abbrev pub HasLived : {T : Type 0} (tapes : Tape T) → ReplicaHub T tapes → Type 0
+HasLived tapes hub = learned [] (received_by (follower_of hub)) ≡ list_of (follower_of hub)
+
+-- If it has heard only answers of nodes of a farm or of replicas of it, its list is one of those of which `wf_career`'s `replicas_agree`
+-- says that all are beginnings of one history.
+abbrev pub IsOfFarm : {T : Type 0} (tapes : Tape T) → ReplicaHub T tapes → Type 0
+IsOfFarm {T} tapes hub = (n : ℕ) (careers : ℕ → Career T) → AreReported n careers (received_by (follower_of hub)) → IsServed n careers (list_of (follower_of hub))
+
+-- each client that was answered was answered by the replica as it then was
+abbrev pub HasAnswered : {T : Type 0} (tapes : Tape T) → ReplicaHub T tapes → Type 0
+HasAnswered tapes hub = ∥ AreAnswered tapes hub.clients.asked.items (responses_of hub.clients.visitors) ∥₁
+
+-- from client to client it was one replica, whose list never went back
+abbrev pub HasStayed : {T : Type 0} (tapes : Tape T) → ReplicaHub T tapes → Type 0
+HasStayed tapes hub = ∥ AreInOrder tapes hub.clients.asked.items (follower_of hub) ∥₁

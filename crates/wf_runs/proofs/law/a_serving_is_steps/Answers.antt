@@ -1,5 +1,0 @@
-use Rattle.wf_runs.proofs.Serving.{serving_is_steps}
-use Rattle.wf_runs.proofs.law.a_serving_is_steps.Goals as goal
-
-pub returns : goal.returns
-returns g c = serving_is_steps g.T.Tape c.a_step_is_answered.ensures

@@ -1,0 +1,14 @@
+mod Members
+mod Facts
+mod Monotonicity
+mod SentMessage
+mod RecordFacts
+mod TransitionMessages
+mod Ballots
+mod Acceptor
+mod Proposer
+mod Worlds
+mod Core
+mod Growth
+mod Theorems
+mod Earlier

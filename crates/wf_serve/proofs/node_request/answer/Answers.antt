@@ -1,0 +1,10 @@
+-- What the node promises of its step is its result.
+use Rattle.wf_node.specs.Input.{view}
+use Rattle.wf_edge.specs.StepResultTheorems.{answered}
+use Rattle.wf_serve.proofs.node_request.answer.Goals as goal
+
+pub returns : goal.returns
+returns g c =
+    answered g.T.Tape c.args.node.now c.step.new.self (view c.args.input) c.step.result
+    c.step.ensures.halted c.step.ensures.running c.step.ensures.refused c.step.ensures.transition c.step.ensures.on_tape c.step.ensures.content c.step.ensures.unchanged c.step.ensures.same
+    c.step.ensures.memory c.step.ensures.same_tape c.step.ensures.takes c.step.ensures.failed c.step.ensures.writes c.step.ensures.halts c.step.ensures.part c.step.ensures.torn c.step.ensures.sturdy c.step.ensures.sound

@@ -1,5 +1,0 @@
-use Rattle.wf_serve.proofs.Published.{accepted_is_published}
-use Rattle.wf_serve.proofs.publishing.an_accepted_map_is_published.Goals as goal
-
-pub returns : goal.returns
-returns g c = accepted_is_published g.T.Tape c.a_catch_up_leads_on.ensures.rests c.a_proposal_is_published.ensures.nodes

@@ -1,6 +1,0 @@
-use Rattle.wf_serve.proofs.First.{first_is_published}
-use Rattle.wf_serve.proofs.publishing.the_first_map_is_published.Goals as goal
-
-pub returns : goal.returns
-returns g c =
-    first_is_published g.T.Tape c.a_catch_up_leads_on.ensures.led c.a_catch_up_leads_on.ensures.rests c.a_step_leads_on.ensures c.leading_goes_on.ensures.quiet c.a_proposal_is_published.ensures.nodes

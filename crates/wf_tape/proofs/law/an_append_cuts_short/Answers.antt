@@ -1,5 +1,0 @@
-use Rattle.wf_tape.specs.TapeLaws.{cuts_short}
-use Rattle.wf_tape.proofs.law.an_append_cuts_short.Goals as goal
-
-pub returns : goal.returns
-returns g c = cuts_short g.T.Tape
