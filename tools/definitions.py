@@ -19,7 +19,7 @@ HEAD = """# Definitions
 
 An index of the words that contracts cite, crate by crate, lowest crate first: each file of `crates/*/specs/`, what it is about, and the words that it defines. What each word means stands above it in its file; `python3 tools/definitions.py --all` prints all of them. This page is made by that tool: change the comment, not the page. Definitions share nothing with the code's loops, except that a block of a mapfile is defined by a table of its keywords, which has the shape of the reader's step ([DECISIONS.md](DECISIONS.md)). They are meant to be read beside the standard (OGC 06-042, the MapServer mapfile reference, Netpbm's P6) or a textbook on Paxos. What files named `..Theorems` state is proved.
 """
-DEFINED = re.compile(r"(?:(?:unfoldable|abbrev|opaque) )?pub (?:(?:record|data) )?(\S+)")
+DEFINED = re.compile(r"(?:(?:unfoldable|abbrev|opaque) )?pub (?!use )(?:(?:record|data) )?(\S+)")
 
 IMPORT = re.compile(r"ghost use Rattle\.(wf\w*)\.specs\.((?:\w+\.)*\w+)\.\{([^}]*)\}")
 FUNCTION = re.compile(r"^[ ]*(pub (?:const )?fn|fn) (\w+)")

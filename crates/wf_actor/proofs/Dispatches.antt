@@ -6,7 +6,7 @@ use Rattle.std.proofs.lemmas.Option.{same_Some, none-some}
 use Rattle.wf_codec.specs.Message.{view}
 use Rattle.wf_codec.specs.declared.message.Message as code
 use Rattle.wf_def.specs.Definition.{Definition}
-use Rattle.wf_farm.specs.IndexTheorems.{get_set_same, get_set_other, set_there}
+use Rattle.wf_delivery.specs.IndexTheorems.{get_set_same, get_set_other, set_there}
 use Rattle.wf_model.specs.Chosen.{IsIn}
 use Rattle.wf_model.specs.Message.{Message}
 use Rattle.wf_actor.specs.Backlog.{most_messages}

@@ -1,6 +1,6 @@
 -- A node's error tells whether it is halted.
 use Rattle.std.proofs.Common.{◌≡◌, Bool, true, false, Option, Some, None, refl, sym, ap}
-use Rattle.wf_farm.specs.NodeInput.{reports_halt}
+use Rattle.wf_delivery.specs.NodeInput.{reports_halt}
 use Rattle.wf_model.specs.Table.{StepRejection}
 use Rattle.wf_node.specs.Fault.{IsWhyNot}
 use Rattle.wf_node.specs.declared.fault.NodeFault.{NodeFault}

@@ -6,8 +6,8 @@ use Rattle.wf_career.specs.Run.{Act, Input, Run, IsAct, given_to, last_of, outpu
 use Rattle.wf_codec.specs.declared.message.Message.{Message}
 use Rattle.wf_edge.specs.StepResult.{IsAnswer}
 use Rattle.wf_edge.specs.RequestEffect.{HandsOut, MovesOnce, Stays, Proposes}
-use Rattle.wf_farm.specs.Reachability.{outputs_by}
-use Rattle.wf_farm.specs.Outcome.{StepIsAnswered, is_lost}
+use Rattle.wf_delivery.specs.Reachability.{outputs_by}
+use Rattle.wf_delivery.specs.Outcome.{StepIsAnswered, is_lost}
 use Rattle.wf_model.specs.declared.action.Action.TheVariants as action
 use Rattle.wf_node.specs.Input.{view}
 use Rattle.wf_model.specs.VolatileState.{at_start}

@@ -7,7 +7,7 @@ use Rattle.wf_career.specs.Run.{Input, given_to}
 use Rattle.wf_edge.specs.StepResult.{IsAnswer}
 use Rattle.wf_edge.specs.RequestEffect.{IsEnding, IsOutcome, MovesOnce}
 use Rattle.wf_edge.specs.declared.outcome.Outcome.{Outcome}
-use Rattle.wf_farm.specs.Reachability.{outputs_by}
+use Rattle.wf_delivery.specs.Reachability.{outputs_by}
 use Rattle.wf_model.specs.declared.action.Action.TheVariants as action
 use Rattle.wf_node.specs.Input as node
 use Rattle.wf_node.specs.declared.fault.NodeFault.{NodeFault}

@@ -8,8 +8,8 @@ use http_server::Log;
 use std::alloc::Global;
 use wf_ballot::NodeId;
 use wf_codec::Message;
+use wf_delivery::a_step_is_answered;
 use wf_edge::serve::Served;
-use wf_farm::a_step_is_answered;
 use wf_journal::OpenFault;
 use wf_node::{Input, Node, NodeFault};
 use wf_stream::{Sink, Source};
@@ -39,7 +39,7 @@ impl<T: Tape> Actor<T> {
     ghost use Rattle.wf_edge.specs.Receipt.{CountsReceiving};
     ghost use Rattle.wf_edge.specs.Completion.{CountsCompleting};
     ghost use Rattle.wf_edge.specs.RequestEffect.{IsEnding, IsOutcome, MovesOnce};
-    ghost use Rattle.wf_farm.specs.Reachability.{outputs_by};
+    ghost use Rattle.wf_delivery.specs.Reachability.{outputs_by};
     ghost use Rattle.wf_edge.specs.Request.{TakesRequest};
     ghost use Rattle.wf_journal.specs.Journal.{Follows, ReadsSame, IsWhyFailed};
     ghost use Rattle.wf_node.specs.Input.{view};

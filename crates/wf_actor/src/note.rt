@@ -3,7 +3,7 @@
 ghost use Rattle.std.specs.Prelude.{◌≡◌, ◌++◌};
 ghost use Rattle.wf_actor.specs.Life.{all_from, logged};
 ghost use Rattle.wf_career.specs.Run.{given_to};
-ghost use Rattle.wf_farm.specs.Reachability.{outputs_by};
+ghost use Rattle.wf_delivery.specs.Reachability.{outputs_by};
 
 use crate::origin::Origin;
 use http_server::Log;

@@ -1,6 +1,6 @@
 ghost use Rattle.std.specs.Prelude.{◌≡◌, ◌<◌, ◌≤◌, length};
 ghost use Rattle.wf_actor.specs.Life.{logged};
-ghost use Rattle.wf_farm.specs.NodeInput.{reports_halt};
+ghost use Rattle.wf_delivery.specs.NodeInput.{reports_halt};
 ghost use Rattle.wf_actor.specs.Sent.{AreArrivedCome, AreGivenCome, AreSent};
 
 use crate::actor::Actor;

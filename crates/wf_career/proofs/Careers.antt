@@ -10,7 +10,7 @@ use Rattle.wf_node.specs.Images.{StandsFor}
 use Rattle.wf_node.specs.Input.{view}
 use Rattle.wf_node.specs.Node.{Node, stored_of}
 use Rattle.wf_node.specs.Step.{transition_of, stored_next}
-use Rattle.wf_farm.specs.Delivery.{IsNodeBy, IsNode, AnyPart}
+use Rattle.wf_delivery.specs.Delivery.{IsNodeBy, IsNode, AnyPart}
 use Rattle.wf_tape.specs.declared.tape.Tape.{Ghosts as Tape}
 use Rattle.wf_career.specs.Run.{Input, Act, Run, last_of, last, End, Between, Within, Failed, FailedAt, HasLeft, AreDone, IsRun}
 use Rattle.wf_career.specs.Career.{Ended, IsEnded, AreRuns, values_after, values_of, Item, items_by, items_at, items_in}

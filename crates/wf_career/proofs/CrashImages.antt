@@ -8,8 +8,8 @@ use Rattle.wf_node.specs.Images.{StandsFor, EachStandsFor}
 use Rattle.wf_node.specs.Input.{view}
 use Rattle.wf_node.specs.Node.{Node, stored_of}
 use Rattle.wf_node.specs.Step.{step_rejection_at, stored_next, IsSameNode}
-use Rattle.wf_farm.specs.NodeInput.{Halts, Rejects, Fails, Takes}
-use Rattle.wf_farm.specs.NodeInput as giving
+use Rattle.wf_delivery.specs.NodeInput.{Halts, Rejects, Fails, Takes}
+use Rattle.wf_delivery.specs.NodeInput as giving
 use Rattle.wf_tape.specs.declared.tape.Tape.{Ghosts as Tape}
 use Rattle.wf_career.specs.Run.{Input, Act, last_of, last, StandForEither, FailedAt, AreDone}
 use Rattle.wf_career.specs.CrashImages.{LeavesBetween, LeavesWithin, LeavesFailed}

@@ -15,7 +15,7 @@ use Rattle.wf_journal.specs.Records.{AreReadOneWay, IsReadAsNone}
 use Rattle.wf_node.specs.Growth.{IsGrown, grown_itself}
 use Rattle.wf_node.specs.Input.{view}
 use Rattle.wf_node.specs.Node.{Node}
-use Rattle.wf_farm.specs.Delivery.{AnyPart, IsNode}
+use Rattle.wf_delivery.specs.Delivery.{AnyPart, IsNode}
 use Rattle.wf_tape.specs.declared.tape.Tape.{Ghosts as Tape}
 use Rattle.wf_trace.specs.Deed.{new_node, Stops}
 use Rattle.wf_trace.specs.Trace.{Entry, of_process, IsLife, node_at, IsInputOf}

@@ -18,8 +18,8 @@ use Rattle.wf_node.specs.Growth.{IsGrown, grown_itself, transition_grown, same_g
 use Rattle.wf_node.specs.Input.{view}
 use Rattle.wf_node.specs.Node.{Node, stored_of, volatile_of}
 use Rattle.wf_node.specs.Step.{transition_of, step_rejection_at, stored_next, IsTransition, IsSameNode}
-use Rattle.wf_farm.specs.NodeInput.{Answers, Halts, Rejects, Fails, IsLost, Takes}
-use Rattle.wf_farm.specs.NodeInput as giving
+use Rattle.wf_delivery.specs.NodeInput.{Answers, Halts, Rejects, Fails, IsLost, Takes}
+use Rattle.wf_delivery.specs.NodeInput as giving
 use Rattle.wf_tape.specs.declared.tape.Tape.{Ghosts as Tape}
 use Rattle.wf_trace.specs.Deed.{Deed, Crashes, Stops, Restarts, IsDone}
 use Rattle.wf_trace.specs.Deed as deeds

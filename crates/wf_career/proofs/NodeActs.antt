@@ -14,9 +14,9 @@ use Rattle.wf_node.specs.declared.fault.NodeFault.{NodeFault}
 use Rattle.wf_node.specs.declared.fault.NodeFault.TheVariants.{Memory, Halted, TapeFailed}
 use Rattle.wf_tape.specs.Change.{Stays, HasFailed}
 use Rattle.wf_tape.specs.Tape.{IsExtended}
-use Rattle.wf_farm.specs.Outcome.{is_lost, StepIsAnswered}
-use Rattle.wf_farm.specs.NodeInput.{Takes}
-use Rattle.wf_farm.specs.Reachability.{outputs_by}
+use Rattle.wf_delivery.specs.Outcome.{is_lost, StepIsAnswered}
+use Rattle.wf_delivery.specs.NodeInput.{Takes}
+use Rattle.wf_delivery.specs.Reachability.{outputs_by}
 use Rattle.wf_tape.specs.declared.tape.Tape.{Ghosts as Tape}
 use Rattle.wf_career.specs.Run.{Input}
 

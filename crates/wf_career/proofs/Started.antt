@@ -18,12 +18,13 @@ use Rattle.wf_node.specs.Images.{StandsFor}
 use Rattle.wf_node.specs.Node.{Node, stored_of, volatile_of}
 use Rattle.wf_node.specs.Step.{IsStep}
 use Rattle.wf_node.specs.declared.fault.NodeFault.{NodeFault}
-use Rattle.wf_farm.specs.declared.progress.PumpProgress.{PumpProgress}
-use Rattle.wf_farm.specs.Delivery.{IsHanded, AreHanded, First, Next, AreHandedOut, StandAmong, StandInTurn}
-use Rattle.wf_farm.specs.Reachability.{IsFresh, AreFresh, outputs_by}
-use Rattle.wf_farm.specs.Outcome.{is_lost, StepIsAnswered}
-use Rattle.wf_farm.specs.IndexTheorems.{get_set_same, get_set_other}
-use Rattle.wf_farm.specs.Publication.{NoneHalted, AllPublish, PublishedOnAll, Rests}
+use Rattle.wf_delivery.specs.declared.progress.PumpProgress.{PumpProgress}
+use Rattle.wf_delivery.specs.Delivery.{IsHanded, AreHanded, First, Next, AreHandedOut, StandAmong, StandInTurn}
+use Rattle.wf_delivery.specs.Reachability.{IsFresh, AreFresh, outputs_by}
+use Rattle.wf_delivery.specs.Outcome.{is_lost, StepIsAnswered}
+use Rattle.wf_delivery.specs.IndexTheorems.{get_set_same, get_set_other}
+use Rattle.wf_delivery.specs.Delivery.{NoneHalted}
+use Rattle.wf_publication.specs.Publication.{AllPublish, PublishedOnAll, Rests}
 use Rattle.wf_tape.specs.declared.tape.Tape.{Ghosts as Tape}
 use Rattle.wf_career.specs.Run.{Act, Run, last_of, last, Between, IsAct, IsOpenedFrom}
 use Rattle.wf_career.specs.RunTheorems.{last_more}

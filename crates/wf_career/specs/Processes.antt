@@ -1,5 +1,5 @@
 -- An example: three processes, of which one proposes a map, all three publish it, and one starts again. Its premises are what the calls
--- promise: `open` and `Node::step`, `deliver_all` of wf_farm, and `open` again.
+-- promise: `open` and `Node::step`, `deliver_all` of wf_delivery, and `open` again.
 use Rattle.std.specs.Prelude.{◌≡◌, ℕ, false, List, [], length, slice_get, slice_set, Some, Ok, Vec}
 use Rattle.std.specs.declared.alloc.Global.{Global}
 use Rattle.wf_codec.specs.declared.message.Message.{Message}
@@ -8,8 +8,9 @@ use Rattle.wf_model.specs.Table as table
 use Rattle.wf_node.specs.Images.{StandsFor}
 use Rattle.wf_node.specs.Node.{Node, stored_of}
 use Rattle.wf_node.specs.Step.{IsStep}
-use Rattle.wf_farm.specs.Delivery.{AreHandedOut, StandInTurn}
-use Rattle.wf_farm.specs.Publication.{NoneHalted, AllPublish}
+use Rattle.wf_delivery.specs.Delivery.{AreHandedOut, StandInTurn}
+use Rattle.wf_delivery.specs.Delivery.{NoneHalted}
+use Rattle.wf_publication.specs.Publication.{AllPublish}
 use Rattle.wf_tape.specs.declared.tape.Tape.{Ghosts as Tape}
 use Rattle.wf_career.specs.Run.{Run, last, IsOpenedFrom}
 use Rattle.wf_career.specs.Career.{Career, Item, IsFarm}

@@ -9,7 +9,7 @@ use Rattle.wf_node.specs.Images.{StandsFor}
 use Rattle.wf_node.specs.Input.{view}
 use Rattle.wf_node.specs.Node.{Node, stored_of, volatile_of}
 use Rattle.wf_node.specs.Step.{step_rejection_at, stored_next}
-use Rattle.wf_farm.specs.NodeInput.{Takes}
+use Rattle.wf_delivery.specs.NodeInput.{Takes}
 use Rattle.wf_tape.specs.declared.tape.Tape.{Ghosts as Tape}
 
 -- an input of a node's step; that of a delivery has the message

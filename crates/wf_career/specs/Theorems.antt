@@ -8,7 +8,7 @@ use Rattle.wf_safety.specs.Theorems.{IsBeginning}
 use Rattle.wf_model.specs.DurableState.{definition_at}
 use Rattle.wf_model.specs.World as world
 use Rattle.wf_node.specs.Node.{Node}
-use Rattle.wf_farm.specs.Delivery.{AnyPart, IsNode}
+use Rattle.wf_delivery.specs.Delivery.{AnyPart, IsNode}
 use Rattle.wf_tape.specs.declared.tape.Tape.{Ghosts as Tape}
 use Rattle.wf_trace.specs.Theorems.{IsReachable}
 use Rattle.wf_wms.specs.Answer.{AnswerValue, AsksForMap, IsAnswerOf}

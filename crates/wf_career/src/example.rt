@@ -7,9 +7,10 @@ ghost use Rattle.wf_career.specs.Run.{IsOpenedFrom};
 use crate::run::open;
 use std::alloc::{AllocError, Global};
 use wf_ballot::NodeId;
-use wf_farm::{a_proposal_is_published, a_step_is_answered};
+use wf_delivery::a_step_is_answered;
 use wf_journal::records_are_read_one_way;
 use wf_node::Node;
+use wf_publication::new_nodes_publish;
 use wf_tape::{MemoryTape, Tape};
 
 /// Node `id` of `n` on an empty tape in memory, as the first run of its process begins. Err if an allocation fails.
@@ -28,7 +29,7 @@ pub fn open_first(alloc: Global, id: NodeId, n: u8) -> Result<Node<MemoryTape>, 
     }
 }
 
-/// Three processes that begin so are a farm; it stays one when one of them proposes a map and `wf_farm::deliver_all` delivers the messages, and
+/// Three processes that begin so are a farm; it stays one when one of them proposes a map and `wf_delivery::deliver_all` delivers the messages, and
 /// when one ends and starts again; and then all three have published the map. A theorem: the call does nothing.
 pub fn three_processes_publish<T: Tape>()
     ensures { ThreeProcesses T.Tape }
@@ -36,5 +37,5 @@ pub fn three_processes_publish<T: Tape>()
     // A tape stands for one durable state; a step is answered; and what one of three new nodes proposes, all publish.
     records_are_read_one_way();
     a_step_is_answered::<T>();
-    a_proposal_is_published::<T>();
+    new_nodes_publish::<T>();
 }

@@ -2,9 +2,9 @@
 
 ghost use Rattle.std.specs.Prelude.{◌≡◌, ◌<◌, ◌≤◌, true, false, Err, IfOk};
 ghost use Rattle.wf_career.specs.Run.{IsAct, IsOpened};
-ghost use Rattle.wf_farm.specs.NodeInput.{Takes};
-ghost use Rattle.wf_farm.specs.Reachability.{outputs_by};
-ghost use Rattle.wf_farm.specs.Outcome.{is_lost};
+ghost use Rattle.wf_delivery.specs.NodeInput.{Takes};
+ghost use Rattle.wf_delivery.specs.Reachability.{outputs_by};
+ghost use Rattle.wf_delivery.specs.Outcome.{is_lost};
 ghost use Rattle.wf_node.specs.Fault.{rejected_by};
 ghost use Rattle.wf_node.specs.Input.{view};
 ghost use Rattle.wf_node.specs.Step.{step_rejection_at, TakesMemory};
@@ -12,7 +12,7 @@ ghost use Rattle.wf_node.specs.Step.{step_rejection_at, TakesMemory};
 use std::alloc::Global;
 use wf_ballot::NodeId;
 use wf_codec::Message;
-use wf_farm::a_step_is_answered;
+use wf_delivery::a_step_is_answered;
 use wf_journal::OpenFault;
 use wf_node::{Input, Node, NodeFault};
 use wf_tape::Tape;

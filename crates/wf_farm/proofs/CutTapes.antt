@@ -8,7 +8,7 @@ use Rattle.wf_journal.specs.EncodingTheorems.{length_of_encoding}
 use Rattle.wf_tape.specs.Tape.{IsBeginning}
 use Rattle.wf_model.specs.declared.kept.Kept.TheVariants as declared
 use Rattle.wf_model.specs.Kept.{view as view_kept}
-use Rattle.wf_farm.proofs.Steps.{begins_taken}
+use Rattle.wf_delivery.proofs.Stored.{begins_taken}
 
 -- ---- records by their bytes
 

@@ -1,11 +1,9 @@
 -- One event: the entry that it is about is set, and the farm is the model's world after it.
-use Rattle.std.proofs.Common.{◌≡◌, ℕ, zero, suc, List, [], ◌∷◌, map, length, slice_get, slice_set, Option, Some, None, option_map, Result, Ok, Err, IfOk, IfSome, OnErr, refl, sym, ap, subst, ◌∙◌, inl, inr, length-set}
-use Rattle.wf_farm.proofs.Common.{cases_eq, none-some, same_Some, slice_get-map, Message, Definition, World, after_restart, after_stop, delivered, happens, input_of, refused, AreMembers, KeepMembers, Happens, StayShown, MemoryHost, IsNode, IsMember, Stays, KeepsMember, KeepsSturdy, Stops, Restarts, tape_in, node_restarted, node_stopped, IsImageOf, NeverFails, get_set_same, get_set_other, set_same}
-use Rattle.wf_codec.specs.Message as message
-use Rattle.wf_model.specs.Table as table
+use Rattle.std.proofs.Common.{◌≡◌, ℕ, zero, suc, List, [], ◌∷◌, length, slice_get, slice_set, Option, Some, None, Result, Ok, Err, IfOk, IfSome, OnErr, refl, sym, ap, subst, ◌∙◌, inl, inr, length-set}
+use Rattle.wf_farm.proofs.Common.{cases_eq, none-some, same_Some, Message, Definition, World, after_restart, after_stop, happens, refused, AreMembers, KeepMembers, Happens, StayShown, MemoryHost, IsNode, IsMember, Stays, KeepsMember, KeepsSturdy, Stops, Restarts, tape_in, node_restarted, node_stopped, IsImageOf, NeverFails, get_set_same, get_set_other, set_same}
 use Rattle.wf_model.specs.World as world
 use Rattle.wf_farm.specs.Cluster.{AreNodes, Refines}
-use Rattle.wf_farm.proofs.Turns.{stop_sets, restart_sets}
+use Rattle.wf_delivery.proofs.Turns.{stop_sets, restart_sets}
 use Rattle.wf_farm.proofs.Entries as entries
 use Rattle.wf_farm.proofs.Steps.{stops_changed}
 
@@ -148,12 +146,7 @@ module _ (hosts : List MemoryHost) (sent : List Message) (i : ℕ) where
     why = λ w refines. refl;
   }
 
--- ---- the input of a delivery
-
--- A message that was sent is the model's with the same rejection.
-pub sent_message : (sent : List Message) (k : ℕ) (m : Message) → slice_get sent k ≡ Some m → input_of (map message.view sent) (table.Deliver k) ≡ Some (table.Deliver (message.view m))
-unfolding input_of delivered
-sent_message sent k m e = ap delivered (slice_get-map message.view sent k ∙ ap (λ x. option_map message.view x) e)
+-- ---- results
 
 pub ok_map : {A E : Type 0} (P Q : A → Type 0) (result : Result A E) → ((x : A) → P x → Q x) → IfOk result P → IfOk result Q
 ok_map P Q (Ok x) f p = f x p

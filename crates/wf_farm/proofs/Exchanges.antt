@@ -2,7 +2,7 @@
 use Rattle.std.proofs.Common.{◌≡◌, ℕ, zero, suc, ◌∷◌, slice_index_or, ◌≤◌, Bool, false, List, [], length-set, slice_get, slice_set, Some, refl, sym, ap, subst, ◌∙◌, arith, Vec}
 use Rattle.wf_farm.proofs.Common.{Global, none-some, same_Some, Message, Definition, AreReadOneWay, Input, Node, NodeHost, Running, Stopped, StandAmong, IsAsked, IsReadyFor, IsSturdy, ReachabilityGoesOn, IsFarm, Takes, AreReachableFrom, AreReachableSending, KeepEntries, KeepsEntry, nodes_of, set_there, keep_set, length-nodes, nodes_get, nodes_set}
 use Rattle.wf_farm.specs.Hosts.{AreMembers}
-use Rattle.wf_farm.proofs.Deliveries.{stays_itself}
+use Rattle.wf_delivery.proofs.Deliveries.{stays_itself}
 use Rattle.wf_farm.proofs.Nodes.{in_turn_of, member_of, reached_reachable, running_stopped, set_members}
 use Rattle.wf_tape.specs.declared.tape.Tape.{Ghosts as Tape}
 

@@ -1,33 +1,21 @@
 pub mod Common
-mod Turns
 mod Steps
 mod Entries
-mod Events
+pub mod Events
 mod Idle
 mod Allocation
 mod Runs
 mod Carried
 mod Worlds
 mod Listed
-mod DeliveryCount
-mod Rounds
+mod Lent
 mod PumpResult
 mod Answered
-pub mod Deliveries
-mod OneRun
-mod Outcomes
-mod ThreeNodes
-mod Exactly
 mod Published
-mod NewNodes
-mod Nodes
-mod Exchanges
-mod Reopened
+pub mod Nodes
+pub mod Exchanges
 mod CutTapes
 mod Tried
 mod Taken
 mod TriedEvents
 mod TornRuns
-mod Asked
-mod Level
-mod Changes

@@ -3,10 +3,10 @@ use Rattle.std.proofs.Common.{◌≡◌, ℕ, zero, suc, Bool, true, false, List
 use Rattle.wf_farm.proofs.Common.{both_ways, cases_eq, false≢true, append-nil, none-some, same_Some, Message, Definition, definition_eq, AreReadOneWay, steps_in_turn, World, start, after, steps, AllStandFor, Node, NodeHost, Running, Stopped, AnyPart, StandAmong, StandFor, StandInTurn, MayLeave, IsNodeBy, IsReachable, AreReachableFrom, AreReachable, Reach, AreChanged, Changed, KeepEntries, KeepHosts, KeepsEntry, KeepsHost, Unchanged, node_in, nodes_of, keep_set, keep_themselves, keep_twice, keeps_itself, length-nodes, nodes_back, nodes_get, get_set_same, get_set_other}
 use Rattle.wf_codec.specs.Message as message
 use Rattle.wf_model.specs.World as world
-use Rattle.wf_farm.specs.Delivery as delivering
+use Rattle.wf_delivery.specs.Delivery as delivering
 use Rattle.wf_farm.specs.Hosts.{IsNode, AreNodes, IsMember, AreMembers}
 use Rattle.wf_farm.proofs.Entries.{all_nodes, as_many, node_at}
-use Rattle.wf_farm.proofs.Steps.{one_stand}
+use Rattle.wf_delivery.proofs.Stored.{one_stand}
 use Rattle.wf_tape.specs.declared.tape.Tape.{Ghosts as Tape}
 
 -- ---- the members
@@ -80,10 +80,6 @@ module _ {T : Type 0} (tapes : Tape T) where
   changed_entries hosts after Unchanged = entries_themselves hosts
   changed_entries hosts after (Changed middle i host next changed at keeps) =
       entries_twice hosts middle (slice_set middle i next) (changed_entries hosts middle changed) (entry_set middle i host next at keeps)
-
-pub changed_twice : {E : Type 0} (keeps : E → E → Type 0) (before middle after : List E) → AreChanged keeps before middle → AreChanged keeps middle after → AreChanged keeps before after
-changed_twice keeps before middle after first Unchanged = first
-changed_twice keeps before middle after first (Changed others i entry next second at kept) = Changed others i entry next (changed_twice keeps before middle others first second) at kept
 
 -- ---- a stopped node's tape
 

@@ -3,13 +3,6 @@ use Rattle.std.proofs.Common.{◌≡◌, ℕ, zero, suc, List, [], ◌∷◌, �
 use Rattle.wf_farm.proofs.Common.{none-some, same_Some, Message, Definition, definition_eq, World, Event, deliver, refused, happens, steps, view, StayShown, Moves, last_rejected, MemoryHost}
 use Rattle.wf_farm.specs.declared.event.Event as declared
 
--- one more event, at the end
-pub steps_more : (w : World Definition) (events : List (Event Definition)) (event : Event Definition) →
-    steps definition_eq w (events ++ event ∷ []) ≡ happens definition_eq (steps definition_eq w events) event
-unfolding steps
-steps_more w [] event = refl
-steps_more w (first ∷ events) event = steps_more (happens definition_eq w first) events event
-
 pub last_more : (w : World Definition) (events : List (Event Definition)) (event : Event Definition) → last_rejected w (events ++ event ∷ []) ≡ refused (steps definition_eq w events) event
 unfolding last_rejected steps
 last_more w [] event = refl

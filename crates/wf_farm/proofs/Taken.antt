@@ -8,11 +8,12 @@ use Rattle.wf_tape.specs.declared.tape.Tape.{Ghosts as Tape}
 use Rattle.wf_farm.specs.declared.fate.Fate.{Fate}
 use Rattle.wf_farm.specs.declared.fate.Fate.TheVariants as fate
 use Rattle.wf_farm.specs.Cluster.{Refines}
-use Rattle.wf_farm.specs.NodeInput as giving
-use Rattle.wf_farm.proofs.Deliveries.{stays_itself}
+use Rattle.wf_delivery.specs.NodeInput as giving
+use Rattle.wf_delivery.proofs.Deliveries.{stays_itself}
 use Rattle.wf_farm.proofs.Events.{as_many, node_at, host_keeps, set_nodes}
-use Rattle.wf_farm.proofs.Steps.{node_eq, node_of, same_stays, shown, stops_member}
-use Rattle.wf_farm.proofs.Turns.{rejected_is, restart_sets, running_step_rejection, turn_goes, turn_is, world_of}
+use Rattle.wf_delivery.proofs.Stored.{node_eq, node_of}
+use Rattle.wf_farm.proofs.Steps.{same_stays, shown, stops_member}
+use Rattle.wf_delivery.proofs.Turns.{rejected_is, restart_sets, running_step_rejection, turn_goes, turn_is, world_of}
 
 -- reading an entry that was set
 pub set_read : {A : Type 0} (xs : List A) (i : ℕ) (x y : A) → i < length xs → y ≡ get_or (slice_set xs i x) i y → y ≡ x

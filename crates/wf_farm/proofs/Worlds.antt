@@ -7,11 +7,12 @@ use Rattle.wf_model.specs.World as world
 use Rattle.wf_farm.specs.Cluster.{AreNodes}
 use Rattle.wf_farm.specs.Cluster as cluster
 use Rattle.wf_farm.specs.Hosts as entries
-use Rattle.wf_farm.specs.Reachability as leading
+use Rattle.wf_delivery.specs.Reachability as leading
 use Rattle.wf_farm.specs.Start.{AreFresh}
 use Rattle.wf_farm.proofs.Events.{node_at}
-use Rattle.wf_farm.proofs.Steps.{content_is_image, node_of, one_stored}
-use Rattle.wf_farm.proofs.Turns.{world_of}
+use Rattle.wf_delivery.proofs.Stored.{content_is_image, node_of}
+use Rattle.wf_farm.proofs.Steps.{one_stored}
+use Rattle.wf_delivery.proofs.Turns.{world_of}
 
 -- ---- the start
 

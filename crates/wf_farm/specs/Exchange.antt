@@ -1,11 +1,11 @@
 -- An exchange: a node of a farm is asked to do something, and its messages are delivered, and those sent in reply.
-use Rattle.std.specs.Prelude.{◌≡◌, ℕ, false, List, slice_get, slice_set, Some, Vec}
+use Rattle.std.specs.Prelude.{◌≡◌, ℕ, List, slice_get, slice_set, Some, Vec}
 use Rattle.wf_farm.specs.Common.{Global, Message, Node}
-use Rattle.wf_farm.specs.declared.delivery.Pumped.{Pumped}
+use Rattle.wf_delivery.specs.declared.delivery.Pumped.{Pumped}
 use Rattle.wf_farm.specs.declared.host.NodeHost.{NodeHost}
 use Rattle.wf_farm.specs.declared.host.NodeHost.TheVariants.{Running}
-use Rattle.wf_farm.specs.Delivery.{AreHandedOut, IsDelivered, StandInTurn}
-use Rattle.wf_farm.specs.Reachability.{AreReachableSending}
+use Rattle.wf_delivery.specs.Delivery.{AreHandedOut, IsDelivered, StandInTurn}
+use Rattle.wf_delivery.specs.Reachability.{AreReachableSending}
 use Rattle.wf_tape.specs.declared.tape.Tape.{Ghosts as Tape}
 
 -- The client may ask node `number`, if it runs.
@@ -25,10 +25,6 @@ module _ {T : Type 0} (tapes : Tape T) where
   -- What was done to a node leads any nodes on among which it is, and sends exactly these messages.
   unfoldable pub ReachabilityGoesOn : Node T → List Message → Node T → Type 0
   ReachabilityGoesOn before outputs after = (nodes : List (Node T)) (i : ℕ) → slice_get nodes i ≡ Some before → StandInTurn nodes → AreReachableSending tapes nodes outputs (slice_set nodes i after)
-
-  -- Where the tape won't fail, a node that isn't halted still isn't, and the tape still won't.
-  abbrev pub IsSturdy : Node T → Node T → Type 0
-  IsSturdy before after = tapes.never_fails before.tape → before.halted ≡ false → (after.halted ≡ false) × tapes.never_fails after.tape
 
   -- Node `number` was asked; and its messages were delivered to the nodes, and so were the messages that they sent in reply: each to
   -- each node, until none was left, or the deliveries stopped early.

@@ -8,13 +8,14 @@ use Rattle.wf_farm.specs.declared.fate.Happened.{Happened}
 use Rattle.wf_farm.specs.declared.fault.FarmFault.{FarmFault}
 use Rattle.wf_farm.specs.declared.fault.FarmFault.TheVariants.{Memory, NoNode, Carried}
 use Rattle.wf_farm.specs.declared.progress.End.{End}
-use Rattle.wf_farm.specs.declared.progress.PumpProgress.{PumpProgress}
+use Rattle.wf_delivery.specs.declared.progress.PumpProgress.{PumpProgress}
 use Rattle.wf_farm.specs.declared.rejection.Rejection.{Rejection}
 use Rattle.wf_farm.specs.Cluster.{Turns, Moves, ReportsWhy, last_rejected}
 use Rattle.wf_farm.specs.Farm.{MemoryFarm, Runs, size}
 use Rattle.wf_farm.specs.NodeHost.{MemoryHost, tape_in}
 use Rattle.wf_farm.specs.PumpProgress.{IsMade}
-use Rattle.wf_farm.specs.Pump.{AreTargets, begun, deliveries, most_deliveries}
+use Rattle.wf_delivery.specs.Progress.{begun, most_deliveries}
+use Rattle.wf_publication.specs.Rounds.{AreTargets, deliveries}
 
 -- ---- the events of such a run
 

@@ -1,6 +1,5 @@
 pub mod Common
 pub mod Event
-pub mod Turn
 pub mod Fault
 pub mod Hosts
 pub mod NodeHost
@@ -13,18 +12,9 @@ pub mod Agreement
 pub mod Pump
 pub mod PumpProgress
 pub mod ClientAnswers
-pub mod NodeInput
-pub mod Delivery
-pub mod IndexTheorems
-pub mod DeliveryTheorems
-pub mod Reachability
 pub mod Nodes
 pub mod NodesTheorems
 pub mod Exchange
-pub mod CatchUp
-pub mod ExchangeTheorems
-pub mod ReopenedNodes
 pub mod Fused
 pub mod Taking
 pub mod Publication
-pub mod Outcome

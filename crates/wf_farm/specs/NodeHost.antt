@@ -8,7 +8,7 @@ use Rattle.wf_farm.specs.declared.host.NodeHost.{NodeHost}
 use Rattle.wf_farm.specs.declared.host.NodeHost.TheVariants.{Running, Stopped}
 use Rattle.wf_farm.specs.Fault.{reported}
 use Rattle.wf_farm.specs.Hosts as entries
-use Rattle.wf_farm.specs.Turn.{node_restarted}
+use Rattle.wf_delivery.specs.Turn.{node_restarted}
 
 -- the entry of a node whose tape is in memory
 abbrev pub MemoryHost : Type 0

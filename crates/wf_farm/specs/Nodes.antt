@@ -1,5 +1,5 @@
 -- The entries of a farm as a list of nodes: what is defined of nodes that a caller holds is so of the nodes of a farm.
-use Rattle.std.specs.Prelude.{◌≡◌, ℕ, suc, true, List, [], ◌∷◌, length, slice_get, slice_set, Some, None}
+use Rattle.std.specs.Prelude.{◌≡◌, ℕ, suc, true, List, [], ◌∷◌, length, slice_get, Some, None}
 use Rattle.std.specs.FinMap as map
 use Rattle.wf_farm.specs.Common.{Node}
 use Rattle.wf_node.specs.Parts.{Parts}
@@ -63,8 +63,3 @@ module _ {T : Type 0} (tapes : Tape T) where
     pub as_many : length after ≡ length before
     pub members : AreMembers tapes.durable tapes.images tapes.never_fails before → AreMembers tapes.durable tapes.images tapes.never_fails after
     pub kept : KeepHosts before after
-
--- Entries of which some were changed, one after the other, each as `keeps` says.
-pub data AreChanged {E : Type 0} (keeps : E → E → Type 0) (before : List E) : List E → Type 0 where
-  Unchanged : AreChanged keeps before before
-  Changed : (middle : List E) (i : ℕ) (entry next : E) → AreChanged keeps before middle → slice_get middle i ≡ Some entry → keeps entry next → AreChanged keeps before (slice_set middle i next)

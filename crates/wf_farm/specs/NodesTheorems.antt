@@ -4,7 +4,7 @@ use Rattle.wf_farm.specs.Common.{cases_eq, none-some, same_Some, slice_get_withi
 use Rattle.wf_farm.specs.declared.host.NodeHost.{NodeHost}
 use Rattle.wf_farm.specs.declared.host.NodeHost.TheVariants.{Running, Stopped}
 use Rattle.wf_farm.specs.Nodes.{AllRun, KeepHosts, KeepsHost, RunsAt, node_in, nodes_from, nodes_of}
-use Rattle.wf_farm.specs.IndexTheorems.{get_set_other, set_there}
+use Rattle.wf_delivery.specs.IndexTheorems.{get_set_other, set_there}
 
 -- ---- the entries as nodes
 

@@ -1,51 +1,15 @@
--- Deliveries of which none is lost and at which no tape fails: exactly those of a pump. A proposal at one of three new nodes: all
--- three publish it. And new nodes that catch up: they are new still.
-use Rattle.std.specs.Prelude.{◌≡◌, ◌<◌, ℕ, ⊤, Bool, false, List, [], ◌∷◌, length, slice_get, slice_set, Some, Result, Ok, Vec}
-use Rattle.wf_farm.specs.Common.{Global, Message, Definition, definition_eq, Proposing, Idle, Running, Won, Overtaken, World, propose, start, steps, Node, volatile_of, IsStep, NodeFault}
-use Rattle.wf_model.specs.Table as table
-use Rattle.wf_farm.specs.declared.progress.PumpProgress.{PumpProgress}
+-- Deliveries of which none is lost, on nodes that a caller holds and in a farm that pumps. A proposal at one of three new nodes of a
+-- farm: all three publish it.
+use Rattle.std.specs.Prelude.{◌≡◌, ◌<◌, ℕ, false, List, [], ◌∷◌}
+use Rattle.wf_farm.specs.Common.{Message, Definition, World, propose, start, Node}
 use Rattle.wf_farm.specs.Agreement.{Publishes}
-use Rattle.wf_farm.specs.Delivery.{AnyPart, AreHandedOut, IsEnd, Refines, StandInTurn}
+use Rattle.wf_delivery.specs.Delivery.{AnyPart, AreHandedOut, NoneHalted, Refines, StandInTurn}
 use Rattle.wf_farm.specs.Farm as farm
 use Rattle.wf_farm.specs.Farm.{MemoryFarm, Runs, size}
-use Rattle.wf_farm.specs.Reachability.{AreFresh, outputs_by}
-use Rattle.wf_farm.specs.Pump.{AreTargets, IsPumped, count, deliveries}
+use Rattle.wf_farm.specs.Pump.{IsPumped, count}
 use Rattle.wf_tape.specs.declared.tape.Tape.{Ghosts as Tape}
 
--- no node's tape has failed
-unfoldable pub NoneHalted : {T : Type 0} → List (Node T) → Type 0
-NoneHalted {T} nodes = (i : ℕ) (node : Node T) → slice_get nodes i ≡ Some node → node.halted ≡ false
-
--- no proposal is running
-abbrev pub Rests : Proposing Definition → Type 0
-Rests Idle = ⊤
-Rests (Running proposal) = ⊥
-Rests (Won s) = ⊤
-Rests (Overtaken s) = ⊤
-
--- Each node has published exactly this definition, under sequence 1, and no proposal is running.
-unfoldable pub AllPublish : {T : Type 0} → List (Node T) → Definition → Type 0
-AllPublish {T} nodes d = (i : ℕ) (node : Node T) → slice_get nodes i ≡ Some node → (node.parts.history ≡ d ∷ []) × Rests (volatile_of node).proposing
-
--- ---- deliveries as a pump makes them
-
--- `done` deliveries led from the world to exactly what the nodes are: those of the first messages to each of these nodes, as a pump
--- makes them.
-pub record ArePumped {T : Type 0} (targets : List ℕ) (w : World Definition) (done : ℕ) (stopped : Bool) (after : List (Node T)) : Type 0 where
-  pub come : PumpProgress
-  pub part : come.some < length targets
-  pub counted : length (deliveries targets 0 come.whole come.some) ≡ done
-  pub sent : List Message
-  pub refines : Refines AnyPart after sent (steps definition_eq w (deliveries targets 0 come.whole come.some))
-  pub ended : IsEnd stopped come sent
-
 module _ {T : Type 0} (tapes : Tape T) where
-  -- From whatever world the nodes and the messages were, deliveries of which none was lost, and at which no tape failed, are those of
-  -- a pump to every node.
-  abbrev pub DeliveredExactly : Type 0
-  DeliveredExactly = (nodes after : List (Node T)) (messages : List Message) (done : ℕ) (stopped : Bool) (w : World Definition) (targets : List ℕ) → 0 < length nodes → AreTargets (length nodes) [] targets →
-      StandInTurn nodes → Refines AnyPart nodes messages w → AreHandedOut tapes nodes messages done 0 stopped after → NoneHalted after → ArePumped targets w done stopped after
-
   -- If the nodes and a farm of which nothing is pumped yet are one world, such deliveries until none is left, and a pump to every node
   -- until none is left, leave them one world; and these are as many deliveries.
   abbrev pub PumpedAlike : Type 0
@@ -53,27 +17,8 @@ module _ {T : Type 0} (tapes : Tape T) where
       AreHandedOut tapes nodes messages done 0 false after → NoneHalted after → farm.Refines before w → before.pumped ≡ 0 → (pumped : IsPumped [] before now false) →
       (sent : List Message) × (x : World Definition) × Refines AnyPart after sent x × farm.Refines now x × (count pumped.0 ≡ done)
 
--- ---- three new nodes
-
--- One of three new nodes proposed a definition, and its messages were delivered to all, and so were those sent in reply, until none
--- was left; no delivery was lost, and no tape failed. These were 27 deliveries, and all three nodes have published the
--- definition; the proposal has ended.
-abbrev pub PublishedOnAll : {T : Type 0} → Tape T → Type 0
-PublishedOnAll {T} tapes = (nodes after : List (Node T)) (i : ℕ) (before proposed : Node T) (d : Definition) (outputs : Vec Message Global) (done : ℕ) →
-    length nodes ≡ 3 → StandInTurn nodes → AreFresh nodes → slice_get nodes i ≡ Some before → IsStep tapes before (table.Propose d) (Ok outputs) proposed →
-    AreHandedOut tapes (slice_set nodes i proposed) outputs.items done 0 false after → NoneHalted after → (done ≡ 27) × AllPublish after d
-
 -- In a new farm of three nodes one proposed a definition, and then a pump to every node was made until none was left: all three
 -- have published the definition.
 abbrev pub PublishedByPump : Type 0
 PublishedByPump = (before proposed now : MemoryFarm) (i : ℕ) (d : Definition) → farm.Refines before (start 3) → before.pumped ≡ 0 → i < 3 → Runs (propose i d ∷ []) before proposed → proposed.pumped ≡ before.pumped →
     IsPumped [] proposed now false → (j : ℕ) → j < size now → Publishes now j 1 d
-
--- ---- new nodes that catch up
-
--- One of new nodes was asked for the definition after its last one, and its messages were delivered, some of them perhaps lost; no
--- tape failed. The nodes are new still.
-abbrev pub NewStayNew : {T : Type 0} → Tape T → Type 0
-NewStayNew {T} tapes = (nodes after : List (Node T)) (i : ℕ) (before asked : Node T) (answer : Result (Vec Message Global) NodeFault) (done lost : ℕ) (stopped : Bool) → AreFresh nodes →
-    slice_get nodes i ≡ Some before → IsStep tapes before table.CatchUp answer asked → AreHandedOut tapes (slice_set nodes i asked) (outputs_by answer) done lost stopped after →
-    NoneHalted after → AreFresh after

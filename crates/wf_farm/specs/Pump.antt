@@ -1,51 +1,19 @@
 -- The deliveries of a pump: each message not pumped yet, by number, to each of its targets, ascending.
-use Rattle.std.specs.Prelude.{◌≡◌, ◌⊎◌, ◌<◌, ◌≤◌, ◌↔◌, ◌+◌, ℕ, zero, suc, Bool, true, false, List, [], ◌∷◌, ◌++◌, length, take, get_or, Contains}
-use Rattle.wf_farm.specs.Common.{Message, Definition, definition_eq, World, Event, deliver, steps}
-use Rattle.std.specs.List.Sorted.{IsStrictlyIncreasing}
+use Rattle.std.specs.Prelude.{◌≡◌, ◌⊎◌, ◌<◌, ◌≤◌, ◌+◌, ℕ, Bool, true, false, List, length, get_or}
+use Rattle.wf_farm.specs.Common.{Message, Definition, definition_eq, World, deliver, steps}
 use Rattle.wf_farm.specs.declared.fault.FarmFault.{FarmFault}
 use Rattle.wf_farm.specs.declared.fault.FarmFault.TheVariants.{Memory, NoNode, Carried}
 use Rattle.wf_farm.specs.Allocation.{may_allocate}
 use Rattle.wf_farm.specs.Cluster.{Refines}
 use Rattle.wf_farm.specs.Farm.{MemoryFarm, Runs, size}
 use Rattle.wf_farm.specs.NodeHost.{MemoryHost}
-
--- the most deliveries of a pump
-abbrev pub most_deliveries : ℕ
-most_deliveries = 100000
-
--- whether a node is among the named ones; an empty list names every node
-abbrev pub IsNamed : ℕ → List ℕ → ℕ → Type 0
-IsNamed n [] i = i < n
-IsNamed n (first ∷ rest) i = Contains (first ∷ rest) i
-
--- the named nodes, each once, ascending
-pub record AreTargets (n : ℕ) (names targets : List ℕ) : Type 0 where
-  pub ascending : IsStrictlyIncreasing targets
-  pub named : (i : ℕ) → Contains targets i ↔ IsNamed n names i
-
--- the deliveries of message k to each of these nodes
-unfoldable pub to_each : List ℕ → ℕ → List (Event Definition)
-to_each [] k = []
-to_each (i ∷ nodes) k = deliver i k ∷ to_each nodes k
-
--- the deliveries of `count` messages from number k on, each to each of these nodes
-unfoldable pub rounds : List ℕ → ℕ → ℕ → List (Event Definition)
-rounds nodes k zero = []
-rounds nodes k (suc count) = to_each nodes k ++ rounds nodes (suc k) count
-
--- whole rounds from message `first` on, then the next message to the first `some` nodes
-unfoldable pub deliveries : List ℕ → ℕ → ℕ → ℕ → List (Event Definition)
-deliveries nodes first whole some = rounds nodes first whole ++ to_each (take some nodes) (first + whole)
+use Rattle.wf_delivery.specs.Progress.{begun, most_deliveries}
+use Rattle.wf_publication.specs.Rounds.{AreTargets, deliveries}
 
 -- After these deliveries the next one may allocate: its node takes the step.
 unfoldable pub NextMayAllocate : (targets : List ℕ) (first whole some : ℕ) → List MemoryHost → List Message → Type 0
 NextMayAllocate targets first whole some hosts sent = (w : World Definition) → Refines hosts sent w →
     may_allocate (steps definition_eq w (deliveries targets first whole some)) (deliver (get_or targets some 0) (first + whole)) ≡ true
-
--- the number of messages that a partial round begins, where `some` of its deliveries are done
-abbrev pub begun : ℕ → ℕ
-begun zero = 0
-begun (suc some) = 1
 
 -- What a pump has done: `whole` rounds from the first message not pumped before, and a part of the next. A message counts as
 -- pumped from its first delivery on.

@@ -1,32 +1,15 @@
 -- The progress of a pump, and how it ended.
-use Rattle.std.specs.Prelude.{◌≡◌, ◌<◌, ◌≤◌, ◌+◌, ℕ, ⊤, Bool, true, false, List, Result, Ok, Err, if◌then◌else◌, ◌==◌}
+use Rattle.std.specs.Prelude.{◌≡◌, ◌<◌, ◌+◌, ℕ, ⊤, Bool, true, false, List, Result, Ok, Err}
 use Rattle.wf_farm.specs.Common.{Message}
 use Rattle.wf_farm.specs.declared.fault.FarmFault.{FarmFault}
 use Rattle.wf_farm.specs.declared.progress.End.{End}
 use Rattle.wf_farm.specs.declared.progress.End.TheVariants.{Done, Stopped, Failed}
-use Rattle.wf_farm.specs.declared.progress.PumpProgress.{PumpProgress}
+use Rattle.wf_delivery.specs.declared.progress.PumpProgress.{PumpProgress}
 use Rattle.wf_farm.specs.declared.carrier.CarrierFault.TheVariants as carrier
 use Rattle.wf_farm.specs.Carriage.{fault_after}
-use Rattle.wf_farm.specs.Pump.{NextMayAllocate, begun, most_deliveries}
+use Rattle.wf_delivery.specs.Progress.{most_deliveries}
+use Rattle.wf_farm.specs.Pump.{NextMayAllocate}
 use Rattle.wf_farm.specs.NodeHost.{MemoryHost}
-
--- one more delivery: on to the next of `round` targets, or the round is complete
-abbrev pub next : ℕ → PumpProgress → PumpProgress
-next targets p = if p.some + 1 == targets
-    then record { whole = p.whole + 1; some = 0; done = p.done + 1 }
-    else record { whole = p.whole; some = p.some + 1; done = p.done + 1 }
-
--- the counts of the deliveries, where this many messages are sent by now
-pub record AreCounted (round first : ℕ) (p : PumpProgress) (lost sent : ℕ) : Type 0 where
-  pub part : p.some < round
-  pub within : first + p.whole + begun p.some ≤ sent
-  pub most : p.done ≤ most_deliveries
-  pub fewer : lost ≤ p.done
-
--- the count of lost deliveries after one more delivery, by whether that is lost
-abbrev pub counted : ℕ → Bool → ℕ
-counted lost true = lost + 1
-counted lost false = lost
 
 -- the end once the limit of deliveries is reached, by whether some are left
 abbrev pub last_end : Bool → End

@@ -1,13 +1,12 @@
 -- A step that a node in memory takes, whose tape may fail: it is done; or the node crashes within it, and is opened again.
 use Rattle.std.specs.Prelude.{◌≡◌, ◌≤◌, ◌<◌, ℕ, Bool, true, false, ⊤, List, length, Option, Some, None, if◌then◌else◌, nat_lt, slice_get}
-use Rattle.wf_farm.specs.Common.{Message, Definition, definition_eq, DurableState, Record, Action, Input, most_reports, at_start, World, Event, input_of, rejected_at, turn, Kept, EachIsCut, Node, stored_of, volatile_of, IsTransition, entry_of, step_rejection_at, transition_of, stored_next, NodeFault, TapeValue, IsImageOf, NeverFails}
+use Rattle.wf_farm.specs.Common.{Message, Definition, definition_eq, DurableState, Record, Action, Input, most_reports, at_start, World, Event, input_of, rejected_at, turn, Kept, EachIsCut, Node, stored_of, volatile_of, IsTransition, step_rejection_at, transition_of, stored_next, NodeFault, TapeValue, IsImageOf, NeverFails}
 use Rattle.wf_model.specs.Kept.{view as view_kept}
 use Rattle.wf_model.specs.Message as model
 use Rattle.wf_model.specs.World as world
 use Rattle.wf_model.specs.declared.kept.Kept.TheVariants as kept
 use Rattle.wf_journal.specs.Records.{AreRecords}
 use Rattle.wf_node.specs.Fault.{IsWhyNot}
-use Rattle.wf_tape.specs.declared.tape.Tape.{Ghosts as Tape}
 use Rattle.wf_farm.specs.declared.fate.Fate.{Fate}
 use Rattle.wf_farm.specs.declared.fate.Fate.TheVariants as fate
 use Rattle.wf_farm.specs.declared.host.NodeHost.TheVariants.{Running, Stopped}
@@ -59,11 +58,6 @@ stored_by world.After before after = after
 -- what a crash kept, by the number of bytes before the step and now: its record, if the tape is longer
 abbrev pub kept_beyond : ℕ → ℕ → Kept
 kept_beyond long now = if nat_lt long now then kept.After else kept.Before
-
--- A tape that failed within a step was cut within the step's record, or behind it.
-abbrev pub IsCutWithin : {T : Type 0} → Tape T → Input Definition → Node T → Node T → Type 0
-IsCutWithin tapes input before after = before.halted ≡ false → after.halted ≡ true →
-    EachIsCut (entry_of before input) (stored_of before) (stored_next before input) (tapes.images before.tape) (tapes.images after.tape)
 
 -- A tape after a step that failed: before it the tape had these records alone, as many bytes long, and each image is cut within the
 -- step's record or behind it.

@@ -4,20 +4,20 @@ ghost use Rattle.std.specs.Prelude.{◌≡◌, ◌<◌, ◌≤◌, false, [], le
 ghost use Rattle.std.specs.declared.alloc.Global.{Global};
 ghost use Rattle.wf_codec.specs.declared.message.Message.{Message};
 ghost use Rattle.wf_node.specs.Node.{Node};
-ghost use Rattle.wf_farm.specs.Delivery.{AnyPart, StandInTurn};
-ghost use Rattle.wf_farm.specs.Exchange.{IsAsked, IsExchange, IsReadyFor, IsSturdy, ReachabilityGoesOn};
-ghost use Rattle.wf_farm.specs.Reachability.{AreReachableFrom, AreReachableSending, AreReachable, HaveOneHistory};
+ghost use Rattle.wf_delivery.specs.Delivery.{AnyPart, StandInTurn};
+ghost use Rattle.wf_delivery.specs.NodeInput.{IsSturdy};
+ghost use Rattle.wf_farm.specs.Exchange.{IsAsked, IsExchange, IsReadyFor, ReachabilityGoesOn};
+ghost use Rattle.wf_delivery.specs.Reachability.{AreReachableFrom, AreReachableSending, AreReachable, HaveOneHistory};
 ghost use Rattle.wf_farm.specs.Nodes.{KeepEntries, KeepHosts, RunsAt, nodes_in, nodes_of};
 ghost use Rattle.wf_farm.specs.Hosts.{AreMembers};
 
 use crate::cluster::Cluster;
-use crate::delivery::{Pumped, deliver_each};
 use crate::farm::Farm;
 use crate::host::NodeHost;
-use crate::reachability::deliveries_are_reachable;
 use std::alloc::Global;
 use std::mem::replace;
 use wf_codec::Message;
+use wf_delivery::{Pumped, agreement, deliver_each, deliveries_are_reachable};
 use wf_journal::records_are_read_one_way;
 use wf_node::Node;
 use wf_tape::Tape;
@@ -66,7 +66,7 @@ impl<T: Tape> Farm<T> {
     }
 
     /// Lets the client ask node `number`, and delivers the node's messages to every node, and those sent meanwhile, as
-    /// [`deliver_all`](crate::deliver_all) does; stopped nodes receive nothing. Afterwards all messages are forgotten, those sent
+    /// [`deliver_all`](wf_delivery::deliver_all) does; stopped nodes receive nothing. Afterwards all messages are forgotten, those sent
     /// before the exchange too. A node that the tape fails under is halted, and keeps what it published.
     pub fn exchange<C: NodeClient<T>>(
         &mut self,
@@ -105,7 +105,7 @@ impl<T: Tape> Farm<T> {
         ensures in_turn { StandInTurn (nodes_in self.now) }
     {
         let _ = &self.cluster;
-        crate::theorem::agreement();
+        agreement();
     }
 }
 

@@ -10,6 +10,7 @@ use crate::theorem::theorems;
 use std::alloc::Global;
 use std::marker::Model;
 use wf_codec::Message;
+use wf_delivery::agreement;
 use wf_journal::records_are_read_one_way;
 use wf_node::Node;
 use wf_tape::{MemoryTape, Tape};
@@ -106,7 +107,7 @@ impl Farm<MemoryTape> {
     ghost use Rattle.wf_farm.specs.Cluster.{ReportsWhy, last_rejected};
     ghost use Rattle.wf_farm.specs.Event.{view};
     ghost use Rattle.wf_farm.specs.Farm.{IsAtOnce, Runs, RunsPart, Refines, size};
-    ghost use Rattle.wf_farm.specs.Reachability.{AreFresh};
+    ghost use Rattle.wf_delivery.specs.Reachability.{AreFresh};
     ghost use Rattle.wf_farm.specs.Nodes.{AllRun, nodes_in};
 
     /// Returns a farm of n nodes, all running, with all parts empty: the model's start. Err: F1 with 0 if an allocation fails.
@@ -178,7 +179,7 @@ impl Farm<MemoryTape> {
         ensures world { self.now.complete ≡ true → IsOneWorld self.now }
     {
         let _ = &self.cluster;
-        crate::theorem::agreement();
+        agreement();
         records_are_read_one_way();
     }
 }

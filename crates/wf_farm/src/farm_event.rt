@@ -1,6 +1,6 @@
 //! One event of a farm.
 
-ghost use Rattle.std.specs.Prelude.{◌≡◌, ◌<◌, ◌≤◌, ◌+◌, ◌++◌, ℕ, true, false, is_some, length, None, Some, IfErr, IfOk, OnErr, OnOk, vec_len, vec_capacity};
+ghost use Rattle.std.specs.Prelude.{◌≡◌, ◌<◌, ◌≤◌, ℕ, true, false, is_some, length, None, Some, IfErr, IfOk, OnErr, OnOk};
 ghost use Rattle.wf_def.specs.Definition.{Definition};
 ghost use Rattle.wf_model.specs.Action.{numbered};
 ghost use Rattle.wf_model.specs.Table.{Action as ModelAction};
@@ -25,11 +25,9 @@ use std::alloc::Global;
 use wf_ballot::NodeId;
 use wf_canon::Canon;
 use wf_codec::Message;
+use wf_delivery::{MOST_OUTPUTS, send};
 use wf_node::{Input, Node, NodeFault};
 use wf_tape::{MemoryTape, Tape};
-
-/// The most messages that one step sends: the answer to an Ask.
-pub(crate) const MOST_OUTPUTS: usize = 8;
 
 impl Cluster<MemoryTape> {
     /// Applies the event. The message of a delivery is what the carrier brings; it isn't used if the event has no effect. If the tape of
@@ -287,7 +285,7 @@ impl Cluster<MemoryTape> {
     }
 
     /// The input of an action that has one. The message of a delivery is what the carrier brings.
-    #[tactic(auto, using(crate::proofs::Events::sent_message), unfolding(wf_model::specs::World::input_of, wf_model::specs::World::delivered))]
+    #[tactic(auto, using(wf_delivery::proofs::Runs::sent_message), unfolding(wf_model::specs::World::input_of, wf_model::specs::World::delivered))]
     fn input_of<C: Carrier>(
         &self,
         alloc: Global,
@@ -328,14 +326,4 @@ fn step_rejection<T: Tape>(node: &Node<T>, action: &Action<Canon, usize>) -> Opt
         Action::CatchUp => None,
         Action::Deliver(_) => None,
     }
-}
-
-/// Sends the messages. There is room for them, so nothing fails.
-pub(crate) fn send(sent: &mut Vec<Message>, mut outputs: Vec<Message>)
-    requires { vec_len sent.old + vec_len outputs ≤ vec_capacity sent.old }
-    ensures { sent.new.items ≡ sent.old.items ++ outputs.items }
-{
-    let Ok(()) = sent.append(&mut outputs) else {
-        unreachable!()
-    };
 }

@@ -10,13 +10,13 @@ ghost use Rattle.wf_farm.specs.NodeHost.{IsMember, KeepsMember, KeepsSturdy, Res
 ghost use Rattle.wf_farm.specs.Taking.{Fares, Goes, IsCutTape, IsFew, IsTornTo, kept_beyond};
 ghost use Rattle.wf_farm.specs.declared.host.NodeHost.TheVariants.{Running, Stopped};
 
-use crate::delivery::{Outputs, consume, is_halted};
 use crate::event::Kept;
 use crate::fate::Fate;
 use crate::host::NodeHost;
 use std::alloc::{AllocError, Global};
 use std::mem::replace;
 use wf_ballot::NodeId;
+use wf_delivery::{Outputs, consume, is_halted};
 use wf_journal::{OpenFault, records_are_read_one_way};
 use wf_node::{Input, Node};
 use wf_tape::MemoryTape;

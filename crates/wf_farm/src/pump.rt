@@ -18,10 +18,11 @@ use crate::event::{Action, Event};
 use crate::farm::Farm;
 use crate::fate::CrashWatch;
 use crate::fault::{FarmFault, fault_after};
-use crate::progress::{End, MOST_DELIVERIES, PumpProgress, Pumping, last_end};
+use crate::progress::{End, Pumping, last_end, reported};
 use crate::targets::targets_of;
 use crate::theorem::theorems;
 use std::alloc::Global;
+use wf_delivery::{MOST_DELIVERIES, PumpProgress};
 use wf_tape::MemoryTape;
 
 impl Farm<MemoryTape> {
@@ -114,7 +115,7 @@ impl Farm<MemoryTape> {
             .cluster
             .pump(alloc, carrier, &targets, self.pumped, watch);
         self.pumped = progress.pumped(self.pumped);
-        progress.reported(end)
+        reported(progress, end)
     }
 }
 

@@ -4,7 +4,8 @@ ghost use Rattle.std.specs.Prelude.{◌≡◌, true};
 ghost use Rattle.wf_farm.specs.Agreement.{HasOneHistory, IsOneWorld};
 ghost use Rattle.wf_play.specs.Theorem.{HasKeptPromises, HasOwnBallots, HasPromisedMajorities};
 
-use wf_farm::{Farm, kept_promises, own_ballots, promised_majority};
+use wf_delivery::{kept_promises, own_ballots, promised_majority};
+use wf_farm::Farm;
 
 /// The theorems about the farm, which has all messages, hold of it as it is, whatever led to it.
 #[tactic(auto, using(crate::proofs::Worlds::own_ballots_there, crate::proofs::Worlds::kept_promises_there, crate::proofs::Worlds::promised_majorities_there))]

@@ -6,7 +6,7 @@ use Rattle.std.proofs.lemmas.Option.{none-some, same_Some}
 use Rattle.wf_career.specs.Career.{values_after}
 use Rattle.wf_career.specs.Run.{IsAct, AreDone}
 use Rattle.wf_codec.specs.declared.message.Message.{Message}
-use Rattle.wf_farm.specs.IndexTheorems.{get_set_other, set_there}
+use Rattle.wf_delivery.specs.IndexTheorems.{get_set_other, set_there}
 use Rattle.wf_node.specs.Node.{Node}
 use Rattle.wf_tape.specs.declared.tape.Tape.{Ghosts as Tape}
 use Rattle.wf_runs.specs.Session.{Session, Step, stepped, moments_from, acts_at, AreTaken}

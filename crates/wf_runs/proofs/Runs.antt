@@ -2,8 +2,8 @@
 use Rattle.std.proofs.Common.{◌≡◌, ℕ, zero, suc, List, [], ◌∷◌, ◌++◌, length, map, take, slice_get, Some, refl, sym, subst, ◌∙◌}
 use Rattle.wf_career.specs.Run.{Between}
 use Rattle.wf_codec.specs.declared.message.Message.{Message}
-use Rattle.wf_farm.specs.Delivery.{StandAmong, StandInTurn}
-use Rattle.wf_farm.specs.Reachability.{AreFresh}
+use Rattle.wf_delivery.specs.Delivery.{StandAmong, StandInTurn}
+use Rattle.wf_delivery.specs.Reachability.{AreFresh}
 use Rattle.wf_def.specs.Definition.{Definition}
 use Rattle.wf_model.specs.DurableState.{DurableState}
 use Rattle.wf_node.specs.Images.{StandsFor}

@@ -4,8 +4,8 @@ use Rattle.std.proofs.lemmas.Option.{slice_get_within}
 use Rattle.std.specs.declared.alloc.Global.{Global}
 use Rattle.wf_codec.specs.declared.message.Message.{Message}
 use Rattle.wf_edge.specs.RequestEffect.{MovesOnce, Stays, Proposes}
-use Rattle.wf_farm.specs.Outcome.{StepIsAnswered}
-use Rattle.wf_farm.specs.IndexTheorems.{set_same}
+use Rattle.wf_delivery.specs.Outcome.{StepIsAnswered}
+use Rattle.wf_delivery.specs.IndexTheorems.{set_same}
 use Rattle.wf_model.specs.Chosen.{IsIn}
 use Rattle.wf_model.specs.declared.action.Action.TheVariants as action
 use Rattle.wf_node.specs.Node.{Node}

@@ -7,12 +7,12 @@ use Rattle.wf_career.specs.Career.{IsOneOf}
 use Rattle.wf_codec.specs.declared.message.Message.{Message}
 use Rattle.wf_edge.specs.StepResult.{IsAnswer}
 use Rattle.wf_edge.specs.RequestEffect.{HandsOut}
-use Rattle.wf_farm.specs.CatchUp.{IsTaken as WasTaken, HasReceived, IsQuestion, HaveAsked, Rests, Asks}
-use Rattle.wf_farm.specs.declared.progress.PumpProgress.{PumpProgress}
-use Rattle.wf_farm.specs.Delivery.{IsHanded, AreHanded, First, Next}
-use Rattle.wf_farm.specs.Reachability.{outputs_by}
-use Rattle.wf_farm.specs.Outcome.{is_lost, StepIsAnswered}
-use Rattle.wf_farm.specs.IndexTheorems.{set_same, set_there}
+use Rattle.wf_catch_up.specs.CatchUp.{IsTaken as WasTaken, HasReceived, IsQuestion, HaveAsked, Rests, Asks}
+use Rattle.wf_delivery.specs.declared.progress.PumpProgress.{PumpProgress}
+use Rattle.wf_delivery.specs.Delivery.{IsHanded, AreHanded, First, Next}
+use Rattle.wf_delivery.specs.Reachability.{outputs_by}
+use Rattle.wf_delivery.specs.Outcome.{is_lost, StepIsAnswered}
+use Rattle.wf_delivery.specs.IndexTheorems.{set_same, set_there}
 use Rattle.wf_model.specs.Chosen.{IsIn}
 use Rattle.wf_model.specs.declared.action.Action.TheVariants as action
 use Rattle.wf_node.specs.Input.{view}

@@ -3,7 +3,7 @@ use Rattle.std.proofs.Common.{◌≡◌, ℕ, zero, suc, false, List, [], ◌∷
 use Rattle.std.specs.Prelude.{Result}
 use Rattle.wf_codec.specs.declared.message.Message.{Message}
 use Rattle.wf_def.specs.Definition.{Definition}
-use Rattle.wf_farm.specs.NodeInput.{Steps}
+use Rattle.wf_delivery.specs.NodeInput.{Steps}
 use Rattle.wf_model.specs.declared.action.Action.TheVariants as action
 use Rattle.wf_node.specs.Input.{view}
 use Rattle.wf_node.specs.Step.{IsTransition, entry_of, step_rejection_at, transition_of}

@@ -5,8 +5,8 @@ ghost use Rattle.wf_runs.specs.CrashImages.{DiskLeavesBetween, DiskLeavesFailed,
 ghost use Rattle.wf_runs.specs.ServedSteps.{NewRunIsOneFarm, RunsAreOneFarm, ServingIsSteps};
 
 use wf_career::{durable_tapes_leave_this, lists_grow, processes_agree, processes_answer_alike};
+use wf_delivery::a_step_is_answered;
 use wf_disk::{Disk, a_process_ends_in_an_image};
-use wf_farm::a_step_is_answered;
 use wf_journal::records_are_read_one_way;
 use wf_tape::{DiskTape, Tape};
 

@@ -3,7 +3,7 @@ use Rattle.std.proofs.Common.{◌≡◌, ℕ, zero, suc, List, [], ◌∷◌, le
 use Rattle.std.specs.declared.alloc.Global.{Global}
 use Rattle.wf_def.specs.Definition.{Definition}
 use Rattle.wf_edge.specs.Theorem.{stand_alike, EqualRequestsHaveEqualResponses}
-use Rattle.wf_farm.specs.Reachability.{HaveOneHistory}
+use Rattle.wf_delivery.specs.Reachability.{HaveOneHistory}
 use Rattle.wf_learner.specs.History.{map_at}
 use Rattle.wf_model.specs.DurableState.{definition_at}
 use Rattle.wf_node.specs.Node.{Node}

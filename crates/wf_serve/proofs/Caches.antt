@@ -4,8 +4,8 @@ use Rattle.std.proofs.lemmas.Bool.{cases_eq}
 use Rattle.std.proofs.lemmas.Option.{none-some, same_Some, slice_get_within}
 use Rattle.wf_def.specs.Definition.{Definition}
 use Rattle.wf_edge.specs.Growth.{cached_on}
-use Rattle.wf_farm.specs.Delivery.{EachGrows}
-use Rattle.wf_farm.specs.IndexTheorems.{get_set_same, get_set_other}
+use Rattle.wf_delivery.specs.Delivery.{EachGrows}
+use Rattle.wf_delivery.specs.IndexTheorems.{get_set_same, get_set_other}
 use Rattle.wf_node.specs.Node.{Node}
 use Rattle.wf_wms.specs.CachedPictures.{AllCached, CacheValue, GrowthKeepsAll}
 use Rattle.wf_serve.specs.CacheSet.{AreEmpty, AreCached, HaveRoom, IsCachedAt, KeepRoom}

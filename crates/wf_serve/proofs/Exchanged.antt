@@ -8,10 +8,10 @@ use Rattle.wf_def.specs.Definition.{Definition}
 use Rattle.wf_edge.specs.Growth.{cached_on}
 use Rattle.wf_edge.specs.RequestEffect.{IsServed}
 use Rattle.wf_edge.specs.declared.outcome.Outcome.{Outcome}
-use Rattle.wf_farm.specs.Delivery.{AnyPart, AreDelivered, AreDeliveries, AreHandedOut, EachGrows, First, IsDelivered, ReachByDeliveries, StandFor}
-use Rattle.wf_farm.specs.DeliveryTheorems.{halted_itself, keeps_turn_itself}
+use Rattle.wf_delivery.specs.Delivery.{AnyPart, AreDelivered, AreDeliveries, AreHandedOut, EachGrows, First, IsDelivered, ReachByDeliveries, StandFor}
+use Rattle.wf_delivery.specs.DeliveryTheorems.{halted_itself, keeps_turn_itself}
 use Rattle.wf_farm.specs.Exchange.{IsExchange}
-use Rattle.wf_farm.specs.declared.delivery.Pumped.{Pumped}
+use Rattle.wf_delivery.specs.declared.delivery.Pumped.{Pumped}
 use Rattle.wf_edge.specs.Request.{Request}
 use Rattle.wf_model.specs.DurableState.{DurableState}
 use Rattle.wf_model.specs.Table.{Input}

@@ -4,11 +4,11 @@ use Rattle.std.proofs.lemmas.Option.{same_Some, slice_get_cases, slice_get_withi
 use Rattle.wf_def.specs.Definition.{Definition}
 use Rattle.wf_model.specs.DurableState.{definition_at}
 use Rattle.wf_model.specs.Table.{Retry}
-use Rattle.wf_farm.specs.CatchUp.{CatchUpIsReachable, LevelRests}
-use Rattle.wf_farm.specs.Delivery.{EachGrows, KeepTurn, StandInTurn}
-use Rattle.wf_farm.specs.DeliveryTheorems.{keeps_turn_itself, keeps_turn_twice}
-use Rattle.wf_farm.specs.Reachability.{AreFresh, NothingIsOutput, StepIsReachable}
-use Rattle.wf_farm.specs.Publication.{AllPublish, PublishedOnAll}
+use Rattle.wf_catch_up.specs.CatchUp.{CatchUpIsReachable, LevelRests}
+use Rattle.wf_delivery.specs.Delivery.{EachGrows, KeepTurn, StandInTurn}
+use Rattle.wf_delivery.specs.DeliveryTheorems.{keeps_turn_itself, keeps_turn_twice}
+use Rattle.wf_delivery.specs.Reachability.{AreFresh, NothingIsOutput, StepIsReachable}
+use Rattle.wf_publication.specs.Publication.{AllPublish, PublishedOnAll}
 use Rattle.wf_node.specs.Growth.{IsGrown}
 use Rattle.wf_node.specs.Node.{Node}
 use Rattle.wf_serve.specs.Connections.{HaveCome, IsAnswered, MayBeAnswered}

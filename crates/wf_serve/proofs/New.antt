@@ -1,8 +1,8 @@
 -- New nodes that catch up are new still: all of them have published nothing.
 use Rattle.std.proofs.Common.{◌≡◌, ◌∙◌, List, length, ap, subst, sym}
 use Rattle.wf_def.specs.Definition.{Definition}
-use Rattle.wf_farm.specs.CatchUp.{LevelRests, StandLevel}
-use Rattle.wf_farm.specs.Reachability.{AreFresh, IsFresh}
+use Rattle.wf_catch_up.specs.CatchUp.{LevelRests, StandLevel}
+use Rattle.wf_delivery.specs.Reachability.{AreFresh, IsFresh}
 use Rattle.wf_model.specs.DurableState.{DurableState, nothing_stored}
 use Rattle.wf_node.specs.Node.{Node}
 use Rattle.wf_serve.specs.Publication.{CaughtUpAreNew}

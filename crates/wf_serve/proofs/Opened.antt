@@ -1,7 +1,7 @@
 -- The nodes that are served: each is at the index of its number.
 use Rattle.std.proofs.Common.{◌≡◌, ◌⊎◌, ℕ, zero, suc, List, [], ◌∷◌, ◌++◌, length, slice_get, Some, refl, sym, ap, subst, ◌∙◌, inl, inr}
 use Rattle.std.proofs.lemmas.Option.{none-some, same_Some}
-use Rattle.wf_farm.specs.Delivery.{StandAmong, StandInTurn}
+use Rattle.wf_delivery.specs.Delivery.{StandAmong, StandInTurn}
 use Rattle.wf_farm.specs.declared.host.NodeHost.{NodeHost}
 use Rattle.wf_farm.specs.declared.host.NodeHost.TheVariants.{Running}
 use Rattle.wf_farm.specs.Nodes.{nodes_from, nodes_of}

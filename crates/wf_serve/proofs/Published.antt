@@ -14,10 +14,11 @@ use Rattle.wf_edge.specs.declared.outcome.Outcome.{Outcome}
 use Rattle.wf_edge.specs.declared.outcome.Outcome.TheVariants as outcome
 use Rattle.wf_edge.specs.declared.publish_fault.PublishFault.{PublishFault}
 use Rattle.wf_edge.specs.declared.publish_fault.PublishFault.TheVariants as publish
-use Rattle.wf_farm.specs.CatchUp.{LevelRests, StandLevel}
-use Rattle.wf_farm.specs.Delivery.{AreHandedOut, StandInTurn}
-use Rattle.wf_farm.specs.Reachability.{AreFresh}
-use Rattle.wf_farm.specs.Publication.{AllPublish, NoneHalted, PublishedOnAll, Rests}
+use Rattle.wf_catch_up.specs.CatchUp.{LevelRests, StandLevel}
+use Rattle.wf_delivery.specs.Delivery.{AreHandedOut, StandInTurn}
+use Rattle.wf_delivery.specs.Reachability.{AreFresh}
+use Rattle.wf_publication.specs.Publication.{AllPublish, PublishedOnAll, Rests}
+use Rattle.wf_delivery.specs.Delivery.{NoneHalted}
 use Rattle.wf_edge.specs.Request.{Request, BeginsWith}
 use Rattle.wf_http.specs.Response.{Response}
 use Rattle.wf_http.specs.Target.{query_of}

@@ -5,12 +5,13 @@ use Rattle.wf_codec.specs.declared.message.Message.{Message}
 use Rattle.wf_def.specs.Definition.{Definition}
 use Rattle.wf_model.specs.Table as table
 use Rattle.wf_edge.specs.RequestEffect.{HandsOut, MovesOnce, Stays, Proposes}
-use Rattle.wf_farm.specs.Delivery.{KeepTurn, StandInTurn}
-use Rattle.wf_farm.specs.DeliveryTheorems.{keeps_turn_twice}
-use Rattle.wf_farm.specs.Exchange.{IsSturdy, ReachabilityGoesOn}
-use Rattle.wf_farm.specs.ExchangeTheorems.{same_sturdy, step_sturdy}
-use Rattle.wf_farm.specs.Reachability.{AreReachableSending, IsOwn, NothingIsOutput, StepIsReachable, outputs_by}
-use Rattle.wf_farm.specs.IndexTheorems.{set_same}
+use Rattle.wf_delivery.specs.Delivery.{KeepTurn, StandInTurn}
+use Rattle.wf_delivery.specs.DeliveryTheorems.{keeps_turn_twice}
+use Rattle.wf_delivery.specs.NodeInput.{IsSturdy}
+use Rattle.wf_farm.specs.Exchange.{ReachabilityGoesOn}
+use Rattle.wf_delivery.specs.SturdyTheorems.{same_sturdy, step_sturdy}
+use Rattle.wf_delivery.specs.Reachability.{AreReachableSending, IsOwn, NothingIsOutput, StepIsReachable, outputs_by}
+use Rattle.wf_delivery.specs.IndexTheorems.{set_same}
 use Rattle.wf_node.specs.Node.{Node}
 use Rattle.wf_node.specs.declared.fault.NodeFault.{NodeFault}
 use Rattle.wf_serve.specs.ConnectionEffect.{IsAsked, IsAskedAndArrived}

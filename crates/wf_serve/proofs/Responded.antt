@@ -10,8 +10,8 @@ use Rattle.wf_edge.specs.Request.{BeginsWith, IsRequestFault, Request}
 use Rattle.wf_edge.specs.Completion.{CountsCompleting}
 use Rattle.wf_edge.specs.RequestEffect.{Serves}
 use Rattle.wf_edge.specs.RequestEffectTheorems.{read_served}
-use Rattle.wf_farm.specs.IndexTheorems.{set_same}
-use Rattle.wf_farm.specs.declared.delivery.Pumped.{Pumped}
+use Rattle.wf_delivery.specs.IndexTheorems.{set_same}
+use Rattle.wf_delivery.specs.declared.delivery.Pumped.{Pumped}
 use Rattle.wf_http.specs.Front.{CountsReads}
 use Rattle.wf_http.specs.declared.fault.RequestFault.{RequestFault}
 use Rattle.wf_node.specs.Node.{Node}

@@ -2,8 +2,8 @@
 use Rattle.std.proofs.Common.{◌≡◌, ℕ, List, false, true, length, sym}
 use Rattle.std.specs.Prelude.{Option, Some, None, IsSome, Result, Ok, Err, OnOk}
 use Rattle.std.proofs.lemmas.Option.{none-some}
-use Rattle.wf_farm.specs.Delivery.{AnyPart}
-use Rattle.wf_farm.specs.Reachability.{AreFresh, AreReachableFrom, AreReachable}
+use Rattle.wf_delivery.specs.Delivery.{AnyPart}
+use Rattle.wf_delivery.specs.Reachability.{AreFresh, AreReachableFrom, AreReachable}
 use Rattle.wf_node.specs.Node.{Node}
 use Rattle.wf_serve.specs.Agreement.{AgreeStill, HaveGoneOn}
 use Rattle.wf_serve.specs.OpenedNodes.{WereRead}

@@ -4,8 +4,8 @@ use Rattle.std.specs.declared.alloc.Global.{Global}
 use Rattle.wf_codec.specs.declared.message.Message.{Message}
 use Rattle.wf_edge.specs.Theorem.{AsksMapService}
 use Rattle.wf_edge.specs.RequestEffect.{Responds}
-use Rattle.wf_farm.specs.Delivery.{AnyPart, EachGrows}
-use Rattle.wf_farm.specs.Reachability.{AreReachableFrom, AreReachable, HaveOneHistory}
+use Rattle.wf_delivery.specs.Delivery.{AnyPart, EachGrows}
+use Rattle.wf_delivery.specs.Reachability.{AreReachableFrom, AreReachable, HaveOneHistory}
 use Rattle.wf_http.specs.Response.{Response, response_bytes}
 use Rattle.wf_node.specs.Node.{Node}
 use Rattle.wf_tape.specs.declared.tape.Tape.{Ghosts as Tape}

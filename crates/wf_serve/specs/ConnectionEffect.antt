@@ -9,9 +9,9 @@ use Rattle.wf_edge.specs.Page.{proposal_state_at}
 use Rattle.wf_edge.specs.RequestEffect.{HandsOut, IsOutcome, MovesOnce}
 use Rattle.wf_edge.specs.declared.outcome.Outcome.{Outcome}
 use Rattle.wf_edge.specs.declared.outcome.Outcome.TheVariants as outcome
-use Rattle.wf_farm.specs.CatchUp as farm
-use Rattle.wf_farm.specs.CatchUp.{StandLevel}
-use Rattle.wf_farm.specs.Delivery.{AreHandedOut, IsDelivered}
+use Rattle.wf_catch_up.specs.CatchUp as farm
+use Rattle.wf_catch_up.specs.CatchUp.{StandLevel}
+use Rattle.wf_delivery.specs.Delivery.{AreHandedOut, IsDelivered}
 use Rattle.wf_model.specs.Table.{Input, Retry}
 use Rattle.wf_node.specs.Node.{Node}
 use Rattle.wf_node.specs.declared.fault.NodeFault.{NodeFault}

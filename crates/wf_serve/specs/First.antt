@@ -3,9 +3,9 @@ use Rattle.std.specs.Prelude.{◌≡◌, ℕ, suc, ⊤, false, List, length, sli
 use Rattle.std.proofs.Common.{inl, inr}
 use Rattle.wf_def.specs.Definition.{Definition}
 use Rattle.wf_edge.specs.Publish.{IsMapOf}
-use Rattle.wf_farm.specs.Delivery.{StandInTurn}
-use Rattle.wf_farm.specs.Reachability.{AreFresh}
-use Rattle.wf_farm.specs.Publication.{NoneHalted}
+use Rattle.wf_delivery.specs.Delivery.{StandInTurn}
+use Rattle.wf_delivery.specs.Reachability.{AreFresh}
+use Rattle.wf_delivery.specs.Delivery.{NoneHalted}
 use Rattle.wf_edge.specs.Request.{Request, BeginsWith}
 use Rattle.wf_model.specs.DurableState.{definition_at}
 use Rattle.wf_node.specs.Node.{Node}

@@ -8,7 +8,7 @@ use Rattle.wf_edge.specs.Request.{Request}
 use Rattle.wf_edge.specs.Completion.{CountsCompleting, IsErrorCompleted}
 use Rattle.wf_edge.specs.RequestEffect.{IsRead, IsServed}
 use Rattle.wf_edge.specs.declared.outcome.Outcome.{Outcome}
-use Rattle.wf_farm.specs.declared.delivery.Pumped.{Pumped}
+use Rattle.wf_delivery.specs.declared.delivery.Pumped.{Pumped}
 use Rattle.wf_http.specs.declared.fault.RequestFault.{RequestFault}
 use Rattle.wf_node.specs.Node.{Node}
 use Rattle.wf_serve.specs.ConnectionEffect.{AreArrived, IsChangedAt}

@@ -5,9 +5,10 @@ use Rattle.wf_def.specs.Definition.{Definition}
 use Rattle.wf_edge.specs.Publish.{IsMapOf}
 use Rattle.wf_edge.specs.declared.outcome.Outcome.{Outcome}
 use Rattle.wf_edge.specs.declared.outcome.Outcome.TheVariants as outcome
-use Rattle.wf_farm.specs.Delivery.{StandInTurn}
-use Rattle.wf_farm.specs.Reachability.{AreFresh}
-use Rattle.wf_farm.specs.Publication.{AllPublish, NoneHalted}
+use Rattle.wf_delivery.specs.Delivery.{StandInTurn}
+use Rattle.wf_delivery.specs.Reachability.{AreFresh}
+use Rattle.wf_publication.specs.Publication.{AllPublish}
+use Rattle.wf_delivery.specs.Delivery.{NoneHalted}
 use Rattle.wf_edge.specs.Request.{Request, BeginsWith}
 use Rattle.wf_node.specs.Node.{Node}
 use Rattle.wf_serve.specs.ConnectionEffect.{HaveCaughtUp, IsConnection}

@@ -1,7 +1,7 @@
 -- What the nodes of a farm did, from the moment that they are open to the last connection.
 use Rattle.std.specs.Prelude.{◌≡◌, ℕ, List, length, IsSome, None, Ok}
-use Rattle.wf_farm.specs.Delivery.{AnyPart, StandInTurn}
-use Rattle.wf_farm.specs.Reachability.{AreFresh, AreReachable}
+use Rattle.wf_delivery.specs.Delivery.{AnyPart, StandInTurn}
+use Rattle.wf_delivery.specs.Reachability.{AreFresh, AreReachable}
 use Rattle.wf_node.specs.Node.{Node}
 use Rattle.wf_serve.specs.Agreement.{HaveGoneOn}
 use Rattle.wf_serve.specs.CacheSet.{HaveCaches}

@@ -5,7 +5,7 @@ ghost use Rattle.wf_edge.specs.Page.{proposal_state_at};
 ghost use Rattle.wf_edge.specs.Completion.{CountsCompleting};
 ghost use Rattle.wf_edge.specs.RequestEffect.{IsPublish, IsReading};
 ghost use Rattle.wf_farm.specs.Farm.{size};
-ghost use Rattle.wf_farm.specs.Reachability.{AreReachableFrom};
+ghost use Rattle.wf_delivery.specs.Reachability.{AreReachableFrom};
 ghost use Rattle.wf_farm.specs.Nodes.{AllRun, nodes_in};
 ghost use Rattle.wf_serve.specs.Agreement.{AgreeStill, HaveGoneOn};
 ghost use Rattle.wf_serve.specs.CacheSet.{AreCached, IsCachedAt, KeepRoom};
@@ -19,13 +19,14 @@ use crate::outcome::ConnectionOutcome;
 use crate::publication::an_accepted_map_is_published;
 use std::alloc::Global;
 use wf_codec::Message;
+use wf_delivery::{Pumped, reachability_goes_on, reachable_stays};
 use wf_edge::answer::{answer_get, status_of};
 use wf_edge::completion::write_error;
 use wf_edge::outcome::Outcome;
 use wf_edge::request::Request;
 use wf_edge::resource::RequestedResource;
 use wf_edge::theorem::equal_requests_have_equal_responses;
-use wf_farm::{Farm, Pumped, reachability_goes_on, reachable_stays};
+use wf_farm::Farm;
 use wf_http::fault::RequestFault;
 use wf_node::Node;
 use wf_proposer::ProposalState;
@@ -42,7 +43,7 @@ pub fn catch_up<T: Tape>(alloc: Global, farm: &mut Farm<T>)
     ensures reachable { AreReachableFrom T.Tape (nodes_in farm.old) (nodes_in farm.new) }
     ensures running { AllRun farm.new.hosts }
 {
-    let _ = farm.catch_up(alloc);
+    let _ = wf_catch_up::catch_up(alloc, farm);
 }
 
 /// Serves one connection, over any reader and writer, by the node at index `node_index` and its cache, as `serve_one_cached` of

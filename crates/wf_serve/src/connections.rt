@@ -1,7 +1,7 @@
 //! Connections accepted at a listener, each served by the node whose turn it is.
 ghost use Rattle.std.specs.Prelude.{◌≡◌, ◌<◌, ◌%◌};
 ghost use Rattle.wf_farm.specs.Farm.{size};
-ghost use Rattle.wf_farm.specs.Reachability.{AreReachableFrom};
+ghost use Rattle.wf_delivery.specs.Reachability.{AreReachableFrom};
 ghost use Rattle.wf_farm.specs.Nodes.{AllRun, nodes_in};
 ghost use Rattle.wf_serve.specs.Agreement.{HaveGoneOn};
 ghost use Rattle.wf_serve.specs.CacheSet.{AreCached, KeepRoom};
@@ -15,7 +15,8 @@ use crate::timed_writer::TimedWriter;
 use crate::watch::Watch;
 use std::net::{TcpListener, TcpStream};
 use std::time::{Clock, Duration};
-use wf_farm::{Farm, reachability_goes_on};
+use wf_delivery::reachability_goes_on;
+use wf_farm::Farm;
 use wf_tape::Tape;
 use wf_wms::cache::Cache;
 

@@ -7,10 +7,11 @@ ghost use Rattle.wf_serve.specs.ConnectionEffect.{IsAsked};
 
 use std::alloc::Global;
 use wf_codec::Message;
+use wf_delivery::{a_step_is_reachable, reachability_goes_on};
 use wf_edge::outcome::Outcome;
 use wf_edge::request::Request;
 use wf_edge::serve::{Served, publish_request};
-use wf_farm::{NodeClient, a_step_is_reachable, reachability_goes_on};
+use wf_farm::NodeClient;
 use wf_node::{Input, Node, NodeFault};
 use wf_stream::Sink;
 use wf_tape::Tape;

@@ -1,5 +1,5 @@
+use wf_delivery::Pumped;
 use wf_edge::outcome::Outcome;
-use wf_farm::Pumped;
 
 /// What came of a connection.
 #[derive(Clone, Copy, PartialEq, Eq)]

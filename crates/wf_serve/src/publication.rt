@@ -2,9 +2,9 @@
 ghost use Rattle.wf_serve.specs.First.{FirstIsPublished};
 ghost use Rattle.wf_serve.specs.Publication.{AcceptedIsPublished, CaughtUpAreNew};
 
-use wf_farm::{
-    a_catch_up_is_reachable, a_proposal_is_published, a_step_is_reachable, reachability_goes_on,
-};
+use wf_catch_up::a_catch_up_is_reachable;
+use wf_delivery::{a_step_is_reachable, reachability_goes_on};
+use wf_farm::a_proposal_is_published;
 use wf_tape::Tape;
 
 /// If a connection to one of three new nodes, served by [`serve_connection`](crate::serve_connection), was answered with the status

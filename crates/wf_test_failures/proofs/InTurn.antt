@@ -1,7 +1,7 @@
 -- Three nodes, or one, each at the index of its number.
 use Rattle.std.proofs.Common.{◌≡◌, ℕ, zero, suc, List, [], ◌∷◌, slice_get, Some, subst}
 use Rattle.std.proofs.lemmas.Option.{none-some, same_Some}
-use Rattle.wf_farm.specs.Delivery.{StandAmong, StandInTurn}
+use Rattle.wf_delivery.specs.Delivery.{StandAmong, StandInTurn}
 use Rattle.wf_node.specs.Node.{Node}
 
 module _ {T : Type 0} (first second third : Node T) (first_id : first.id ≡ 0) (first_of : first.n ≡ 3) (second_id : second.id ≡ 1) (second_of : second.n ≡ 3) (third_id : third.id ≡ 2) (third_of : third.n ≡ 3) where

@@ -3,6 +3,7 @@
 use crate::value::{MAP_A, map};
 use std::alloc::Global;
 use std::process::Abort;
+use wf_catch_up::catch_up;
 use wf_farm::{Action, Event, Farm};
 
 /// The last published sequences of the three nodes of a farm; None of one that doesn't run.
@@ -47,7 +48,7 @@ fn caught_up(rt: &impl Abort, alloc: Global, count: u16) -> Option<(LastPublishe
     };
     let is_missed = is_missed(rt, alloc, &mut farm, count);
     let before = published(&farm);
-    let is_level = farm.catch_up(alloc).is_ok();
+    let is_level = catch_up(alloc, &mut farm).is_ok();
     let after = published(&farm);
     drop(farm);
     if is_missed && is_level {

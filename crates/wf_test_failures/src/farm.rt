@@ -7,7 +7,7 @@ use std::process::Abort;
 use wf_ballot::{NodeId, Slot};
 use wf_canon::Canon;
 use wf_codec::Message;
-use wf_farm::{Pumped, deliver_all};
+use wf_delivery::{Pumped, deliver_all};
 use wf_node::{Input, Node};
 use wf_tape::MemoryTape;
 

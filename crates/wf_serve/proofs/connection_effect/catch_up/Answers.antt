@@ -1,6 +1,6 @@
 -- The farm's nodes have caught up.
 use Rattle.std.proofs.Common.{◌≡◌, true, false, Result, Ok, Err, OnOk, length, is_err, arith}
-use Rattle.wf_farm.specs.CatchUp.{StandLevel}
+use Rattle.wf_catch_up.specs.CatchUp.{StandLevel}
 use Rattle.wf_farm.specs.Nodes.{nodes_in}
 use Rattle.wf_farm.specs.NodesTheorems.{all_run_on, length-nodes}
 use Rattle.wf_serve.proofs.connection_effect.catch_up.Goals as goal
@@ -16,7 +16,7 @@ pub returns-clause-caught : goal.returns-clause-caught
 returns-clause-caught g c = record {
   lost = is_err c.catch_up.result;
   caught = c.catch_up.ensures.caught;
-  level = λ none. level_by c.catch_up.result (StandLevel (nodes_in c.catch_up.new.self)) c.catch_up.ensures.level none;
+  level = λ none. level_by c.catch_up.result (StandLevel (nodes_in c.catch_up.new.farm)) c.catch_up.ensures.level none;
 }
 
 pub returns-clause-reachable : goal.returns-clause-reachable
@@ -25,6 +25,6 @@ returns-clause-reachable g c = c.catch_up.ensures.reachable
 pub returns-clause-running : goal.returns-clause-running
 returns-clause-running g c =
     let before = c.args.farm.now.hosts in
-    let after = c.catch_up.new.self.hosts in
+    let after = c.catch_up.new.farm.hosts in
     let long : length after ≡ length before = omega (arith, c.catch_up.ensures.reachable.turn.as_many, length-nodes before, length-nodes after) in
     all_run_on before after long c.catch_up.ensures.kept c.requires

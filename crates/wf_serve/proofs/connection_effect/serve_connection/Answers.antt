@@ -1,8 +1,8 @@
 -- The request, the deliveries, the retry and the catch-up come in turn, each leading the nodes on.
 use Rattle.std.proofs.Common.{◌<◌, ◌∙◌, length, ap, refl, rules, slice_set, subst, sym, arith}
 use Rattle.std.proofs.lemmas.Option.{slice_get_read}
-use Rattle.wf_farm.specs.DeliveryTheorems.{halted_twice, none_before}
-use Rattle.wf_farm.specs.Reachability.{AreReachableFrom}
+use Rattle.wf_delivery.specs.DeliveryTheorems.{halted_twice, none_before}
+use Rattle.wf_delivery.specs.Reachability.{AreReachableFrom}
 use Rattle.wf_farm.specs.Nodes.{nodes_in}
 use Rattle.wf_farm.specs.NodesTheorems.{length-nodes}
 use Rattle.wf_wms.specs.CachedPictures.{AllCached, CacheValue}

@@ -2,7 +2,7 @@
 use Rattle.std.proofs.Common.{◌≡◌, ◌++◌, ◌∙◌, false, length, take, drop, sym, ap, subst, arith}
 use Rattle.wf_farm.proofs.Common.{slice_get_within, Running, IsExchange, IsFarm, AreReachableFrom, KeepEntries, KeepHosts, RunsAt, nodes_in, nodes_of}
 use Rattle.wf_farm.proofs.Exchanges.{farm_reachable}
-use Rattle.wf_farm.proofs.Rounds.{lent_back}
+use Rattle.wf_farm.proofs.Lent.{lent_back}
 use Rattle.wf_farm.proofs.farm.Farm.exchange.Given as given
 use Rattle.wf_farm.proofs.farm.Farm.exchange.Goals as goal
 

@@ -2,7 +2,7 @@
 use Rattle.std.proofs.Common.{subst}
 use Rattle.wf_farm.proofs.Common.{AnyPart, StandInTurn, AreReachable, nodes_in}
 use Rattle.wf_farm.proofs.Nodes.{in_turn_of, reached_any}
-use Rattle.wf_farm.proofs.OneRun.{agree_reached}
+use Rattle.wf_delivery.proofs.OneRun.{agree_reached}
 use Rattle.wf_farm.proofs.farm.Farm.nodes_agree.Goals as goal
 
 pub returns-clause-reached : goal.returns-clause-reached

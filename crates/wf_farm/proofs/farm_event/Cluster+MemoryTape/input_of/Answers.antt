@@ -3,7 +3,7 @@ use Rattle.std.proofs.Common.{◌≡◌, ◌∙◌, List, length, map, is_some, 
 use Rattle.wf_farm.proofs.Common.{ltb-false, ltb-true, slice_get_past, slice_get_read, Message, numbered, input_of}
 use Rattle.wf_codec.specs.Message.{view}
 use Rattle.wf_model.specs.Table as table
-use Rattle.wf_farm.proofs.Events.{sent_message}
+use Rattle.wf_delivery.proofs.Runs.{sent_message}
 use Rattle.wf_farm.proofs.Idle.{none_sent}
 use Rattle.wf_farm.proofs.farm_event.Cluster+MemoryTape.input_of.Goals as goal
 

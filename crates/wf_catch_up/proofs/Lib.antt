@@ -1,0 +1,4 @@
+mod Common
+mod Level
+mod Asked
+mod Changes

@@ -1,0 +1,11 @@
+pub mod Common
+pub mod Progress
+pub mod Turn
+pub mod NodeInput
+pub mod SturdyTheorems
+pub mod Delivery
+pub mod IndexTheorems
+pub mod DeliveryTheorems
+pub mod Reachability
+pub mod ReopenedNodes
+pub mod Outcome

@@ -1,6 +1,0 @@
--- The messages get fewer.
-use Rattle.std.proofs.Common.{length}
-use Rattle.wf_farm.proofs.catch_up.+consume.Given as goal
-
-abbrev pub decreases-consume : goal.decreases-consume
-decreases-consume g l = length l.messages.now

@@ -1,5 +1,0 @@
-use Rattle.wf_farm.proofs.OneRun.{step_is_reachable}
-use Rattle.wf_farm.proofs.reachability.a_step_is_reachable.Goals as goal
-
-pub returns : goal.returns
-returns g c = step_is_reachable g.T.Tape

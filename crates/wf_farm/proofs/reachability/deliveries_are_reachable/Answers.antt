@@ -1,5 +1,0 @@
-use Rattle.wf_farm.proofs.OneRun.{deliveries_are_reachable}
-use Rattle.wf_farm.proofs.reachability.deliveries_are_reachable.Goals as goal
-
-pub returns : goal.returns
-returns g c = deliveries_are_reachable c.earlier_messages.ensures g.T.Tape

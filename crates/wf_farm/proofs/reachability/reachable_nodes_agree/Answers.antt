@@ -1,5 +1,0 @@
-use Rattle.wf_farm.proofs.OneRun.{agree_reached}
-use Rattle.wf_farm.proofs.reachability.reachable_nodes_agree.Goals as goal
-
-pub returns : goal.returns
-returns g c = agree_reached c.agreement.ensures c.args.nodes.now
