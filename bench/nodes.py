@@ -9,8 +9,8 @@ Parts, all of them where none is named; about two minutes:
            leader, through its HTTP/JSON gateway on a kept connection. A get that needs no agreement shows what the gateway takes of it
   syncs    the syncs of such a publish at each node, counted by strace: of records with a map, and of others
   tiles    one kept tile of 256 by 256 for 32 clients of wrk, a connection per request, beside nginx (one worker, the same bytes as a
-           file, no connection kept), in turns; and the processor time per 1,000 tiles of four nodes in four processes, with eight
-           clients each, beside one's
+           file, no connection kept), with sendfile, which copies no byte in the process, and without; in turns, none with a log of
+           requests; and the processor time per 1,000 tiles of four nodes in four processes, with eight clients each, beside one's
   idle     the median of an answer with 200 connections open that send nothing, beside none; in turns
   rest     the processor time of each of three nodes that nobody asks
   missed   1,000 maps of 2 KB that a node gets from the others, from its start
@@ -110,13 +110,13 @@ def sequence_in(answer):
 
 
 @contextlib.contextmanager
-def farm(options, name, count=3):
+def farm(options, name, count=3, logs=True):
     """Nodes that run, in a folder of their own, each of which has peers."""
     folder = pathlib.Path(options.room) / name
     nodes = nodes_in(options.program, folder, name, count)
     try:
         for node in nodes:
-            node.start()
+            node.start(logs=logs)
         for node in nodes:
             wait_for(lambda: node.published() is not None)
         if count > 1:
@@ -254,33 +254,39 @@ def measure_tiles(options, table):
         return table.note("tiles", "left out: no wrk")
     it = Map(LARGE)
     target = "/wms?" + it.tile(2, 1, 1)
-    with farm(options, "one", 1) as (one,), farm(options, "four", 4) as four, contextlib.ExitStack() as stack:
+    nodes = farm(options, "one", 1, logs=False), farm(options, "four", 4, logs=False)
+    with nodes[0] as (one,), nodes[1] as four, contextlib.ExitStack() as stack:
         publish([one], it.text, 1)
         publish(four, it.text, 1)
         body = ask(one.clients, target)[1]
         if any(ask(node.clients, target)[1] != body for node in four):
             sys.exit("tiles differ")
-        room = pathlib.Path(options.room) / "nginx"
-        room.mkdir()
-        port, path = stack.enter_context(nginx(body, room))
-        measure_rates(options, table, one, target, f"127.0.0.1:{port}", path)
+        peers = {}
+        for sendfile in ("on", "off"):
+            room = pathlib.Path(options.room) / f"nginx-{sendfile}"
+            room.mkdir()
+            port, path = stack.enter_context(nginx(body, room, sendfile))
+            peers[sendfile] = f"127.0.0.1:{port}", path
+        measure_rates(options, table, (one.clients, target), peers)
         measure_processors(options, table, one, four, target)
 
 
-def measure_rates(options, table, one, target, other, path):
+def measure_rates(options, table, own, peers):
     """Requests a second of the node and of nginx, in turns."""
-    ours, theirs, errors = [], [], set()
+    asked = {"kept tiles a second, 32 clients": own, "nginx, the same bytes as a file": peers["on"], "nginx without sendfile": peers["off"]}
+    rates, errors = {name: [] for name in asked}, set()
     for _ in range(options.rounds):
-        for rates, address, asked in ((ours, one.clients, target), (theirs, other, path)):
-            got, _, wrong = rate(address, asked, options.seconds, 32)
-            rates.append(got)
+        for name, (address, path) in asked.items():
+            got, _, wrong = rate(address, path, options.seconds, 32)
+            rates[name].append(got)
             errors.add(wrong)
-    table.note("kept tiles a second, 32 clients", f"{statistics.median(ours):,.0f} ({', '.join(f'{it:,.0f}' for it in ours)})")
-    table.note("nginx, the same bytes as a file", f"{statistics.median(theirs):,.0f} ({', '.join(f'{it:,.0f}' for it in theirs)})")
+    ours, theirs, copied = (statistics.median(all_of) for all_of in rates.values())
+    for name, all_of in rates.items():
+        table.note(name, f"{statistics.median(all_of):,.0f} ({', '.join(f'{it:,.0f}' for it in all_of)})")
     if errors - {None}:
         table.note("wrk tells", "; ".join(sorted(errors - {None})))
-    ratio = statistics.median(ours) / statistics.median(theirs)
-    table.conclude("kept tiles / nginx", f"{ratio:.2f}", ratio >= 1, "at least 1")
+    table.note("kept tiles / nginx without sendfile", f"{ours / copied:.2f}")
+    table.conclude("kept tiles / nginx", f"{ours / theirs:.2f}", ours >= theirs, "at least 1")
 
 
 def measure_processors(options, table, one, four, target):

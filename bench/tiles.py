@@ -165,13 +165,13 @@ def mapserver(it, room):
 
 
 @contextlib.contextmanager
-def nginx(body, room):
-    """nginx with one worker, serving the bytes as a file; gives its port and path."""
+def nginx(body, room, sendfile="on"):
+    """nginx with one worker, serving the bytes as a file, with the kernel's sendfile or by reads and writes; gives its port and path."""
     port = free_port()
     (room / "tile").write_bytes(body)
     (room / "nginx.conf").write_text(
         f"daemon off;\nworker_processes 1;\npid {room}/nginx.pid;\nerror_log /dev/null;\nuser root;\nevents {{}}\n"
-        f"http {{ access_log off; keepalive_timeout 0; sendfile on; client_body_temp_path {room}; proxy_temp_path {room};\n"
+        f"http {{ access_log off; keepalive_timeout 0; sendfile {sendfile}; client_body_temp_path {room}; proxy_temp_path {room};\n"
         f"fastcgi_temp_path {room}; uwsgi_temp_path {room}; scgi_temp_path {room};\n"
         f"server {{ listen 127.0.0.1:{port}; root {room}; default_type {PIXMAP}; }} }}\n")
     process = subprocess.Popen([shutil.which("nginx") or "/usr/sbin/nginx", "-c", f"{room}/nginx.conf"])

@@ -139,9 +139,10 @@ class Process:
         """The file of its standard error."""
         return self.folder.parent / f"log-{self.folder.name}"
 
-    def start(self, before=(), **settings):
+    def start(self, before=(), logs=True, **settings):
         """Starts it. `before` are words before the program's, and `settings` those of `subprocess.Popen`."""
-        words = [*self.words, "--state", str(self.folder), "--http", self.clients, "--admin", self.operator, "--log"]
+        words = [*self.words, "--state", str(self.folder), "--http", self.clients, "--admin", self.operator]
+        words += ["--log"] if logs else []
         with self.log.open("ab") as log:
             places = {"stdin": subprocess.DEVNULL, "stdout": log, "stderr": log, **settings}
             self.process = subprocess.Popen([*before, self.program, *words], **places)

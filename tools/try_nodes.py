@@ -17,6 +17,7 @@ back. At its end all must stand at one sequence, with equal histories. Cases:
     forgot      a new folder, an old copy, and a clone of a node
     missed      a node that was away gets 1,000 maps, or as --missed says
     refused     bad command lines
+    zeros       a tape with zeros behind its records, as a power cut may leave one, and with other bytes
     full        a start on files that can't grow
     disk        a disk that is full while its node runs; wants root
 
@@ -511,6 +512,36 @@ def refused(nodes, _):
     return f"{len(cases)} command lines"
 
 
+def zeros(nodes, _):
+    """A node drops the zeros behind its tape's records, where a power cut may have left them; it doesn't start on other bytes there."""
+    for k in range(3):
+        nodes.publish_whole(0, a_map(f"zeros{k}"))
+    nodes.level()
+    nodes.kill(2)
+    tape = nodes.place(2) / "node-2.tape"
+    for count in (1, 100, 65_549):  # as many as the longest record has bytes
+        with tape.open("ab") as file:
+            file.write(bytes(count))
+        nodes.start(2)
+        until(lambda: nodes.published(2) == nodes.published(0))
+        lines = [line for line in nodes.log(2).read_text().splitlines() if " tape-zeros " in line]
+        want(f"{count} zeros: {lines}", lines and lines[-1].endswith(f" warn tape-zeros dropped={count}"))
+        nodes.publish_whole(2, a_map(f"after{count}"))
+        nodes.level()
+        nodes.kill(2)
+    sound = tape.read_bytes()
+    for rest in (b"garbage", bytes(65_550), bytes(50) + b"\2", b"\3" + bytes(50)):
+        tape.write_bytes(sound + rest)
+        nodes.start(2)
+        ended = nodes.ended(2)
+        want(f"{rest[:8]!r}: {ended}", ended == (1, f"the tape is damaged: P2: a bad record at {len(sound)}"))
+        want(f"{rest[:8]!r}: the tape was changed", tape.read_bytes() == sound + rest)
+    tape.write_bytes(sound)
+    nodes.start(2)
+    until(lambda: nodes.published(2) >= 0)
+    return f"{len(lines)} starts without the zeros, none on 4 other endings; level after {nodes.level()} s"
+
+
 def full(nodes, _):
     """A node whose files can't grow doesn't begin, and says why; it begins once they can."""
     for k in range(3):
@@ -562,7 +593,7 @@ def disk(nodes, _):
         subprocess.run(["umount", "-l", str(nodes.place(2))], check=True)
 
 
-CASES = [publish, pieces, kill, stop, clients, strangers, forged, forgot, missed, refused, full, disk]
+CASES = [publish, pieces, kill, stop, clients, strangers, forged, forgot, missed, refused, zeros, full, disk]
 
 
 def attempt(case, options):

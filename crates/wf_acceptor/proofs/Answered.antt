@@ -15,7 +15,7 @@ use Rattle.wf_codec.specs.declared.message.Message.TheVariants.{Accepted, Nack}
 use Rattle.wf_acceptor.specs.Acceptor.{Part, ActsFor, votes_of}
 use Rattle.wf_acceptor.specs.Prepared.{nack_of, promising, replying, voting}
 use Rattle.wf_acceptor.specs.AcceptorAnswer.{accept_transition, prepare_transition, Answers, Stores}
-use Rattle.wf_acceptor.specs.declared.answer.AcceptorAnswer.{AcceptorAnswer}
+use Rattle.wf_acceptor.specs.declared.acceptor.AcceptorAnswer.{AcceptorAnswer}
 use Rattle.wf_acceptor.proofs.Reported.{as_reported}
 
 nack-as : (part : Part) (s : ℕ) (b : Ballot) → option_to_list (option_map view (nack_of part s b)) ≡ nack part.id s b part.promise

@@ -4,8 +4,7 @@ use Rattle.std.proofs.lemmas.Bool.{cases_Bool, cases_lt, lt-leb}
 use Rattle.std.specs.Ordering.{nat_cmp}
 use Rattle.std.specs.FinMap.{FinMap, get}
 use Rattle.wf_ballot.specs.Ballot.{Ballot}
-use Rattle.wf_ballot.specs.Sequence.{last_sequence}
-use Rattle.wf_ballot.specs.Slot.{IsSlot}
+use Rattle.wf_ballot.specs.Sequence.{last_sequence, IsSlot}
 use Rattle.wf_model.specs.Message.{Vote}
 use Rattle.wf_model.specs.Table.{sequences_from, votes_from}
 use Rattle.wf_def.specs.Definition.{Definition}

@@ -10,7 +10,7 @@ use Rattle.wf_model.specs.DurableState.{DurableState, published, with_record}
 use Rattle.wf_def.specs.Definition.{Definition}
 use Rattle.wf_codec.specs.Message.{view_vote}
 use Rattle.wf_journal.specs.declared.record.Record.{Record}
-use Rattle.wf_journal.specs.declared.record.Record.TheVariants.{Tried, Promised, Accepted, Published}
+use Rattle.wf_journal.specs.declared.record.Record.TheVariants.{Accepted, Published}
 
 -- An acceptor's part of its node's stored state: the node's number, the number of published definitions, the promise, which is one
 -- for all slots, and the vote at each slot.
@@ -46,7 +46,5 @@ IsNext part r = ⊤
 
 -- There is room for the record: applying it doesn't allocate. That holds of each record but a vote, and of the prepared one.
 abbrev pub HasRoomFor : Acceptor → Record → Type 0
-HasRoomFor acceptor (Tried round) = ⊤
-HasRoomFor acceptor (Promised s b) = ⊤
 HasRoomFor acceptor (Accepted s b d) = acceptor.prepared ≡ Some (Accepted s b d)
-HasRoomFor acceptor (Published s d) = ⊤
+HasRoomFor acceptor r = ⊤

@@ -9,7 +9,7 @@ use Rattle.wf_def.specs.Definition.{Definition}
 use Rattle.wf_codec.specs.Message as message
 use Rattle.wf_journal.specs.Record as record_
 use Rattle.wf_acceptor.specs.Acceptor.{Part, ActsFor}
-use Rattle.wf_acceptor.specs.declared.answer.AcceptorAnswer.{AcceptorAnswer}
+use Rattle.wf_acceptor.specs.declared.acceptor.AcceptorAnswer.{AcceptorAnswer}
 
 -- the answer as a transition, at a node with this volatile state
 abbrev pub transition_of : AcceptorAnswer → VolatileState Definition → Transition Definition

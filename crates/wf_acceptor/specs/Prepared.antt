@@ -13,7 +13,7 @@ use Rattle.wf_codec.specs.declared.message.Message.TheVariants as message
 use Rattle.wf_journal.specs.declared.record.Record.{Record}
 use Rattle.wf_journal.specs.declared.record.Record.TheVariants.{Tried, Promised, Accepted, Published}
 use Rattle.wf_acceptor.specs.Acceptor.{Acceptor, Part}
-use Rattle.wf_acceptor.specs.declared.answer.AcceptorAnswer.{AcceptorAnswer}
+use Rattle.wf_acceptor.specs.declared.acceptor.AcceptorAnswer.{AcceptorAnswer}
 
 -- the Nack with the promise, if there is one
 abbrev pub nack_of : Part → ℕ → Ballot → Option Message
@@ -44,11 +44,8 @@ unprepared part = record { part = part; prepared = None }
 
 -- the definition of a vote's record, if it is one
 abbrev pub definition_of : Option Record → Option Definition
-definition_of None = None
-definition_of (Some (Tried round)) = None
-definition_of (Some (Promised s b)) = None
 definition_of (Some (Accepted s b d)) = Some d
-definition_of (Some (Published s d)) = None
+definition_of entry = None
 
 -- the part with the promise raised to the ballot
 abbrev pub with_promise : Part → Ballot → Part
@@ -56,10 +53,8 @@ with_promise part b = record part { promise = raised part.promise b }
 
 -- the part with the record's vote, if it is a vote, at a slot that isn't published
 abbrev pub with_open : Part → Record → Part
-with_open part (Tried round) = part
-with_open part (Promised s b) = part
 with_open part (Accepted s b d) = record part { promise = raised part.promise b; votes = insert part.votes s (b, d) }
-with_open part (Published s d) = part
+with_open part r = part
 
 -- the same at any slot s: a published one is left without a vote
 abbrev pub with_entry_at : Part → ℕ → Record → Part

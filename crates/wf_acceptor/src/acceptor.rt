@@ -2,7 +2,6 @@ ghost use Rattle.std.specs.Prelude.{◌≡◌, None, Some};
 ghost use Rattle.wf_model.specs.DurableState.{raised};
 ghost use Rattle.wf_acceptor.specs.Prepared.{definition_of};
 
-use crate::answer::AcceptorAnswer;
 use crate::report::report_from;
 use crate::same::is_same_record;
 use crate::slots::{forget, make_room, put, value_at};
@@ -13,6 +12,15 @@ use wf_ballot::{Ballot, NodeId, Slot};
 use wf_canon::Canon;
 use wf_codec::Message;
 use wf_journal::Record;
+
+/// An acceptor's answer to a Prepare or an Accept.
+#[derive(Drop)]
+pub struct AcceptorAnswer {
+    /// The record to store before the reply is sent, if there is one.
+    pub entry: Option<Record>,
+    /// The reply, if there is one.
+    pub reply: Option<Message>,
+}
 
 /// A node's promise and votes. The promise is the ballot below which the node rejects everything, at whatever slot; a vote is the
 /// ballot at which it voted at a slot, with the definition.
@@ -118,7 +126,7 @@ impl Acceptor {
     }
 
     /// Whether the vote at the slot is at this ballot.
-    pub fn voted_at(&self, slot: Slot, ballot: Ballot) -> bool
+    pub fn is_voted_at(&self, slot: Slot, ballot: Ballot) -> bool
         ensures { result ≡ votes_at (votes_of self.now.part slot) ballot }
     {
         match value_at(&self.votes, slot) {
@@ -170,7 +178,7 @@ impl Acceptor {
         if self.is_rejected(ballot) {
             return Ok(self.reject(slot, ballot));
         }
-        if self.voted_at(slot, ballot) {
+        if self.is_voted_at(slot, ballot) {
             let accepted = Message::Accepted(self.id, slot, ballot);
             return Ok(self.only_reply(Some(accepted)));
         }

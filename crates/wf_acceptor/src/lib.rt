@@ -16,10 +16,8 @@
 #![tactic(auto)]
 
 mod acceptor;
-mod answer;
 mod report;
 mod same;
 mod slots;
 
-pub use acceptor::Acceptor;
-pub use answer::AcceptorAnswer;
+pub use acceptor::{Acceptor, AcceptorAnswer};

@@ -6,7 +6,7 @@ use Rattle.wf_wire.specs.declared.fault.InboxFault.{InboxFault}
 use Rattle.wf_actor.specs.Link.{TakesIn}
 use Rattle.wf_actor.specs.Sent.{AreArrivedCome, AreGivenCome}
 use Rattle.wf_actor.specs.declared.link.Link.{Link}
-use Rattle.wf_actor.specs.declared.origin.Origin.{Origin}
+use Rattle.wf_actor.specs.declared.actor.Origin.{Origin}
 use Rattle.wf_actor.proofs.Changes.{same_arrived}
 use Rattle.wf_actor.proofs.Receipt.{still_come, given_stays, arrived_more, arrived_set}
 

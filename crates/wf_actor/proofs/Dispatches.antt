@@ -9,9 +9,8 @@ use Rattle.wf_def.specs.Definition.{Definition}
 use Rattle.wf_delivery.specs.IndexTheorems.{get_set_same, get_set_other, set_there}
 use Rattle.wf_model.specs.Chosen.{IsIn}
 use Rattle.wf_model.specs.Message.{Message}
-use Rattle.wf_actor.specs.Backlog.{most_messages}
+use Rattle.wf_actor.specs.Backlog.{most_messages, queued}
 use Rattle.wf_actor.specs.Link.{AreUnlinked, ArePosted}
-use Rattle.wf_actor.specs.Queue.{queued}
 use Rattle.wf_actor.specs.Sent.{put_into, AreAmong, ArePutAmong, AreSent}
 use Rattle.wf_actor.specs.Target.{includes}
 use Rattle.wf_actor.specs.declared.link.Link.{Link}
@@ -23,9 +22,9 @@ use Rattle.wf_actor.proofs.Offers.{all_put_if}
 
 pub nothing_sent : (waiting : List code.Message) (n : ℕ) (links : List Link) (emitted : List code.Message) → waiting ≡ [] → AreUnlinked n links → AreSent waiting links emitted
 unfolding ArePutAmong
-nothing_sent waiting n links emitted none unlinked = record {
+nothing_sent waiting n links emitted none no_links = record {
   waits = λ m there. absurd (in_along m waiting [] none there);
-  put = λ i link at m there. absurd (subst (λ o. IsIn m (put_into o)) (unlinked.each i link at).outbox there);
+  put = λ i link at m there. absurd (subst (λ o. IsIn m (put_into o)) (no_links.each i link at).outbox there);
 }
 
 -- ---- the messages of a step

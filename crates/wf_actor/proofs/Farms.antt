@@ -10,8 +10,8 @@ use Rattle.wf_tape.specs.declared.tape.Tape.{Ghosts as Tape}
 use Rattle.wf_actor.specs.Farm.{Step, item_of, items, steps_of, steps_by, AreOwn, ArePeersAmong, AreCarried, AreMembers, ProcessesAreFarm, LifeIsPart, PartIsFirst, RunsAreOwn}
 use Rattle.wf_actor.specs.Life.{AreOwnAmong, AreOwnReceived}
 use Rattle.wf_actor.specs.Sent.{AreAmong}
-use Rattle.wf_actor.specs.declared.origin.Origin.{Origin}
-use Rattle.wf_actor.specs.declared.origin.Origin.TheVariants.{Own, Peer}
+use Rattle.wf_actor.specs.declared.actor.Origin.{Origin}
+use Rattle.wf_actor.specs.declared.actor.Origin.TheVariants.{Own, Peer}
 use Rattle.wf_actor.proofs.Lists.{in_left, in_right, in_either}
 
 -- ---- one step

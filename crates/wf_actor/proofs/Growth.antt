@@ -10,7 +10,8 @@ use Rattle.wf_node.specs.Growth.{IsGrown, grown_itself, step_grown}
 use Rattle.wf_node.specs.Node.{Node}
 use Rattle.wf_node.specs.declared.fault.NodeFault.{NodeFault}
 use Rattle.wf_tape.specs.declared.tape.Tape.{Ghosts as Tape}
-use Rattle.wf_wms.specs.CachedPictures.{AllCached, CacheValue, GrowthKeepsAll}
+use Rattle.wf_wms.specs.CachedPictures.{AllCached, CacheValue}
+use Rattle.wf_wms.proofs.CachedPicturesTheorem.{growth_keeps}
 
 module _ {T A : Type 0} (tapes : Tape T) (input : Input Definition) (before after : Node T) (answer : Result (Vec Message A) NodeFault) where
   grown_by : (halted : Bool) → before.halted ≡ halted → IsAnswer tapes input before answer after → IsGrown before.parts.history after.parts.history
@@ -18,5 +19,5 @@ module _ {T A : Type 0} (tapes : Tape T) (input : Input Definition) (before afte
       subst (IsGrown before.parts.history) (sym (ap (λ (n : Node T). n.parts.history) (answered.refused is).1)) (grown_itself before.parts.history)
   grown_by false is answered = step_grown before after tapes input answer (answered.steps is)
 
-  pub still_kept : (cache : CacheValue) → GrowthKeepsAll → IsAnswer tapes input before answer after → AllCached before.parts.history cache → AllCached after.parts.history cache
-  still_kept cache growth answered kept = cached_on growth before.parts.history after.parts.history cache (grown_by before.halted refl answered) kept
+  pub still_kept : (cache : CacheValue) → IsAnswer tapes input before answer after → AllCached before.parts.history cache → AllCached after.parts.history cache
+  still_kept cache answered kept = cached_on growth_keeps before.parts.history after.parts.history cache (grown_by before.halted refl answered) kept

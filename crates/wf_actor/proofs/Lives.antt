@@ -7,7 +7,8 @@ use Rattle.wf_codec.specs.declared.message.Message.{Message}
 use Rattle.wf_edge.specs.StepResult.{IsAnswer}
 use Rattle.wf_edge.specs.RequestEffect.{HandsOut, MovesOnce, Stays, Proposes}
 use Rattle.wf_delivery.specs.Reachability.{outputs_by}
-use Rattle.wf_delivery.specs.Outcome.{StepIsAnswered, is_lost}
+use Rattle.wf_delivery.proofs.Outcomes.{step_is_answered}
+use Rattle.wf_delivery.specs.Outcome.{is_lost}
 use Rattle.wf_model.specs.declared.action.Action.TheVariants as action
 use Rattle.wf_node.specs.Input.{view}
 use Rattle.wf_model.specs.VolatileState.{at_start}
@@ -17,8 +18,8 @@ use Rattle.wf_node.specs.Step.{IsTransition, IsSameNode, transition_of}
 use Rattle.wf_node.specs.declared.fault.NodeFault.{NodeFault}
 use Rattle.wf_tape.specs.declared.tape.Tape.{Ghosts as Tape}
 use Rattle.wf_actor.specs.Life.{all_from, delivered, logged, AreOwnAmong, AreOwnReceived, IsLife, IsOpenedFrom}
-use Rattle.wf_actor.specs.declared.origin.Origin.{Origin}
-use Rattle.wf_actor.specs.declared.origin.Origin.TheVariants.{Own, Peer}
+use Rattle.wf_actor.specs.declared.actor.Origin.{Origin}
+use Rattle.wf_actor.specs.declared.actor.Origin.TheVariants.{Own, Peer}
 use Rattle.wf_actor.proofs.Runs.{received_more, delivered_more}
 
 -- the log of one more list
@@ -96,7 +97,7 @@ module _ {T : Type 0} (tapes : Tape T) where
 
   -- ---- it goes on
 
-  module _ (answers : StepIsAnswered tapes) (read_from : List (T × ℕ)) (began : List (Node T × ℕ)) (given : List (Message × Origin)) (emitted : List Message) (node : Node T) (life : IsLife tapes read_from began given emitted node) where
+  module _ (read_from : List (T × ℕ)) (began : List (Node T × ℕ)) (given : List (Message × Origin)) (emitted : List Message) (node : Node T) (life : IsLife tapes read_from began given emitted node) where
     -- with the same messages, spelled otherwise
     pub life_stays : (began' : List (Node T × ℕ)) (given' : List (Message × Origin)) (emitted' : List Message) (node' : Node T) → began' ≡ began → given' ≡ given → emitted' ≡ emitted → node' ≡ node →
         IsLife tapes read_from began' given' emitted' node'
@@ -128,7 +129,7 @@ module _ {T : Type 0} (tapes : Tape T) where
         AreOwnAmong emitted origin (given_to input) → IsLife tapes read_from began (given ++ all_from origin (given_to input)) (emitted ++ outputs_by answer) after
     life_steps input origin answer after answered own =
         life_acts (record { input = input; outputs = outputs_by answer; after = after }) origin
-        (record { lost = is_lost answer; takes = answers node after (view input) answer answered.refused answered.steps })
+        (record { lost = is_lost answer; takes = step_is_answered tapes node after (view input) answer answered.refused answered.steps })
         (keeps_numbers tapes input node after answer answered) own
 
     pub life_steps_now : (input : Input) (origin : Origin) (answer : Result (Vec Message Global) NodeFault) (after : Node T) → IsAnswer tapes (view input) node answer after →

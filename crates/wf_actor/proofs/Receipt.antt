@@ -13,8 +13,8 @@ use Rattle.wf_actor.specs.Link.{AreOffered, AreOfferedIf, ArePosted, AreUnlinked
 use Rattle.wf_actor.specs.Sent.{came_from, AreAmong, AreArrivedCome, AreCome, AreGivenCome}
 use Rattle.wf_actor.specs.Target.{includes}
 use Rattle.wf_actor.specs.declared.link.Link.{Link}
-use Rattle.wf_actor.specs.declared.origin.Origin.{Origin}
-use Rattle.wf_actor.specs.declared.origin.Origin.TheVariants.{Own, Peer}
+use Rattle.wf_actor.specs.declared.actor.Origin.{Origin}
+use Rattle.wf_actor.specs.declared.actor.Origin.TheVariants.{Own, Peer}
 use Rattle.wf_actor.specs.declared.target.Target.{Target}
 use Rattle.wf_actor.proofs.Lists.{in_left, in_right, in_either, in_along, there_too}
 
@@ -96,7 +96,7 @@ just_one m emitted is = λ x there. elim there [ inl e ↦ subst (λ y. IsIn y e
 
 pub none_arrived : (came : Log) (n : ℕ) (links : List Link) → AreUnlinked n links → AreArrivedCome came links
 unfolding AreArrivedCome
-none_arrived came n links unlinked = λ i link at m there. absurd (in_along m link.arrived.items [] (unlinked.each i link at).arrived there)
+none_arrived came n links no_links = λ i link at m there. absurd (in_along m link.arrived.items [] (no_links.each i link at).arrived there)
 
 -- whatever was offered to them, what has arrived stays
 arrived_same : (messages : List (model.Message Definition)) (before after : Link) → AreOffered messages before after → after.arrived.items ≡ before.arrived.items

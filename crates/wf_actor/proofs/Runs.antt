@@ -3,7 +3,7 @@ use Rattle.std.proofs.Common.{◌≡◌, List, [], ◌∷◌, ◌++◌, map, ref
 use Rattle.wf_career.specs.Run.{Act, given_to, outputs}
 use Rattle.wf_codec.specs.declared.message.Message.{Message}
 use Rattle.wf_actor.specs.Life.{all_from, delivered, AreOwnAmong, AreOwnReceived}
-use Rattle.wf_actor.specs.declared.origin.Origin.{Origin}
+use Rattle.wf_actor.specs.declared.actor.Origin.{Origin}
 
 module _ {T : Type 0} (act : Act T) where
   module _ (origin : Origin) where

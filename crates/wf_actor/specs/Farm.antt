@@ -7,8 +7,8 @@ use Rattle.wf_node.specs.Node.{Node}
 use Rattle.wf_tape.specs.declared.tape.Tape.{Ghosts as Tape}
 use Rattle.wf_actor.specs.Life.{AreOwnAmong, IsLife}
 use Rattle.wf_actor.specs.Sent.{AreAmong}
-use Rattle.wf_actor.specs.declared.origin.Origin.{Origin}
-use Rattle.wf_actor.specs.declared.origin.Origin.TheVariants.{Own, Peer}
+use Rattle.wf_actor.specs.declared.actor.Origin.{Origin}
+use Rattle.wf_actor.specs.declared.actor.Origin.TheVariants.{Own, Peer}
 
 -- an item of `wf_career` with where its input came from: the process of that number gave its node this input, which returned these messages
 pub record Step : Type 0 where

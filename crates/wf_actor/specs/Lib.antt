@@ -1,6 +1,5 @@
 pub mod Target
 pub mod Backlog
-pub mod Queue
 pub mod Offer
 pub mod Link
 pub mod Life

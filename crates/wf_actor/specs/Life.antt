@@ -6,8 +6,8 @@ use Rattle.wf_career.specs.Run.{Act, Run, AreDone, IsOpened, given_to, last, out
 use Rattle.wf_model.specs.Chosen.{IsIn}
 use Rattle.wf_node.specs.Node.{Node}
 use Rattle.wf_tape.specs.declared.tape.Tape.{Ghosts as Tape}
-use Rattle.wf_actor.specs.declared.origin.Origin.{Origin}
-use Rattle.wf_actor.specs.declared.origin.Origin.TheVariants.{Own, Peer}
+use Rattle.wf_actor.specs.declared.actor.Origin.{Origin}
+use Rattle.wf_actor.specs.declared.actor.Origin.TheVariants.{Own, Peer}
 
 -- the messages of a log of lists
 unfoldable pub logged : List (Vec Message Global × ℕ) → List Message

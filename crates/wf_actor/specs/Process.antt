@@ -17,12 +17,12 @@ use Rattle.wf_tape.specs.declared.tape.Tape.{Ghosts as Tape}
 use Rattle.wf_wire.specs.declared.fault.InboxFault.{InboxFault}
 use Rattle.wf_actor.specs.Life.{all_from, logged}
 use Rattle.wf_actor.specs.Link.{arrived, ArePosted, AreUnlinked, IsPopped, TakesIn}
-use Rattle.wf_actor.specs.Queue.{queued}
+use Rattle.wf_actor.specs.Backlog.{queued}
 use Rattle.wf_actor.specs.Target.{includes, reply_target}
 use Rattle.wf_actor.specs.OutboxWrites.{waiting_of, dropped_of, posted_of}
 use Rattle.wf_actor.specs.declared.link.Link.{Link}
-use Rattle.wf_actor.specs.declared.origin.Origin.{Origin}
-use Rattle.wf_actor.specs.declared.origin.Origin.TheVariants.{Own, Peer}
+use Rattle.wf_actor.specs.declared.actor.Origin.{Origin}
+use Rattle.wf_actor.specs.declared.actor.Origin.TheVariants.{Own, Peer}
 use Rattle.wf_actor.specs.declared.process.Process.{Process}
 use Rattle.wf_actor.specs.declared.target.Target.{Target}
 use Rattle.wf_actor.specs.declared.target.Target.TheVariants.{Everyone}

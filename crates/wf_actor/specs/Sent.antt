@@ -8,8 +8,8 @@ use Rattle.wf_model.specs.Chosen.{IsIn}
 use Rattle.wf_model.specs.Message as model
 use Rattle.wf_def.specs.Definition.{Definition}
 use Rattle.wf_actor.specs.declared.link.Link.{Link}
-use Rattle.wf_actor.specs.declared.origin.Origin.{Origin}
-use Rattle.wf_actor.specs.declared.origin.Origin.TheVariants.{Own, Peer}
+use Rattle.wf_actor.specs.declared.actor.Origin.{Origin}
+use Rattle.wf_actor.specs.declared.actor.Origin.TheVariants.{Own, Peer}
 
 -- each of the first is one of the second
 abbrev pub AreAmong : {A : Type 0} → List A → List A → Type 0

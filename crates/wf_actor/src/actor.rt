@@ -3,18 +3,25 @@ ghost use Rattle.wf_actor.specs.Life.{logged, IsLife};
 
 use crate::cached::CachedNode;
 use crate::note::{note, report};
-use crate::origin::Origin;
 use http_server::Log;
 use std::alloc::Global;
 use wf_ballot::NodeId;
 use wf_codec::Message;
-use wf_delivery::a_step_is_answered;
 use wf_edge::serve::Served;
 use wf_journal::OpenFault;
 use wf_node::{Input, Node, NodeFault};
 use wf_stream::{Sink, Source};
 use wf_tape::Tape;
 use wf_wms::cache::Cache;
+
+/// Where an input of a node comes from.
+#[derive(Clone, Copy, Debug, PartialEq, Eq)]
+pub enum Origin {
+    /// The process: an action of its own, or a message that its own node returned.
+    Own,
+    /// The receiver of that peer.
+    Peer(NodeId),
+}
 
 /// A node and its life since it was opened. A clause sees the node, and logs that only proofs read: the tape from which it was opened, as
 /// the tape was then; the node as it was opened; each message that it was given, with where that came from; and all messages that
@@ -119,8 +126,6 @@ impl<T: Tape> Actor<T> {
         ensures emitted { logged self.new.emitted.items ≡
             logged self.old.emitted.items ++ outputs_by result }
     {
-        // The theorem: what a step promises is one of the things that a node does with an input.
-        a_step_is_answered::<T>();
         note(&mut self.given, &input, origin);
         let answer = self.node.step(alloc, input);
         report(&mut self.emitted, &answer);
@@ -149,7 +154,6 @@ impl<T: Tape> Actor<T> {
         ensures emitted { logged self.new.emitted.items ≡
             logged self.old.emitted.items ++ result.messages.items }
     {
-        a_step_is_answered::<T>();
         let served = self.node.serve(alloc, source, sink);
         self.emitted = self.emitted.and(&served.messages, &0);
         served

@@ -18,7 +18,6 @@ use wf_node::{Input, Node, NodeFault};
 use wf_stream::{Sink, Source};
 use wf_tape::Tape;
 use wf_wms::cache::Cache;
-use wf_wms::theorem::cached_pictures_outlast_growth;
 
 /// A node with the pictures of its maps that are cached. Model: the node.
 #[derive(Drop)]
@@ -70,8 +69,6 @@ impl<T: Tape> CachedNode<T> {
     pub(crate) fn step(&mut self, alloc: Global, input: Input) -> Result<Vec<Message>, NodeFault>
         ensures { IsAnswer T.Tape (view input) self.old result self.new }
     {
-        // Theorem of the map service: cached pictures are also those of a history that has grown.
-        cached_pictures_outlast_growth();
         step(alloc, &mut self.node, input)
     }
 

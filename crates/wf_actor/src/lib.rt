@@ -34,7 +34,6 @@ mod backlog;
 mod cached;
 mod link;
 mod note;
-mod origin;
 mod parts;
 mod process;
 mod service;
@@ -42,11 +41,10 @@ mod stream;
 mod target;
 mod theorem;
 
-pub use actor::Actor;
+pub use actor::{Actor, Origin};
 pub use backlog::{BACKLOG_MESSAGES, Backlog};
 pub use cached::CachedNode;
 pub use link::{Link, OUTBOX_BYTES};
-pub use origin::Origin;
 pub use process::Process;
 pub use target::{Target, reply_target};
 pub use theorem::{

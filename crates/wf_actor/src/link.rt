@@ -39,7 +39,7 @@ impl Link {
 
     /// With no connection.
     pub(crate) fn new(alloc: Global) -> Link
-        ensures unlinked { IsUnlinked result }
+        ensures no_links { IsUnlinked result }
         ensures posted { result.posted ≡ 0 }
     {
         Link {
@@ -181,7 +181,7 @@ fn write_of<S: Sink>(outbox: &mut Option<Outbox>, sink: &mut S) -> io::Result<us
 }
 
 /// The links of n nodes, with no connections.
-pub(crate) fn unlinked(alloc: Global, n: u8) -> Result<Vec<Link>, AllocError>
+pub(crate) fn no_links(alloc: Global, n: u8) -> Result<Vec<Link>, AllocError>
     ensures { IfOk result (λ links. AreUnlinked n links.items) }
 {
     let mut links = Vec::new(alloc);

@@ -5,7 +5,7 @@ ghost use Rattle.wf_actor.specs.Life.{all_from, logged};
 ghost use Rattle.wf_career.specs.Run.{given_to};
 ghost use Rattle.wf_delivery.specs.Reachability.{outputs_by};
 
-use crate::origin::Origin;
+use crate::actor::Origin;
 use http_server::Log;
 use wf_codec::Message;
 use wf_node::{Input, NodeFault};

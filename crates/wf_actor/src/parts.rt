@@ -2,14 +2,14 @@
 
 ghost use Rattle.std.specs.Prelude.{◌≡◌, ◌≤◌, [], List, map, IfOk};
 ghost use Rattle.wf_actor.specs.Link.{ArePosted, AreUnlinked};
-ghost use Rattle.wf_actor.specs.Queue.{queued};
+ghost use Rattle.wf_actor.specs.Backlog.{queued};
 ghost use Rattle.wf_actor.specs.Target.{includes};
 ghost use Rattle.wf_codec.specs.Message.{view};
 ghost use Rattle.wf_def.specs.Definition.{Definition};
 ghost use Rattle.wf_wms.specs.CachedPictures.{AllCached};
 
 use crate::backlog::Backlog;
-use crate::link::{Link, post, unlinked};
+use crate::link::{Link, no_links, post};
 use crate::target::Target;
 use std::alloc::{AllocError, Global};
 use wf_ballot::NodeId;
@@ -37,7 +37,7 @@ pub(crate) fn make_room(
 {
     let parts = ProcessParts {
         backlog: Backlog::new(alloc)?,
-        links: unlinked(alloc, n)?,
+        links: no_links(alloc, n)?,
     };
     Ok((parts, Cache::new(alloc, pictures)?))
 }

@@ -3,10 +3,9 @@ ghost use Rattle.wf_actor.specs.Life.{logged};
 ghost use Rattle.wf_delivery.specs.NodeInput.{reports_halt};
 ghost use Rattle.wf_actor.specs.Sent.{AreArrivedCome, AreGivenCome, AreSent};
 
-use crate::actor::Actor;
+use crate::actor::{Actor, Origin};
 use crate::backlog::Backlog;
 use crate::link::Link;
-use crate::origin::Origin;
 use crate::parts::{ProcessParts, make_room, send};
 use crate::target::{Target, reply_target};
 use http_server::Log;
@@ -51,7 +50,7 @@ impl<T: Tape> Process<T> {
     ghost use Rattle.wf_actor.specs.Sent.{AreCome};
     ghost use Rattle.wf_actor.specs.declared.target.Target.TheVariants as target;
     ghost use Rattle.wf_actor.specs.Link.{AreUnlinked};
-    ghost use Rattle.wf_actor.specs.declared.origin.Origin.TheVariants as origin;
+    ghost use Rattle.wf_actor.specs.declared.actor.Origin.TheVariants as origin;
     ghost use Rattle.wf_career.specs.Run.{given_to};
     ghost use Rattle.wf_codec.specs.declared.message.Message.TheVariants as message;
     ghost use Rattle.wf_journal.specs.Journal.{Follows, ReadsSame, IsWhyFailed};

@@ -2,7 +2,7 @@
 
 ghost use Rattle.std.specs.Prelude.{◌≡◌, ◌<◌, ◌≤◌, length};
 
-use crate::origin::Origin;
+use crate::actor::Origin;
 use crate::process::Process;
 use std::alloc::Global;
 use std::io;
@@ -26,7 +26,7 @@ impl<T: Tape> Process<T> {
     pub fn open_outbox(&mut self, alloc: Global, peer: NodeId)
         ensures linked { peer < length self.old.links.items →
             IsLinkChanged peer IsOpenedOutbox self.old self.new }
-        ensures unlinked { length self.old.links.items ≤ peer → self.new ≡ self.old }
+        ensures no_links { length self.old.links.items ≤ peer → self.new ≡ self.old }
     {
         let index = usize::from(peer.number());
         if index < self.links.len() {
@@ -38,7 +38,7 @@ impl<T: Tape> Process<T> {
     pub fn close_outbox(&mut self, peer: NodeId)
         ensures linked { peer < length self.old.links.items →
             IsLinkChanged peer IsClosedOutbox self.old self.new }
-        ensures unlinked { length self.old.links.items ≤ peer → self.new ≡ self.old }
+        ensures no_links { length self.old.links.items ≤ peer → self.new ≡ self.old }
     {
         let index = usize::from(peer.number());
         if index < self.links.len() {
@@ -87,7 +87,7 @@ impl<T: Tape> Process<T> {
     pub fn write_to<S: Sink>(&mut self, peer: NodeId, sink: &mut S) -> io::Result<usize>
         ensures linked { peer < length self.old.links.items →
             IsLinkChanged peer (IsWritten S.Sink result sink.old sink.new) self.old self.new }
-        ensures unlinked { length self.old.links.items ≤ peer →
+        ensures no_links { length self.old.links.items ≤ peer →
             (result ≡ Ok 0) × (self.new ≡ self.old) × (sink.new ≡ sink.old) }
     {
         let index = usize::from(peer.number());
@@ -102,7 +102,7 @@ impl<T: Tape> Process<T> {
     pub fn open_receiver(&mut self, alloc: Global, peer: NodeId)
         ensures linked { peer < length self.old.links.items →
             IsLinkChanged peer IsOpenedReceiver self.old self.new }
-        ensures unlinked { length self.old.links.items ≤ peer → self.new ≡ self.old }
+        ensures no_links { length self.old.links.items ≤ peer → self.new ≡ self.old }
     {
         let index = usize::from(peer.number());
         if index < self.links.len() {

@@ -1,1 +1,1 @@
-mod Listing
+pub mod AddressList

@@ -1,9 +1,11 @@
 -- Words that spell addresses.
-use Rattle.std.specs.Prelude.{◌≡◌, ◌==◌, ℕ, ⊤, List, [], ◌∷◌, Option, Some, None, map, slice_get, take}
+use Rattle.std.specs.Prelude.{◌≡◌, ◌==◌, ℕ, ⊤, List, [], ◌∷◌, Option, Some, None, map, slice_get, take, ◌<◌, length}
 use Rattle.std.specs.Borrow.{Bor}
 use Rattle.std.specs.List.{slice_split}
 use Rattle.std.specs.Net.Grammar.{IsSocketText}
 use Rattle.std.specs.declared.net.socket_addr.SocketAddr.{SocketAddr}
+use Rattle.wf_address.specs.declared.list.ListFault.{ListFault}
+use Rattle.wf_address.specs.declared.list.ListFault.TheVariants as faults
 
 -- the words of slices
 abbrev pub texts : List (Bor (List ℕ)) → List (List ℕ)
@@ -43,3 +45,9 @@ IsSpelledBy None None = ⊤
 IsSpelledBy None (Some address) = ⊥
 IsSpelledBy (Some word) None = ⊥
 IsSpelledBy (Some word) (Some address) = IsSocketText word address
+
+-- Why the words of a list aren't taken as addresses.
+abbrev pub IsListFault : List (List ℕ) → ListFault → Type 0
+IsListFault words (faults.Bad index) = IsFirstBad words index
+IsListFault words (faults.Count count) = (count ≡ length words) × (64 < count)
+IsListFault words faults.Memory = ⊤

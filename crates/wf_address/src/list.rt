@@ -1,7 +1,6 @@
 //! A list of addresses.
 ghost use Rattle.std.specs.Prelude.{◌≡◌, ◌≤◌, ◌<◌, IfErr, IfNone, IfOk, IfSome, length};
-ghost use Rattle.wf_address.specs.Address.{AreAddresses, IsBadAt, SpellsAt, texts, words_of};
-ghost use Rattle.wf_address.specs.List.{IsListFault};
+ghost use Rattle.wf_address.specs.Address.{AreAddresses, IsBadAt, SpellsAt, texts, words_of, IsListFault};
 
 use crate::word::address;
 use std::alloc::{AllocError, Global};
@@ -33,7 +32,7 @@ fn words(alloc: Global, list: &str) -> Result<Vec<&str>, AllocError>
 }
 
 /// The addresses of a list with commas, in order.
-#[tactic(auto, using(crate::proofs::Listing::count_of_list, crate::proofs::Listing::found_of_list, crate::proofs::Listing::fault_of_list))]
+#[tactic(auto, using(crate::proofs::AddressList::count_of_list, crate::proofs::AddressList::found_of_list, crate::proofs::AddressList::fault_of_list))]
 pub fn addresses(alloc: Global, list: &str) -> Result<Vec<SocketAddr>, ListFault>
     ensures found { IfOk result (λ found. AreAddresses (words_of list.now) found.items) }
     ensures most { IfOk result (λ found. length found.items ≤ 64) }
@@ -49,7 +48,7 @@ pub fn addresses(alloc: Global, list: &str) -> Result<Vec<SocketAddr>, ListFault
 }
 
 /// The addresses that words spell.
-#[tactic(auto, using(crate::proofs::Listing::none_yet, crate::proofs::Listing::one_more, crate::proofs::Listing::all_taken, crate::proofs::Listing::first_bad))]
+#[tactic(auto, using(crate::proofs::AddressList::none_yet, crate::proofs::AddressList::one_more, crate::proofs::AddressList::all_taken, crate::proofs::AddressList::first_bad))]
 fn all_addresses(alloc: Global, words: &[&str]) -> Result<Vec<SocketAddr>, ListFault>
     requires { length words.now ≤ 64 }
     ensures found { IfOk result (λ found. AreAddresses (texts words.now) found.items) }
@@ -71,7 +70,7 @@ fn all_addresses(alloc: Global, words: &[&str]) -> Result<Vec<SocketAddr>, ListF
 }
 
 /// The address that the word at an index spells.
-#[tactic(auto, using(crate::proofs::Listing::word_at))]
+#[tactic(auto, using(crate::proofs::AddressList::word_at))]
 fn address_at(words: &[&str], index: usize) -> Option<SocketAddr>
     requires { index < length words.now }
     ensures some { IfSome result (SpellsAt (texts words.now) index) }

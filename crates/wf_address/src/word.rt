@@ -17,7 +17,7 @@ pub fn address(word: &str) -> Option<SocketAddr>
 }
 
 /// The address that a word spells, if there is a word. None: it spells none.
-#[tactic(auto, using(crate::proofs::Listing::no_address))]
+#[tactic(auto, using(crate::proofs::AddressList::no_address))]
 pub fn address_if_any(word: Option<&str>) -> Option<Option<SocketAddr>>
     ensures some { IfSome result (IsSpelledBy (option_map (λ w. w.now) word.entry)) }
     ensures none { IfNone result

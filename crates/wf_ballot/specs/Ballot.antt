@@ -40,3 +40,8 @@ ballot_bytes b = round_bytes b.round ++ node_bytes b.node
 -- a ballot as it is printed, such as (2, 1)
 abbrev pub ballot_text : Ballot → List ℕ
 ballot_text b = codes "(" ++ decimal b.round ++ codes ", " ++ decimal b.node ++ codes ")"
+
+-- numbers that a round may have; round 0 means that a node hasn't made an attempt yet
+pub record IsRound (round : ℕ) : Type 0 where
+  pub from_one : 1 ≤ round
+  pub to_last : round ≤ last_round

@@ -1,8 +1,9 @@
 -- Fields of messages and records: each value has one encoding, and no encoding is a prefix of another.
-use Rattle.std.specs.Prelude.{◌≡◌, ℕ, ◌<◌, ◌^◌, List, ◌++◌, length}
+use Rattle.std.specs.Prelude.{◌≡◌, ℕ, ◌<◌, ◌^◌, List, ◌++◌, length, ◌∷◌}
 use Rattle.wf_ballot.specs.Node.{IsNode, node_bytes}
 use Rattle.wf_ballot.specs.Sequence.{IsSequence, seq_bytes}
 use Rattle.wf_ballot.specs.Ballot.{Ballot, IsBallot, round_bytes, ballot_bytes}
+use Rattle.std.specs.Int.{w32, to_be_bytes}
 
 -- if the bytes of two values, each followed by other bytes, are equal, so are the values and what follows
 abbrev pub AreDistinct : {A : Type 0} → (A → Type 0) → (A → List ℕ) → Type 0
@@ -22,3 +23,8 @@ pub record FieldLengths : Type 0 where
   pub sequence : (s : ℕ) → length (seq_bytes s) ≡ 2
   pub round : (round : ℕ) → length (round_bytes round) ≡ 4
   pub ballot : (b : Ballot) → length (ballot_bytes b) ≡ 5
+
+-- what messages and records have in common: a version and a kind of 1 byte each, the length of the body in 4 bytes, big-endian, and
+-- the body
+unfoldable pub frame : ℕ → ℕ → List ℕ → List ℕ
+frame version kind body = version ∷ kind ∷ to_be_bytes w32 (length body) ++ body

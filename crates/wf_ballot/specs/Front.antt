@@ -2,10 +2,8 @@
 use Rattle.std.specs.Prelude.{◌≡◌, ℕ, ◌<◌, ◌&&◌, nat_lt, nat_le, List, [], ◌∷◌, ◌++◌, slice_index, Option, Some, None, if◌then◌else◌}
 use Rattle.std.specs.Int.{w16, w32, from_be_bytes}
 use Rattle.wf_ballot.specs.Node.{most_nodes, IsNode, node_bytes}
-use Rattle.wf_ballot.specs.Slot.{IsSlot}
-use Rattle.wf_ballot.specs.Round.{IsRound}
-use Rattle.wf_ballot.specs.Sequence.{last_sequence, seq_bytes}
-use Rattle.wf_ballot.specs.Ballot.{Ballot, IsBallot, round_bytes, ballot_bytes}
+use Rattle.wf_ballot.specs.Sequence.{IsSlot, last_sequence, seq_bytes}
+use Rattle.wf_ballot.specs.Ballot.{IsRound, Ballot, IsBallot, round_bytes, ballot_bytes}
 
 unfoldable pub front_node : List ℕ → Option (ℕ × List ℕ)
 front_node [] = None

@@ -5,10 +5,8 @@ use Rattle.std.proofs.lemmas.List.{get_or-take, get_or_past, length-take}
 use Rattle.std.proofs.lemmas.Nat.{be_bytes_2, be_bytes_4, from_be_bytes-to_be_bytes_2, from_be_bytes-to_be_bytes_4}
 use Rattle.std.specs.Int.{w16, w32, from_be_bytes, to_be_bytes}
 use Rattle.wf_ballot.specs.Node.{most_nodes, IsNode, node_bytes}
-use Rattle.wf_ballot.specs.Slot.{IsSlot}
-use Rattle.wf_ballot.specs.Sequence.{last_sequence, seq_bytes}
-use Rattle.wf_ballot.specs.Ballot.{Ballot, IsBallot, round_bytes, ballot_bytes}
-use Rattle.wf_ballot.specs.Round.{IsRound}
+use Rattle.wf_ballot.specs.Sequence.{IsSlot, last_sequence, seq_bytes}
+use Rattle.wf_ballot.specs.Ballot.{Ballot, IsBallot, round_bytes, ballot_bytes, IsRound}
 use Rattle.wf_ballot.specs.Front.{AreBytes, ReadsFront, front_node, front_slot, front_round, front_ballot}
 
 -- the test of a value that was returned is true

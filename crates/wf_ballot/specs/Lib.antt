@@ -3,10 +3,7 @@ pub mod Sequence
 pub mod Ballot
 pub mod Majority
 pub mod Field
-pub mod Slot
-pub mod Round
 pub mod Front
-pub mod Frame
 pub mod OrderTheorems
 pub mod QuorumTheorems
 pub mod FieldTheorems

@@ -1,15 +1,26 @@
 ghost use Rattle.std.specs.Prelude.{◌≡◌, IfSome};
 ghost use Rattle.wf_ballot.specs.Node.{IsNode};
-ghost use Rattle.wf_ballot.specs.Slot.{IsSlot};
-ghost use Rattle.wf_ballot.specs.Ballot.{IsBallot};
-ghost use Rattle.wf_ballot.specs.Round.{IsRound};
+ghost use Rattle.wf_ballot.specs.Sequence.{IsSlot};
+ghost use Rattle.wf_ballot.specs.Ballot.{IsBallot, IsRound};
 ghost use Rattle.std.specs.Option.{option_map};
 ghost use Rattle.wf_ballot.specs.Front.{front_node, front_slot, front_round, front_ballot, FieldsAreRead};
+ghost use Rattle.wf_ballot.specs.Field.{FieldLengths, FieldsAreDistinct};
 
 use crate::ballot::Ballot;
 use crate::node::NodeId;
 use crate::round::Round;
 use crate::slot::Slot;
+
+/// A node has 1 byte in messages and records, a sequence 2, a round 4 and a ballot 5. A theorem about the definitions: the call
+/// does nothing.
+pub fn field_lengths()
+    ensures { FieldLengths }
+{}
+
+/// A field's bytes determine its value, whatever follows them. A theorem about the definitions: the call does nothing.
+pub fn fields_are_distinct()
+    ensures { FieldsAreDistinct }
+{}
 
 /// The node at the front of the bytes, and the bytes after it; None if there is none.
 #[tactic(auto, unfolding(crate::specs::Front::front_node))]

@@ -12,7 +12,6 @@
 #![tactic(auto)]
 
 mod ballot;
-mod field;
 mod front;
 mod majority;
 mod node;
@@ -21,8 +20,10 @@ mod sequence;
 mod slot;
 
 pub use ballot::{Ballot, ROUNDS, order_is_total};
-pub use field::{field_lengths, fields_are_distinct};
-pub use front::{fields_are_read, split_ballot, split_node, split_round, split_slot};
+pub use front::{
+    field_lengths, fields_are_distinct, fields_are_read, split_ballot, split_node, split_round,
+    split_slot,
+};
 pub use majority::{is_majority, majorities_meet};
 pub use node::{NODES, NodeId};
 pub use round::Round;

@@ -1,7 +1,6 @@
 ghost use Rattle.std.specs.Prelude.{◌≡◌, ◌↔◌, Some, IsSome, IfSome};
 ghost use Rattle.std.specs.Fmt.{decimal};
-ghost use Rattle.wf_ballot.specs.Ballot.{round_bytes};
-ghost use Rattle.wf_ballot.specs.Round.{IsRound};
+ghost use Rattle.wf_ballot.specs.Ballot.{round_bytes, IsRound};
 
 use crate::ballot::Ballot;
 use std::fmt;

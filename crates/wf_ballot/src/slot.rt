@@ -1,7 +1,6 @@
 ghost use Rattle.std.specs.Prelude.{◌≡◌, ◌↔◌, ℕ, Some, IsSome, IfSome};
 ghost use Rattle.std.specs.Fmt.{decimal};
-ghost use Rattle.wf_ballot.specs.Slot.{IsSlot};
-ghost use Rattle.wf_ballot.specs.Sequence.{seq_bytes};
+ghost use Rattle.wf_ballot.specs.Sequence.{IsSlot, seq_bytes};
 
 use crate::sequence::Seq;
 use std::fmt;

@@ -1,9 +1,10 @@
 -- Keywords up to END, one by one.
-use Rattle.std.proofs.Common.{◌≡◌, ℕ, suc, ◌+◌, ◌-◌, ◌<◌, ◌≤◌, List, arith}
-use Rattle.std.specs.Prelude.{Option, Some, None, if◌then◌else◌}
+use Rattle.std.proofs.Common.{◌≡◌, ℕ, suc, ◌+◌, ◌-◌, ◌<◌, ◌≤◌, List, arith, Bool, rules}
+use Rattle.std.specs.Prelude.{Option, Some, None, if◌then◌else◌, bytes_eq, IsTrue, ◌↔◌}
 use Rattle.wf_token.specs.Token.{Token}
 use Rattle.wf_block.specs.Grammar.{◌>>=◌, word, is_end}
 use Rattle.wf_block.specs.Steps.{fill}
+use Rattle.std.proofs.lemmas.Slice.Eq.{bytes_eq-Decides}
 
 -- one keyword of a block, or its END
 pub fill_step : {S : Type 0} (put : S → List ℕ → List Token → Option (S × List Token)) (n i : ℕ) (slots : S) (tokens : List Token) → i < n →
@@ -15,3 +16,7 @@ fill_step put n i slots tokens below = let left : n - i ≡ suc (n - (i + 1)) = 
 pub fill_past : {S : Type 0} (put : S → List ℕ → List Token → Option (S × List Token)) (n i : ℕ) (slots : S) (tokens : List Token) → n ≤ i → fill put (n - i) slots tokens ≡ None
 unfolding fill
 fill_past put n i slots tokens past = let none : n - i ≡ 0 = omega arith in rw none
+
+-- Names without regard to letter case.
+pub tested : (xs ys : List ℕ) (r : Bool) → (IsTrue r ↔ (xs ≡ ys)) → r ≡ bytes_eq xs ys
+tested xs ys r h = search (rules, bytes_eq-Decides)

@@ -1,13 +1,14 @@
 -- Readers of tokens: each returns the value at the front of a list of tokens and the tokens after it, or None if the value isn't
 -- there. The blocks of a mapfile are made of them.
-use Rattle.std.specs.Prelude.{ℕ, Bool, if◌then◌else◌, ℤ, List, [], ◌∷◌, codes, Option, Some, None}
+use Rattle.std.specs.Prelude.{ℕ, Bool, if◌then◌else◌, ℤ, List, [], ◌∷◌, codes, Option, Some, None, true, not, ◌&&◌}
 use Rattle.std.specs.Result.{result_ok}
-use Rattle.std.specs.Str.{str_eq_ignore_ascii_case}
+use Rattle.std.specs.Str.{str_eq_ignore_ascii_case, bytes_eq}
 use Rattle.wf_text.specs.Number as micro
 use Rattle.wf_text.specs.Text.{is_text}
 use Rattle.wf_text.specs.ValueList.{is_value_list}
-use Rattle.wf_text.specs.Whole.{whole_between}
+use Rattle.wf_text.specs.Number.{whole_between}
 use Rattle.wf_token.specs.Token.{Token, Word, Quoted, Braced}
+use Rattle.std.specs.List.{list_any}
 
 -- the second reader reads the tokens that the first leaves
 infixl 10 ◌>>=◌
@@ -52,8 +53,8 @@ value_list (Quoted bytes ∷ rest) = None
 value_list (Braced inside ∷ rest) = if is_value_list inside then Some (inside, rest) else None
 
 -- one of a table's choices
-unfoldable pub chosen : {A : Type 0} → List (List ℕ × A) → List Token → Option (A × List Token)
-chosen table tokens = do
+unfoldable pub one_of : {A : Type 0} → List (List ℕ × A) → List Token → Option (A × List Token)
+one_of table tokens = do
   x ← argument tokens
   value ← choice table x.0
   Some (value, x.1)
@@ -77,3 +78,8 @@ unfoldable pub end : List Token → Option (List Token)
 end tokens = do
   x ← word tokens
   if is_end x.0 then Some x.1 else None
+
+-- whether no two of the texts are equal, such as names or keys that may come once
+unfoldable pub all_differ : List (List ℕ) → Bool
+all_differ [] = true
+all_differ (key ∷ keys) = not (list_any (bytes_eq key) keys) && all_differ keys

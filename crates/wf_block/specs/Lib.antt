@@ -3,4 +3,3 @@ pub use Rattle.wf_token.specs.Token
 pub mod Grammar
 pub mod Steps
 pub mod ReadContract
-pub mod Distinct

@@ -1,6 +1,6 @@
 //! Choices by name.
 ghost use Rattle.std.specs.Prelude.{◌≡◌, map};
-ghost use Rattle.wf_block.specs.Grammar.{choice, chosen};
+ghost use Rattle.wf_block.specs.Grammar.{choice, one_of};
 ghost use Rattle.wf_block.specs.ReadContract.{Gives};
 
 use crate::fault::MapFault;
@@ -21,10 +21,10 @@ pub fn choose<T: Copy>(entries: &[(&str, T)], name: &[u8]) -> Option<T>
 
 impl Parser<'_> {
     /// Reads one of a table's choices.
-    #[tactic(auto, unfolding(crate::specs::Grammar::chosen))]
-    pub fn chosen<T: Copy>(&mut self, entries: &[(&str, T)]) -> Result<T, MapFault>
+    #[tactic(auto, unfolding(crate::specs::Grammar::one_of))]
+    pub fn one_of<T: Copy>(&mut self, entries: &[(&str, T)]) -> Result<T, MapFault>
         ensures { Gives (λ value. (value, self.new)) result
-            (chosen (map (λ entry. (entry.0.now, entry.1)) entries.now) self.old) }
+            (one_of (map (λ entry. (entry.0.now, entry.1)) entries.now) self.old) }
     {
         let token = self.argument()?;
         choose(entries, token.text).ok_or(MapFault::UnexpectedWord(token.byte_offset))

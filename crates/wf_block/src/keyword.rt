@@ -4,7 +4,7 @@ ghost use Rattle.std.specs.Str.{str_eq_ignore_ascii_case};
 ghost use Rattle.wf_block.specs.Grammar.{is_end};
 
 /// Whether a text is this name, without regard to ASCII letter case.
-#[tactic(auto, using(crate::proofs::Names::tested))]
+#[tactic(auto, using(crate::proofs::Blocks::tested))]
 pub fn is_name(text: &[u8], name: &str) -> bool
     ensures { result ≡ str_eq_ignore_ascii_case text.now name.now }
 {

@@ -12,9 +12,9 @@ use Rattle.wf_def.specs.declared.choice.LabelPosition.{LabelPosition}
 use Rattle.wf_def.specs.declared.choice.LabelPosition.TheVariants.{UpperLeft, UpperCenter, UpperRight, CenterLeft, CenterCenter, CenterRight, LowerLeft, LowerCenter, LowerRight}
 use Rattle.wf_token.specs.Token.{Word}
 use Rattle.wf_token.specs.Spelling.{tokens_of}
-use Rattle.wf_class.specs.declared.slots.style.StyleSlots.{StyleSlots}
-use Rattle.wf_class.specs.declared.slots.label.LabelSlots.{LabelSlots}
-use Rattle.wf_class.specs.declared.slots.class.ClassSlots.{ClassSlots}
+use Rattle.wf_class.specs.declared.slots.StyleSlots.{StyleSlots}
+use Rattle.wf_class.specs.declared.slots.LabelSlots.{LabelSlots}
+use Rattle.wf_class.specs.declared.slots.ClassSlots.{ClassSlots}
 use Rattle.wf_class.specs.Style as styles
 use Rattle.wf_class.specs.Label as labels
 use Rattle.wf_class.specs.Class as classes

@@ -19,9 +19,9 @@ use Rattle.wf_token.specs.Spelling.{is_written, tokens_of}
 use Rattle.wf_block.specs.Grammar.{is_end, word, argument, text, end}
 use Rattle.wf_metadata.specs.Metadata.{pairs, all_differ, value_at, kept as kept_pairs, metadata}
 use Rattle.wf_metadata.specs.declared.slots.Metadata.{Metadata}
-use Rattle.wf_feature.specs.declared.slots.feature.FeatureSlots.{FeatureSlots}
-use Rattle.wf_mapfile.specs.declared.slots.layer.LayerOnce.{LayerOnce}
-use Rattle.wf_mapfile.specs.declared.slots.layer.LayerSlots.{LayerSlots}
+use Rattle.wf_feature.specs.declared.slots.FeatureSlots.{FeatureSlots}
+use Rattle.wf_mapfile.specs.declared.slots.LayerOnce.{LayerOnce}
+use Rattle.wf_mapfile.specs.declared.slots.LayerSlots.{LayerSlots}
 use Rattle.wf_feature.specs.Feature as features
 use Rattle.wf_mapfile.specs.Layer as layers
 use Rattle.wf_spelling.specs.Canon.{number_word, kind_word, end_line, point_line, part_lines, feature_lines, class_lines, metadata_lines, layer_lines}

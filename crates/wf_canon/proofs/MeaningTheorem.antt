@@ -17,12 +17,11 @@ use Rattle.wf_block.specs.ReadContract.{IsNotUtf8, is_memory}
 use Rattle.wf_block.specs.declared.fault.MapFault.{MapFault}
 use Rattle.wf_block.specs.declared.fault.MapFault.TheVariants as reading
 use Rattle.wf_token.specs.Spelling.{is_written, are_written, line}
-use Rattle.wf_spelling.specs.Canon.{map_lines, canon, most_canon_bytes, IsCanon}
+use Rattle.wf_spelling.specs.Canon.{map_lines, canon, most_canon_bytes, IsCanon, IsCauseOf}
 use Rattle.wf_spelling.specs.declared.fault.CanonFault.{CanonFault}
 use Rattle.wf_spelling.specs.declared.fault.CanonFault.TheVariants.{TooBig, NotCanonical, Memory}
 use Rattle.wf_canon.specs.TextMeaning.{Denotes}
-use Rattle.wf_spelling.specs.StepRejection.{IsCauseOf}
-use Rattle.wf_canon.specs.StepRejection.{HasNoCanon, IsWhyRejected, reject_again}
+use Rattle.wf_canon.specs.CanonFault.{HasNoCanon, IsWhyRejected, reject_again}
 use Rattle.wf_token.specs.Spelling.{tokens_of}
 use Rattle.wf_token.specs.SpellingTheorems.{lex_text}
 use Rattle.wf_token.specs.Utf8Theorems.{text_of-is_utf8}

@@ -3,7 +3,7 @@ use Rattle.std.proofs.Common.{◌≡◌, ℕ, ◌||◌, true, false, eqb, List, 
 use Rattle.std.specs.Prelude.{ℤ}
 use Rattle.std.specs.Char.{is_ascii_digit, to_ascii_lowercase}
 use Rattle.std.proofs.lemmas.Bool.Decides.{nat_tests}
-use Rattle.wf_def.specs.Micro.{IsMicro}
+use Rattle.wf_def.specs.Number.{IsMicro}
 use Rattle.wf_block.specs.Grammar.{is_end}
 use Rattle.wf_text.specs.NumberText.{number_text}
 use Rattle.wf_token.specs.Spelling.{is_word, begins_like_number}

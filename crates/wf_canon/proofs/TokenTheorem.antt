@@ -6,10 +6,10 @@ use Rattle.std.specs.List.{list_any}
 use Rattle.std.proofs.lemmas.Bool.Decides.{nat_tests}
 use Rattle.std.proofs.lemmas.List.{append-nil}
 use Rattle.wf_def.specs.Limits.{IsColor}
-use Rattle.wf_def.specs.Micro.{IsMicro}
+use Rattle.wf_def.specs.Number.{IsMicro}
 use Rattle.wf_def.specs.Text.{is_text, has_both_quotes}
 use Rattle.wf_def.specs.ValueList.{is_value_list}
-use Rattle.wf_def.specs.Whole.{whole_between}
+use Rattle.wf_def.specs.Number.{whole_between}
 use Rattle.wf_def.specs.declared.color.Color.{Color}
 use Rattle.wf_text.specs.Booleans.{and_left, and_right, not_true}
 use Rattle.wf_text.specs.NumberText.{fraction_text, magnitude_text, number_text}
@@ -17,7 +17,7 @@ use Rattle.wf_text.specs.NumberTextTheorems as numbers
 use Rattle.wf_token.specs.Token.{Word, Quoted, Braced}
 use Rattle.wf_token.specs.Spelling.{is_word, lacks, is_written}
 use Rattle.wf_token.specs.WordTheorems.{decimal_is_word}
-use Rattle.wf_block.specs.Grammar.{is_end, argument, text, value_list, chosen, choice, number, whole}
+use Rattle.wf_block.specs.Grammar.{is_end, argument, text, value_list, one_of, choice, number, whole}
 use Rattle.wf_class.specs.Color.{color, rgb_color, hash_digits}
 use Rattle.wf_spelling.specs.Canon.{number_word, whole_word}
 use Rattle.wf_canon.proofs.NumberWord.{number_word_is}
@@ -108,8 +108,8 @@ color_again c h = record {
 -- ---- words
 
 -- one of a table's words
-pub chosen_again : {A : Type 0} (table : List (List ℕ × A)) (w : List ℕ) (value : A) → is_keyword w ≡ true → choice table w ≡ Some value → Reads (chosen table) (Word w ∷ []) value
-unfolding chosen argument is_keyword
+pub chosen_again : {A : Type 0} (table : List (List ℕ × A)) (w : List ℕ) (value : A) → is_keyword w ≡ true → choice table w ≡ Some value → Reads (one_of table) (Word w ∷ []) value
+unfolding one_of argument is_keyword
 chosen_again table w value known is = record {
   written = rw (and_left (is_word w) (not (is_end w)) known) refl;
   read = λ rest. rw (not_true (is_end w) (and_right (is_word w) (not (is_end w)) known), is) refl;

@@ -1,3 +1,3 @@
 pub use Rattle.wf_text.specs.NumberText as Number
 pub mod TextMeaning
-pub mod StepRejection
+pub mod CanonFault

@@ -5,9 +5,8 @@ ghost use Rattle.std.specs.Str.{is_utf8};
 ghost use Rattle.wf_def.specs.Limits.{IsWithinLimits};
 ghost use Rattle.wf_mapfile.specs.Meaning.{Means};
 ghost use Rattle.wf_block.specs.ReadContract.{is_memory};
-ghost use Rattle.wf_spelling.specs.Canon.{canon, most_canon_bytes, IsCanon};
-ghost use Rattle.wf_spelling.specs.StepRejection.{IsCauseOf};
-ghost use Rattle.wf_canon.specs.StepRejection.{IsWhyRejected, reject_again};
+ghost use Rattle.wf_spelling.specs.Canon.{canon, most_canon_bytes, IsCanon, IsCauseOf};
+ghost use Rattle.wf_canon.specs.CanonFault.{IsWhyRejected, reject_again};
 
 use std::alloc::{AllocError, Global};
 use std::marker::Model;

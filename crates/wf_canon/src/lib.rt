@@ -28,5 +28,5 @@ pub use theorem::{
 };
 pub use wf_spelling::fault::CanonFault;
 pub use wf_spelling::text::MOST_CANON_BYTES;
+pub use wf_text::number_form::number_is_read_again;
 pub use wf_text::number_text::write_number;
-pub use wf_text::number_theorem::number_is_read_again;

@@ -14,7 +14,8 @@ use Rattle.wf_node.specs.declared.fault.NodeFault.{NodeFault}
 use Rattle.wf_node.specs.declared.fault.NodeFault.TheVariants.{Memory, Halted, TapeFailed}
 use Rattle.wf_tape.specs.Change.{Stays, HasFailed}
 use Rattle.wf_tape.specs.Tape.{IsExtended}
-use Rattle.wf_delivery.specs.Outcome.{is_lost, StepIsAnswered}
+use Rattle.wf_delivery.proofs.Outcomes.{step_is_answered}
+use Rattle.wf_delivery.specs.Outcome.{is_lost}
 use Rattle.wf_delivery.specs.NodeInput.{Takes}
 use Rattle.wf_delivery.specs.Reachability.{outputs_by}
 use Rattle.wf_tape.specs.declared.tape.Tape.{Ghosts as Tape}
@@ -26,7 +27,7 @@ unchanged_halted : {T : Type 0} (before after : Node T) (result : Result (Vec Me
 unchanged_halted before after (Ok outputs) is unchanged = absurd cc
 unchanged_halted before after (Err fault) is unchanged = let it : fault ≡ Halted = cc in unchanged (λ e. absurd (cc e)) (λ e. absurd (cc e))
 
-module _ {T : Type 0} (tapes : Tape T) (theorem : StepIsAnswered tapes) (before after : Node T) (input : Input) (result : Result (Vec Message Global) NodeFault) where
+module _ {T : Type 0} (tapes : Tape T) (before after : Node T) (input : Input) (result : Result (Vec Message Global) NodeFault) where
   pub step_takes : (before.halted ≡ true → result ≡ Err Halted) → (result ≡ Err Halted → before.halted ≡ true) → (before.halted ≡ false → rejected_by result ≡ step_rejection_at before (view input)) →
       IfOk result (λ messages. IsTransition before (transition_of before (view input)) messages.items after) → (tapes.durable → OnOk result (IsOnTape tapes after)) →
       (tapes.durable → OnOk result (tapes.content after.tape ≡ tapes.content before.tape ++ bytes_of (entry_of before (view input)))) →
@@ -37,7 +38,7 @@ module _ {T : Type 0} (tapes : Tape T) (theorem : StepIsAnswered tapes) (before 
       (tapes.durable → result ≡ Err TapeFailed → EachStandsFor (stored_of before) (stored_next before (view input)) (tapes.images after.tape)) →
       Takes tapes (is_lost result) (view input) before after (outputs_by result)
   step_takes halted running refused transition on_tape content unchanged same memory same_tape takes failed writes halts part torn =
-      theorem before after (view input) result (λ is. (halted is, unchanged_halted before after result (halted is) unchanged))
+      step_is_answered tapes before after (view input) result (λ is. (halted is, unchanged_halted before after result (halted is) unchanged))
       (λ runs. record {
         running = λ is. absurd (both_ways before.halted runs (running is));
         refused = refused runs;

@@ -12,7 +12,6 @@ ghost use Rattle.wf_node.specs.Step.{step_rejection_at, TakesMemory};
 use std::alloc::Global;
 use wf_ballot::NodeId;
 use wf_codec::Message;
-use wf_delivery::a_step_is_answered;
 use wf_journal::OpenFault;
 use wf_node::{Input, Node, NodeFault};
 use wf_tape::Tape;
@@ -43,7 +42,5 @@ pub fn act<T: Tape>(
         rejected_by result ≡ step_rejection_at node.old (view input) }
     ensures memory { result ≡ Err NodeFault.Memory → TakesMemory node.old (view input) }
 {
-    // The theorem: what a step promises is one of the things that a node does with an input.
-    a_step_is_answered::<T>();
     node.step(alloc, input)
 }

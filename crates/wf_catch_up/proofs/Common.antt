@@ -28,5 +28,5 @@ unfoldable pub use Rattle.wf_delivery.specs.Reachability.{ReachSending}
 pub use Rattle.wf_farm.specs.Nodes.{KeepEntries, KeepsEntry, node_in, nodes_in, nodes_of}
 pub use Rattle.wf_farm.specs.NodesTheorems.{length-nodes, nodes_back, nodes_get, nodes_set}
 pub use Rattle.wf_delivery.specs.IndexTheorems.{get_set_other, set_same, set_there, set_twice}
-pub use Rattle.wf_farm.specs.declared.host.NodeHost.{NodeHost}
-pub use Rattle.wf_farm.specs.declared.host.NodeHost.TheVariants.{Running, Stopped}
+pub use Rattle.wf_farm.specs.declared.cluster.NodeHost.{NodeHost}
+pub use Rattle.wf_farm.specs.declared.cluster.NodeHost.TheVariants.{Running, Stopped}

@@ -5,8 +5,8 @@ use Rattle.wf_codec.specs.declared.message.Message.{Message}
 use Rattle.wf_model.specs.Table.{most_reports, reports_from}
 use Rattle.wf_node.specs.Node.{Node}
 use Rattle.wf_model.specs.Table as table
-use Rattle.wf_farm.specs.declared.host.NodeHost.{NodeHost}
-use Rattle.wf_farm.specs.declared.host.NodeHost.TheVariants.{Running}
+use Rattle.wf_farm.specs.declared.cluster.NodeHost.{NodeHost}
+use Rattle.wf_farm.specs.declared.cluster.NodeHost.TheVariants.{Running}
 use Rattle.wf_delivery.specs.Delivery.{StandInTurn}
 use Rattle.wf_delivery.specs.NodeInput.{MayBeLost, Takes}
 use Rattle.wf_delivery.specs.Reachability.{AreReachableFrom}

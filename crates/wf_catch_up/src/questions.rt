@@ -43,19 +43,19 @@ pub fn catch_up<T: Tape>(alloc: Global, farm: &mut Farm<T>) -> Result<(), AllocE
       complete = false;
     } }
 {
-    let mut questions = Questions { lost: false };
+    let mut questions = CatchUpClient { lost: false };
     farm.change(alloc, &mut questions);
     outcome(questions.lost)
 }
 
 /// The questions of the nodes that are behind.
 #[derive(Clone, Copy)]
-struct Questions {
+struct CatchUpClient {
     // A delivery was lost to an allocation failure.
     lost: bool,
 }
 
-impl<T: Tape> FarmClient<T> for Questions {
+impl<T: Tape> FarmClient<T> for CatchUpClient {
     ghost changes = { λ _ nodes nodes_after questions.
         AreCaughtUp T.Tape nodes questions.lost nodes_after };
 

@@ -3,8 +3,8 @@ use Rattle.std.specs.Prelude.{ℕ, Bool, true, false, if◌then◌else◌, List,
 use Rattle.wf_def.specs.Limit.{most_styles}
 use Rattle.wf_def.specs.Definition.{ClassDefinition, ExpressionDefinition}
 use Rattle.wf_def.specs.declared.expression.Expression.TheVariants.{Equals, OneOf}
-use Rattle.wf_class.specs.declared.slots.class.ClassOnce.{ClassOnce}
-use Rattle.wf_class.specs.declared.slots.class.ClassSlots.{ClassSlots}
+use Rattle.wf_class.specs.declared.slots.ClassOnce.{ClassOnce}
+use Rattle.wf_class.specs.declared.slots.ClassSlots.{ClassSlots}
 use Rattle.wf_token.specs.Token.{Token, Word, Quoted, Braced, is_slash}
 use Rattle.wf_block.specs.Grammar.{◌>>=◌, text, value_list}
 use Rattle.wf_block.specs.Steps.{once, again, step_by, step_or, put_into, block}

@@ -7,9 +7,9 @@ use Rattle.wf_def.specs.declared.choice.LabelPosition.{LabelPosition}
 use Rattle.wf_def.specs.declared.choice.LabelPosition.TheVariants.{UpperLeft, UpperCenter, UpperRight, CenterLeft, CenterCenter, CenterRight, LowerLeft, LowerCenter, LowerRight}
 use Rattle.wf_def.specs.Limit.{most_priority, most_buffer}
 use Rattle.wf_def.specs.Definition.{LabelDefinition}
-use Rattle.wf_class.specs.declared.slots.label.LabelSlots.{LabelSlots}
+use Rattle.wf_class.specs.declared.slots.LabelSlots.{LabelSlots}
 use Rattle.wf_token.specs.Token.{Token}
-use Rattle.wf_block.specs.Grammar.{◌>>=◌, chosen, whole}
+use Rattle.wf_block.specs.Grammar.{◌>>=◌, one_of, whole}
 use Rattle.wf_block.specs.Steps.{once, step_by, block}
 use Rattle.wf_class.specs.Color.{color}
 
@@ -41,16 +41,16 @@ abbrev pub label_kinds : List (List ℕ × Unit {0})
 label_kinds = (codes "BITMAP", tt) ∷ []
 
 unfoldable pub label_size : List Token → Option (LabelSize × List Token)
-label_size tokens = chosen label_sizes tokens
+label_size tokens = one_of label_sizes tokens
 
 unfoldable pub label_position : List Token → Option (LabelPosition × List Token)
-label_position tokens = chosen label_positions tokens
+label_position tokens = one_of label_positions tokens
 
 unfoldable pub truth : List Token → Option (Bool × List Token)
-truth tokens = chosen truths tokens
+truth tokens = one_of truths tokens
 
 unfoldable pub label_kind : List Token → Option (Unit {0} × List Token)
-label_kind tokens = chosen label_kinds tokens
+label_kind tokens = one_of label_kinds tokens
 
 -- the slots after a keyword: each comes at most once, and the last is dropped
 unfoldable pub label_put : LabelSlots → List ℕ → List Token → Option (LabelSlots × List Token)

@@ -2,7 +2,7 @@
 use Rattle.std.specs.Prelude.{ℕ, List, [], ◌∷◌, codes, Option, Some, None, unwrap_or}
 use Rattle.wf_def.specs.Limit.{most_width, most_size}
 use Rattle.wf_def.specs.Definition.{StyleDefinition}
-use Rattle.wf_class.specs.declared.slots.style.StyleSlots.{StyleSlots}
+use Rattle.wf_class.specs.declared.slots.StyleSlots.{StyleSlots}
 use Rattle.wf_token.specs.Token.{Token}
 use Rattle.wf_block.specs.Grammar.{◌>>=◌, whole}
 use Rattle.wf_block.specs.Steps.{once, step_by, block}

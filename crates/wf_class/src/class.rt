@@ -5,7 +5,7 @@ ghost use Rattle.wf_block.specs.ReadContract.{Gives, Passes};
 ghost use Rattle.wf_def.specs.Limit.{most_styles};
 
 use crate::label::read_label;
-use crate::slots::class::{ClassOnce, ClassSlots};
+use crate::slots::{ClassOnce, ClassSlots};
 use crate::style::read_style;
 use std::alloc::{AllocError, Global};
 use wf_block::block::{Slots, fill_block};
@@ -20,7 +20,7 @@ use wf_token::lexer::is_slash;
 use wf_token::token::{Token, TokenKind};
 
 impl Slots for ClassSlots {
-    ghost use Rattle.wf_class.specs.declared.slots.class.ClassSlots.{ClassSlots as Value};
+    ghost use Rattle.wf_class.specs.declared.slots.ClassSlots.{ClassSlots as Value};
     ghost use Rattle.wf_class.specs.Class.{class_put};
 
     ghost Settings = { Value };

@@ -4,7 +4,7 @@ ghost use Rattle.wf_class.specs.Label.{label, label_kind, label_of, label_positi
 ghost use Rattle.wf_block.specs.ReadContract.{Gives};
 
 use crate::color::read_color;
-use crate::slots::label::LabelSlots;
+use crate::slots::LabelSlots;
 use wf_block::block::{Slots, fill_block};
 use wf_block::default::or_least;
 use wf_block::fault::MapFault;
@@ -21,7 +21,7 @@ use wf_token::token::Token;
 const BLACK: Color = Color { r: 0, g: 0, b: 0 };
 
 impl Slots for LabelSlots {
-    ghost use Rattle.wf_class.specs.declared.slots.label.LabelSlots.{LabelSlots as Value};
+    ghost use Rattle.wf_class.specs.declared.slots.LabelSlots.{LabelSlots as Value};
     ghost use Rattle.wf_class.specs.Label.{label_put};
 
     ghost Settings = { Value };
@@ -95,7 +95,7 @@ pub fn read_label(parser: &mut Parser<'_>) -> Result<Label, MapFault>
 fn read_label_size(parser: &mut Parser<'_>) -> Result<LabelSize, MapFault>
     ensures { Gives (λ s. (s, parser.new)) result (label_size parser.old) }
 {
-    parser.chosen(&[
+    parser.one_of(&[
         ("TINY", LabelSize::Tiny),
         ("SMALL", LabelSize::Small),
         ("MEDIUM", LabelSize::Medium),
@@ -109,7 +109,7 @@ fn read_label_size(parser: &mut Parser<'_>) -> Result<LabelSize, MapFault>
 fn read_label_position(parser: &mut Parser<'_>) -> Result<LabelPosition, MapFault>
     ensures { Gives (λ p. (p, parser.new)) result (label_position parser.old) }
 {
-    parser.chosen(&[
+    parser.one_of(&[
         ("UL", LabelPosition::UpperLeft),
         ("UC", LabelPosition::UpperCenter),
         ("UR", LabelPosition::UpperRight),
@@ -127,7 +127,7 @@ fn read_label_position(parser: &mut Parser<'_>) -> Result<LabelPosition, MapFaul
 fn read_truth(parser: &mut Parser<'_>) -> Result<bool, MapFault>
     ensures { Gives (λ t. (t, parser.new)) result (truth parser.old) }
 {
-    parser.chosen(&[("TRUE", true), ("FALSE", false)])
+    parser.one_of(&[("TRUE", true), ("FALSE", false)])
 }
 
 /// Reads the kind of letters; there is only one.
@@ -135,5 +135,5 @@ fn read_truth(parser: &mut Parser<'_>) -> Result<bool, MapFault>
 fn read_label_kind(parser: &mut Parser<'_>) -> Result<(), MapFault>
     ensures { Gives (λ k. (k, parser.new)) result (label_kind parser.old) }
 {
-    parser.chosen(&[("BITMAP", ())])
+    parser.one_of(&[("BITMAP", ())])
 }

@@ -4,7 +4,7 @@ ghost use Rattle.wf_block.specs.ReadContract.{Gives};
 ghost use Rattle.wf_class.specs.Style.{style, style_of};
 
 use crate::color::read_color;
-use crate::slots::style::StyleSlots;
+use crate::slots::StyleSlots;
 use wf_block::block::{Slots, fill_block};
 use wf_block::default::or_least;
 use wf_block::fault::MapFault;
@@ -16,7 +16,7 @@ use wf_def::style::Style;
 use wf_token::token::Token;
 
 impl Slots for StyleSlots {
-    ghost use Rattle.wf_class.specs.declared.slots.style.StyleSlots.{StyleSlots as Value};
+    ghost use Rattle.wf_class.specs.declared.slots.StyleSlots.{StyleSlots as Value};
     ghost use Rattle.wf_class.specs.Style.{style_put};
 
     ghost Settings = { Value };

@@ -7,10 +7,10 @@ use Rattle.std.proofs.lemmas.List.{length-map}
 use Rattle.wf_ballot.specs.Ballot.{Ballot}
 use Rattle.wf_def.specs.Definition.{Definition}
 use Rattle.wf_spelling.specs.Canon.{canon, most_canon_bytes}
-use Rattle.wf_frame.specs.Report.{AreVotesOf, vote_definitions, votes_definitions, votes_in_report, front_vote, votes_of}
+use Rattle.wf_frame.specs.Report.{AreVotesOf, vote_with, votes_with, vote_definitions, votes_definitions, votes_in_report, front_vote, votes_of}
 use Rattle.wf_codec.specs.declared.fault.DecodeFault.{DecodeFault}
 use Rattle.wf_codec.specs.declared.fault.DecodeFault.TheVariants.{Short, BadVersion, BadKind, BadField, NotCanonical, TooLong, Memory}
-use Rattle.wf_codec.specs.Message.{view_vote, view_votes, vote_with, votes_with, HasOne, HasOneOf, HasText}
+use Rattle.wf_codec.specs.Message.{view_vote, view_votes, HasOne, HasOneOf, HasText}
 use Rattle.wf_codec.specs.Fault.{IsNoText}
 use Rattle.wf_codec.specs.Stages.{ReadsVote, ReadsVotes, ReadsReport}
 

@@ -1,8 +1,8 @@
 -- What the result of decode says about the bytes: they begin with the message, or never will begin with one, or more bytes are
 -- needed.
-use Rattle.std.proofs.Common.{◌≡◌, ℕ, ◌+◌, ◌≤◌, List, [], ◌∷◌, ◌++◌, length, take, drop, Option, Some, Result, Ok, Err, refl, sym, ap, subst, ◌∙◌, append_assoc, length-append, arith}
+use Rattle.std.proofs.Common.{◌≡◌, ℕ, ◌+◌, ◌≤◌, List, ◌++◌, length, take, drop, Option, Some, Result, Ok, Err, refl, sym, ap, subst, ◌∙◌, append_assoc, length-append, arith}
 use Rattle.std.proofs.Math.Seq.{take-append_seam, drop-append_seam}
-use Rattle.std.proofs.lemmas.Bool.{eqb-true, eq-eqb}
+use Rattle.std.proofs.lemmas.Bool.{eqb-true}
 use Rattle.std.proofs.lemmas.List.{length-take}
 use Rattle.std.specs.Prelude.{IfOk, IfErr, IsErrOf}
 use Rattle.wf_ballot.specs.Front.{AreBytes}
@@ -10,36 +10,32 @@ use Rattle.wf_def.specs.Definition.{Definition}
 use Rattle.wf_canon.specs.TextMeaning.{OneTextOneMap}
 use Rattle.wf_frame.specs.declared.fault.FrameFault.{FrameFault}
 use Rattle.wf_frame.specs.declared.fault.FrameFault.TheVariants as frames
-use Rattle.wf_frame.specs.Frame.{frame_of, frame_front}
-use Rattle.wf_frame.specs.Frame as layouts
-use Rattle.wf_frame.specs.Theorem.{Payload, payload_bytes}
+use Rattle.wf_ballot.specs.Field.{frame}
+use Rattle.wf_frame.specs.Frame.{Found, frame_front}
 use Rattle.wf_frame.specs.FrameTheorems as laws
+use Rattle.wf_frame.specs.Row.{Row, row_bytes, read_row}
+use Rattle.wf_frame.specs.RowTheorems.{row_stands}
 use Rattle.wf_model.specs.Message.{Message}
-use Rattle.wf_codec.specs.declared.kind.MessageKind.{MessageKind}
 use Rattle.wf_codec.specs.declared.fault.DecodeFault.{DecodeFault}
 use Rattle.wf_codec.specs.declared.fault.DecodeFault.TheVariants.{Short, BadVersion, BadKind, BadField, NotCanonical, TooLong, Memory}
-use Rattle.wf_codec.specs.MessageKind.{kind_of_byte, can_have}
+use Rattle.wf_codec.specs.KindTable.{kinds}
 use Rattle.wf_codec.specs.Message.{texts, HasDefinition, IsMessage}
-use Rattle.wf_codec.specs.Encoding.{message_version, header_length, kind_of, message_of, body, format, text_spelling, spelling, Spells}
-use Rattle.wf_codec.specs.FormatTheorems.{is_format, kind_again, kind_stands}
-use Rattle.wf_codec.specs.Stages.{decode_fault, fields_of, ReadsAs}
+use Rattle.wf_codec.specs.Encoding.{message_version, header_length, format, text_spelling, spelling, Spells}
+use Rattle.wf_codec.specs.FormatTheorems.{is_format}
+use Rattle.wf_codec.specs.Stages.{decode_fault, ReadsAs}
 use Rattle.wf_codec.specs.Theorem.{OneSpelling, NoneBeginsAnother, NoneIsEmpty, BeginsWith, BeginsWithNone, NeverBegins, IsRejection, IsUnfinished, IsReadAs, IsValidated}
-use Rattle.wf_codec.proofs.Texts.{texts_fit, texts_apart, text_is_definition, not_bad}
-use Rattle.wf_codec.proofs.Fields.{values_fit, message_again, payload, laid_out, fits_body, fields_again, fields_stand}
+use Rattle.wf_codec.proofs.Texts.{texts_apart, text_is_definition, not_bad, row_of_message, body_of_message}
 use Rattle.wf_codec.proofs.Encoded.{length-text_spelling}
 
 -- ---- a message at the front
 
 -- bytes that begin with a message's encoding: the frame that is split off
-cut_of : (m : Message Definition) (spelled after bytes : List ℕ) → Spells m spelled → bytes ≡ spelled ++ after → frame_front format bytes ≡ Ok (kind_of (texts m), body (texts m))
+cut_of : (m : Message Definition) (spelled after bytes : List ℕ) → Spells m spelled → bytes ≡ spelled ++ after →
+    frame_front format bytes ≡ Ok (message_version, (texts m).byte, row_bytes (texts m))
 unfolding text_spelling
 cut_of m spelled after bytes spells e =
-    let begins : bytes ≡ frame_of format (kind_of (texts m)) (body (texts m)) ++ after = e ∙ ap (λ (t : List ℕ). t ++ after) spells.spelled in
-    ap (frame_front format) begins ∙ laws.frame_again format is_format (kind_of (texts m)) (body (texts m)) after (fits_body (texts m) (texts_fit m spells.is_message))
-
--- the fields of that frame's body
-fields_of_body : (m : Message Definition) → IsMessage m → fields_of (kind_of (texts m)) (body (texts m)) ≡ Some (texts m)
-fields_of_body m is_message = fields_again (texts m) (texts_fit m is_message)
+    let begins : bytes ≡ frame message_version (texts m).byte (row_bytes (texts m)) ++ after = e ∙ ap (λ (t : List ℕ). t ++ after) spells.spelled in
+    ap (frame_front format) begins ∙ laws.frame_again format is_format message_version (texts m).byte (row_bytes (texts m)) after (body_of_message m spells.is_message)
 
 -- ---- the theorems
 
@@ -49,27 +45,27 @@ one_spelling m a b spells_a spells_b = spells_a.spelled ∙ sym spells_b.spelled
 some_same : {A : Type 0} (x y : A) → Some x ≡ Some y → x ≡ y
 some_same x y e = cc
 
-abbrev ok : MessageKind × List ℕ → Result (MessageKind × List ℕ) FrameFault
+abbrev ok : Found → Result Found FrameFault
 ok x = Ok x
 
-ok_same : (x y : MessageKind × List ℕ) → ok x ≡ ok y → x ≡ y
+ok_same : (x y : Found) → ok x ≡ ok y → x ≡ y
 ok_same x y e = cc
 
 pub none_is_empty : NoneIsEmpty
 none_is_empty m bytes spells = omega (arith, ap length spells.spelled, length-text_spelling (texts m))
 
--- an encoding is the frame of what the message says
-spelled_as : (m : Message (List ℕ)) → text_spelling m ≡ payload_bytes format (payload m)
-unfolding text_spelling
-spelled_as m = ap (λ (bytes : List ℕ). frame_of format (kind_of m) bytes) (laid_out m)
+-- what is read of a frame
+abbrev read_of : Found → Option (Row (List ℕ))
+read_of found = read_row kinds found.1 found.2
 
 pub none_begins_another : OneTextOneMap → NoneBeginsAnother
+unfolding text_spelling
 none_begins_another one_map m n a b after_a after_b spells_a spells_b e =
-    let same_bytes : payload_bytes format (payload (texts m)) ++ after_a ≡ payload_bytes format (payload (texts n)) ++ after_b =
-    sym (ap (λ (t : List ℕ). t ++ after_a) (spells_a.spelled ∙ spelled_as (texts m))) ∙ e ∙ ap (λ (t : List ℕ). t ++ after_b) (spells_b.spelled ∙ spelled_as (texts n)) in
-    let same_payload = laws.none_begins_another format is_format (payload (texts m)) (payload (texts n)) after_a after_b
-    (values_fit (texts m) (texts_fit m spells_a.is_message)) (values_fit (texts n) (texts_fit n spells_b.is_message)) same_bytes in
-    let same_texts : texts m ≡ texts n = sym (message_again (texts m)) ∙ ap (λ (x : Payload format). message_of x.0 x.1) same_payload ∙ message_again (texts n) in
+    let same_bytes : spelling m ++ after_a ≡ spelling n ++ after_b = sym (ap (λ (t : List ℕ). t ++ after_a) spells_a.spelled) ∙ e ∙ ap (λ (t : List ℕ). t ++ after_b) spells_b.spelled in
+    let same_frame = laws.one_frame format is_format message_version (texts m).byte message_version (texts n).byte (row_bytes (texts m)) (row_bytes (texts n)) after_a after_b
+    (body_of_message m spells_a.is_message) (body_of_message n spells_b.is_message) same_bytes in
+    let same_texts : texts m ≡ texts n =
+    some_same (texts m) (texts n) (sym (row_of_message m spells_a.is_message) ∙ ap read_of same_frame ∙ row_of_message n spells_b.is_message) in
     let same : a ≡ b = spells_a.spelled ∙ ap text_spelling same_texts ∙ sym spells_b.spelled in (
       texts_apart one_map m n spells_a.is_message spells_b.is_message same_texts,
       same,
@@ -78,17 +74,19 @@ none_begins_another one_map m n a b after_a after_b spells_a spells_b e =
 
 -- ---- the result of decode
 
-begins_by : {X : Type 0} (view : X → Message Definition) (x : X × ℕ) (bytes : List ℕ) (r : Result (MessageKind × List ℕ) FrameFault) → frame_front format bytes ≡ r → AreBytes bytes →
+begins_by : {X : Type 0} (view : X → Message Definition) (x : X × ℕ) (bytes : List ℕ) (r : Result Found FrameFault) → frame_front format bytes ≡ r → AreBytes bytes →
     IsValidated view (Ok x) r → BeginsWith bytes (view x.0) x.1
 unfolding text_spelling
 begins_by view x bytes (Err fault) is fits validated = absurd cc
 begins_by view x bytes (Ok found) is fits validated =
-    let framed = laws.frame_stands format is_format bytes found.0 found.1 fits is in
-    let stands = fields_stand found.0 found.1 (texts (view x.0)) framed.body_bytes framed.has_length validated.0.0 in
-    let spelled : frame_of format found.0 found.1 ≡ spelling (view x.0) =
-    ap (λ (k : MessageKind). frame_of format k found.1) (sym stands.0) ∙ ap (λ (b : List ℕ). frame_of format (kind_of (texts (view x.0))) b) stands.1 in
+    let r : Row (List ℕ) = texts (view x.0) in
+    let framed = laws.frame_stands format bytes found.0 found.1 found.2 fits is in
+    let own : found.0 ≡ message_version = eqb-true found.0 message_version framed.has_body.is_read in
+    let stands = row_stands kinds found.1 framed.has_body.layout found.2 r framed.has_body.has_kind framed.body_bytes framed.has_body.has_length validated.0.0 in
+    let spelled : frame found.0 found.1 found.2 ≡ spelling (view x.0) =
+    ap (λ (v : ℕ). frame v found.1 found.2) own ∙ ap (λ (k : ℕ). frame message_version k found.2) (sym stands.0) ∙ ap (λ (b : List ℕ). frame message_version r.byte b) stands.1 in
     let parts : bytes ≡ spelling (view x.0) ++ framed.rest = framed.parts ∙ ap (λ (t : List ℕ). t ++ framed.rest) spelled in
-    let count : x.1 ≡ length (spelling (view x.0)) = validated.1 ∙ ap (λ (b : List ℕ). header_length + length b) stands.1 ∙ sym (length-text_spelling (texts (view x.0))) in
+    let count : x.1 ≡ length (spelling (view x.0)) = validated.1 ∙ ap (λ (b : List ℕ). header_length + length b) stands.1 ∙ sym (length-text_spelling r) in
     record {
       within = omega (arith, count, ap length parts, length-append (spelling (view x.0)) framed.rest);
       spells = record {
@@ -128,12 +126,12 @@ read_by one_map view (Err Memory) m k is_message reads count = (refl, text_is_de
 pub whole_is_read : {X : Type 0} → OneTextOneMap → (view : X → Message Definition) (result : Result (X × ℕ) DecodeFault) (bytes : List ℕ) → IsValidated view result (frame_front format bytes) →
     (m : Message Definition) (spelled after : List ℕ) → Spells m spelled → bytes ≡ spelled ++ after → IsReadAs view result m (length spelled)
 whole_is_read one_map view result bytes validated m spelled after spells e =
-    let cut : IsValidated view result (Ok (kind_of (texts m), body (texts m))) =
-    subst (λ (r : Result (MessageKind × List ℕ) FrameFault). IsValidated view result r) (cut_of m spelled after bytes spells e) validated in
+    let cut : IsValidated view result (Ok (message_version, (texts m).byte, row_bytes (texts m))) =
+    subst (λ (r : Result Found FrameFault). IsValidated view result r) (cut_of m spelled after bytes spells e) validated in
     let reads : ReadsAs (λ x. view x.0) result (Some (texts m)) =
-    subst (λ (o : Option (Message (List ℕ))). ReadsAs (λ x. view x.0) result o) (fields_of_body m spells.is_message) cut.0 in
-    let count : header_length + length (body (texts m)) ≡ length spelled = sym (length-text_spelling (texts m)) ∙ ap length (sym spells.spelled) in
-    subst (λ (k : ℕ). IsReadAs view result m k) count (read_by one_map view result m (header_length + length (body (texts m))) spells.is_message reads cut.1)
+    subst (λ (o : Option (Row (List ℕ))). ReadsAs (λ x. view x.0) result o) (row_of_message m spells.is_message) cut.0 in
+    let count : header_length + length (row_bytes (texts m)) ≡ length spelled = sym (length-text_spelling (texts m)) ∙ ap length (sym spells.spelled) in
+    subst (λ (k : ℕ). IsReadAs view result m k) count (read_by one_map view result m (header_length + length (row_bytes (texts m))) spells.is_message reads cut.1)
 
 rejection_not_short : (e : DecodeFault) → IsRejection e → e ≡ Short → ⊥
 rejection_not_short e rejection short = subst IsRejection short rejection
@@ -157,7 +155,7 @@ err_same : {X : Type 0} (d e : DecodeFault) → error {X = X} d ≡ error e → 
 err_same d e same = cc
 
 -- A frame that is split off bytes is split off longer bytes too; if it is rejected, longer bytes are rejected too.
-rejected_by : {X : Type 0} (view : X → Message Definition) (e : DecodeFault) (bytes : List ℕ) (r : Result (MessageKind × List ℕ) FrameFault) → frame_front format bytes ≡ r → AreBytes bytes →
+rejected_by : {X : Type 0} (view : X → Message Definition) (e : DecodeFault) (bytes : List ℕ) (r : Result Found FrameFault) → frame_front format bytes ≡ r → AreBytes bytes →
     IsValidated view (Err e) r → IsRejection e → NeverBegins bytes
 rejected_by {X} view e bytes (Err fault) is fits validated rejection more m spelled after spells same =
     let fault_is : e ≡ decode_fault fault = err_same {X = X × ℕ} e (decode_fault fault) validated in
@@ -165,14 +163,14 @@ rejected_by {X} view e bytes (Err fault) is fits validated rejection more m spel
     let cut = cut_of m spelled after (bytes ++ more) spells same in
     absurd cc
 rejected_by {X} view e bytes (Ok found) is fits validated rejection more m spelled after spells same =
-    let framed = laws.frame_stands format is_format bytes found.0 found.1 fits is in
-    let longer : bytes ++ more ≡ frame_of format found.0 found.1 ++ (framed.rest ++ more) =
-    ap (λ (t : List ℕ). t ++ more) framed.parts ∙ append_assoc (frame_of format found.0 found.1) framed.rest more in
-    let again = ap (frame_front format) longer ∙ laws.frame_again format is_format found.0 found.1 (framed.rest ++ more) framed.has_length in
+    let framed = laws.frame_stands format bytes found.0 found.1 found.2 fits is in
+    let longer : bytes ++ more ≡ frame found.0 found.1 found.2 ++ (framed.rest ++ more) =
+    ap (λ (t : List ℕ). t ++ more) framed.parts ∙ append_assoc (frame found.0 found.1 found.2) framed.rest more in
+    let again = ap (frame_front format) longer ∙ laws.frame_again format is_format found.0 found.1 found.2 (framed.rest ++ more) framed.has_body in
     let cut = cut_of m spelled after (bytes ++ more) spells same in
-    let same_frame = ok_same (found.0, found.1) (kind_of (texts m), body (texts m)) (sym again ∙ cut) in
-    let fields = ap (λ (f : MessageKind × List ℕ). fields_of f.0 f.1) same_frame ∙ fields_of_body m spells.is_message in
-    never_rejected view e m rejection spells.is_message (subst (λ (o : Option (Message (List ℕ))). ReadsAs (λ (x : X × ℕ). view x.0) (Err e) o) fields validated.0)
+    let same_frame = ok_same (found.0, found.1, found.2) (message_version, (texts m).byte, row_bytes (texts m)) (sym again ∙ cut) in
+    let read = ap read_of same_frame ∙ row_of_message m spells.is_message in
+    never_rejected view e m rejection spells.is_message (subst (λ (o : Option (Row (List ℕ))). ReadsAs (λ (x : X × ℕ). view x.0) (Err e) o) read validated.0)
 
 -- rejected bytes never begin with a message, whatever follows
 pub refused : {X : Type 0} (view : X → Message Definition) (result : Result (X × ℕ) DecodeFault) (bytes : List ℕ) → AreBytes bytes → IsValidated view result (frame_front format bytes) →
@@ -187,40 +185,23 @@ is_short frames.BadKind e = absurd cc
 is_short frames.TooLong e = absurd cc
 is_short frames.BadLength e = absurd cc
 
-abbrev frame_error : FrameFault → Result (MessageKind × List ℕ) FrameFault
+abbrev frame_error : FrameFault → Result Found FrameFault
 frame_error fault = Err fault
 
-short_by : {X : Type 0} (view : X → Message Definition) (result : Result (X × ℕ) DecodeFault) (r : Result (MessageKind × List ℕ) FrameFault) → IsValidated view result r → result ≡ Err Short → r ≡ Err frames.Short
+short_by : {X : Type 0} (view : X → Message Definition) (result : Result (X × ℕ) DecodeFault) (r : Result Found FrameFault) → IsValidated view result r → result ≡ Err Short → r ≡ Err frames.Short
 short_by {X} view result (Err fault) validated short = ap frame_error (is_short fault (err_same {X = X × ℕ} (decode_fault fault) Short (sym validated ∙ short)))
 short_by {X} view result (Ok found) validated short =
-    absurd (subst (λ (a : Result (X × ℕ) DecodeFault). ReadsAs (λ (x : X × ℕ). view x.0) a (fields_of found.0 found.1)) short validated.0)
-
--- part of a frame is part of a message
-unfinished_message : (bytes : List ℕ) → layouts.IsUnfinished format bytes → IsUnfinished bytes
-unfolding can_have
-unfinished_message [] unfinished = tt
-unfinished_message (version ∷ []) own = eqb-true version message_version own
-unfinished_message (version ∷ byte ∷ bytes) unfinished =
-    let kind : MessageKind = unfinished.1.0 in
-    (eqb-true version message_version unfinished.0, (kind, kind_stands byte kind unfinished.1.1, unfinished.1.2))
-
-unfinished_frame : (bytes : List ℕ) → IsUnfinished bytes → layouts.IsUnfinished format bytes
-unfolding can_have
-unfinished_frame [] unfinished = tt
-unfinished_frame (version ∷ []) same = eq-eqb version message_version same
-unfinished_frame (version ∷ byte ∷ bytes) unfinished =
-    let kind : MessageKind = unfinished.1.0 in
-    (eq-eqb version message_version unfinished.0, (kind, ap kind_of_byte unfinished.1.1 ∙ kind_again kind, unfinished.1.2))
+    absurd (subst (λ (a : Result (X × ℕ) DecodeFault). ReadsAs (λ (x : X × ℕ). view x.0) a (read_row kinds found.1 found.2)) short validated.0)
 
 -- if Short is returned, more bytes are needed
 pub short_unfinished : {X : Type 0} (view : X → Message Definition) (result : Result (X × ℕ) DecodeFault) (bytes : List ℕ) → IsValidated view result (frame_front format bytes) → IsErrOf result Short → IsUnfinished bytes
 short_unfinished view result bytes validated short =
-    unfinished_message bytes (laws.short_is_unfinished format bytes (short_by view result (frame_front format bytes) validated short))
+    laws.short_is_unfinished format bytes (short_by view result (frame_front format bytes) validated short)
 
 -- and conversely
 pub unfinished_short : {X : Type 0} (view : X → Message Definition) (result : Result (X × ℕ) DecodeFault) (bytes : List ℕ) → IsValidated view result (frame_front format bytes) → IsUnfinished bytes → IsErrOf result Short
 unfinished_short view result bytes validated unfinished =
-    subst (λ (r : Result (MessageKind × List ℕ) FrameFault). IsValidated view result r) (laws.unfinished_is_short format is_format bytes (unfinished_frame bytes unfinished)) validated
+    subst (λ (r : Result Found FrameFault). IsValidated view result r) (laws.unfinished_is_short format is_format bytes unfinished) validated
 
 not_read_short : {X : Type 0} (view : X → Message Definition) (result : Result (X × ℕ) DecodeFault) (m : Message Definition) (k : ℕ) → result ≡ Err Short → IsReadAs view result m k → ⊥
 not_read_short {X} view result m k short is_read =

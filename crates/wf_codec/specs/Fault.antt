@@ -1,22 +1,23 @@
 -- Which error bytes have: that of the first check that fails, or else that of the message's texts.
-use Rattle.std.specs.Prelude.{◌≡◌, ℕ, nat_lt, ◌==◌, List, [], ◌∷◌, length, take, drop, Bool, Option, Some, None, is_some, if◌then◌else◌}
+use Rattle.std.specs.Prelude.{◌≡◌, ℕ, nat_lt, ◌==◌, List, [], ◌∷◌, length, take, drop, Option, Some, None, is_some, if◌then◌else◌}
 use Rattle.std.specs.Int.{w32, from_be_bytes}
+use Rattle.wf_frame.specs.Layout.{Layout, fits}
 use Rattle.wf_frame.specs.Layout as layouts
+use Rattle.wf_frame.specs.Row.{layout_of}
 use Rattle.wf_def.specs.Definition.{Definition}
 use Rattle.wf_spelling.specs.Canon.{canon}
-use Rattle.wf_codec.specs.declared.kind.MessageKind.{MessageKind}
 use Rattle.wf_codec.specs.declared.fault.DecodeFault.{DecodeFault}
 use Rattle.wf_codec.specs.declared.fault.DecodeFault.TheVariants.{Short, BadVersion, BadKind, BadField, NotCanonical, TooLong, Memory}
-use Rattle.wf_codec.specs.MessageKind.{most_body_bytes, kind_of_byte, layout, can_have}
+use Rattle.wf_codec.specs.KindTable.{kinds, most_body_bytes}
 use Rattle.wf_codec.specs.Encoding.{message_version, header_length}
 use Rattle.wf_codec.specs.Message.{HasText, HasOne, HasOneOf}
 
 -- ---- what the bytes contain, as far as they are there
 
--- the kind given by the second byte
-unfoldable pub kind_in : List ℕ → Option MessageKind
-kind_in (version ∷ byte ∷ bytes) = kind_of_byte byte
-kind_in _ = None
+-- the layout of the kind that the second byte gives
+unfoldable pub layout_in : List ℕ → Option Layout
+layout_in (version ∷ byte ∷ bytes) = layout_of kinds byte
+layout_in _ = None
 
 -- the length of the body, from the four bytes after the kind
 unfoldable pub length_in : List ℕ → Option ℕ
@@ -36,14 +37,6 @@ front_of (Some n) bytes = take n bytes
 abbrev pub body_in : List ℕ → List ℕ
 body_in bytes = front_of (length_in bytes) (behind_header bytes)
 
--- each field of the body is in its range, by byte offset
-abbrev pub has_fields : MessageKind → List ℕ → Bool
-has_fields kind body = layouts.has_fields (layout kind) body
-
--- the texts in a body of this kind
-abbrev pub texts_of : MessageKind → List ℕ → List (List ℕ)
-texts_of kind body = layouts.texts_in (layout kind) body
-
 -- ---- the checks, each with its error
 
 -- the version is the supported one
@@ -53,7 +46,7 @@ check_version (version ∷ bytes) = if version == message_version then None else
 
 -- the second byte is a kind's
 abbrev pub check_kind : List ℕ → Option DecodeFault
-check_kind (version ∷ byte ∷ bytes) = if is_some (kind_of_byte byte) then None else Some BadKind
+check_kind (version ∷ byte ∷ bytes) = if is_some (layout_of kinds byte) then None else Some BadKind
 check_kind _ = None
 
 -- the body isn't longer than the longest
@@ -62,8 +55,8 @@ check_longest None = None
 check_longest (Some n) = if nat_lt most_body_bytes n then Some TooLong else None
 
 -- a body of this kind can have that many bytes
-abbrev pub check_length : Option MessageKind → Option ℕ → Option DecodeFault
-check_length (Some kind) (Some n) = if can_have kind n then None else Some BadField
+abbrev pub check_length : Option Layout → Option ℕ → Option DecodeFault
+check_length (Some layout) (Some n) = if fits layout n then None else Some BadField
 check_length _ _ = None
 
 -- the header is whole, and is followed by as many bytes as it states
@@ -71,10 +64,10 @@ abbrev pub check_whole : Option ℕ → List ℕ → Option DecodeFault
 check_whole None behind = Some Short
 check_whole (Some n) behind = if nat_lt (length behind) n then Some Short else None
 
--- the fields are in their ranges
-abbrev pub check_fields : Option MessageKind → List ℕ → Option DecodeFault
+-- each field of the body is in its range, by byte offset
+abbrev pub check_fields : Option Layout → List ℕ → Option DecodeFault
 check_fields None body = None
-check_fields (Some kind) body = if has_fields kind body then None else Some BadField
+check_fields (Some layout) body = if layouts.has_fields layout body then None else Some BadField
 
 -- the error of the first check that fails
 abbrev pub first_failing : List (Option DecodeFault) → Option DecodeFault
@@ -88,21 +81,21 @@ first_fault bytes = first_failing (
     check_version bytes
     ∷ check_kind bytes
     ∷ check_longest (length_in bytes)
-    ∷ check_length (kind_in bytes) (length_in bytes)
+    ∷ check_length (layout_in bytes) (length_in bytes)
     ∷ check_whole (length_in bytes) (behind_header bytes)
-    ∷ check_fields (kind_in bytes) (body_in bytes)
+    ∷ check_fields (layout_in bytes) (body_in bytes)
     ∷ [])
 
 -- ---- the texts, which are checked last
 
 -- the texts in a body of this kind
-abbrev pub texts_of_kind : Option MessageKind → List ℕ → List (List ℕ)
+abbrev pub texts_of_kind : Option Layout → List ℕ → List (List ℕ)
 texts_of_kind None body = []
-texts_of_kind (Some kind) body = texts_of kind body
+texts_of_kind (Some layout) body = layouts.texts_in layout body
 
 -- the texts of the message at the front
 abbrev pub texts_in : List ℕ → List (List ℕ)
-texts_in bytes = texts_of_kind (kind_in bytes) (body_in bytes)
+texts_in bytes = texts_of_kind (layout_in bytes) (body_in bytes)
 
 -- the bytes begin with a message except that its texts aren't checked: no other check fails, and it has a text
 pub record CarriesText (bytes : List ℕ) : Type 0 where

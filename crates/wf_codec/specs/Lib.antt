@@ -1,4 +1,4 @@
-pub mod MessageKind
+pub mod KindTable
 pub mod Report
 pub mod Message
 pub mod Encoding

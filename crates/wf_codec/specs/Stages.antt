@@ -3,18 +3,15 @@ use Rattle.std.specs.Prelude.{◌≡◌, ℕ, List, Option, Some, None, Result, 
 use Rattle.wf_ballot.specs.Ballot.{Ballot}
 use Rattle.wf_frame.specs.declared.fault.FrameFault.{FrameFault}
 use Rattle.wf_frame.specs.declared.fault.FrameFault.TheVariants as frames
-use Rattle.wf_frame.specs.Layout.{read_body}
+use Rattle.wf_frame.specs.Row.{Row, end_definitions}
 use Rattle.wf_model.specs.Message.{Message, Vote}
 use Rattle.wf_def.specs.Definition.{Definition}
 use Rattle.wf_spelling.specs.Canon.{canon}
-use Rattle.wf_codec.specs.declared.kind.MessageKind.{MessageKind}
 use Rattle.wf_codec.specs.declared.fault.DecodeFault.{DecodeFault}
 use Rattle.wf_codec.specs.declared.fault.DecodeFault.TheVariants.{Short, BadVersion, BadKind, BadField, NotCanonical, TooLong, Memory}
-use Rattle.wf_codec.specs.MessageKind.{layout}
-use Rattle.wf_codec.specs.Encoding.{message_of}
-use Rattle.wf_frame.specs.Report.{AreVotesOf, IsVoteOf, votes_in_report, vote_definitions, votes_definitions}
+use Rattle.wf_frame.specs.Report.{AreVotesOf, IsVoteOf, vote_with, votes_with, votes_in_report, vote_definitions, votes_definitions}
 use Rattle.wf_codec.specs.Report.{Report}
-use Rattle.wf_codec.specs.Message.{view_vote, view_votes, vote_with, votes_with, texts, definitions_of, HasDefinition, HasOne, HasOneOf, HasText, IsMessage}
+use Rattle.wf_codec.specs.Message.{view_vote, view_votes, texts, HasOne, HasOneOf, HasText, IsMessage}
 use Rattle.wf_codec.specs.Fault.{IsNoText}
 
 -- the decoder's error for that of the frame
@@ -24,10 +21,6 @@ decode_fault frames.BadVersion = BadVersion
 decode_fault frames.BadKind = BadKind
 decode_fault frames.TooLong = TooLong
 decode_fault frames.BadLength = BadField
-
--- the message of this kind with this body, with texts for definitions, if the kind can have the body's length
-unfoldable pub fields_of : MessageKind → List ℕ → Option (Message (List ℕ))
-fields_of kind bytes = read_body (layout kind) bytes (message_of kind)
 
 -- the definition, within the limits, of a canonical text; or the text isn't canonical; or allocation failed
 abbrev pub ReadsText : Result Definition DecodeFault → List ℕ → Type 0
@@ -58,10 +51,10 @@ ReadsReport slot (Err NotCanonical) cut = IsSomeAnd cut (λ votes. HasOneOf IsNo
 ReadsReport slot (Err Memory) cut = IsSomeAnd cut (λ votes. HasOne (votes_definitions votes))
 ReadsReport slot (Err fault) cut = ⊥
 
--- the result of a function that reads a body, mapped by view, compared with the body's fields
-abbrev pub ReadsAs : {X : Type 0} → (X → Message Definition) → Result X DecodeFault → Option (Message (List ℕ)) → Type 0
-ReadsAs view (Ok x) fields = (fields ≡ Some (texts (view x))) × IsMessage (view x)
-ReadsAs view (Err BadField) fields = fields ≡ None
-ReadsAs view (Err NotCanonical) fields = IsSomeAnd fields (λ m. HasOneOf IsNoText (definitions_of m))
-ReadsAs view (Err Memory) fields = IsSomeAnd fields HasDefinition
-ReadsAs view (Err fault) fields = ⊥
+-- the result of a function that reads a body, mapped by view, compared with the row of the body
+abbrev pub ReadsAs : {X : Type 0} → (X → Message Definition) → Result X DecodeFault → Option (Row (List ℕ)) → Type 0
+ReadsAs view (Ok x) read = (read ≡ Some (texts (view x))) × IsMessage (view x)
+ReadsAs view (Err BadField) read = read ≡ None
+ReadsAs view (Err NotCanonical) read = IsSomeAnd read (λ r. HasOneOf IsNoText (end_definitions r.ending))
+ReadsAs view (Err Memory) read = IsSomeAnd read (λ r. HasOne (end_definitions r.ending))
+ReadsAs view (Err fault) read = ⊥

@@ -1,24 +1,21 @@
-ghost use Rattle.std.specs.Prelude.{◌≡◌, ◌+◌, ◌≤◌, ◌++◌, ◌↔◌, length, true, Some, is_some, option_map, IfOk, IfErr, IfSome, IsErrOf, MatchResult, OnOk};
-ghost use Rattle.wf_codec.specs.declared.kind.MessageKind.TheVariants as kinds;
+ghost use Rattle.std.specs.Prelude.{◌≡◌, ◌+◌, ◌≤◌, ◌++◌, ◌↔◌, length, true, Some, is_some, option_map, IfOk, IfErr, IsErrOf, MatchResult};
 ghost use Rattle.wf_codec.specs.Message.{view};
 ghost use Rattle.wf_codec.specs.Fault.{first_fault, HasFault, CarriesText};
 ghost use Rattle.arrayvec.specs.ArrayVec.{array_vec_len};
-ghost use Rattle.wf_ballot.specs.Ballot.{IsBallot};
 ghost use Rattle.wf_spelling.specs.Canon.{most_canon_bytes};
-ghost use Rattle.wf_frame.specs.Report.{front_text, front_vote, votes_of, votes_in_report, IsVoteOf};
+ghost use Rattle.wf_frame.specs.Report.{front_text, front_vote, votes_of, votes_in_report};
 ghost use Rattle.wf_frame.specs.Frame.{frame_front};
 ghost use Rattle.wf_codec.specs.Encoding.{Spells, format};
-ghost use Rattle.wf_codec.specs.Stages.{decode_fault, fields_of, ReadsAs, ReadsVote, ReadsVotes, ReadsReport, ReadsText};
+ghost use Rattle.wf_codec.specs.Stages.{decode_fault, ReadsVote, ReadsVotes, ReadsReport, ReadsText};
 ghost use Rattle.wf_codec.specs.Theorem.{BeginsWith, BeginsWithNone, NeverBegins, IsRejection, IsUnfinished, IsReadAs, IsValidated};
 
 use crate::fault::DecodeFault;
-use crate::frame::HEADER_BYTES;
-use crate::kind::MessageKind;
+use crate::format::{HEADER_BYTES, MessageFormat};
 use crate::message::Message;
 use crate::report::{Report, Votes};
 use arrayvec::ArrayVec;
 use std::alloc::Global;
-use wf_ballot::{Ballot, Slot, split_ballot, split_node, split_slot};
+use wf_ballot::{Ballot, Slot, split_ballot};
 use wf_canon::{Canon, CanonFault, MOST_CANON_BYTES, one_text_one_map};
 use wf_frame::{FrameFault, split_frame};
 
@@ -62,12 +59,12 @@ pub fn decode(alloc: Global, bytes: &[u8]) -> Result<(Message, usize), DecodeFau
 fn validate(alloc: Global, bytes: &[u8]) -> Result<(Message, usize), DecodeFault>
     ensures { IsValidated view result (frame_front format bytes.now) }
 {
-    let (kind, body) = match split_frame::<MessageKind>(bytes) {
+    let (_, kind, body) = match split_frame::<MessageFormat>(bytes) {
         Ok(frame) => frame,
         Err(fault) => return Err(decode_fault(fault)),
     };
     let length = body.len();
-    let message = message_of(alloc, kind, body)?;
+    let message = Message::read(alloc, kind, body)?;
     Ok((message, HEADER_BYTES + length))
 }
 
@@ -84,7 +81,8 @@ fn decode_fault(fault: FrameFault) -> DecodeFault
     }
 }
 
-fn canon_of(alloc: Global, text: &[u8]) -> Result<Canon, DecodeFault>
+/// The definition of a canonical text.
+pub(crate) fn canon_of(alloc: Global, text: &[u8]) -> Result<Canon, DecodeFault>
     ensures { ReadsText result text.now }
 {
     match Canon::from_bytes(alloc, text) {
@@ -94,38 +92,8 @@ fn canon_of(alloc: Global, text: &[u8]) -> Result<Canon, DecodeFault>
     }
 }
 
-#[tactic(auto, unfolding(crate::specs::Stages::fields_of))]
-fn prepare_of(body: &[u8]) -> Result<Message, DecodeFault>
-    ensures { ReadsAs view result (fields_of kinds.Prepare body.now) }
-{
-    let Some((slot, rest)) = split_slot(body) else {
-        return Err(DecodeFault::BadField);
-    };
-    let Some((ballot, _)) = split_ballot(rest) else {
-        return Err(DecodeFault::BadField);
-    };
-    Ok(Message::Prepare(slot, ballot))
-}
-
-#[tactic(auto, unfolding(crate::specs::Stages::fields_of, wf_frame::specs::Report::report_of))]
-fn promise_of(alloc: Global, body: &[u8]) -> Result<Message, DecodeFault>
-    ensures { ReadsAs view result (fields_of kinds.Promise body.now) }
-{
-    let Some((node, rest)) = split_node(body) else {
-        return Err(DecodeFault::BadField);
-    };
-    let Some((slot, rest)) = split_slot(rest) else {
-        return Err(DecodeFault::BadField);
-    };
-    let Some((ballot, rest)) = split_ballot(rest) else {
-        return Err(DecodeFault::BadField);
-    };
-    let report = report_of(alloc, slot, rest)?;
-    Ok(Message::Promise(node, ballot, report))
-}
-
 /// The report from the slot on whose votes the bytes are.
-fn report_of(alloc: Global, slot: Slot, bytes: &[u8]) -> Result<Report, DecodeFault>
+pub(crate) fn report_of(alloc: Global, slot: Slot, bytes: &[u8]) -> Result<Report, DecodeFault>
     ensures { ReadsReport slot result (votes_of most_canon_bytes (votes_in_report slot) bytes.now) }
 {
     let count = count_of(slot);
@@ -257,89 +225,5 @@ fn vote_of(alloc: Global, bytes: &[u8]) -> Result<Option<(Ballot, Canon)>, Decod
             Ok(Some((ballot, canon)))
         }
         _ => Ok(None),
-    }
-}
-
-#[tactic(auto, unfolding(crate::specs::Stages::fields_of))]
-fn accept_of(alloc: Global, body: &[u8]) -> Result<Message, DecodeFault>
-    ensures { ReadsAs view result (fields_of kinds.Accept body.now) }
-{
-    let Some((slot, rest)) = split_slot(body) else {
-        return Err(DecodeFault::BadField);
-    };
-    let Some((ballot, text)) = split_ballot(rest) else {
-        return Err(DecodeFault::BadField);
-    };
-    let canon = canon_of(alloc, text)?;
-    Ok(Message::Accept(slot, ballot, canon))
-}
-
-#[tactic(auto, unfolding(crate::specs::Stages::fields_of))]
-fn parse_accepted(body: &[u8]) -> Result<Message, DecodeFault>
-    ensures { ReadsAs view result (fields_of kinds.Accepted body.now) }
-{
-    let Some((node, rest)) = split_node(body) else {
-        return Err(DecodeFault::BadField);
-    };
-    let Some((slot, rest)) = split_slot(rest) else {
-        return Err(DecodeFault::BadField);
-    };
-    let Some((ballot, _)) = split_ballot(rest) else {
-        return Err(DecodeFault::BadField);
-    };
-    Ok(Message::Accepted(node, slot, ballot))
-}
-
-#[tactic(auto, unfolding(crate::specs::Stages::fields_of))]
-fn nack_of(body: &[u8]) -> Result<Message, DecodeFault>
-    ensures { ReadsAs view result (fields_of kinds.Nack body.now) }
-{
-    let Some((node, rest)) = split_node(body) else {
-        return Err(DecodeFault::BadField);
-    };
-    let Some((slot, rest)) = split_slot(rest) else {
-        return Err(DecodeFault::BadField);
-    };
-    let Some((ballot, rest)) = split_ballot(rest) else {
-        return Err(DecodeFault::BadField);
-    };
-    let Some((promised, _)) = split_ballot(rest) else {
-        return Err(DecodeFault::BadField);
-    };
-    Ok(Message::Nack(node, slot, ballot, promised))
-}
-
-#[tactic(auto, unfolding(crate::specs::Stages::fields_of))]
-fn parse_chosen(alloc: Global, body: &[u8]) -> Result<Message, DecodeFault>
-    ensures { ReadsAs view result (fields_of kinds.Chosen body.now) }
-{
-    let Some((slot, text)) = split_slot(body) else {
-        return Err(DecodeFault::BadField);
-    };
-    let canon = canon_of(alloc, text)?;
-    Ok(Message::Chosen(slot, canon))
-}
-
-#[tactic(auto, unfolding(crate::specs::Stages::fields_of))]
-fn ask_of(body: &[u8]) -> Result<Message, DecodeFault>
-    ensures { ReadsAs view result (fields_of kinds.Ask body.now) }
-{
-    let Some((slot, _)) = split_slot(body) else {
-        return Err(DecodeFault::BadField);
-    };
-    Ok(Message::Ask(slot))
-}
-
-fn message_of(alloc: Global, kind: MessageKind, body: &[u8]) -> Result<Message, DecodeFault>
-    ensures { ReadsAs view result (fields_of kind body.now) }
-{
-    match kind {
-        MessageKind::Prepare => prepare_of(body),
-        MessageKind::Promise => promise_of(alloc, body),
-        MessageKind::Accept => accept_of(alloc, body),
-        MessageKind::Accepted => parse_accepted(body),
-        MessageKind::Nack => nack_of(body),
-        MessageKind::Chosen => parse_chosen(alloc, body),
-        MessageKind::Ask => ask_of(body),
     }
 }

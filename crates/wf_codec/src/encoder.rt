@@ -1,16 +1,24 @@
-ghost use Rattle.std.specs.Prelude.{◌≡◌, ◌+◌, ◌*◌, ◌<◌, ◌≤◌, ◌++◌, length, vec_len, vec_capacity, OnOk, OnErr};
-ghost use Rattle.wf_codec.specs.Message.{view, view_vote, view_votes, vote_with, votes_with, texts, HasText, IsMessage};
-ghost use Rattle.wf_codec.specs.Encoding.{kind_of, body, spelling, written_vote, written_votes};
-ghost use Rattle.wf_frame.specs.Report.{vote_bytes, votes_bytes, text_bytes, IsVoteOf, AreVotesOf};
-ghost use Rattle.wf_spelling.specs.Canon.{canon, most_canon_bytes};
+ghost use Rattle.std.specs.Prelude.{◌≡◌, ◌+◌, ◌<◌, ◌≤◌, ◌++◌, length, vec_len, vec_capacity, OnOk, OnErr};
+ghost use Rattle.wf_codec.specs.Message.{view, IsMessage};
+ghost use Rattle.wf_codec.specs.Encoding.{spelling, written_end, written_vote, written_votes};
 
-use crate::frame::{BODY_BYTES, HEADER_BYTES};
-use crate::kind::MessageKind;
+use crate::format::{HEADER_BYTES, VERSION};
 use crate::message::Message;
+use arrayvec::ArrayVec;
 use std::alloc::AllocError;
 use wf_ballot::Ballot;
 use wf_canon::Canon;
-use wf_frame::{ballot_in_range, node_in_range, put, put_header, slot_in_range};
+use wf_frame::{put, put_header};
+
+/// What a message's body ends with, after its fields of fixed length.
+#[derive(Clone, Copy)]
+pub enum End<'a> {
+    Nothing,
+    /// The canonical text of a definition.
+    Text(&'a Canon),
+    /// The votes of a report.
+    Votes(&'a [Option<(Ballot, Canon)>]),
+}
 
 /// Appends the message's encoding. The only error is allocation failure, if the vector's capacity doesn't suffice; the bytes are
 /// then unchanged.
@@ -21,139 +29,25 @@ pub fn encode(message: &Message, out: &mut Vec<u8>) -> Result<(), AllocError>
         (vec_capacity out.old < vec_len out.old + length (spelling (view message.now))) }
     ensures is_message { IsMessage (view message.now) }
 {
-    let (kind, length) = shape_of(message);
+    let mut fields = ArrayVec::new();
+    let (kind, end, count) = message.put_fields(&mut fields);
+    let length = fields.len() + count;
     out.reserve(HEADER_BYTES + length)?;
-    put_header(out, kind, length);
-    put_body(out, message);
+    put_header(out, VERSION, kind, length);
+    put(out, fields.as_slice());
+    put_end(out, end);
     Ok(())
 }
 
-/// The message's kind, and the number of bytes of its body.
-#[tactic(auto, using(crate::proofs::Fields::body_has_length))]
-fn shape_of(message: &Message) -> (MessageKind, usize)
-    ensures kind { result.0 ≡ kind_of (view message.now) }
-    ensures length { result.1 ≡ length (body (texts (view message.now))) }
-    ensures most { result.1 ≤ BODY_BYTES }
-    ensures is_message { IsMessage (view message.now) }
+/// Appends what a body ends with, for which there is room.
+fn put_end(out: &mut Vec<u8>, end: End<'_>)
+    requires { vec_len out.old + length (written_end end) ≤ vec_capacity out.old }
+    ensures { out.new.items ≡ out.old.items ++ written_end end.entry }
 {
-    match message {
-        Message::Prepare(slot, ballot) => {
-            slot_in_range(*slot);
-            ballot_in_range(*ballot);
-            (MessageKind::Prepare, 7)
-        }
-        Message::Promise(node, ballot, report) => {
-            node_in_range(*node);
-            slot_in_range(report.slot());
-            ballot_in_range(*ballot);
-            (MessageKind::Promise, 8 + votes_length(report.votes()))
-        }
-        Message::Accept(slot, ballot, canon) => {
-            slot_in_range(*slot);
-            ballot_in_range(*ballot);
-            (MessageKind::Accept, 7 + text_length(canon))
-        }
-        Message::Accepted(node, slot, ballot) => {
-            node_in_range(*node);
-            slot_in_range(*slot);
-            ballot_in_range(*ballot);
-            (MessageKind::Accepted, 8)
-        }
-        Message::Nack(node, slot, ballot, promised) => {
-            node_in_range(*node);
-            slot_in_range(*slot);
-            ballot_in_range(*ballot);
-            ballot_in_range(*promised);
-            (MessageKind::Nack, 13)
-        }
-        Message::Chosen(slot, canon) => {
-            slot_in_range(*slot);
-            (MessageKind::Chosen, 2 + text_length(canon))
-        }
-        Message::Ask(slot) => {
-            slot_in_range(*slot);
-            (MessageKind::Ask, 2)
-        }
-    }
-}
-
-/// The number of bytes of the votes.
-#[tactic(auto, unfolding(wf_frame::specs::Report::votes_bytes))]
-fn votes_length(votes: &[Option<(Ballot, Canon)>]) -> usize
-    requires { length votes.now ≤ 4 }
-    ensures value { result ≡ length (written_votes votes.now) }
-    ensures most { result ≤ length votes.now * (10 + most_canon_bytes) }
-    ensures are_votes { AreVotesOf HasText (view_votes votes.now) }
-{
-    match votes {
-        [] => 0,
-        [vote, rest @ ..] => vote_length(vote) + votes_length(rest),
-    }
-}
-
-/// The number of bytes of a vote, with its mark.
-#[tactic(auto, using(crate::proofs::Fields::vote_has_length))]
-fn vote_length(vote: &Option<(Ballot, Canon)>) -> usize
-    ensures value { result ≡ length (written_vote vote.now) }
-    ensures most { result ≤ 10 + most_canon_bytes }
-    ensures is_vote { IsVoteOf HasText (view_vote vote.now) }
-{
-    match vote {
-        None => 1,
-        Some((ballot, canon)) => {
-            ballot_in_range(*ballot);
-            10 + text_length(canon)
-        }
-    }
-}
-
-/// The number of bytes of a canonical text.
-fn text_length(text: &Canon) -> usize
-    ensures value { result ≡ length (canon text.now) }
-    ensures has_text { HasText text.now }
-{
-    let _ = text.def();
-    text.text().len()
-}
-
-/// Appends the body, for which there is room.
-#[tactic(auto, using(crate::proofs::Fields::body_has_length), unfolding(crate::specs::Encoding::body, wf_frame::specs::Report::report_bytes))]
-fn put_body(out: &mut Vec<u8>, message: &Message)
-    requires { vec_len out.old + length (body (texts (view message.now))) ≤ vec_capacity out.old }
-    ensures { out.new.items ≡ out.old.items ++ body (texts (view message.now)) }
-{
-    match message {
-        Message::Prepare(slot, ballot) => {
-            put(out, &slot.bytes());
-            put(out, &ballot.bytes());
-        }
-        Message::Promise(node, ballot, report) => {
-            put(out, &node.bytes());
-            put(out, &report.slot().bytes());
-            put(out, &ballot.bytes());
-            put_votes(out, report.votes());
-        }
-        Message::Accept(slot, ballot, canon) => {
-            put(out, &slot.bytes());
-            put(out, &ballot.bytes());
-            put(out, canon.text());
-        }
-        Message::Accepted(node, slot, ballot) => {
-            put(out, &node.bytes());
-            put(out, &slot.bytes());
-            put(out, &ballot.bytes());
-        }
-        Message::Nack(node, slot, ballot, promised) => {
-            put(out, &node.bytes());
-            put(out, &slot.bytes());
-            put(out, &ballot.bytes());
-            put(out, &promised.bytes());
-        }
-        Message::Chosen(slot, canon) => {
-            put(out, &slot.bytes());
-            put(out, canon.text());
-        }
-        Message::Ask(slot) => put(out, &slot.bytes()),
+    match end {
+        End::Nothing => {}
+        End::Text(canon) => put(out, canon.text()),
+        End::Votes(votes) => put_votes(out, votes),
     }
 }
 

@@ -2,7 +2,7 @@
 //!
 //! A message's encoding is a version, a kind, the length of its body and its body; numbers are big-endian. The canonical text of
 //! a definition fills the rest of the body; a Promise may have several, each behind its length (`specs/Encoding.antt`). Model: a
-//! [`Message`] is that of wf_model, with definitions (`specs/Message.antt`).
+//! [`Message`] is that of wf_model, with definitions (`specs/Message.antt`); each kind is a row of a table (`specs/KindTable.antt`).
 //!
 //! Promises: each message has exactly one encoding, and no encoding is a prefix of another. [`encode`] appends that encoding or
 //! nothing. [`decode`] returns a message iff the bytes begin with its encoding, whatever follows, unless allocation fails. Bytes
@@ -18,8 +18,6 @@ mod decoder;
 mod encoder;
 mod fault;
 mod format;
-mod frame;
-mod kind;
 mod message;
 mod report;
 mod theorem;
@@ -28,7 +26,7 @@ pub use best::BestVotes;
 pub use decoder::decode;
 pub use encoder::encode;
 pub use fault::DecodeFault;
-pub use frame::{BODY_BYTES, HEADER_BYTES, VERSION};
+pub use format::{BODY_BYTES, HEADER_BYTES, VERSION};
 pub use message::Message;
 pub use report::{MOST_VOTES, Report, Votes};
 pub use theorem::{

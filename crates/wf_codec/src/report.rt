@@ -1,15 +1,17 @@
-ghost use Rattle.std.specs.Prelude.{◌≡◌, ◌+◌, ◌≤◌, ◌++◌, length, IfOk, IsSome, OnOk, OnErr};
+ghost use Rattle.std.specs.Prelude.{◌≡◌, ◌+◌, ◌*◌, ◌≤◌, ◌++◌, length, IfOk, IsSome, OnOk, OnErr};
 ghost use Rattle.arrayvec.specs.ArrayVec.{array_vec_len};
-ghost use Rattle.wf_ballot.specs.Slot.{IsSlot};
-ghost use Rattle.wf_frame.specs.Report.{votes_in_report, votes_definitions};
-ghost use Rattle.wf_codec.specs.Message.{view_votes, HasOne};
+ghost use Rattle.wf_ballot.specs.Sequence.{IsSlot};
+ghost use Rattle.wf_frame.specs.Report.{votes_in_report, votes_definitions, IsVoteOf, AreVotesOf};
+ghost use Rattle.wf_spelling.specs.Canon.{canon, most_canon_bytes};
+ghost use Rattle.wf_codec.specs.Message.{view_vote, view_votes, HasOne, HasText};
+ghost use Rattle.wf_codec.specs.Encoding.{written_vote, written_votes};
 
 use arrayvec::ArrayVec;
 use std::alloc::AllocError;
 use std::marker::Model;
 use wf_ballot::{Ballot, Slot};
 use wf_canon::Canon;
-use wf_frame::slot_in_range;
+use wf_frame::{ballot_in_range, slot_in_range};
 
 /// The most votes that a report has: those at its slot and at the three after it.
 pub const MOST_VOTES: usize = 4;
@@ -119,4 +121,43 @@ fn copy_vote(vote: &Option<(Ballot, Canon)>) -> Result<Option<(Ballot, Canon)>, 
         None => Ok(None),
         Some((ballot, canon)) => Ok(Some((*ballot, canon.copy()?))),
     }
+}
+
+/// The number of bytes of the votes.
+#[tactic(auto, unfolding(wf_frame::specs::Report::votes_bytes))]
+pub(crate) fn votes_length(votes: &[Option<(Ballot, Canon)>]) -> usize
+    requires { length votes.now ≤ 4 }
+    ensures value { result ≡ length (written_votes votes.now) }
+    ensures most { result ≤ length votes.now * (10 + most_canon_bytes) }
+    ensures are_votes { AreVotesOf HasText (view_votes votes.now) }
+{
+    match votes {
+        [] => 0,
+        [vote, rest @ ..] => vote_length(vote) + votes_length(rest),
+    }
+}
+
+/// The number of bytes of a vote, with its mark.
+#[tactic(auto, using(crate::proofs::Fields::vote_has_length))]
+fn vote_length(vote: &Option<(Ballot, Canon)>) -> usize
+    ensures value { result ≡ length (written_vote vote.now) }
+    ensures most { result ≤ 10 + most_canon_bytes }
+    ensures is_vote { IsVoteOf HasText (view_vote vote.now) }
+{
+    match vote {
+        None => 1,
+        Some((ballot, canon)) => {
+            ballot_in_range(*ballot);
+            10 + text_length(canon)
+        }
+    }
+}
+
+/// The number of bytes of a canonical text.
+pub(crate) fn text_length(text: &Canon) -> usize
+    ensures value { result ≡ length (canon text.now) }
+    ensures has_text { HasText text.now }
+{
+    let _ = text.def();
+    text.text().len()
 }

@@ -1,9 +1,9 @@
 ghost use Rattle.std.specs.Prelude.{◌≡◌};
-ghost use Rattle.wf_codec.specs.MessageKind.{most_body_bytes};
+ghost use Rattle.wf_codec.specs.KindTable.{most_body_bytes};
 ghost use Rattle.wf_codec.specs.Encoding.{message_version, header_length};
 ghost use Rattle.wf_codec.specs.Theorem.{OneSpelling, NoneBeginsAnother, NoneIsEmpty, IsLongestBody};
 
-use crate::frame::{BODY_BYTES, HEADER_BYTES, VERSION};
+use crate::format::{BODY_BYTES, HEADER_BYTES, VERSION};
 use wf_canon::one_text_one_map;
 
 /// A message has exactly one encoding. A theorem about the definitions: the call does nothing.

@@ -21,7 +21,7 @@ use Rattle.wf_commands.specs.Folder.{Contents, HasFolderListing, IsTapeDone}
 use Rattle.wf_commands.specs.Program.{IsFarmProcess, IsProcess, IsDone, IsRun, IsRunOf, Serves}
 use Rattle.wf_commands.specs.Run.{HasListing, HasMap, IsTapeWriting, IsWhyUnlisted, IsWhyUnwritten, most_read}
 use Rattle.wf_commands.specs.ServeRun.{IsMachineServing, run_outcome}
-use Rattle.wf_commands.specs.declared.program_end.Ending.{Ending}
+use Rattle.wf_commands.specs.declared.program.Ending.{Ending}
 use Rattle.wf_commands.specs.declared.fault.RunFault.{RunFault}
 use Rattle.wf_commands.specs.declared.fault.RunFault.TheVariants as faults
 use Rattle.wf_line.specs.CommandLine.{IsRejection}

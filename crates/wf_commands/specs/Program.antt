@@ -14,7 +14,7 @@ use Rattle.wf_commands.specs.ProgramEnd.{left_to_report, rejection_status, repor
 use Rattle.wf_commands.specs.Folder.{Contents, IsTapeDone}
 use Rattle.wf_commands.specs.Run.{IsOutcomeOf, most_read}
 use Rattle.wf_commands.specs.ServeRun.{IsServing}
-use Rattle.wf_commands.specs.declared.program_end.Ending.{Ending}
+use Rattle.wf_commands.specs.declared.program.Ending.{Ending}
 use Rattle.wf_commands.specs.declared.fault.RunFault.{RunFault}
 use Rattle.wf_line.specs.declared.line.Line.{Line}
 use Rattle.wf_line.specs.declared.line.Line.TheVariants as lines

@@ -6,8 +6,7 @@ use Rattle.wf_def.specs.Limits.{IsWithinLimits}
 use Rattle.wf_mapfile.specs.Meaning.{Means, MeansNothing, longest_mapfile}
 use Rattle.wf_block.specs.ReadContract.{is_memory}
 use Rattle.wf_block.specs.declared.fault.MapFault.{MapFault}
-use Rattle.wf_spelling.specs.Canon.{canon}
-use Rattle.wf_spelling.specs.StepRejection.{IsCauseOf}
+use Rattle.wf_spelling.specs.Canon.{canon, IsCauseOf}
 use Rattle.wf_spelling.specs.declared.fault.CanonFault.{CanonFault}
 use Rattle.wf_spelling.specs.declared.fault.CanonFault.TheVariants as canons
 use Rattle.wf_check.specs.Finding.{IsPublishable, IsReport, IsReportOf}

@@ -54,7 +54,6 @@ pub mod fault;
 mod folder;
 pub mod map_check;
 pub mod program;
-pub mod program_end;
 pub mod run;
 pub mod server;
 pub mod tapes;

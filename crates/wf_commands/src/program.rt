@@ -13,7 +13,6 @@ ghost use Rattle.wf_replica_command.specs.Done.{replica_status};
 ghost use Rattle.wf_commands.specs.ServeRun.{IsMachineServing, run_outcome};
 
 use crate::fault::RunFault;
-use crate::program_end::Ending;
 use crate::run::run_line;
 use crate::server::{Host, NodeServer, ServeFault};
 use crate::tapes::{Tapes, run_tape};
@@ -38,6 +37,16 @@ use wf_node_command::CommandFault;
 use wf_replica_command::ReplicaFault;
 use wf_stream::{Sink, Source, Stream};
 use wf_tape::{FileTape, MemoryTape, Tape};
+
+/// How a run ended, after all of its output.
+#[derive(Clone, Copy)]
+pub struct Ending {
+    /// The error whose text is the one line on standard error. None after a success, after a failed write, and after a report of
+    /// `check`.
+    pub reported: Option<RunFault>,
+    /// The exit status: 0 for success, 1 for an error, also for a failed write.
+    pub status: u8,
+}
 
 /// The exit status of an error, also of a failed write.
 const FAULT: u8 = 1;
@@ -100,7 +109,7 @@ fn is_written(line: Line<'_>, fault: RunFault) -> bool
 }
 
 // The ending without an error that the command has written a report of.
-fn reported_once(line: Line<'_>, ending: Ending) -> Ending
+fn report_once(line: Line<'_>, ending: Ending) -> Ending
     ensures reported_as { result.reported ≡ left_to_report line.entry ending.reported }
     ensures status { result.status ≡ ending.status }
 {
@@ -119,7 +128,7 @@ fn end(line: Line<'_>, outcome: Result<(), RunFault>) -> Ending
     ensures status { result.status ≡ run_status outcome }
     ensures low { result.status ≤ 1 }
 {
-    reported_once(line, ending_of(outcome))
+    report_once(line, ending_of(outcome))
 }
 
 /// Runs the words of a command line, without the program's name: the command of the line that they ask for. A command about standard

@@ -3,8 +3,7 @@ ghost use Rattle.std.specs.Prelude.{◌≡◌, ◌+◌, ◌≤◌, IfOk, IfErr, 
 ghost use Rattle.std.specs.Io.KnownBytes.{IsAtEnd};
 ghost use Rattle.wf_def.specs.Limits.{IsWithinLimits};
 ghost use Rattle.wf_mapfile.specs.Meaning.{Means, longest_mapfile};
-ghost use Rattle.wf_spelling.specs.Canon.{canon};
-ghost use Rattle.wf_spelling.specs.StepRejection.{IsCauseOf};
+ghost use Rattle.wf_spelling.specs.Canon.{canon, IsCauseOf};
 ghost use Rattle.wf_wms.specs.Answer.{description};
 ghost use Rattle.wf_ballot.specs.Sequence.{last_sequence};
 ghost use Rattle.wf_line.specs.Line.{IsInRange, IsOfInput};

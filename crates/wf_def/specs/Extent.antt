@@ -1,6 +1,6 @@
 -- Extents: boxes in the map's coordinates.
 use Rattle.std.specs.Prelude.{ℤ, ◌<ℤ◌}
-use Rattle.wf_text.specs.Micro.{IsMicro}
+use Rattle.wf_text.specs.Number.{IsMicro}
 
 -- the sides of a box, in millionths of a unit
 pub record ExtentValue : Type 0 where

@@ -1,10 +1,8 @@
-pub use Rattle.wf_text.specs.Micro
 pub use Rattle.wf_text.specs.Number
 pub use Rattle.wf_text.specs.NumberForm
 pub use Rattle.wf_text.specs.NumberText
 pub use Rattle.wf_text.specs.Text
 pub use Rattle.wf_text.specs.ValueList
-pub use Rattle.wf_text.specs.Whole
 pub mod Color
 pub mod Extent
 pub mod Definition

@@ -1,7 +1,7 @@
 -- Which definitions are within the limits: one predicate for each level.
 use Rattle.std.specs.Prelude.{◌≡◌, ℕ, ◌<◌, ◌≤◌, ◌==◌, Bool, true, false, List, length, map, All, IfSome, sum_by, bytes_eq}
 use Rattle.std.specs.List.{list_any, IsDistinct}
-use Rattle.wf_text.specs.Micro.{IsMicro}
+use Rattle.wf_text.specs.Number.{IsMicro}
 use Rattle.wf_def.specs.Extent.{IsExtent}
 use Rattle.wf_text.specs.Text.{IsText}
 use Rattle.wf_text.specs.ValueList.{IsValueList}

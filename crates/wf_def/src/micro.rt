@@ -1,5 +1,5 @@
 //! Coordinates in millionths, re-exported from `wf_text`.
-ghost use Rattle.wf_text.specs.Micro.{IsMicro};
+ghost use Rattle.wf_text.specs.Number.{IsMicro};
 
 pub use wf_text::micro::Micro;
 

@@ -2,7 +2,8 @@
 use Rattle.std.proofs.Common.{◌≡◌, ◌∙◌, ℕ, zero, suc, List, Some, sym, ap}
 use Rattle.wf_delivery.proofs.Common.{same_Some, Definition, definition_at, Node, HaveOneAnswer, HaveOneHistory, HaveOneMapAnswer}
 use Rattle.wf_learner.specs.History.{map_at}
-use Rattle.wf_wms.specs.Answer.{AnswerValue, AskedMapsAreAnsweredAlike, EachQueryHasOneAnswer, IsAnswerOf, subject}
+use Rattle.wf_wms.proofs.ServiceTheorem.{answered_alike}
+use Rattle.wf_wms.specs.Answer.{AnswerValue, EachQueryHasOneAnswer, IsAnswerOf, subject}
 
 -- ---- two lists
 
@@ -36,8 +37,8 @@ module _ {T : Type 0} (theorem : EachQueryHasOneAnswer) (nodes : List (Node T)) 
   alike_answers = λ i j s node other query answer another at there long also is is_other.
       one_of theorem node.parts.history other.parts.history (λ k c d here beyond. one i j k node other c d at there here beyond) s query answer another is is_other
 
-  pub alike_map_answers : AskedMapsAreAnsweredAlike → HaveOneMapAnswer nodes
+  pub alike_map_answers : HaveOneMapAnswer nodes
   unfolding HaveOneHistory HaveOneMapAnswer
-  alike_map_answers elsewhere = λ i j s t m node other query answer another at there asks also long longer is is_other.
+  alike_map_answers = λ i j s t m node other query answer another at there asks also long longer is is_other.
       one_of theorem node.parts.history other.parts.history (λ k c d here beyond. one i j k node other c d at there here beyond) s query answer another is
-      (elsewhere s t m other.parts.history query another asks also is_other)
+      (answered_alike s t m other.parts.history query another asks also is_other)

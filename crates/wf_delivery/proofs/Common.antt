@@ -9,10 +9,9 @@ pub use Rattle.wf_codec.specs.declared.message.Message.{Message}
 pub use Rattle.wf_def.specs.Definition.{Definition, empty_map}
 pub use Rattle.wf_def.specs.Equality.{definition_eq}
 pub use Rattle.wf_journal.specs.Journal.{Follows, ReadsSame}
-pub use Rattle.wf_journal.specs.Records.{AreReadOneWay, IsReadAsNone}
-pub use Rattle.wf_safety.specs.Earlier.{EarlierMessages}
+pub use Rattle.wf_journal.specs.Records.{AreReadOneWay}
 unfoldable pub use Rattle.wf_safety.specs.Earlier.{raised, sent_before}
-pub use Rattle.wf_safety.specs.Theorems.{Agreement, IsBeginning}
+pub use Rattle.wf_safety.specs.Theorems.{IsBeginning}
 unfoldable pub use Rattle.wf_model.specs.Chosen.{definition, history, history_of}
 pub use Rattle.wf_model.specs.StepsTheorems.{steps_in_turn}
 pub use Rattle.wf_model.specs.DurableState.{Record, DurableState}

@@ -5,6 +5,6 @@ pub mod Stored
 pub mod DeliveryCount
 pub mod Deliveries
 pub mod OneRun
-mod Outcomes
+pub mod Outcomes
 mod Reopened
 pub mod Alike

@@ -1,6 +1,6 @@
 -- What happens to nodes that a caller holds, step by step, is one run of the model; and nodes that the start leads to agree.
 use Rattle.std.proofs.Common.{◌≡◌, ◌⊎◌, ℕ, zero, suc, Bool, true, false, List, [], ◌∷◌, ◌++◌, map, length, replicate, slice_get, slice_set, Some, Result, Ok, Err, IfOk, IfErr, refl, sym, ap, subst, ◌∙◌, inl, append_assoc, Vec}
-use Rattle.wf_delivery.proofs.Common.{Global, both_ways, append-nil, map-append, none-some, Message, Definition, empty_map, definition_eq, sent_before, raised, EarlierMessages, Agreement, IsBeginning, history_of, history, definition, steps_in_turn, DurableState, definition_at, Action, Input, store, World, Event, Act, Torn, input_of, turn, after_turn, happens, steps, start, after, EachStandsFor, Node, stored_of, transition_of, IsStep, NodeFault, AnyPart, StandFor, AreNodes, Refines, StandInTurn, IsReachableByDeliveries, ReachByDeliveries, AreDelivered, Answers, Takes, is_memory, halted_itself, halted_twice, keeps_turn, keeps_turn_itself, keeps_turn_twice, IsReachableWith, IsReachableFrom, ReachSending, Reach, AreReachableSending, AreReachable, AreFresh, HaveOneHistory, IsOwn, outputs_by, StepIsReachable, DeliveriesAreReachable, NothingIsReachable, NothingIsOutput, ReachableIsTransitive, BothAreOutput, UnheardIsReachable, ReachableStaysReachable, ReachableOnTape, FreshAreReachable, FreshOnTape, fresh_node}
+use Rattle.wf_delivery.proofs.Common.{Global, both_ways, append-nil, map-append, none-some, Message, Definition, empty_map, definition_eq, sent_before, raised, IsBeginning, history_of, history, definition, steps_in_turn, DurableState, definition_at, Action, Input, store, World, Event, Act, Torn, input_of, turn, after_turn, happens, steps, start, after, EachStandsFor, Node, stored_of, transition_of, IsStep, NodeFault, AnyPart, StandFor, AreNodes, Refines, StandInTurn, IsReachableByDeliveries, ReachByDeliveries, AreDelivered, Answers, Takes, is_memory, halted_itself, halted_twice, keeps_turn, keeps_turn_itself, keeps_turn_twice, IsReachableWith, IsReachableFrom, ReachSending, Reach, AreReachableSending, AreReachable, AreFresh, HaveOneHistory, IsOwn, outputs_by, StepIsReachable, DeliveriesAreReachable, NothingIsReachable, NothingIsOutput, ReachableIsTransitive, BothAreOutput, UnheardIsReachable, ReachableStaysReachable, ReachableOnTape, FreshAreReachable, FreshOnTape, fresh_node}
 use Rattle.std.proofs.Math.ListN.{length-replicate}
 use Rattle.wf_codec.specs.Message as message
 use Rattle.wf_model.specs.Message as model
@@ -12,6 +12,8 @@ use Rattle.wf_delivery.specs.NodeInput as giving
 use Rattle.wf_delivery.proofs.Deliveries.{IsActed, Stays, Acts, Tears, any_answered, any_rejected, running_is, takes_acts, stays_halted, stays_itself, keeps_halted, left_here, left_before, begins_itself}
 use Rattle.wf_delivery.proofs.Stored.{node_eq}
 use Rattle.wf_delivery.proofs.Turns.{world_of}
+use Rattle.wf_safety.proofs.Earlier.{earlier_messages}
+use Rattle.wf_safety.proofs.Theorems.{agreement}
 use Rattle.wf_tape.specs.declared.tape.Tape.{Ghosts as Tape}
 
 -- ---- a node is asked to step
@@ -149,31 +151,31 @@ module _ {T : Type 0} (stands : ℕ → DurableState Definition → Type 0) (mid
 
   -- The deliveries of messages sent lead on from any world in which they were the last sent: only each message number is
   -- increased, by the count of those sent before.
-  received_on : EarlierMessages Definition → (done : ℕ) → AreDelivered stands done middle outputs after → Refines stands middle (sent ++ outputs) w → IsReachableFrom stands w after
+  received_on : (done : ℕ) → AreDelivered stands done middle outputs after → Refines stands middle (sent ++ outputs) w → IsReachableFrom stands w after
   unfolding ReachByDeliveries
-  received_on theorem done delivered refines =
+  received_on done delivered refines =
       let reachable : IsReachableByDeliveries stands alone done after delivered.sent = delivered.reach alone (shown_alone refines) in
       let many = length (map message.view sent) in
       record {
         sent = sent ++ delivered.sent;
         events = raised many reachable.events;
         refines = subst (Refines stands after (sent ++ delivered.sent))
-            (sym (ap (λ (x : World Definition). steps definition_eq x (raised many reachable.events)) (with_earlier refines) ∙ theorem definition_eq (map message.view sent) alone reachable.events))
+            (sym (ap (λ (x : World Definition). steps definition_eq x (raised many reachable.events)) (with_earlier refines) ∙ earlier_messages Definition definition_eq (map message.view sent) alone reachable.events))
             (shown_with_earlier delivered.sent (steps definition_eq alone reachable.events) reachable.refines);
       }
 
 module _ {T : Type 0} (stands : ℕ → DurableState Definition → Type 0) (nodes middle after : List (Node T)) (outputs : List Message) where
-  deliveries_reach : EarlierMessages Definition → (done : ℕ) → ReachSending stands nodes outputs middle → AreDelivered stands done middle outputs after → Reach stands nodes after
+  deliveries_reach : (done : ℕ) → ReachSending stands nodes outputs middle → AreDelivered stands done middle outputs after → Reach stands nodes after
   unfolding ReachSending Reach
-  deliveries_reach theorem done reaches delivered = λ w sent refines.
+  deliveries_reach done reaches delivered = λ w sent refines.
       let reachable = reaches w sent refines in
-      reachable_through stands w reachable.events after (received_on stands middle after outputs (steps definition_eq w reachable.events) sent theorem done delivered reachable.refines)
+      reachable_through stands w reachable.events after (received_on stands middle after outputs (steps definition_eq w reachable.events) sent done delivered reachable.refines)
 
-pub deliveries_are_reachable : EarlierMessages Definition → {T : Type 0} (tapes : Tape T) → DeliveriesAreReachable tapes
-deliveries_are_reachable theorem tapes = λ nodes middle after outputs done reachable delivered. record {
-  any = deliveries_reach AnyPart nodes middle after outputs theorem done reachable.any delivered.any;
+pub deliveries_are_reachable : {T : Type 0} (tapes : Tape T) → DeliveriesAreReachable tapes
+deliveries_are_reachable tapes = λ nodes middle after outputs done reachable delivered. record {
+  any = deliveries_reach AnyPart nodes middle after outputs done reachable.any delivered.any;
   on_tape = λ h left may.
-      deliveries_reach (StandFor left) nodes middle after outputs theorem done (reachable.on_tape h left (left_before tapes middle after left delivered.halted may)) (delivered.on_tape h left may);
+      deliveries_reach (StandFor left) nodes middle after outputs done (reachable.on_tape h left (left_before tapes middle after left delivered.halted may)) (delivered.on_tape h left may);
   halted = halted_twice nodes middle after reachable.halted delivered.halted;
   turn = keeps_turn_twice nodes middle after reachable.turn delivered.turn;
 }
@@ -325,10 +327,10 @@ module _ {T : Type 0} (nodes : List (Node T)) (w : World Definition) (i : ℕ) (
       let begins = reported_begins node.halted (AnyPart i) node here.0 here.2 in
       reported_in node.parts.history s d (subst (IsBeginning node.parts.history) (sym (ap history_of here.1)) begins) e
 
-pub agree_reached : Agreement Definition → {T : Type 0} (nodes : List (Node T)) → AreReachable AnyPart nodes → HaveOneHistory nodes
+pub agree_reached : {T : Type 0} (nodes : List (Node T)) → AreReachable AnyPart nodes → HaveOneHistory nodes
 unfolding HaveOneHistory
-agree_reached theorem nodes reached = λ i j s node other c d at there first second.
+agree_reached nodes reached = λ i j s node other c d at there first second.
     let w = after definition_eq (length nodes) reached.events in
-    (theorem.facts definition_eq (length nodes) reached.events).same_definition empty_map i j s c d
+    ((agreement Definition).facts definition_eq (length nodes) reached.events).same_definition empty_map i j s c d
     (published_in nodes w i node s c reached.refines.nodes_are at first)
     (published_in nodes w j other s d reached.refines.nodes_are there second)

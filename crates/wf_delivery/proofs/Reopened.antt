@@ -1,6 +1,6 @@
 -- Nodes that are opened again from what reached nodes left are reached: each stops and restarts.
 use Rattle.std.proofs.Common.{◌≡◌, ◌∙◌, ℕ, zero, suc, ◌<◌, Bool, true, false, List, [], ◌∷◌, ◌++◌, length, slice_get, slice_set, Option, Some, None, refl, sym, ap, subst, inl, inr, arith, length-set}
-use Rattle.wf_delivery.proofs.Common.{cases_lt, none-some, same_Some, slice_get_within, Message, Definition, definition_eq, steps_in_turn, DurableState, at_start, World, Event, Stop, Restart, after_restart, happens, steps, start, after, StandsFor, Node, stored_of, AreReadOneWay, AnyPart, StandFor, IsNodeBy, Refines, AreReachable, AreReopened, HasStoredAgain, ReopenedAreReachable, ReopenedOnTape, node_stopped, node_restarted, volatile_restarted, get_set_other, set_there}
+use Rattle.wf_delivery.proofs.Common.{cases_lt, none-some, same_Some, slice_get_within, Message, Definition, definition_eq, steps_in_turn, DurableState, at_start, World, Event, Stop, Restart, after_restart, happens, steps, start, after, StandsFor, Node, stored_of, AnyPart, StandFor, IsNodeBy, Refines, AreReachable, AreReopened, HasStoredAgain, ReopenedAreReachable, ReopenedOnTape, node_stopped, node_restarted, volatile_restarted, get_set_other, set_there}
 use Rattle.wf_model.specs.World as world
 use Rattle.wf_delivery.proofs.Deliveries.{running_is}
 use Rattle.wf_delivery.proofs.Runs.{steps_more}
@@ -110,7 +110,7 @@ module _ {T U : Type 0} (stands : DurableState Definition → Type 0) (left : Li
   stored_again false node next x is again = ap (λ (y : world.Node Definition). y.stored) is ∙ sym again
   stored_again true node next x is again = known x.stored (stored_of next) is.2 again
 
-module _ {T U : Type 0} (one : AreReadOneWay) (left : ℕ → List ℕ) (nodes : List (Node T)) (again : List (Node U)) (opened : AreReopened left nodes again) where
+module _ {T U : Type 0} (left : ℕ → List ℕ) (nodes : List (Node T)) (again : List (Node U)) (opened : AreReopened left nodes again) where
   again_shown : (stands : ℕ → DurableState Definition → Type 0) (w : World Definition) (so : RestartsFirst (length nodes) w) (sent : List Message) → Refines (StandFor left) nodes sent w →
       Refines stands again sent (steps definition_eq w so.events)
   again_shown stands w so sent refines = record {
@@ -120,7 +120,7 @@ module _ {T U : Type 0} (one : AreReadOneWay) (left : ℕ → List ℕ) (nodes :
           let was = opened.each i next at in
           let here = refines.nodes_are.node_is i was.0 was.1 in
           let stored : here.0.stored ≡ stored_of next =
-          stored_again (StandFor left i) (left i) (λ stored others first second. one_stand one (left i) stored others first second) was.0.halted was.0 next here.0 here.2 was.2.stored in (
+          stored_again (StandFor left i) (left i) (λ stored others first second. one_stand (left i) stored others first second) was.0.halted was.0 next here.0 here.2 was.2.stored in (
             idle_again here.0,
             so.are.first i here.0 (slice_get_within nodes i was.0 was.1) here.1,
             running_is (stands i) next (idle_again here.0) was.2.runs (node_eq _ _ _ _ stored (ap Some (sym was.2.idle))),
@@ -141,8 +141,8 @@ module _ {T U : Type 0} (one : AreReadOneWay) (left : ℕ → List ℕ) (nodes :
             (subst (Refines stands again reached.sent) (sym (steps_in_turn Definition definition_eq (start (length nodes)) reached.events so.events)) (again_shown stands w so reached.sent reached.refines));
       }
 
-pub reopened_are_reachable : AreReadOneWay → (T U : Type 0) → ReopenedAreReachable T U
-reopened_are_reachable one T U = λ left nodes again reached opened. again_reached one left nodes again opened AnyPart reached
+pub reopened_are_reachable : (T U : Type 0) → ReopenedAreReachable T U
+reopened_are_reachable T U = λ left nodes again reached opened. again_reached left nodes again opened AnyPart reached
 
-pub reopened_on_tape : AreReadOneWay → (T U : Type 0) → ReopenedOnTape T U
-reopened_on_tape one T U = λ left now nodes again reached opened. again_reached one left nodes again opened (StandFor now) reached
+pub reopened_on_tape : (T U : Type 0) → ReopenedOnTape T U
+reopened_on_tape T U = λ left now nodes again reached opened. again_reached left nodes again opened (StandFor now) reached

@@ -1,6 +1,8 @@
 -- What a tape stands for, and a node in memory that is closed, and opened again.
 use Rattle.std.proofs.Common.{◌≡◌, ℕ, Bool, true, false, List, [], take, drop, Option, Some, refl, sym, ap, subst, ◌∙◌}
-use Rattle.wf_delivery.proofs.Common.{append-nil, take-append-drop, same_Some, Definition, DurableState, fold, fold_from, nothing_stored, VolatileState, at_start, AllStandFor, StandsFor, Node, stored_of, volatile_of, IsFoldOf, Follows, ReadsSame, IsImageOf, AreReadOneWay, IsReadAsNone, IsFresh, HasStoredAgain, IsReopened}
+use Rattle.wf_delivery.proofs.Common.{append-nil, take-append-drop, same_Some, Definition, DurableState, fold, fold_from, nothing_stored, VolatileState, at_start, AllStandFor, StandsFor, Node, stored_of, volatile_of, IsFoldOf, Follows, ReadsSame, IsImageOf, AreReadOneWay, IsFresh, HasStoredAgain, IsReopened}
+use Rattle.wf_canon.proofs.MeaningTheorem.{one_definition}
+use Rattle.wf_journal.proofs.Lists.{one_reading, reads_only}
 use Rattle.wf_model.specs.World as world
 use Rattle.wf_tape.specs.MemoryTape as tape
 use Rattle.wf_tape.specs.Tape.{IsBeginning}
@@ -13,10 +15,14 @@ node_eq stored others volatile held e h = ap (λ s. node_of s volatile) e ∙ ap
 
 -- ---- what a tape stands for
 
+-- bytes are read as at most one list of records
+pub read_one_way : AreReadOneWay
+read_one_way bytes records others reads again = one_reading one_definition bytes records others reads.0 again.0 reads.1.splits reads.1.longest again.1.splits again.1.longest
+
 -- bytes stand for one durable state
-pub one_stand : AreReadOneWay → (bytes : List ℕ) (stored others : DurableState Definition) → StandsFor stored bytes → StandsFor others bytes → stored ≡ others
-one_stand one bytes stored others first second =
-    same_Some stored others (sym first.folds ∙ ap fold (one bytes first.records second.records first.reads second.reads) ∙ second.folds)
+pub one_stand : (bytes : List ℕ) (stored others : DurableState Definition) → StandsFor stored bytes → StandsFor others bytes → stored ≡ others
+one_stand bytes stored others first second =
+    same_Some stored others (sym first.folds ∙ ap fold (read_one_way bytes first.records second.records first.reads second.reads) ∙ second.folds)
 
 pub begins_itself : (bytes : List ℕ) → IsBeginning bytes bytes
 begins_itself bytes = ([], sym (append-nil bytes))
@@ -41,9 +47,9 @@ still_stands kept left stored follows stands = λ image there.
 found_again : (again : Node tape.TapeValue) (kept : tape.TapeValue) → IsFoldOf (stored_of again) kept.bytes → StandsFor (stored_of again) kept.bytes
 found_again again kept fold_of = record { records = fold_of.records; reads = (fold_of.rest, fold_of.tape.reads); folds = fold_of.folds }
 
-module _ (one : AreReadOneWay) (node again : Node tape.TapeValue) (kept : tape.TapeValue) (same : kept ≡ node.tape) (stands : node.halted ≡ false → AllStandFor (stored_of node) (IsImageOf kept)) where
+module _ (node again : Node tape.TapeValue) (kept : tape.TapeValue) (same : kept ≡ node.tape) (stands : node.halted ≡ false → AllStandFor (stored_of node) (IsImageOf kept)) where
   stored_by : (halted : Bool) → node.halted ≡ halted → StandsFor (stored_of again) kept.bytes → HasStoredAgain halted node.tape.bytes node again
-  stored_by false is found = one_stand one kept.bytes (stored_of again) (stored_of node) found (stands is kept.bytes (content_is_image kept))
+  stored_by false is found = one_stand kept.bytes (stored_of again) (stored_of node) found (stands is kept.bytes (content_is_image kept))
   stored_by true is found = subst (λ (k : tape.TapeValue). StandsFor (stored_of again) k.bytes) same found
 
   -- It runs, without a proposal or leadership, and has stored what it had.
@@ -55,9 +61,9 @@ unfolding fold fold_from
 fold_none = refl
 
 -- From an empty tape nothing is stored.
-pub opened_fresh : IsReadAsNone → (node : Node tape.TapeValue) → node.halted ≡ false → IsFoldOf (stored_of node) [] → volatile_of node ≡ at_start → IsFresh node
-opened_fresh none node runs fold_of idle = record {
+pub opened_fresh : (node : Node tape.TapeValue) → node.halted ≡ false → IsFoldOf (stored_of node) [] → volatile_of node ≡ at_start → IsFresh node
+opened_fresh node runs fold_of idle = record {
   runs = runs;
-  stored = sym (same_Some nothing_stored (stored_of node) (sym fold_none ∙ ap fold (sym (none fold_of.records (fold_of.rest, fold_of.tape.reads))) ∙ fold_of.folds));
+  stored = sym (same_Some nothing_stored (stored_of node) (sym fold_none ∙ ap fold (reads_only one_definition [] [] fold_of.records refl (fold_of.rest, fold_of.tape.reads)) ∙ fold_of.folds));
   volatile = idle;
 }

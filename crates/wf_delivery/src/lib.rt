@@ -27,7 +27,6 @@
 
 mod delivery;
 mod node_start;
-mod outcome;
 mod progress;
 mod reachability;
 mod recipient;
@@ -37,7 +36,6 @@ pub use delivery::{
     MOST_OUTPUTS, Outputs, Pumped, consume, deliver_all, deliver_each, hand, is_halted, quiet, send,
 };
 pub use node_start::{open_fresh, reopen};
-pub use outcome::a_step_is_answered;
 pub use progress::{MOST_DELIVERIES, PumpProgress};
 pub use reachability::{
     a_step_is_reachable, deliveries_are_reachable, fresh_nodes_are_reachable, reachability_goes_on,
@@ -46,5 +44,6 @@ pub use reachability::{
 };
 pub use recipient::Recipient;
 pub use theorem::{
-    agreement, kept_promises, limits_are_as_defined, own_ballots, promised_majority,
+    a_step_is_answered, agreement, kept_promises, limits_are_as_defined, own_ballots,
+    promised_majority,
 };

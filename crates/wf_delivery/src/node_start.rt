@@ -9,7 +9,6 @@ ghost use Rattle.wf_tape.specs.MemoryTape.{IsImageOf, NeverFails};
 
 use std::alloc::{AllocError, Global};
 use wf_ballot::NodeId;
-use wf_journal::records_are_read_one_way;
 use wf_node::Node;
 use wf_tape::MemoryTape;
 
@@ -23,8 +22,6 @@ pub fn open_fresh(alloc: Global, id: NodeId, n: u8) -> Result<Node<MemoryTape>, 
     ensures n { IfOk result (λ node. node.n ≡ n) }
     ensures fuse { IfOk result (λ node. NeverFails node.tape) }
 {
-    // Theorem of the tape: an empty tape has no record.
-    records_are_read_one_way();
     match Node::open(alloc, MemoryTape::new(Vec::new(alloc)), id, n) {
         Ok(node) => Ok(node),
         // An empty tape is rejected only for allocation failure.
@@ -46,8 +43,6 @@ pub fn reopen(alloc: Global, node: Node<MemoryTape>, n: u8) -> Result<Node<Memor
     ensures kept { IfErr result (λ tape.
         node.halted ≡ false → AllStandFor (stored_of node) (IsImageOf tape)) }
 {
-    // Theorem of the tape: it stands for exactly one durable state.
-    records_are_read_one_way();
     let id = node.id();
     match Node::open(alloc, node.close(), id, n) {
         Ok(again) => Ok(again),

@@ -5,12 +5,9 @@ ghost use Rattle.wf_delivery.specs.Delivery.{AnyPart};
 ghost use Rattle.wf_delivery.specs.Reachability.{AreReachable, BothAreOutput, DeliveriesAreReachable, FreshAreReachable, FreshOnTape, HaveOneAnswer, HaveOneHistory, HaveOneMapAnswer, NothingIsOutput, NothingIsReachable, ReachableStaysReachable, ReachableOnTape, StepIsReachable, ReachableIsTransitive, UnheardIsReachable};
 ghost use Rattle.wf_delivery.specs.ReopenedNodes.{ReopenedAreReachable, ReopenedOnTape};
 
-use wf_canon::Canon;
-use wf_journal::records_are_read_one_way;
 use wf_node::Node;
-use wf_safety::earlier_messages;
 use wf_tape::Tape;
-use wf_wms::theorem::{asked_maps_are_answered_alike, each_query_has_one_answer};
+use wf_wms::theorem::each_query_has_one_answer;
 
 /// A step Propose, Retry or CatchUp of a node leads the nodes on, whatever it returns, and sends exactly the messages that it
 /// returns. A theorem: the call does nothing.
@@ -22,10 +19,7 @@ pub fn a_step_is_reachable<T: Tape>()
 /// before. A theorem: the call does nothing.
 pub fn deliveries_are_reachable<T: Tape>()
     ensures { DeliveriesAreReachable T.Tape }
-{
-    // Theorem of the model: messages sent earlier only shift message numbers.
-    earlier_messages::<Canon>();
-}
+{}
 
 /// The empty run leads nodes to themselves; two runs in turn are one run; and messages sent need not be delivered. A theorem: the
 /// call does nothing.
@@ -55,10 +49,7 @@ pub fn fresh_nodes_are_reachable<T: Tape>()
 pub fn reopened_nodes_are_reachable<T: Tape, U: Tape>()
     ensures any { ReopenedAreReachable T U }
     ensures on_tape { ReopenedOnTape T U }
-{
-    // Theorem of the tape: it stands for exactly one durable state.
-    records_are_read_one_way();
-}
+{}
 
 /// The headline, for the nodes that a caller holds, over any kind of tape: if they are reached from the model's start, no two of
 /// them, running or halted, have published different maps under one sequence. The call does nothing.
@@ -66,7 +57,6 @@ pub fn reachable_nodes_agree<T: Tape>(nodes: &[Node<T>])
     ensures { AreReachable AnyPart nodes.now → HaveOneHistory nodes.now }
 {
     let _ = nodes;
-    crate::theorem::agreement();
 }
 
 /// The headline's second half, for the nodes that a caller holds, over any kind of tape: if they are reached from the model's
@@ -79,5 +69,4 @@ pub fn reachable_nodes_answer_alike<T: Tape>(nodes: &[Node<T>])
 {
     reachable_nodes_agree(nodes);
     each_query_has_one_answer();
-    asked_maps_are_answered_alike();
 }

@@ -4,9 +4,17 @@ ghost use Rattle.std.specs.Prelude.{◌≡◌};
 ghost use Rattle.wf_def.specs.Definition.{Definition};
 ghost use Rattle.wf_safety.specs.Theorems.{Agreement, KeptPromises, OwnBallots, PromisedMajority};
 ghost use Rattle.wf_model.specs.Table.{most_reports};
+ghost use Rattle.wf_delivery.specs.Outcome.{StepIsAnswered};
 
 use crate::delivery::MOST_OUTPUTS;
 use wf_canon::Canon;
+use wf_tape::Tape;
+
+/// A node that is asked for a step, whatever the input, halts, rejects it, makes its transition, fails with its tape, or loses it for want
+/// of memory; and sends what it returned. A theorem: the call does nothing.
+pub fn a_step_is_answered<T: Tape>()
+    ensures { StepIsAnswered T.Tape }
+{}
 
 /// The limits in the code equal those in the specifications.
 pub fn limits_are_as_defined()

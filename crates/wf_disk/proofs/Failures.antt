@@ -3,7 +3,7 @@ use Rattle.std.proofs.Common.{◌≡◌, ℕ, List, ◌++◌, take, drop, Option
 use Rattle.std.proofs.lemmas.List.{take-append-drop}
 use Rattle.wf_disk.specs.declared.fault.DiskFault.{DiskFault}
 use Rattle.wf_disk.specs.declared.fault.DiskFault.TheVariants.{Device, Memory}
-use Rattle.wf_disk.specs.declared.name.Name.{Name}
+use Rattle.wf_disk.specs.declared.folder.Name.{Name}
 use Rattle.wf_disk.specs.Moments.{IsBeginning}
 use Rattle.wf_disk.specs.Folder.{Folder}
 use Rattle.wf_disk.specs.Call.{Open, Append, Rename, IsLeft}

@@ -2,8 +2,8 @@
 use Rattle.std.specs.Prelude.{◌≡◌, ◌⊎◌, ◌≤◌, ℕ, true, List, [], ◌∷◌, ◌++◌, Option, Some, None, option_map, Result, Ok, Err, IsErrOf, if◌then◌else◌}
 use Rattle.wf_disk.specs.declared.fault.DiskFault.{DiskFault}
 use Rattle.wf_disk.specs.declared.fault.DiskFault.TheVariants.{Device, Memory}
-use Rattle.wf_disk.specs.declared.name.Name.{Name}
-use Rattle.wf_disk.specs.declared.name.Name.TheVariants.{Own, Second}
+use Rattle.wf_disk.specs.declared.folder.Name.{Name}
+use Rattle.wf_disk.specs.declared.folder.Name.TheVariants.{Own, Second}
 use Rattle.wf_disk.specs.Moments.{IsBeginning, HasRisen}
 use Rattle.wf_disk.specs.Folder.{File, Folder, bytes_of, empty_file, whole}
 

@@ -4,7 +4,7 @@ ghost use Rattle.wf_disk.specs.Folder.{Folder, MayLeave, bytes_in};
 ghost use Rattle.wf_disk.specs.Call.{Open, Make, Append, Sync, Rename, SyncNames, Read, IsLeft, IsCounted, IsNotMemory, error_of};
 
 use crate::fault::DiskFault;
-use crate::name::Name;
+use crate::folder::Name;
 use std::alloc::Global;
 
 /// A disk: one folder with a file under its own name and one under a second name.

@@ -6,8 +6,7 @@ ghost use Rattle.wf_disk.specs.Call.{Open, Make, Append, Sync, Rename, SyncNames
 ghost use Rattle.wf_disk.specs.MemoryDisk.{fault_after};
 
 use crate::fault::DiskFault;
-use crate::folder::MemoryFolder;
-use crate::name::Name;
+use crate::folder::{MemoryFolder, Name};
 use std::alloc::Global;
 
 /// Makes the own file if it is absent. If it fails, it has done so unless nothing is kept.

@@ -7,10 +7,18 @@ ghost use Rattle.wf_disk.specs.Call.{Open, Make, Append, Sync, Rename, SyncNames
 
 use crate::fault::DiskFault;
 use crate::file::MemoryFile;
-use crate::name::Name;
 use std::alloc::Global;
 use std::marker::Model;
 use std::mem;
+
+/// One of the two names of files in a disk's folder.
+#[derive(Clone, Copy, Debug, PartialEq, Eq)]
+pub enum Name {
+    /// The name of the file that is read.
+    Own,
+    /// The name under which a new content is written, before it takes the own name.
+    Second,
+}
 
 /// A folder in memory: the two files, and what a power cut may put back under the own name.
 pub(crate) struct MemoryFolder {

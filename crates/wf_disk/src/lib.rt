@@ -18,14 +18,13 @@ mod fault;
 mod file;
 mod folder;
 mod memory;
-mod name;
 mod system;
 mod theorem;
 
 pub use disk::Disk;
 pub use fault::DiskFault;
+pub use folder::Name;
 pub use memory::MemoryDisk;
-pub use name::Name;
 pub use system::{FILE_READS, SystemDisk};
 pub use theorem::{
     a_memory_disk_is_cut_to_any_image, a_process_ends_in_an_image, a_second_cut_changes_nothing,

@@ -5,7 +5,7 @@ ghost use Rattle.wf_disk.specs.Moments.{HasRisen};
 
 use crate::disk::Disk;
 use crate::fault::DiskFault;
-use crate::name::Name;
+use crate::folder::Name;
 use std::alloc::Global;
 use std::fs::{OpenFile, OpenOptions};
 use std::io::{Read, Seek, SeekFrom, Write};

@@ -4,8 +4,7 @@ use Rattle.std.specs.Prelude.{Result, Ok, Err, Option, Some, None}
 use Rattle.std.specs.Str.{is_utf8}
 use Rattle.std.proofs.lemmas.Bool.{cases_lt, leb-true}
 use Rattle.std.proofs.lemmas.Option.{none-some}
-use Rattle.wf_spelling.specs.Canon.{canon, most_canon_bytes}
-use Rattle.wf_spelling.specs.StepRejection.{IsCauseOf}
+use Rattle.wf_spelling.specs.Canon.{canon, most_canon_bytes, IsCauseOf}
 use Rattle.wf_spelling.specs.declared.fault.CanonFault.{CanonFault}
 use Rattle.wf_spelling.specs.declared.fault.CanonFault.TheVariants as canonical
 use Rattle.wf_codec.specs.declared.message.Message.{Message}

@@ -23,7 +23,7 @@ begins_more bytes rest more head begins = record {
   printed = begins.printed;
   reads = (begins.reads.0, ap (λ xs. xs ++ more) begins.reads.1 ∙ append_assoc (print_request begins.printed) rest more);
   small = begins.small;
-  sends = begins.sends;
+  is = begins.is;
 }
 
 -- the input begins with the head that was taken from its front

@@ -64,7 +64,7 @@ one_page theorem elsewhere texts query history other page another (reject_alike 
 -- one input has one head
 one_head : (input rest left : List ℕ) (head other : Head) → Begins input head rest → Begins input other left → head ≡ other
 one_head input rest left head other first second =
-    first.sends ∙ ap (λ h. head_of h) (request_unique input first.printed second.printed rest left first.reads second.reads).0 ∙ sym second.sends
+    first.is ∙ ap (λ h. head_of h) (request_unique input first.printed second.printed rest left first.reads second.reads).0 ∙ sym second.is
 
 -- a head that asks for something passes its checks
 not_rejected : (head : Head) (asks : RequestedResource) (r : HttpError) → resolved head ≡ Ok asks → resolved head ≡ Err r → ⊥

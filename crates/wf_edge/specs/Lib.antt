@@ -1,6 +1,6 @@
 pub mod StepResult
 pub mod StepResultTheorems
-pub mod Caching
+pub mod PictureCache
 pub mod Contents
 pub mod ResponseEnd
 pub mod ResponseEndTheorems

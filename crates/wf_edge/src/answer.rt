@@ -1,7 +1,7 @@
 //! Answers that leave a node as it is.
 ghost use Rattle.std.specs.Prelude.{◌≡◌};
 ghost use Rattle.wf_http.specs.Target.{query_of};
-ghost use Rattle.wf_edge.specs.Caching.{Changes, IsReadBy};
+ghost use Rattle.wf_edge.specs.PictureCache.{Changes, IsReadBy};
 ghost use Rattle.wf_edge.specs.ResponseEnd.{Completes};
 ghost use Rattle.wf_edge.specs.ErrorResponse.{response_of};
 ghost use Rattle.wf_edge.specs.Page.{service_page, status_at, status_page, accepted_page, bad_map_page};

@@ -27,7 +27,7 @@
 //!   and, even for readers and writers whose bytes aren't known, a failed write is the last call, and the node is unchanged or made
 //!   one step Propose, whose messages are returned whether or not the write succeeds.
 //! - [`answer::answer_get`]: what becomes of the pictures is what the query to the map service does to them; a status and an allocation
-//!   failure leave them unchanged (`specs/Caching.antt`).
+//!   failure leave them unchanged (`specs/PictureCache.antt`).
 //! - [`serve::serve_one_cached`]: as `serve_one`, and the cache's pictures are still those of the node's maps; the cache is unchanged, or
 //!   as one query to the map service leaves it.
 //! - [`theorem`]: equal requests to the map service have equal responses, at two nodes too, wherever these answer alike; and which
@@ -43,7 +43,6 @@
 
 pub mod answer;
 pub mod completion;
-mod contents;
 pub mod error_report;
 pub mod error_response;
 pub mod outcome;

@@ -4,12 +4,20 @@ ghost use Rattle.wf_edge.specs.Contents.{bytes_of};
 ghost use Rattle.wf_edge.specs.ErrorResponse.{plain};
 ghost use Rattle.wf_edge.specs.Page.{page_of};
 
-use crate::contents::Contents;
 use crate::error_report::PLAIN;
 use crate::text_line::TextLine;
 use http::StatusCode;
 use std::marker::Model;
 use wf_http::response::Response;
+
+/// The bytes of a page.
+#[derive(Drop)]
+pub enum Contents {
+    /// An answer of the map service.
+    Bytes(Vec<u8>),
+    /// A line of the node's own, stored inline.
+    TextLine(TextLine),
+}
 
 /// A response whose body is in memory.
 #[derive(Drop)]

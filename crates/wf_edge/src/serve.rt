@@ -2,7 +2,7 @@
 ghost use Rattle.std.specs.Prelude.{◌≡◌, ◌⊎◌, ℕ, List, length, Vec};
 ghost use Rattle.std.specs.declared.alloc.Global.{Global};
 ghost use Rattle.wf_codec.specs.declared.message.Message.{Message};
-ghost use Rattle.wf_edge.specs.Caching.{ChangesOnce};
+ghost use Rattle.wf_edge.specs.PictureCache.{ChangesOnce};
 ghost use Rattle.wf_edge.specs.Receipt.{CountsReceiving};
 ghost use Rattle.wf_edge.specs.Request.{TakesRequest};
 ghost use Rattle.wf_edge.specs.Completion.{CountsCompleting};
@@ -22,7 +22,6 @@ use wf_node::Node;
 use wf_stream::{Sink, Source};
 use wf_tape::Tape;
 use wf_wms::cache::Cache;
-use wf_wms::theorem::cached_pictures_outlast_growth;
 
 /// The outcome of one request, and the messages that the node sends.
 #[derive(Drop)]
@@ -81,7 +80,7 @@ fn serve_with<S: Source, K: Sink, T: Tape, P: Pictures>(
 }
 
 // Answers a request by the node, and writes the response.
-#[tactic(auto, using(crate::specs::RequestEffectTheorems::read_served, crate::specs::Caching::read_once))]
+#[tactic(auto, using(crate::specs::RequestEffectTheorems::read_served, crate::specs::PictureCache::read_once))]
 fn answer_request<K: Sink, T: Tape, P: Pictures>(
     alloc: Global,
     sink: &mut K,
@@ -156,6 +155,5 @@ pub fn serve_one_cached<S: Source, K: Sink, T: Tape>(
         (length node.old.parts.history) node.old.parts.history query cache.old cache.new) }
     ensures capacity { cache.new.cap ≡ cache.old.cap }
 {
-    cached_pictures_outlast_growth();
     serve_with(alloc, source, sink, node, cache)
 }

@@ -2,7 +2,8 @@
 use Rattle.std.proofs.Common.{◌≡◌, ◌∙◌, ℕ, List, length, slice_get, Option, Some, None, refl, sym, ap, subst}
 use Rattle.wf_farm.proofs.Common.{none-some, same_Some, Definition, definition_at, Node, stored_of, TapeValue, Memory, NoNode, Running, Stopped, HasOneHistory, HasStored, MemoryFarm, running_in, MemoryHost}
 use Rattle.wf_delivery.proofs.Alike.{one_of}
-use Rattle.wf_wms.specs.Answer.{AnswerValue, AskedMapsAreAnsweredAlike, EachQueryHasOneAnswer, IsAnswerOf}
+use Rattle.wf_wms.proofs.ServiceTheorem.{answered_alike}
+use Rattle.wf_wms.specs.Answer.{AnswerValue, EachQueryHasOneAnswer, IsAnswerOf}
 use Rattle.wf_farm.specs.ClientAnswers.{Answers, HasOneAnswer, HasOneMapAnswer, IsNoAnswer, sequence_at, sequence_in}
 
 -- ---- an answer and an error
@@ -53,8 +54,8 @@ one_answer theorem farm one = λ i j s query answer another first second.
 
 -- ---- one map that is asked for
 
-pub one_map_answer : EachQueryHasOneAnswer → AskedMapsAreAnsweredAlike → (farm : MemoryFarm) → HasOneHistory farm → HasOneMapAnswer farm
+pub one_map_answer : EachQueryHasOneAnswer → (farm : MemoryFarm) → HasOneHistory farm → HasOneMapAnswer farm
 unfolding HasOneMapAnswer
-one_map_answer theorem elsewhere farm one = λ i j s t m query answer another asks also first second.
+one_map_answer theorem farm one = λ i j s t m query answer another asks also first second.
     one_at theorem farm one i j s first.node second.node query answer another first.runs second.runs first.is_answer
-    (elsewhere s t m second.node.parts.history query another asks also second.is_answer)
+    (answered_alike s t m second.node.parts.history query another asks also second.is_answer)

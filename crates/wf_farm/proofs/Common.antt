@@ -9,23 +9,21 @@ pub use Rattle.wf_codec.specs.declared.message.Message.{Message}
 pub use Rattle.wf_def.specs.Definition.{Definition, empty_map}
 pub use Rattle.wf_def.specs.Equality.{definition_eq}
 pub use Rattle.wf_journal.specs.Journal.{Follows, IsSettled, ReadsSame}
-pub use Rattle.wf_journal.specs.Records.{AreReadOneWay, AreRecords, BeginsWithNone, ReadsAs, Splits}
+pub use Rattle.wf_journal.specs.Records.{AreRecords, BeginsWithNone, ReadsAs, Splits}
 unfoldable pub use Rattle.wf_journal.specs.Records.{length_of}
-pub use Rattle.wf_safety.specs.Earlier.{EarlierMessages}
 unfoldable pub use Rattle.wf_safety.specs.Earlier.{raised, sent_before}
-pub use Rattle.wf_safety.specs.Theorems.{Agreement, IsBeginning}
+pub use Rattle.wf_safety.specs.Theorems.{IsBeginning}
 pub use Rattle.wf_model.specs.Action.{numbered}
 unfoldable pub use Rattle.wf_model.specs.Chosen.{definition, history, history_of}
-pub use Rattle.wf_model.specs.Steps.{StepsInTurn}
+pub use Rattle.wf_model.specs.World.{Event, Turn, World, deliver, propose}
 pub use Rattle.wf_model.specs.StepsTheorems.{steps_in_turn}
 pub use Rattle.wf_model.specs.DurableState.{Record, DurableState}
 unfoldable pub use Rattle.wf_model.specs.DurableState.{definition_at, fold}
 pub use Rattle.wf_model.specs.Table.{Action, Input, StepRejection}
 unfoldable pub use Rattle.wf_model.specs.Table.{step_rejection}
 unfoldable pub use Rattle.wf_model.specs.VolatileState.{at_start}
-pub use Rattle.wf_model.specs.World.{Event, Turn, World, deliver, propose}
 unfoldable pub use Rattle.wf_model.specs.World.{after, after_restart, after_stop, after_torn, after_turn, delivered, happens, input_of, kept_part, step_rejection_of, refused, rejected_at, start, steps, stored_after, turn, turn_of, with_node}
-pub use Rattle.wf_model.specs.declared.kept.Kept.{Kept}
+pub use Rattle.wf_model.specs.declared.action.Kept.{Kept}
 pub use Rattle.wf_node.specs.Images.{AllStandFor, EachIsCut, ReadsOn, ReadsWith, StandsFor}
 pub use Rattle.wf_node.specs.Node.{Node, stored_of, volatile_of}
 pub use Rattle.wf_node.specs.OpenedNode.{IsFoldOf}
@@ -67,16 +65,16 @@ pub use Rattle.wf_farm.specs.Pump.{IsPumped, IsPumpedPart, Pumps, count}
 unfoldable pub use Rattle.wf_publication.specs.Rounds.{deliveries, rounds}
 unfoldable pub use Rattle.wf_farm.specs.Pump.{NextMayAllocate}
 pub use Rattle.wf_farm.specs.Start.{IsFreshAt}
-pub use Rattle.wf_farm.specs.Taking.{Fares, Goes, GoesThere, IsCutTape, IsTornTo, acted, received_as, kept_beyond, stored_by}
-unfoldable pub use Rattle.wf_farm.specs.Taking.{IsIdle, ReportsWhyNot}
+pub use Rattle.wf_farm.specs.FallibleStep.{Fares, Goes, GoesThere, IsCutTape, IsTornTo, acted, received_as, kept_beyond, stored_by}
+unfoldable pub use Rattle.wf_farm.specs.FallibleStep.{IsIdle, ReportsWhyNot}
 unfoldable pub use Rattle.wf_delivery.specs.Turn.{node_restarted, node_stopped, volatile_restarted}
 pub use Rattle.wf_farm.specs.declared.carrier.CarrierFault.{CarrierFault}
 pub use Rattle.wf_farm.specs.declared.fate.Happened.{Happened}
 pub use Rattle.wf_farm.specs.declared.fault.FarmFault.{FarmFault}
 pub use Rattle.wf_farm.specs.declared.fault.FarmFault.TheVariants.{Memory, NoNode}
-pub use Rattle.wf_farm.specs.declared.host.NodeHost.{NodeHost}
-pub use Rattle.wf_farm.specs.declared.host.NodeHost.TheVariants.{Running, Stopped}
-pub use Rattle.wf_farm.specs.declared.progress.End.{End}
-pub use Rattle.wf_farm.specs.declared.progress.End.TheVariants.{Done, Failed}
+pub use Rattle.wf_farm.specs.declared.cluster.NodeHost.{NodeHost}
+pub use Rattle.wf_farm.specs.declared.cluster.NodeHost.TheVariants.{Running, Stopped}
+pub use Rattle.wf_farm.specs.declared.progress.PumpEnd.{PumpEnd}
+pub use Rattle.wf_farm.specs.declared.progress.PumpEnd.TheVariants.{Done, Failed}
 pub use Rattle.wf_delivery.specs.declared.progress.PumpProgress.{PumpProgress}
 pub use Rattle.wf_farm.specs.declared.rejection.Rejection.{Rejection}

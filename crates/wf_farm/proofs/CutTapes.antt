@@ -1,14 +1,14 @@
 -- A tape that a crash within a step left, and the node that is opened from it: which durable state it has shows in the tape's
 -- length.
 use Rattle.std.proofs.Common.{◌≡◌, ℕ, ◌+◌, ◌<◌, true, false, List, [], ◌∷◌, ◌++◌, length, take, Option, Some, None, sym, ap, subst, ◌∙◌, arith, inl, inr, Bool, nat_lt, length-append, if◌then◌else◌}
-use Rattle.wf_farm.proofs.Common.{le-ltb, lt-ltb, append-nil, nil_from_length, take-take, take_all, same_Some, Definition, DurableState, Record, fold, ReadsOn, ReadsWith, IsFoldOf, Follows, IsSettled, ReadsSame, TapeValue, IsImageOf, AreReadOneWay, AreRecords, BeginsWithNone, ReadsAs, Splits, length_of, IsCutTape, kept_beyond, stored_by}
-use Rattle.wf_ballot.specs.Frame.{frame}
+use Rattle.wf_farm.proofs.Common.{le-ltb, lt-ltb, append-nil, nil_from_length, take-take, take_all, same_Some, Definition, DurableState, Record, fold, ReadsOn, ReadsWith, IsFoldOf, Follows, IsSettled, ReadsSame, TapeValue, IsImageOf, AreRecords, BeginsWithNone, ReadsAs, Splits, length_of, IsCutTape, kept_beyond, stored_by}
+use Rattle.wf_ballot.specs.Field.{frame}
 use Rattle.wf_journal.specs.Encoding.{spelling, text_spelling}
 use Rattle.wf_journal.specs.EncodingTheorems.{length_of_encoding}
 use Rattle.wf_tape.specs.Tape.{IsBeginning}
-use Rattle.wf_model.specs.declared.kept.Kept.TheVariants as declared
+use Rattle.wf_model.specs.declared.action.Kept.TheVariants as declared
 use Rattle.wf_model.specs.Kept.{view as view_kept}
-use Rattle.wf_delivery.proofs.Stored.{begins_taken}
+use Rattle.wf_delivery.proofs.Stored.{begins_taken, read_one_way}
 
 -- ---- records by their bytes
 
@@ -66,21 +66,21 @@ not_longer long now same = le-ltb long now (omega (arith, same))
 is_longer : (long now more : ℕ) → now ≡ long + more → 0 < more → nat_lt long now ≡ true
 is_longer long now more sum some = lt-ltb long now (omega (arith, sum, some))
 
-module _ (one : AreReadOneWay) (long : ℕ) (r : Record Definition) (before after stored : DurableState Definition) (content cut now : List ℕ) (records found : List (Record Definition))
+module _ (long : ℕ) (r : Record Definition) (before after stored : DurableState Definition) (content cut now : List ℕ) (records found : List (Record Definition))
     (are : AreRecords content records) (is_long : length content ≡ long) (reads : ReadsAs cut found) (folds : fold found ≡ Some stored) (settled : AreRecords now found) where
   -- The record isn't there.
   kept_before : ReadsOn before content cut → stored ≡ stored_by (view_kept (kept_beyond long (length now))) before after
   kept_before on =
-      let same : found ≡ records = one cut found on.records reads on.new ∙ one content on.records records on.old (whole_reads content records are) in
+      let same : found ≡ records = read_one_way cut found on.records reads on.new ∙ read_one_way content on.records records on.old (whole_reads content records are) in
       let reports = not_longer long (length now) (long_records now found settled ∙ ap length_of same ∙ sym (long_records content records are) ∙ is_long) in
-      let is : stored ≡ before = same_Some stored before (sym folds ∙ ap fold (one cut found on.records reads on.new) ∙ on.folds) in
+      let is : stored ≡ before = same_Some stored before (sym folds ∙ ap fold (read_one_way cut found on.records reads on.new) ∙ on.folds) in
       is ∙ sym (ap (λ (b : Bool). stored_by (view_kept (if b then declared.After else declared.Before)) before after) reports)
 
   -- It is there.
   kept_after : ReadsWith r after content cut → stored ≡ stored_by (view_kept (kept_beyond long (length now))) before after
   kept_after with_it =
-      let more : found ≡ with_it.records ++ r ∷ [] = one cut found (with_it.records ++ r ∷ []) reads with_it.new in
-      let same : with_it.records ≡ records = one content with_it.records records with_it.old (whole_reads content records are) in
+      let more : found ≡ with_it.records ++ r ∷ [] = read_one_way cut found (with_it.records ++ r ∷ []) reads with_it.new in
+      let same : with_it.records ≡ records = read_one_way content with_it.records records with_it.old (whole_reads content records are) in
       let sum : length now ≡ long + length (spelling r) =
       omega (arith, long_records now found settled, ap length_of more, long_more with_it.records r, ap length_of same, long_records content records are, is_long) in
       let reports = is_longer long (length now) (length (spelling r)) sum (some_bytes r) in
@@ -88,20 +88,20 @@ module _ (one : AreReadOneWay) (long : ℕ) (r : Record Definition) (before afte
       is ∙ sym (ap (λ (b : Bool). stored_by (view_kept (if b then declared.After else declared.Before)) before after) reports)
 
 -- The node that is opened after a crash has stored what its tape's length tells.
-pub cut_opened : AreReadOneWay → (long keep : ℕ) (entry : Option (Record Definition)) (before after stored : DurableState Definition) (left crashed now : TapeValue) → crashed.bytes ≡ take (left.synced + keep) left.bytes →
+pub cut_opened : (long keep : ℕ) (entry : Option (Record Definition)) (before after stored : DurableState Definition) (left crashed now : TapeValue) → crashed.bytes ≡ take (left.synced + keep) left.bytes →
     crashed.synced ≡ length crashed.bytes → IsFoldOf stored crashed.bytes → Follows ReadsSame (IsImageOf crashed) (IsImageOf now) → IsSettled now.bytes (IsImageOf now) →
     IsCutTape long entry before after left → stored ≡ stored_by (view_kept (kept_beyond long (length now.bytes))) before after
-cut_opened one long keep None before after stored left crashed now taken all fold_of follows settled cut = absurd cut.cut
-cut_opened one long keep (Some r) before after stored left crashed now taken all fold_of follows settled cut =
+cut_opened long keep None before after stored left crashed now taken all fold_of follows settled cut = absurd cut.cut
+cut_opened long keep (Some r) before after stored left crashed now taken all fold_of follows settled cut =
     let reads : ReadsAs crashed.bytes fold_of.records = (fold_of.rest, fold_of.tape.reads) in
     let earlier = follows now.bytes settled.1.only.is_image in
     let came = subst (λ (t : List ℕ). ReadsSame t now.bytes) (only_image crashed all earlier.0 earlier.1) earlier.2 in
-    let same : settled.0 ≡ fold_of.records = one now.bytes settled.0 fold_of.records (whole_reads now.bytes settled.0 settled.1.are_records) (came fold_of.records reads) in
+    let same : settled.0 ≡ fold_of.records = read_one_way now.bytes settled.0 fold_of.records (whole_reads now.bytes settled.0 settled.1.are_records) (came fold_of.records reads) in
     let are_now = subst (λ (rs : List (Record Definition)). AreRecords now.bytes rs) same settled.1.are_records in
     let is_cut = cut.cut crashed.bytes (subst (λ (t : List ℕ). IsImageOf left t) (sym taken) (crash_is_image left keep)) in
     elim is_cut.2 [
-      | inl on ↦ kept_before one long r before after stored cut.content crashed.bytes now.bytes cut.records fold_of.records cut.are_records cut.is_long reads fold_of.folds are_now
+      | inl on ↦ kept_before long r before after stored cut.content crashed.bytes now.bytes cut.records fold_of.records cut.are_records cut.is_long reads fold_of.folds are_now
           (subst (λ (t : List ℕ). ReadsOn before t crashed.bytes) is_cut.1 on)
-      | inr with_it ↦ kept_after one long r before after stored cut.content crashed.bytes now.bytes cut.records fold_of.records cut.are_records cut.is_long reads fold_of.folds are_now
+      | inr with_it ↦ kept_after long r before after stored cut.content crashed.bytes now.bytes cut.records fold_of.records cut.are_records cut.is_long reads fold_of.folds are_now
           (subst (λ (t : List ℕ). ReadsWith r after t crashed.bytes) is_cut.1 with_it)
     ]

@@ -1,6 +1,6 @@
 -- The entries of a farm, over any kind of tape, and the nodes of the model that they are.
-use Rattle.std.proofs.Common.{◌≡◌, ℕ, zero, suc, List, [], ◌∷◌, length, slice_get, Some, refl, sym, ap, subst, arith}
-use Rattle.wf_farm.proofs.Common.{none-some, same_Some, Definition, NodeHost}
+use Rattle.std.proofs.Common.{◌≡◌, ℕ, zero, suc, List, [], ◌∷◌, length, slice_get, Some, refl, sym, ap, subst, arith, ◌∙◌, ◌++◌, take, drop}
+use Rattle.wf_farm.proofs.Common.{none-some, same_Some, Definition, NodeHost, append-nil, drop_all, take_all}
 use Rattle.wf_model.specs.World as world
 use Rattle.wf_farm.specs.Hosts.{IsNode, AreNodes}
 
@@ -28,3 +28,8 @@ module _ {T : Type 0} (images : T → List ℕ → Type 0) where
   all_nodes (p ∷ hosts) (node ∷ nodes) long each =
       let first = each 0 p refl in
       (subst (λ x. IsNode images p x) (sym (same_Some node first.0 first.1)) first.2, all_nodes hosts nodes (omega (arith, long)) (λ i host at. each (suc i) host at))
+
+-- Entries that were lent are those that came back, if there are as many.
+pub lent_back : {A : Type 0} (hosts after : List A) (n : ℕ) → n ≡ length hosts → length after ≡ length hosts → take n (after ++ drop (length after) hosts) ≡ after
+lent_back hosts after n all same =
+    ap (λ rest. take n (after ++ rest)) (drop_all (length after) hosts (omega (arith, same))) ∙ ap (take n) (append-nil after) ∙ take_all n after (omega (arith, all, same))

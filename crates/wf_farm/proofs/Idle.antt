@@ -7,7 +7,7 @@ use Rattle.wf_model.specs.Message as model
 use Rattle.wf_model.specs.Table as table
 use Rattle.wf_node.specs.Fault.{IsWhyNot}
 use Rattle.wf_farm.specs.Cluster.{Refines}
-use Rattle.wf_farm.specs.Taking.{IsTaken}
+use Rattle.wf_farm.specs.FallibleStep.{IsTaken}
 use Rattle.wf_farm.proofs.Events.{as_many, node_at, none_at}
 use Rattle.wf_delivery.proofs.Turns.{rejected_absent, rejected_idle, rejected_is, rejected_unsent, running_step_rejection, turn_absent, turn_idle, turn_is, turn_rejected, turn_unsent}
 

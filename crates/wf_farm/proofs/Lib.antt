@@ -8,7 +8,6 @@ mod Runs
 mod Carried
 mod Worlds
 mod Listed
-mod Lent
 mod PumpResult
 mod Answered
 mod Published

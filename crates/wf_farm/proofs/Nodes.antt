@@ -1,6 +1,6 @@
 -- The entries of a farm as a list of nodes; and a farm over durable tapes whose nodes are led on is reached still.
 use Rattle.std.proofs.Common.{◌≡◌, ℕ, zero, suc, Bool, true, false, List, [], ◌∷◌, ◌++◌, map, length, slice_get, slice_set, Option, Some, None, refl, sym, ap, subst, ◌∙◌, arith, inl, inr, length-set}
-use Rattle.wf_farm.proofs.Common.{both_ways, cases_eq, false≢true, append-nil, none-some, same_Some, Message, Definition, definition_eq, AreReadOneWay, steps_in_turn, World, start, after, steps, AllStandFor, Node, NodeHost, Running, Stopped, AnyPart, StandAmong, StandFor, StandInTurn, MayLeave, IsNodeBy, IsReachable, AreReachableFrom, AreReachable, Reach, AreChanged, Changed, KeepEntries, KeepHosts, KeepsEntry, KeepsHost, Unchanged, node_in, nodes_of, keep_set, keep_themselves, keep_twice, keeps_itself, length-nodes, nodes_back, nodes_get, get_set_same, get_set_other}
+use Rattle.wf_farm.proofs.Common.{both_ways, cases_eq, false≢true, append-nil, none-some, same_Some, Message, Definition, definition_eq, steps_in_turn, World, start, after, steps, AllStandFor, Node, NodeHost, Running, Stopped, AnyPart, StandAmong, StandFor, StandInTurn, MayLeave, IsNodeBy, IsReachable, AreReachableFrom, AreReachable, Reach, AreChanged, Changed, KeepEntries, KeepHosts, KeepsEntry, KeepsHost, Unchanged, node_in, nodes_of, keep_set, keep_themselves, keep_twice, keeps_itself, length-nodes, nodes_back, nodes_get, get_set_same, get_set_other}
 use Rattle.wf_codec.specs.Message as message
 use Rattle.wf_model.specs.World as world
 use Rattle.wf_delivery.specs.Delivery as delivering
@@ -199,7 +199,7 @@ module _ {T : Type 0} (tapes : Tape T) (durable : tapes.durable) (hosts next : L
           (here.0, here.1, subst (λ (x : Node T). delivering.IsNode (StandFor left i) x here.0) back.2 (is_by i back.0 here.0 back.1 here.2));
     }
 
-    module _ (one : AreReadOneWay) (v : World Definition) (refines : delivering.AreNodes (StandFor left) (nodes_of next) v.nodes) where
+    module _ (v : World Definition) (refines : delivering.AreNodes (StandFor left) (nodes_of next) v.nodes) where
       is_now : (i : ℕ) (host : NodeHost T) → slice_get next i ≡ Some host → (node : world.Node Definition) × (slice_get v.nodes i ≡ Some node) × IsNode tapes.images host node
       is_now i (Running node) at =
           let here = refines.node_is i node (nodes_get next i (Running node) at) in
@@ -207,16 +207,16 @@ module _ {T : Type 0} (tapes : Tape T) (durable : tapes.durable) (hosts next : L
       is_now i (Stopped tape) at =
           let here = refines.node_is i (node_in (length next) i (Stopped tape)) (nodes_get next i (Stopped tape) at) in
           let was = node_at tapes.images hosts w.nodes i (Stopped tape) are (stopped_before i tape at) in
-          let same : was.0.stored ≡ here.0.stored = one_stand one (left i) was.0.stored here.0.stored (was.2.1 (left i) (is_left i tape at)) here.2.2 in
+          let same : was.0.stored ≡ here.0.stored = one_stand (left i) was.0.stored here.0.stored (was.2.1 (left i) (is_left i tape at)) here.2.2 in
           (here.0, here.1, (here.2.0, subst (λ stored. AllStandFor stored (tapes.images tape)) same was.2.1))
 
       shown_now : AreNodes tapes.images next v.nodes
       shown_now = all_nodes tapes.images next v.nodes (refines.as_many ∙ length-nodes next) is_now
 
   -- What was reached and led on is reached; its messages may be forgotten.
-  pub reached_reachable : AreReadOneWay → (sent : List Message) (complete : Bool) → AreReachableFrom tapes (nodes_of hosts) (nodes_of next) → IsReachable tapes.images complete hosts sent → IsReachable tapes.images false next []
+  pub reached_reachable : (sent : List Message) (complete : Bool) → AreReachableFrom tapes (nodes_of hosts) (nodes_of next) → IsReachable tapes.images complete hosts sent → IsReachable tapes.images false next []
   unfolding Reach after
-  reached_reachable one sent complete reachable reached =
+  reached_reachable sent complete reachable reached =
       let w = steps definition_eq (start (length hosts)) reached.events in
       let on = reachable.on_tape durable left may w (reached.earlier ++ sent) (record { nodes_are = shown_before w reached.nodes; messages = reached.messages }) in
       let v = steps definition_eq w on.events in
@@ -225,7 +225,7 @@ module _ {T : Type 0} (tapes : Tape T) (durable : tapes.durable) (hosts next : L
       record {
         events = reached.events ++ on.events;
         earlier = on.sent;
-        nodes = subst (λ x. AreNodes tapes.images next x.nodes) (sym goes) (shown_now w reached.nodes one v on.refines.nodes_are);
+        nodes = subst (λ x. AreNodes tapes.images next x.nodes) (sym goes) (shown_now w reached.nodes v on.refines.nodes_are);
         messages = ap (λ x. x.sent) goes ∙ on.refines.messages ∙ ap (λ ms. map message.view ms) (sym (append-nil on.sent));
         all = λ is. absurd (false≢true is);
       }

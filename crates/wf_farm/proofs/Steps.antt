@@ -1,6 +1,6 @@
 -- One entry: a node in memory that is closed, and opened again.
 use Rattle.std.proofs.Common.{◌≡◌, ◌∙◌, ℕ, false, Some, refl, sym, ap, subst}
-use Rattle.wf_farm.proofs.Common.{Definition, DurableState, at_start, AllStandFor, StandsFor, Node, stored_of, volatile_of, IsFoldOf, IsSameNode, Follows, ReadsSame, IsImageOf, AreReadOneWay, Running, Stopped, IsFresh, MemoryHost, IsChanged, IsMember, IsNode, KeepsMember, Restarts, Stays, Stops, fresh_node, node_restarted, node_stopped, volatile_restarted}
+use Rattle.wf_farm.proofs.Common.{Definition, DurableState, at_start, AllStandFor, StandsFor, Node, stored_of, volatile_of, IsFoldOf, IsSameNode, Follows, ReadsSame, IsImageOf, Running, Stopped, IsFresh, MemoryHost, IsChanged, IsMember, IsNode, KeepsMember, Restarts, Stays, Stops, fresh_node, node_restarted, node_stopped, volatile_restarted}
 use Rattle.wf_delivery.proofs.Stored.{content_is_image, node_eq, node_of, one_stand, still_stands}
 use Rattle.wf_model.specs.World as world
 use Rattle.wf_tape.specs.MemoryTape as tape
@@ -31,18 +31,18 @@ stops_member (Stopped kept) after stopped = λ n i member. subst (IsMember n i) 
 -- ---- a restart
 
 -- A tape stands for exactly one durable state.
-pub one_stored : AreReadOneWay → (kept : tape.TapeValue) (stored others : DurableState Definition) → AllStandFor stored (IsImageOf kept) → AllStandFor others (IsImageOf kept) → stored ≡ others
-one_stored one kept stored others first second =
-    one_stand one kept.bytes stored others (first kept.bytes (content_is_image kept)) (second kept.bytes (content_is_image kept))
+pub one_stored : (kept : tape.TapeValue) (stored others : DurableState Definition) → AllStandFor stored (IsImageOf kept) → AllStandFor others (IsImageOf kept) → stored ≡ others
+one_stored kept stored others first second =
+    one_stand kept.bytes stored others (first kept.bytes (content_is_image kept)) (second kept.bytes (content_is_image kept))
 
 -- A node opened from a tape stored what the tape stands for, and has no proposal and no leadership.
-pub opened : AreReadOneWay → (kept : tape.TapeValue) (node : Node tape.TapeValue) → IsFoldOf (stored_of node) kept.bytes → volatile_of node ≡ at_start → Restarts (Stopped kept) (Running node)
+pub opened : (kept : tape.TapeValue) (node : Node tape.TapeValue) → IsFoldOf (stored_of node) kept.bytes → volatile_of node ≡ at_start → Restarts (Stopped kept) (Running node)
 unfolding Restarts node_restarted volatile_restarted
-opened one kept node fold_of idle = λ x is.
+opened kept node fold_of idle = λ x is.
     let stands : StandsFor x.stored kept.bytes = is.1 kept.bytes (content_is_image kept) in
     let found : StandsFor (stored_of node) kept.bytes = record { records = fold_of.records; reads = (fold_of.rest, fold_of.tape.reads); folds = fold_of.folds } in
     ap (λ volatile. node_of x.stored (volatile_restarted volatile)) is.0
-    ∙ node_eq _ _ _ _ (one_stand one kept.bytes x.stored (stored_of node) stands found) (ap Some (sym idle))
+    ∙ node_eq _ _ _ _ (one_stand kept.bytes x.stored (stored_of node) stands found) (ap Some (sym idle))
 
 pub opened_member : (n i : ℕ) (node : Node tape.TapeValue) → node.id ≡ i → node.n ≡ n → node.halted ≡ false → IsMember n i (Running node)
 opened_member n i node id many runs = (id, many, runs)

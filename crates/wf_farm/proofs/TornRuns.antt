@@ -1,10 +1,10 @@
 -- Runs in which one step may be torn: one event more.
 use Rattle.std.proofs.Common.{◌≡◌, ◌∙◌, ℕ, zero, suc, ◌+◌, ◌<◌, ◌≤◌, Bool, true, false, List, [], ◌∷◌, ◌++◌, map, length, take, drop, get_or, slice_get, nat_lt, Option, Some, None, Result, Ok, Err, IfOk, OnErr, refl, sym, ap, subst, arith, length-append, if◌then◌else◌, ◌==◌, inl, inr}
-use Rattle.wf_farm.proofs.Common.{cases_eq, nat_tests, append-nil, append_assoc, none-some, same_Some, slice_get_within, Message, Definition, definition_eq, AreReadOneWay, EarlierMessages, Agreement, StepsInTurn, Event, deliver, refused, steps, Kept, IsImageOf, CarrierFault, Happened, End, PumpProgress, Rejection, HistoriesGrow, MayAllocate, MayAllocateAt, KeepMembers, Moves, StayShown, ReportsWhy, last_rejected, view, MemoryFarm, IsReachable, size, reported, FailsOnly, GoesOn, HappensAs, HasFaredTo, HaveFared, HaveRun, IsArmed, IsHappened, IsPumpEnd, IsStepOf, IsStepOfNode, IsStepOfWatched, IsWatchedStep, PumpsOrTears, Stands, TearsOnly, ReportsLast, ReportsUnless, ReportsWhyUnlessTorn, crash_at, torn_at, with_torn, MemoryHost, IsEnd, IsMade, next, AreTargets, NextMayAllocate, begun, deliveries, most_deliveries}
+use Rattle.wf_farm.proofs.Common.{cases_eq, nat_tests, append-nil, append_assoc, none-some, same_Some, slice_get_within, Message, Definition, definition_eq, Event, deliver, refused, steps, Kept, IsImageOf, CarrierFault, Happened, PumpEnd, PumpProgress, Rejection, HistoriesGrow, MayAllocate, MayAllocateAt, KeepMembers, Moves, StayShown, ReportsWhy, last_rejected, view, MemoryFarm, IsReachable, size, reported, FailsOnly, GoesOn, HappensAs, HasFaredTo, HaveFared, HaveRun, IsArmed, IsHappened, IsPumpEnd, IsStepOf, IsStepOfNode, IsStepOfWatched, IsWatchedStep, PumpsOrTears, Stands, TearsOnly, ReportsLast, ReportsUnless, ReportsWhyUnlessTorn, crash_at, torn_at, with_torn, MemoryHost, IsEnd, IsMade, next, AreTargets, NextMayAllocate, begun, deliveries, most_deliveries}
 use Rattle.wf_model.specs.Kept.{view as view_kept}
 use Rattle.wf_model.specs.World as world
 use Rattle.wf_farm.specs.declared.event.Event as declared
-use Rattle.wf_farm.specs.declared.progress.End.TheVariants as end_case
+use Rattle.wf_farm.specs.declared.progress.PumpEnd.TheVariants as end_case
 use Rattle.wf_farm.proofs.Allocation.{next_may}
 use Rattle.wf_farm.proofs.Carried.{stays_moves}
 use Rattle.wf_delivery.proofs.DeliveryCount.{begun_most}
@@ -232,11 +232,11 @@ module _ (watched : Option ℕ) (none : watched ≡ None) (events : List declare
   part_may event at may = next_may hosts middle sent outputs events done event at (whole_moves watched (take done (map view events)) torn hosts middle sent outputs none ran.fared) may
 
 -- A farm after such a run: what its nodes have published is a beginning of what they publish then.
-pub farm_grown : Agreement Definition → AreReadOneWay → StepsInTurn Definition → EarlierMessages Definition → (before after : MemoryFarm) (events : List (Event Definition)) → length after.hosts ≡ length before.hosts →
+pub farm_grown : (before after : MemoryFarm) (events : List (Event Definition)) → length after.hosts ≡ length before.hosts →
     (Unit {0} → IsReachable IsImageOf before.complete before.hosts before.sent) → Moves events before.hosts before.sent after.hosts after.sent → HistoriesGrow before after
 unfolding HistoriesGrow
-farm_grown theorem one in_turn shifts before after events long reached moves = λ i old new had has.
-    grown theorem one in_turn shifts before.hosts after.hosts before.sent after.sent before.complete events long reached moves i old new had has
+farm_grown before after events long reached moves = λ i old new had has.
+    grown before.hosts after.hosts before.sent after.sent before.complete events long reached moves i old new had has
 
 -- ---- the deliveries of a pump
 
@@ -288,7 +288,7 @@ none_begun zero is = refl
 none_begun (suc some) is = absurd (omega (arith, is))
 
 -- The pump isn't at its end where a delivery wasn't made.
-pub failed_stands : (watched : Option ℕ) (end : End) (fault : CarrierFault) → end ≡ end_case.Failed fault → Stands watched end → watched ≡ None
+pub failed_stands : (watched : Option ℕ) (end : PumpEnd) (fault : CarrierFault) → end ≡ end_case.Failed fault → Stands watched end → watched ≡ None
 failed_stands None end fault is stands = refl
 failed_stands (Some i) end fault is stands = absurd (subst IsMade is stands)
 
@@ -319,7 +319,7 @@ module _ (watched : Option ℕ) (targets : List ℕ) (first : ℕ) (p : PumpProg
   pump_done all = (none_begun p.some (omega (arith, all, come.within)), omega (arith, all, come.within))
 
 -- What a pump has done to a farm, where the tape of a node could fail.
-pump_end : (first : ℕ) (p : PumpProgress) (end : End) (long sent : ℕ) (left : Bool) (count : ℕ) → count ≡ sent → nat_lt (first + p.whole) count ≡ left → Stands (Some 0) end → long ≡ p.done → p.done ≤ most_deliveries → IsEnd first sent p end →
+pump_end : (first : ℕ) (p : PumpProgress) (end : PumpEnd) (long sent : ℕ) (left : Bool) (count : ℕ) → count ≡ sent → nat_lt (first + p.whole) count ≡ left → Stands (Some 0) end → long ≡ p.done → p.done ≤ most_deliveries → IsEnd first sent p end →
     IsPumpEnd left long (first + p.whole) p.some sent
 pump_end first p (end_case.Failed fault) long sent left count same is stands counted most end = absurd stands
 pump_end first p end_case.Done long sent true count same is stands counted most end = absurd (grind (arith, nat_tests, is, same, end.1))
@@ -327,7 +327,7 @@ pump_end first p end_case.Done long sent false count same is stands counted most
 pump_end first p end_case.Stopped long sent true count same is stands counted most end = (counted ∙ end.0, end.1)
 pump_end first p end_case.Stopped long sent false count same is stands counted most end = absurd (grind (arith, nat_tests, is, same, end.1))
 
-pub pumps : (node : ℕ) (names : List ℕ) (before after : MemoryFarm) (n count : ℕ) (targets items : List ℕ) (p : PumpProgress) (end : End) (torn : Option (ℕ × Kept)) → n ≡ size before → targets ≡ items → AreTargets n names items →
+pub pumps : (node : ℕ) (names : List ℕ) (before after : MemoryFarm) (n count : ℕ) (targets items : List ℕ) (p : PumpProgress) (end : PumpEnd) (torn : Option (ℕ × Kept)) → n ≡ size before → targets ≡ items → AreTargets n names items →
     HaveFared (Some node) (deliveries targets before.pumped p.whole p.some) torn before.hosts before.sent after.hosts after.sent → length (deliveries targets before.pumped p.whole p.some) ≡ p.done → p.some < length targets →
     before.pumped + p.whole + begun p.some ≤ length after.sent → p.done ≤ most_deliveries → after.pumped ≡ before.pumped + p.whole + begun p.some → Stands (Some 0) end → IsEnd before.pumped (length after.sent) p end →
     count ≡ length after.sent → PumpsOrTears node names torn (nat_lt (before.pumped + p.whole) count) before after

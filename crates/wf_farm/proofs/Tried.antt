@@ -1,6 +1,6 @@
 -- A failure of a tape that is set, and taken away; and the opening of a tape that may fail.
 use Rattle.std.proofs.Common.{◌≡◌, ℕ, List, Option, Result, Ok, Err, IfOk, IfErr, refl, sym, ap, subst}
-use Rattle.wf_farm.proofs.Common.{Definition, DurableState, Record, at_start, EachIsCut, Node, stored_of, volatile_of, IsFoldOf, Follows, ReadsSame, TapeValue, IsImageOf, NeverFails, with_fuse, AreReadOneWay, Running, Stopped, MemoryHost, IsMember, KeepsSturdy, Restarts, Stays, tape_in, with_fuse_in}
+use Rattle.wf_farm.proofs.Common.{Definition, DurableState, Record, at_start, EachIsCut, Node, stored_of, volatile_of, IsFoldOf, Follows, ReadsSame, TapeValue, IsImageOf, NeverFails, with_fuse, Running, Stopped, MemoryHost, IsMember, KeepsSturdy, Restarts, Stays, tape_in, with_fuse_in}
 use Rattle.wf_tape.specs.Fuse.{fuse_at}
 use Rattle.wf_farm.proofs.Steps.{not_opened, opened}
 
@@ -40,8 +40,8 @@ laid_cut entry before after images node laid is cut = subst (λ (x : Node TapeVa
 
 -- ---- opening
 
-pub opened_laid : AreReadOneWay → (tape laid : TapeValue) (node : Node TapeValue) → laid ≡ with_fuse 0 0 tape → IsFoldOf (stored_of node) laid.bytes → volatile_of node ≡ at_start → Restarts (Stopped tape) (Running node)
-opened_laid one tape laid node is fold_of idle = opened one tape node (subst (λ (t : TapeValue). IsFoldOf (stored_of node) t.bytes) is fold_of) idle
+pub opened_laid : (tape laid : TapeValue) (node : Node TapeValue) → laid ≡ with_fuse 0 0 tape → IsFoldOf (stored_of node) laid.bytes → volatile_of node ≡ at_start → Restarts (Stopped tape) (Running node)
+opened_laid tape laid node is fold_of idle = opened tape node (subst (λ (t : TapeValue). IsFoldOf (stored_of node) t.bytes) is fold_of) idle
 
 pub not_opened_laid : (tape laid left : TapeValue) → laid ≡ with_fuse 0 0 tape → Follows ReadsSame (IsImageOf laid) (IsImageOf left) → Stays (Stopped tape) (Stopped left)
 not_opened_laid tape laid left is follows = not_opened tape left (subst (λ (t : TapeValue). Follows ReadsSame (IsImageOf t) (IsImageOf left)) is follows)

@@ -1,6 +1,6 @@
 -- A farm is one world, which is reached from the start: so its nodes agree.
 use Rattle.std.proofs.Common.{◌≡◌, ℕ, zero, suc, ◌+◌, ◌≤◌, Bool, true, List, [], map, ◌∷◌, ◌++◌, length, replicate, slice_get, Option, Some, None, refl, sym, ap, subst, ◌∙◌, arith}
-use Rattle.wf_farm.proofs.Common.{map-append, none-some, same_Some, Message, Definition, empty_map, definition_eq, Agreement, IsBeginning, sent_before, raised, EarlierMessages, history_of, history, definition, StepsInTurn, DurableState, definition_at, World, Event, start, after, steps, at_start, Node, volatile_of, AreReadOneWay, Running, Stopped, HasStored, HasOneHistory, IsOneWorld, AreMembers, KeepMembers, Moves, TapeValue, IsImageOf, NeverFails, IsFresh, AllRun, node_in, nodes_of, nodes_back, MemoryFarm, IsMemoryFarm, IsReachable, FailsOnly, MemoryHost, IsNode, IsMember, tape_in, fresh_node, IsFreshAt}
+use Rattle.wf_farm.proofs.Common.{map-append, none-some, same_Some, Message, Definition, empty_map, definition_eq, steps_in_turn, IsBeginning, sent_before, raised, history_of, history, definition, DurableState, definition_at, World, Event, start, after, steps, at_start, Node, volatile_of, Running, Stopped, HasStored, HasOneHistory, IsOneWorld, AreMembers, KeepMembers, Moves, TapeValue, IsImageOf, NeverFails, IsFresh, AllRun, node_in, nodes_of, nodes_back, MemoryFarm, IsMemoryFarm, IsReachable, FailsOnly, MemoryHost, IsNode, IsMember, tape_in, fresh_node, IsFreshAt}
 use Rattle.wf_codec.specs.Message as message
 use Rattle.wf_model.specs.Message as model
 use Rattle.wf_model.specs.World as world
@@ -13,6 +13,8 @@ use Rattle.wf_farm.proofs.Events.{node_at}
 use Rattle.wf_delivery.proofs.Stored.{content_is_image, node_of}
 use Rattle.wf_farm.proofs.Steps.{one_stored}
 use Rattle.wf_delivery.proofs.Turns.{world_of}
+use Rattle.wf_safety.proofs.Earlier.{earlier_messages}
+use Rattle.wf_safety.proofs.Theorems.{agreement}
 
 -- ---- the start
 
@@ -93,7 +95,7 @@ module _ (complete : Bool) (hosts : List MemoryHost) (sent : List Message) (reac
   unfolding sent_before
   restored = ap (world_of there.nodes) (sym (reached.messages ∙ map-append message.view reached.earlier sent))
 
-  module _ (in_turn : StepsInTurn Definition) (shifts : EarlierMessages Definition) (after_hosts : List MemoryHost) (after_sent : List Message) (more : List (Event Definition)) where
+  module _ (after_hosts : List MemoryHost) (after_sent : List Message) (more : List (Event Definition)) where
     abbrev all_events : List (Event Definition)
     all_events = reached.events ++ raised (length before) more
 
@@ -101,10 +103,10 @@ module _ (complete : Bool) (hosts : List MemoryHost) (sent : List Message) (reac
     run_on : (k : ℕ) → k ≡ length hosts → after definition_eq k all_events ≡ sent_before before (steps definition_eq here more)
     unfolding after
     run_on k long =
-        in_turn definition_eq (start k) reached.events (raised (length before) more)
+        steps_in_turn Definition definition_eq (start k) reached.events (raised (length before) more)
         ∙ ap (λ n. steps definition_eq (steps definition_eq (start n) reached.events) (raised (length before) more)) long
         ∙ ap (λ w. steps definition_eq w (raised (length before) more)) (sym restored)
-        ∙ shifts definition_eq before here more
+        ∙ earlier_messages Definition definition_eq before here more
 
     -- What is reached stays so by any run.
     pub reached_on : length after_hosts ≡ length hosts → Moves more hosts sent after_hosts after_sent → IsReachable IsImageOf complete after_hosts after_sent
@@ -148,15 +150,15 @@ unfolding AreMembers FailsOnly entries.AreMembers
 as_members hosts are sturdy = λ i host at. its_member (length hosts) i host (are i host at) (sturdy i host at (λ is. none-some i is))
 
 -- A farm after a run is a farm, if no tape of it fails.
-pub farm_run : StepsInTurn Definition → EarlierMessages Definition → (hosts after_hosts : List MemoryHost) (sent after_sent : List Message) (pumped now : ℕ) (complete : Bool) (more : List (Event Definition)) →
+pub farm_run : (hosts after_hosts : List MemoryHost) (sent after_sent : List Message) (pumped now : ℕ) (complete : Bool) (more : List (Event Definition)) →
     IsMemoryFarm hosts sent pumped complete → length after_hosts ≡ length hosts → AreMembers after_hosts → FailsOnly None after_hosts → Moves more hosts sent after_hosts after_sent → now ≤ length after_sent →
     IsMemoryFarm after_hosts after_sent now complete
-farm_run in_turn shifts hosts after_hosts sent after_sent pumped now complete more farm long members sturdy moves within = record {
+farm_run hosts after_hosts sent after_sent pumped now complete more farm long members sturdy moves within = record {
   some = subst (λ k. 1 ≤ k) (sym long) farm.some;
   most = subst (λ k. k ≤ 64) (sym long) farm.most;
   members = as_members after_hosts members sturdy;
   pumped_within = within;
-  reached = λ durable. reached_on complete hosts sent (farm.reached durable) in_turn shifts after_hosts after_sent more long moves;
+  reached = λ durable. reached_on complete hosts sent (farm.reached durable) after_hosts after_sent more long moves;
 }
 
 -- No tape fails that didn't before.
@@ -165,10 +167,10 @@ unfolding FailsOnly
 sturdy_on watched hosts after_hosts keeps sturdy = λ i host at other. let was = keeps.sturdy i host at in was.2 (sturdy i was.0 was.1 other)
 
 -- So after a run of a farm whose tapes don't fail.
-pub farm_moved : StepsInTurn Definition → EarlierMessages Definition → (hosts after_hosts : List MemoryHost) (sent after_sent : List Message) (pumped now : ℕ) (complete : Bool) (more : List (Event Definition)) →
+pub farm_moved : (hosts after_hosts : List MemoryHost) (sent after_sent : List Message) (pumped now : ℕ) (complete : Bool) (more : List (Event Definition)) →
     IsMemoryFarm hosts sent pumped complete → KeepMembers hosts after_hosts → Moves more hosts sent after_hosts after_sent → now ≤ length after_sent → IsMemoryFarm after_hosts after_sent now complete
-farm_moved in_turn shifts hosts after_hosts sent after_sent pumped now complete more farm keeps moves within =
-    farm_run in_turn shifts hosts after_hosts sent after_sent pumped now complete more farm keeps.as_many (keeps.members (members_of hosts farm.members))
+farm_moved hosts after_hosts sent after_sent pumped now complete more farm keeps moves within =
+    farm_run hosts after_hosts sent after_sent pumped now complete more farm keeps.as_many (keeps.members (members_of hosts farm.members))
     (sturdy_on None hosts after_hosts keeps (sturdy_of hosts farm.members)) moves within
 
 -- A new farm is one.
@@ -183,23 +185,23 @@ farm_started n hosts some most long members sturdy refines = record {
 
 -- ---- one world
 
-one_node : AreReadOneWay → (host : MemoryHost) (node other : world.Node Definition) → IsNode host node → IsNode host other → node ≡ other
-one_node one (Running held) node other is again = is ∙ sym again
-one_node one (Stopped kept) node other is again =
-    ap (λ s. node_of s node.volatile) (one_stored one kept node.stored other.stored is.1 again.1) ∙ ap (λ x. node_of other.stored x) (is.0 ∙ sym again.0)
+one_node : (host : MemoryHost) (node other : world.Node Definition) → IsNode host node → IsNode host other → node ≡ other
+one_node (Running held) node other is again = is ∙ sym again
+one_node (Stopped kept) node other is again =
+    ap (λ s. node_of s node.volatile) (one_stored kept node.stored other.stored is.1 again.1) ∙ ap (λ x. node_of other.stored x) (is.0 ∙ sym again.0)
 
-one_list : AreReadOneWay → (hosts : List MemoryHost) (nodes others : List (world.Node Definition)) → AreNodes hosts nodes → AreNodes hosts others → nodes ≡ others
-one_list one [] [] [] are again = refl
-one_list one [] [] (y ∷ others) are again = absurd again
-one_list one [] (x ∷ nodes) others are again = absurd are
-one_list one (p ∷ hosts) [] others are again = absurd are
-one_list one (p ∷ hosts) (x ∷ nodes) [] are again = absurd again
-one_list one (p ∷ hosts) (x ∷ nodes) (y ∷ others) are again =
-    ap (λ z. z ∷ nodes) (one_node one p x y are.0 again.0) ∙ ap (λ zs. y ∷ zs) (one_list one hosts nodes others are.1 again.1)
+one_list : (hosts : List MemoryHost) (nodes others : List (world.Node Definition)) → AreNodes hosts nodes → AreNodes hosts others → nodes ≡ others
+one_list [] [] [] are again = refl
+one_list [] [] (y ∷ others) are again = absurd again
+one_list [] (x ∷ nodes) others are again = absurd are
+one_list (p ∷ hosts) [] others are again = absurd are
+one_list (p ∷ hosts) (x ∷ nodes) [] are again = absurd again
+one_list (p ∷ hosts) (x ∷ nodes) (y ∷ others) are again =
+    ap (λ z. z ∷ nodes) (one_node p x y are.0 again.0) ∙ ap (λ zs. y ∷ zs) (one_list hosts nodes others are.1 again.1)
 
 -- A farm that has all messages is the world that it was led to, and no other.
-pub one_world : AreReadOneWay → (farm : MemoryFarm) → (Unit {0} → IsReachable IsImageOf farm.complete farm.hosts farm.sent) → farm.complete ≡ true → IsOneWorld farm
-one_world one farm known complete =
+pub one_world : (farm : MemoryFarm) → (Unit {0} → IsReachable IsImageOf farm.complete farm.hosts farm.sent) → farm.complete ≡ true → IsOneWorld farm
+one_world farm known complete =
     let reached = known tt in
     let w = after definition_eq (length farm.hosts) reached.events in
     let all : w.sent ≡ map message.view farm.sent = reached.messages ∙ ap (λ earlier. map message.view (earlier ++ farm.sent)) (reached.all complete) in
@@ -209,16 +211,16 @@ one_world one farm known complete =
       events = reached.events;
       reached = refl;
       no_other = λ v refines.
-          ap (λ ns. world_of ns v.sent) (one_list one farm.hosts v.nodes w.nodes refines.nodes reached.nodes)
+          ap (λ ns. world_of ns v.sent) (one_list farm.hosts v.nodes w.nodes refines.nodes reached.nodes)
           ∙ ap (λ ms. world_of w.nodes ms) (refines.messages ∙ sym all);
     }
 
 -- ---- the headline
 
 -- the durable state of an entry is that of its node
-stored_at : AreReadOneWay → (host : MemoryHost) (node : world.Node Definition) (stored : DurableState Definition) → IsNode host node → HasStored (Some host) stored → stored ≡ node.stored
-stored_at one (Running held) node stored is has = has ∙ sym (ap (λ x. x.stored) is)
-stored_at one (Stopped kept) node stored is has = one_stored one kept stored node.stored has is.1
+stored_at : (host : MemoryHost) (node : world.Node Definition) (stored : DurableState Definition) → IsNode host node → HasStored (Some host) stored → stored ≡ node.stored
+stored_at (Running held) node stored is has = has ∙ sym (ap (λ x. x.stored) is)
+stored_at (Stopped kept) node stored is has = one_stored kept stored node.stored has is.1
 
 -- a definition at a sequence, as the model's `definition`
 entry_at : (definitions : List Definition) (w : World Definition) (i s : ℕ) (d : Definition) → history w i ≡ definitions → definition_at definitions s ≡ Some d → definition empty_map w i s ≡ Some d
@@ -226,49 +228,49 @@ unfolding definition definition_at
 entry_at definitions w i zero d same e = absurd (none-some d e)
 entry_at definitions w i (suc k) d same e = ap (λ ds. slice_get ds k) same ∙ e
 
-published_by : AreReadOneWay → (hosts : List MemoryHost) (w : World Definition) (i s : ℕ) (d : Definition) (there : Option MemoryHost) (stored : DurableState Definition) → AreNodes hosts w.nodes →
+published_by : (hosts : List MemoryHost) (w : World Definition) (i s : ℕ) (d : Definition) (there : Option MemoryHost) (stored : DurableState Definition) → AreNodes hosts w.nodes →
     slice_get hosts i ≡ there → HasStored there stored → definition_at stored.history s ≡ Some d → definition empty_map w i s ≡ Some d
 unfolding history history_of
-published_by one hosts w i s d None stored are at has e = absurd has
-published_by one hosts w i s d (Some host) stored are at has e =
+published_by hosts w i s d None stored are at has e = absurd has
+published_by hosts w i s d (Some host) stored are at has e =
     let here = node_at hosts w.nodes i host are at in
-    entry_at stored.history w i s d (ap history_of here.1 ∙ ap (λ (x : DurableState Definition). x.history) (sym (stored_at one host here.0 stored here.2 has))) e
+    entry_at stored.history w i s d (ap history_of here.1 ∙ ap (λ (x : DurableState Definition). x.history) (sym (stored_at host here.0 stored here.2 has))) e
 
 -- the durable state of an entry has the list of the world's node
-history_at : AreReadOneWay → (hosts : List MemoryHost) (w : World Definition) (i : ℕ) (there : Option MemoryHost) (stored : DurableState Definition) → AreNodes hosts w.nodes → slice_get hosts i ≡ there →
+history_at : (hosts : List MemoryHost) (w : World Definition) (i : ℕ) (there : Option MemoryHost) (stored : DurableState Definition) → AreNodes hosts w.nodes → slice_get hosts i ≡ there →
     HasStored there stored → history w i ≡ stored.history
 unfolding history history_of
-history_at one hosts w i None stored are at has = absurd has
-history_at one hosts w i (Some host) stored are at has =
+history_at hosts w i None stored are at has = absurd has
+history_at hosts w i (Some host) stored are at has =
     let here = node_at hosts w.nodes i host are at in
-    ap history_of here.1 ∙ ap (λ (x : DurableState Definition). x.history) (sym (stored_at one host here.0 stored here.2 has))
+    ap history_of here.1 ∙ ap (λ (x : DurableState Definition). x.history) (sym (stored_at host here.0 stored here.2 has))
 
 -- What an entry's node has published before a run is a prefix of what it has published after it.
-pub grown : Agreement Definition → AreReadOneWay → StepsInTurn Definition → EarlierMessages Definition → (hosts after_hosts : List MemoryHost) (sent after_sent : List Message) (complete : Bool) (more : List (Event Definition)) →
+pub grown : (hosts after_hosts : List MemoryHost) (sent after_sent : List Message) (complete : Bool) (more : List (Event Definition)) →
     length after_hosts ≡ length hosts → (Unit {0} → IsReachable IsImageOf complete hosts sent) → Moves more hosts sent after_hosts after_sent →
     (i : ℕ) (old new : DurableState Definition) → HasStored (slice_get hosts i) old → HasStored (slice_get after_hosts i) new → IsBeginning old.history new.history
 unfolding reached_on
-grown theorem one in_turn shifts hosts after_hosts sent after_sent complete more long known moves i old new was is =
+grown hosts after_hosts sent after_sent complete more long known moves i old new was is =
     let reached = known tt in
-    let ended = reached_on complete hosts sent reached in_turn shifts after_hosts after_sent more long moves in
+    let ended = reached_on complete hosts sent reached after_hosts after_sent more long moves in
     let before = after definition_eq (length hosts) reached.events in
     let now = after definition_eq (length after_hosts) ended.events in
-    subst (λ h. IsBeginning h new.history) (history_at one hosts before i (slice_get hosts i) old reached.nodes refl was)
-    (subst (λ h. IsBeginning (history before i) h) (history_at one after_hosts now i (slice_get after_hosts i) new ended.nodes refl is)
+    subst (λ h. IsBeginning h new.history) (history_at hosts before i (slice_get hosts i) old reached.nodes refl was)
+    (subst (λ h. IsBeginning (history before i) h) (history_at after_hosts now i (slice_get after_hosts i) new ended.nodes refl is)
     (subst (λ k. IsBeginning (history before i) (history (after definition_eq k ended.events) i)) (sym long)
-    (theorem.grows definition_eq (length hosts) i reached.events (raised (length (map message.view reached.earlier)) more))))
+    ((agreement Definition).grows definition_eq (length hosts) i reached.events (raised (length (map message.view reached.earlier)) more))))
 
-pub grown_still : Agreement Definition → AreReadOneWay → StepsInTurn Definition → EarlierMessages Definition → (hosts : List MemoryHost) (sent : List Message) (complete : Bool) → (Unit {0} → IsReachable IsImageOf complete hosts sent) →
+pub grown_still : (hosts : List MemoryHost) (sent : List Message) (complete : Bool) → (Unit {0} → IsReachable IsImageOf complete hosts sent) →
     (i : ℕ) (old new : DurableState Definition) → HasStored (slice_get hosts i) old → HasStored (slice_get hosts i) new → IsBeginning old.history new.history
 unfolding Moves steps
-grown_still theorem one in_turn shifts hosts sent complete reached = grown theorem one in_turn shifts hosts hosts sent sent complete [] refl reached (λ w refines. refines)
+grown_still hosts sent complete reached = grown hosts hosts sent sent complete [] refl reached (λ w refines. refines)
 
 -- Whatever led to the farm, no two of its nodes publish different definitions under one sequence.
-pub agree_reached : Agreement Definition → AreReadOneWay → (farm : MemoryFarm) → (Unit {0} → IsReachable IsImageOf farm.complete farm.hosts farm.sent) → HasOneHistory farm
+pub agree_reached : (farm : MemoryFarm) → (Unit {0} → IsReachable IsImageOf farm.complete farm.hosts farm.sent) → HasOneHistory farm
 unfolding HasOneHistory
-agree_reached theorem one farm known = λ i j s c d first second.
+agree_reached farm known = λ i j s c d first second.
     let reached = known tt in
     let w = after definition_eq (length farm.hosts) reached.events in
-    (theorem.facts definition_eq (length farm.hosts) reached.events).same_definition empty_map i j s c d
-    (published_by one farm.hosts w i s c (slice_get farm.hosts i) first.stored reached.nodes refl first.has first.entry)
-    (published_by one farm.hosts w j s d (slice_get farm.hosts j) second.stored reached.nodes refl second.has second.entry)
+    ((agreement Definition).facts definition_eq (length farm.hosts) reached.events).same_definition empty_map i j s c d
+    (published_by farm.hosts w i s c (slice_get farm.hosts i) first.stored reached.nodes refl first.has first.entry)
+    (published_by farm.hosts w j s d (slice_get farm.hosts j) second.stored reached.nodes refl second.has second.entry)

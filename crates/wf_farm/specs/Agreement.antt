@@ -1,7 +1,7 @@
 -- The headline for a farm: what its nodes publish under one sequence is one definition.
 use Rattle.std.specs.Prelude.{◌≡◌, ℕ, List, slice_get, Option, Some, None}
 use Rattle.wf_farm.specs.Common.{Definition, DurableState, definition_at, definition_eq, IsBeginning, World, Event, after, AllStandFor, stored_of, IsImageOf}
-use Rattle.wf_farm.specs.declared.host.NodeHost.TheVariants.{Running, Stopped}
+use Rattle.wf_farm.specs.declared.cluster.NodeHost.TheVariants.{Running, Stopped}
 use Rattle.wf_farm.specs.Farm.{MemoryFarm, Refines, size}
 use Rattle.wf_farm.specs.NodeHost.{MemoryHost}
 

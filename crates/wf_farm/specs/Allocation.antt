@@ -5,7 +5,7 @@ use Rattle.wf_farm.specs.Common.{Message, Definition, definition_eq, Action, Wor
 use Rattle.wf_model.specs.World as world
 use Rattle.wf_farm.specs.declared.fault.FarmFault.{FarmFault}
 use Rattle.wf_farm.specs.declared.fault.FarmFault.TheVariants.{Memory, NoNode, Carried}
-use Rattle.wf_farm.specs.declared.host.NodeHost.TheVariants.{Running, Stopped}
+use Rattle.wf_farm.specs.declared.cluster.NodeHost.TheVariants.{Running, Stopped}
 use Rattle.wf_farm.specs.Cluster.{Refines}
 use Rattle.wf_farm.specs.NodeHost.{MemoryHost}
 

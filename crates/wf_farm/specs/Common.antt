@@ -10,7 +10,7 @@ pub use Rattle.wf_model.specs.DurableState.{Record, DurableState, definition_at}
 pub use Rattle.wf_model.specs.Table.{Action, Input, StepRejection, most_reports}
 pub use Rattle.wf_model.specs.VolatileState.{at_start}
 pub use Rattle.wf_model.specs.World.{Event, World, after, deliver, happens, input_of, propose, refused, rejected_at, start, steps, turn}
-pub use Rattle.wf_model.specs.declared.kept.Kept.{Kept}
+pub use Rattle.wf_model.specs.declared.action.Kept.{Kept}
 pub use Rattle.wf_node.specs.Images.{AllStandFor, EachIsCut}
 pub use Rattle.wf_node.specs.Node.{Node, stored_of, volatile_of}
 pub use Rattle.wf_node.specs.Step.{IsTransition, entry_of, step_rejection_at, transition_of, stored_next}

@@ -2,8 +2,8 @@
 use Rattle.std.specs.Prelude.{◌≡◌, ℕ, List, slice_get, slice_set, Some, Vec}
 use Rattle.wf_farm.specs.Common.{Global, Message, Node}
 use Rattle.wf_delivery.specs.declared.delivery.Pumped.{Pumped}
-use Rattle.wf_farm.specs.declared.host.NodeHost.{NodeHost}
-use Rattle.wf_farm.specs.declared.host.NodeHost.TheVariants.{Running}
+use Rattle.wf_farm.specs.declared.cluster.NodeHost.{NodeHost}
+use Rattle.wf_farm.specs.declared.cluster.NodeHost.TheVariants.{Running}
 use Rattle.wf_delivery.specs.Delivery.{AreHandedOut, IsDelivered, StandInTurn}
 use Rattle.wf_delivery.specs.Reachability.{AreReachableSending}
 use Rattle.wf_tape.specs.declared.tape.Tape.{Ghosts as Tape}

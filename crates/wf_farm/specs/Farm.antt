@@ -3,8 +3,8 @@ use Rattle.std.specs.Prelude.{◌≡◌, ◌≤◌, ◌<◌, ◌++◌, ℕ, Bool
 use Rattle.wf_codec.specs.Message as message
 use Rattle.wf_farm.specs.Common.{Message, Definition, definition_eq, World, Event, after, Node, TapeValue, IsImageOf, NeverFails}
 use Rattle.wf_farm.specs.declared.rejection.Rejection.{Rejection}
-use Rattle.wf_farm.specs.declared.host.NodeHost.{NodeHost}
-use Rattle.wf_farm.specs.declared.host.NodeHost.TheVariants.{Running, Stopped}
+use Rattle.wf_farm.specs.declared.cluster.NodeHost.{NodeHost}
+use Rattle.wf_farm.specs.declared.cluster.NodeHost.TheVariants.{Running, Stopped}
 use Rattle.wf_farm.specs.declared.fault.FarmFault.{FarmFault}
 use Rattle.wf_farm.specs.declared.fault.FarmFault.TheVariants.{Memory, NoNode, Carried}
 use Rattle.wf_farm.specs.Cluster as cluster

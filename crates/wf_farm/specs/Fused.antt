@@ -7,7 +7,7 @@ use Rattle.wf_model.specs.World as world
 use Rattle.wf_farm.specs.declared.fate.Happened.{Happened}
 use Rattle.wf_farm.specs.declared.fault.FarmFault.{FarmFault}
 use Rattle.wf_farm.specs.declared.fault.FarmFault.TheVariants.{Memory, NoNode, Carried}
-use Rattle.wf_farm.specs.declared.progress.End.{End}
+use Rattle.wf_farm.specs.declared.progress.PumpEnd.{PumpEnd}
 use Rattle.wf_delivery.specs.declared.progress.PumpProgress.{PumpProgress}
 use Rattle.wf_farm.specs.declared.rejection.Rejection.{Rejection}
 use Rattle.wf_farm.specs.Cluster.{Turns, Moves, ReportsWhy, last_rejected}
@@ -180,6 +180,6 @@ pub record HasFaredTo (watched : Option ℕ) (targets : List ℕ) (first : ℕ) 
   pub most : p.done ≤ most_deliveries
 
 -- Where a tape may fail, nothing is known of the farm after a delivery that wasn't made.
-abbrev pub Stands : Option ℕ → End → Type 0
+abbrev pub Stands : Option ℕ → PumpEnd → Type 0
 Stands None end = ⊤
 Stands (Some i) end = IsMade end

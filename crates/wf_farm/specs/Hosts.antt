@@ -2,8 +2,8 @@
 use Rattle.std.specs.Prelude.{◌≡◌, ℕ, ⊤, false, List, [], ◌∷◌, length, slice_get, Some, None}
 use Rattle.wf_farm.specs.Common.{Definition, AllStandFor, stored_of, volatile_of}
 use Rattle.wf_model.specs.World as world
-use Rattle.wf_farm.specs.declared.host.NodeHost.{NodeHost}
-use Rattle.wf_farm.specs.declared.host.NodeHost.TheVariants.{Running, Stopped}
+use Rattle.wf_farm.specs.declared.cluster.NodeHost.{NodeHost}
+use Rattle.wf_farm.specs.declared.cluster.NodeHost.TheVariants.{Running, Stopped}
 
 module _ {T : Type 0} (images : T → List ℕ → Type 0) where
   -- The entry is this node of the model. A running node has both its parts. A stopped one has no volatile state, and its durable

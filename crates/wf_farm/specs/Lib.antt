@@ -16,5 +16,5 @@ pub mod Nodes
 pub mod NodesTheorems
 pub mod Exchange
 pub mod Fused
-pub mod Taking
+pub mod FallibleStep
 pub mod Publication

@@ -4,8 +4,8 @@ use Rattle.wf_farm.specs.Common.{Definition, AllStandFor, stored_of, NodeFault, 
 use Rattle.wf_model.specs.World as world
 use Rattle.wf_node.specs.Fault as fault
 use Rattle.wf_farm.specs.declared.rejection.Rejection.{Rejection}
-use Rattle.wf_farm.specs.declared.host.NodeHost.{NodeHost}
-use Rattle.wf_farm.specs.declared.host.NodeHost.TheVariants.{Running, Stopped}
+use Rattle.wf_farm.specs.declared.cluster.NodeHost.{NodeHost}
+use Rattle.wf_farm.specs.declared.cluster.NodeHost.TheVariants.{Running, Stopped}
 use Rattle.wf_farm.specs.Fault.{reported}
 use Rattle.wf_farm.specs.Hosts as entries
 use Rattle.wf_delivery.specs.Turn.{node_restarted}

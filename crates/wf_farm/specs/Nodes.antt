@@ -4,8 +4,8 @@ use Rattle.std.specs.FinMap as map
 use Rattle.wf_farm.specs.Common.{Node}
 use Rattle.wf_node.specs.Parts.{Parts}
 use Rattle.wf_node.specs.VolatileState.{VolatileState, Idle}
-use Rattle.wf_farm.specs.declared.host.NodeHost.{NodeHost}
-use Rattle.wf_farm.specs.declared.host.NodeHost.TheVariants.{Running, Stopped}
+use Rattle.wf_farm.specs.declared.cluster.NodeHost.{NodeHost}
+use Rattle.wf_farm.specs.declared.cluster.NodeHost.TheVariants.{Running, Stopped}
 use Rattle.wf_farm.specs.Farm.{Farm}
 use Rattle.wf_farm.specs.Hosts.{AreMembers, IsMember}
 use Rattle.wf_tape.specs.declared.tape.Tape.{Ghosts as Tape}

@@ -1,8 +1,8 @@
 -- The entries of a farm as a list of nodes: each at its index, also after one is set; and what stays of them.
 use Rattle.std.proofs.Common.{◌≡◌, ℕ, zero, suc, ◌+◌, ◌<◌, List, [], ◌∷◌, ◌++◌, length, slice_get, slice_set, Some, refl, sym, ap, subst, ◌∙◌, arith, inl, inr, length-set}
 use Rattle.wf_farm.specs.Common.{cases_eq, none-some, same_Some, slice_get_within, Node}
-use Rattle.wf_farm.specs.declared.host.NodeHost.{NodeHost}
-use Rattle.wf_farm.specs.declared.host.NodeHost.TheVariants.{Running, Stopped}
+use Rattle.wf_farm.specs.declared.cluster.NodeHost.{NodeHost}
+use Rattle.wf_farm.specs.declared.cluster.NodeHost.TheVariants.{Running, Stopped}
 use Rattle.wf_farm.specs.Nodes.{AllRun, KeepHosts, KeepsHost, RunsAt, node_in, nodes_from, nodes_of}
 use Rattle.wf_delivery.specs.IndexTheorems.{get_set_other, set_there}
 

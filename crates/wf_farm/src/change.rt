@@ -6,11 +6,10 @@ ghost use Rattle.wf_delivery.specs.Reachability.{AreReachableFrom};
 ghost use Rattle.wf_farm.specs.Nodes.{KeepEntries, KeepHosts, nodes_in, nodes_of};
 ghost use Rattle.wf_node.specs.Node.{Node};
 
+use crate::cluster::NodeHost;
 use crate::farm::Farm;
-use crate::host::NodeHost;
 use std::alloc::Global;
 use std::mem::replace;
-use wf_journal::records_are_read_one_way;
 use wf_tape::Tape;
 
 /// What changes the nodes of a farm, as messages that it delivers do: some events of the model lead to what they are afterwards.
@@ -41,8 +40,6 @@ impl<T: Tape> Farm<T> {
           complete = false;
         } }
     {
-        // Theorem of the tape: it stands for exactly one durable state.
-        records_are_read_one_way();
         client.change(alloc, &mut self.cluster.hosts);
         drop(replace(&mut self.cluster.sent, Vec::new(alloc)));
         self.pumped = 0;

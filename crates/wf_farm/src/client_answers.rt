@@ -39,6 +39,5 @@ impl Farm<MemoryTape> {
     {
         self.agree();
         wf_wms::theorem::each_query_has_one_answer();
-        wf_wms::theorem::asked_maps_are_answered_alike();
     }
 }

@@ -1,6 +1,6 @@
 //! A farm's entry receives messages as its node does, if it runs.
 
-use crate::host::NodeHost;
+use crate::cluster::NodeHost;
 use std::alloc::Global;
 use wf_codec::Message;
 use wf_delivery::{Outputs, Recipient, hand, quiet};

@@ -11,14 +11,12 @@ ghost use Rattle.wf_delivery.specs.Reachability.{AreReachableFrom, AreReachableS
 ghost use Rattle.wf_farm.specs.Nodes.{KeepEntries, KeepHosts, RunsAt, nodes_in, nodes_of};
 ghost use Rattle.wf_farm.specs.Hosts.{AreMembers};
 
-use crate::cluster::Cluster;
+use crate::cluster::{Cluster, NodeHost};
 use crate::farm::Farm;
-use crate::host::NodeHost;
 use std::alloc::Global;
 use std::mem::replace;
 use wf_codec::Message;
-use wf_delivery::{Pumped, agreement, deliver_each, deliveries_are_reachable};
-use wf_journal::records_are_read_one_way;
+use wf_delivery::{Pumped, deliver_each};
 use wf_node::Node;
 use wf_tape::Tape;
 
@@ -87,8 +85,6 @@ impl<T: Tape> Farm<T> {
           complete = false;
         } }
     {
-        // Theorem of the tape: it stands for exactly one durable state.
-        records_are_read_one_way();
         let pumped = exchange_in(alloc, &mut self.cluster.hosts, number, client);
         drop(replace(&mut self.cluster.sent, Vec::new(alloc)));
         self.pumped = 0;
@@ -105,7 +101,6 @@ impl<T: Tape> Farm<T> {
         ensures in_turn { StandInTurn (nodes_in self.now) }
     {
         let _ = &self.cluster;
-        agreement();
     }
 }
 
@@ -125,7 +120,6 @@ fn exchange_in<C: NodeClient<T>, T: Tape>(
     ensures reachable { AreReachableFrom T.Tape (nodes_of hosts.old) (nodes_of hosts.new) }
     ensures entries { KeepEntries T.Tape hosts.old hosts.new }
 {
-    deliveries_are_reachable::<T>();
     let messages = asked(alloc, hosts, number, client);
     deliver_each(alloc, hosts, messages)
 }

@@ -6,12 +6,9 @@ use crate::event::Event;
 use crate::fate::{CrashWatch, Ran};
 use crate::fault::FarmFault;
 use crate::rejection::Rejection;
-use crate::theorem::theorems;
 use std::alloc::Global;
 use std::marker::Model;
 use wf_codec::Message;
-use wf_delivery::agreement;
-use wf_journal::records_are_read_one_way;
 use wf_node::Node;
 use wf_tape::{MemoryTape, Tape};
 
@@ -153,7 +150,6 @@ impl Farm<MemoryTape> {
         ensures pumped { self.new.pumped ≡ self.old.pumped }
         ensures complete { self.new.complete ≡ self.old.complete }
     {
-        theorems();
         let watch = CrashWatch {
             node: None,
             keep: 0,
@@ -179,7 +175,5 @@ impl Farm<MemoryTape> {
         ensures world { self.now.complete ≡ true → IsOneWorld self.now }
     {
         let _ = &self.cluster;
-        agreement();
-        records_are_read_one_way();
     }
 }

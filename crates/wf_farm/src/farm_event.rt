@@ -11,15 +11,14 @@ ghost use Rattle.wf_farm.specs.Carriage.{ChangesByEvent};
 ghost use Rattle.wf_farm.specs.Cluster.{AreMembers, Between, Happens, HoldsIn, KeepMembers, StayShown, input_in};
 ghost use Rattle.wf_farm.specs.Event.{view};
 ghost use Rattle.wf_farm.specs.Fused.{FailsOnly, IsHappened, TearsAt, TearsOnly};
-ghost use Rattle.wf_farm.specs.Taking.{GoesThere, IsIdle, IsTaken, ReportsWhyNot, acted, received_as};
+ghost use Rattle.wf_farm.specs.FallibleStep.{GoesThere, IsIdle, IsTaken, ReportsWhyNot, acted, received_as};
 ghost use Rattle.wf_farm.specs.declared.carrier.CarrierFault.TheVariants as carriers;
 
 use crate::carrier::{Carrier, CarrierFault, carry_over};
-use crate::cluster::Cluster;
+use crate::cluster::{Cluster, NodeHost};
 use crate::event::{Action, Event, Kept};
 use crate::fate::{Fate, Happened};
 use crate::fault::rejection_in;
-use crate::host::NodeHost;
 use crate::rejection::Rejection;
 use std::alloc::Global;
 use wf_ballot::NodeId;

@@ -9,8 +9,7 @@ ghost use Rattle.wf_farm.specs.Fused.{FailsOnly};
 ghost use Rattle.wf_farm.specs.NodeHost.{IsMember, IsNode, tape_in};
 ghost use Rattle.wf_farm.specs.Start.{AreFresh};
 
-use crate::cluster::Cluster;
-use crate::host::NodeHost;
+use crate::cluster::{Cluster, NodeHost};
 use std::alloc::{AllocError, Global};
 use wf_ballot::NodeId;
 use wf_delivery::open_fresh;

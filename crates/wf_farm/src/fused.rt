@@ -17,7 +17,6 @@ use crate::fault::FarmFault;
 use crate::progress::{Pumping, made};
 use crate::rejection::Rejection;
 use crate::targets::targets_of;
-use crate::theorem::theorems;
 use std::alloc::{AllocError, Global};
 use std::slice::from_ref;
 use wf_tape::MemoryTape;
@@ -171,7 +170,6 @@ pub fn pump_failing<C: Carrier>(
     ensures complete { IfOk result (λ pump. pump.fused.farm.complete ≡ farm.complete) }
     ensures memory { C.faithful → IfErr result (λ fault. fault ≡ carriers.Memory) }
 {
-    theorems();
     let Farm {
         mut cluster,
         pumped,
@@ -281,7 +279,6 @@ fn run_failing<C: Carrier>(
     ensures most { IfErr result (λ e. e.0 < length events.now) }
     ensures memory { C.faithful → IfErr result (λ e. e.1 ≡ carriers.Memory) }
 {
-    theorems();
     let Farm {
         mut cluster,
         pumped,

@@ -57,7 +57,6 @@ mod farm_start;
 mod fate;
 mod fault;
 mod fused;
-mod host;
 mod node_access;
 mod node_step;
 mod progress;
@@ -66,10 +65,10 @@ mod pump;
 mod rejection;
 mod same;
 mod targets;
-mod theorem;
 
 pub use carrier::{Carrier, CarrierFault, Copies};
 pub use change::FarmClient;
+pub use cluster::NodeHost;
 pub use event::{Action, Event, Kept};
 pub use exchange::NodeClient;
 pub use farm::Farm;
@@ -77,6 +76,5 @@ pub use fault::FarmFault;
 pub use fused::{
     Fused, FusedPump, NodeFuse, deliver_failing, happen_failing, pump_failing, run_fused,
 };
-pub use host::NodeHost;
 pub use publication::{a_proposal_is_published, a_pump_delivers_alike};
 pub use rejection::Rejection;

@@ -4,7 +4,7 @@ ghost use Rattle.std.specs.Prelude.{◌≡◌, Some};
 ghost use Rattle.std.specs.Option.{option_copied};
 ghost use Rattle.wf_farm.specs.Farm.{running_in};
 
-use crate::host::NodeHost;
+use crate::cluster::NodeHost;
 use wf_node::Node;
 use wf_tape::Tape;
 

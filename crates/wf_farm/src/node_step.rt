@@ -7,17 +7,17 @@ ghost use Rattle.wf_node.specs.Input.{view};
 ghost use Rattle.wf_tape.specs.MemoryTape.{NeverFails};
 ghost use Rattle.wf_farm.specs.Allocation.{IsStopped};
 ghost use Rattle.wf_farm.specs.NodeHost.{IsMember, KeepsMember, KeepsSturdy, Restarts, Stays, Stops, tape_in, with_fuse_in};
-ghost use Rattle.wf_farm.specs.Taking.{Fares, Goes, IsCutTape, IsFew, IsTornTo, kept_beyond};
-ghost use Rattle.wf_farm.specs.declared.host.NodeHost.TheVariants.{Running, Stopped};
+ghost use Rattle.wf_farm.specs.FallibleStep.{Fares, Goes, IsCutTape, IsFew, IsTornTo, kept_beyond};
+ghost use Rattle.wf_farm.specs.declared.cluster.NodeHost.TheVariants.{Running, Stopped};
 
+use crate::cluster::NodeHost;
 use crate::event::Kept;
 use crate::fate::Fate;
-use crate::host::NodeHost;
 use std::alloc::{AllocError, Global};
 use std::mem::replace;
 use wf_ballot::NodeId;
 use wf_delivery::{Outputs, consume, is_halted};
-use wf_journal::{OpenFault, records_are_read_one_way};
+use wf_journal::OpenFault;
 use wf_node::{Input, Node};
 use wf_tape::MemoryTape;
 
@@ -66,7 +66,7 @@ impl NodeHost<MemoryTape> {
         ensures sturdy { KeepsSturdy self.old self.new }
     {
         let before = replace(self, NodeHost::blank(alloc));
-        match before.reopened(alloc, id, n) {
+        match before.reopen_node(alloc, id, n) {
             Ok(after) => {
                 drop(replace(self, after));
                 Ok(())
@@ -80,7 +80,7 @@ impl NodeHost<MemoryTape> {
 
     /// The entry with its node restarted as node `id` of n; if an allocation fails, the entry with its tape returned.
     #[tactic(auto, using(crate::proofs::Steps::opened, crate::proofs::Steps::not_opened, crate::proofs::Steps::still_running, crate::proofs::Steps::opened_member, crate::proofs::Allocation::stopped_there))]
-    fn reopened(
+    fn reopen_node(
         self,
         alloc: Global,
         id: NodeId,
@@ -96,8 +96,6 @@ impl NodeHost<MemoryTape> {
         ensures sturdy { IfOk result (KeepsSturdy self) }
         ensures err_sturdy { IfErr result (KeepsSturdy self) }
     {
-        // Theorem of the tape: it stands for exactly one durable state.
-        records_are_read_one_way();
         match self {
             NodeHost::Running(node) => Ok(NodeHost::Running(node)),
             NodeHost::Stopped(tape) => match Node::open(alloc, tape, id, n) {
@@ -144,8 +142,6 @@ fn step_running(
     ensures member { KeepsMember (Running node) result.0 }
     ensures sturdy { KeepsSturdy (Running node) result.0 }
 {
-    // Theorem of the tape: it stands for exactly one durable state.
-    records_are_read_one_way();
     let mut node = node;
     let long = node.tape().bytes().len();
     let Outputs { messages, lost } = consume(alloc, &mut node, input);
@@ -179,8 +175,6 @@ fn crash(
     ensures member { IsMember node.n node.id result.0 }
     ensures sturdy { NeverFails (tape_in result.0) }
 {
-    // Theorem of the tape: it stands for exactly one durable state.
-    records_are_read_one_way();
     let id = node.id();
     let n = node.n();
     let mut tape = node.close();
@@ -246,8 +240,6 @@ fn open_whole(
     ensures sturdy { IfOk result (KeepsSturdy (Stopped tape)) }
     ensures err_sturdy { IfErr result (KeepsSturdy (Stopped tape)) }
 {
-    // Theorem of the tape: it stands for exactly one durable state.
-    records_are_read_one_way();
     let mut tape = tape;
     tape.set_fuse(0, 0);
     match Node::open(alloc, tape, id, n) {

@@ -1,6 +1,6 @@
 ghost use Rattle.std.specs.Prelude.{◌≡◌, IfErr, OnOk};
 ghost use Rattle.wf_farm.specs.PumpProgress.{IsMade, last_end, outcome};
-ghost use Rattle.wf_farm.specs.declared.progress.End.TheVariants.{Failed};
+ghost use Rattle.wf_farm.specs.declared.progress.PumpEnd.TheVariants.{Failed};
 
 use crate::carrier::CarrierFault;
 use crate::event::Kept;
@@ -9,7 +9,7 @@ use wf_delivery::PumpProgress;
 
 /// How a pump ended.
 #[derive(Clone, Copy)]
-pub enum End {
+pub enum PumpEnd {
     /// Each message was delivered to each target.
     Done,
     /// The limit of deliveries was reached, and some are left.
@@ -23,35 +23,39 @@ pub enum End {
 pub struct Pumping {
     pub progress: PumpProgress,
     pub torn: Option<(usize, Kept)>,
-    pub end: End,
+    pub end: PumpEnd,
 }
 
 /// The result of a pump that has come so far.
-pub(crate) fn reported(progress: PumpProgress, end: End) -> Result<bool, FarmFault>
+pub(crate) fn reported(progress: PumpProgress, end: PumpEnd) -> Result<bool, FarmFault>
     ensures { result ≡ outcome progress end }
 {
     match end {
-        End::Done => Ok(false),
-        End::Stopped => Ok(true),
-        End::Failed(fault) => Err(fault_after(fault, progress.done)),
+        PumpEnd::Done => Ok(false),
+        PumpEnd::Stopped => Ok(true),
+        PumpEnd::Failed(fault) => Err(fault_after(fault, progress.done)),
     }
 }
 
 /// The end once the limit is reached, by whether some deliveries are left.
-pub(crate) fn last_end(left: bool) -> End
+pub(crate) fn last_end(left: bool) -> PumpEnd
     ensures { result ≡ last_end left }
 {
-    if left { End::Stopped } else { End::Done }
+    if left {
+        PumpEnd::Stopped
+    } else {
+        PumpEnd::Done
+    }
 }
 
 /// Whether each delivery was made; else why one wasn't.
-pub(crate) fn made(end: End) -> Result<(), CarrierFault>
+pub(crate) fn made(end: PumpEnd) -> Result<(), CarrierFault>
     ensures made { OnOk result (IsMade end) }
     ensures failed { IfErr result (λ fault. end ≡ Failed fault) }
 {
     match end {
-        End::Done => Ok(()),
-        End::Stopped => Ok(()),
-        End::Failed(fault) => Err(fault),
+        PumpEnd::Done => Ok(()),
+        PumpEnd::Stopped => Ok(()),
+        PumpEnd::Failed(fault) => Err(fault),
     }
 }

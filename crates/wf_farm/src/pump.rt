@@ -18,9 +18,8 @@ use crate::event::{Action, Event};
 use crate::farm::Farm;
 use crate::fate::CrashWatch;
 use crate::fault::{FarmFault, fault_after};
-use crate::progress::{End, Pumping, last_end, reported};
+use crate::progress::{PumpEnd, Pumping, last_end, reported};
 use crate::targets::targets_of;
-use crate::theorem::theorems;
 use std::alloc::Global;
 use wf_delivery::{MOST_DELIVERIES, PumpProgress};
 use wf_tape::MemoryTape;
@@ -53,7 +52,6 @@ impl Farm<MemoryTape> {
         ensures pumped { self.new.pumped ≡ self.old.pumped }
         ensures complete { self.new.complete ≡ self.old.complete }
     {
-        theorems();
         let event = Event::Act(node, Action::Deliver(number));
         let happened = self.cluster.happen(alloc, carrier, &event, 0);
         drop(event);
@@ -99,7 +97,6 @@ impl Farm<MemoryTape> {
         ensures refused { self.new.refused ≡ self.old.refused }
         ensures complete { self.new.complete ≡ self.old.complete }
     {
-        theorems();
         let Ok(targets) = targets_of(alloc, nodes, self.cluster.hosts.len()) else {
             return Err(FarmFault::Memory(0));
         };
@@ -155,7 +152,7 @@ impl Cluster<MemoryTape> {
                 return Pumping {
                     progress,
                     torn,
-                    end: End::Done,
+                    end: PumpEnd::Done,
                 };
             }
             let event = Event::Act(targets[progress.some], Action::Deliver(number));
@@ -167,7 +164,7 @@ impl Cluster<MemoryTape> {
                     return Pumping {
                         progress,
                         torn,
-                        end: End::Failed(fault),
+                        end: PumpEnd::Failed(fault),
                     };
                 }
             }

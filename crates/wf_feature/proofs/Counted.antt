@@ -4,7 +4,7 @@ use Rattle.std.specs.Prelude.{nat_lt, Some, None, if◌then◌else◌, sum_by}
 use Rattle.wf_def.specs.Definition.{FeatureDefinition}
 use Rattle.wf_def.specs.Layer as def
 use Rattle.wf_def.specs.Limits.{points_of_feature}
-use Rattle.wf_feature.specs.declared.slots.feature.FeatureSlots.{FeatureSlots}
+use Rattle.wf_feature.specs.declared.slots.FeatureSlots.{FeatureSlots}
 use Rattle.wf_feature.specs.Feature.{feature_of}
 
 given : {A : Type 0} (so : Bool) (x y : A) → (if so then Some x else None) ≡ Some y → x ≡ y

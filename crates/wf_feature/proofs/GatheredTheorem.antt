@@ -5,9 +5,8 @@ use Rattle.std.proofs.lemmas.List.Elements.{All-push}
 use Rattle.std.proofs.lemmas.List.Sums.{sum_by_push, sum_by-append, sum_by-cons}
 use Rattle.wf_def.specs.Limits.{IsLayerName, has_layer, layer_names, points_of_feature, feature_count, point_count}
 use Rattle.wf_def.specs.Limit.{most_layers, most_features, most_points}
-use Rattle.wf_feature.specs.Gathered.{AreGathered}
-use Rattle.wf_feature.specs.Layers.{features_left, points_left}
-use Rattle.wf_block.specs.Distinct.{all_differ}
+use Rattle.wf_feature.specs.Layers.{AreGathered, features_left, points_left}
+use Rattle.wf_block.specs.Grammar.{all_differ}
 use Rattle.wf_feature.proofs.Unlike.{Entry, differ-push, differ-in}
 
 abbrev features_in : Entry → ℕ

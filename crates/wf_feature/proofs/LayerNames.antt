@@ -1,5 +1,5 @@
 -- Which texts are layer names.
-use Rattle.std.proofs.Common.{◌≡◌, ℕ, Bool, true, not, List, length, ap}
+use Rattle.std.proofs.Common.{◌≡◌, ℕ, Bool, true, not, List, length, ap, false, refl}
 use Rattle.std.specs.Prelude.{IsTrue, ◌↔◌}
 use Rattle.std.specs.Cmp.{first_so, second_so}
 use Rattle.std.proofs.lemmas.Bool.{leb-true, le-leb}
@@ -8,7 +8,11 @@ use Rattle.wf_def.specs.Text.{IsText}
 use Rattle.wf_def.specs.Limits.{IsLayerName}
 use Rattle.wf_feature.specs.Layers.{is_layer_name}
 use Rattle.std.proofs.lemmas.Bool.{and_from}
-use Rattle.wf_feature.proofs.Booleans.{not_true}
+
+-- Tests that are negated.
+pub not_true : (a : Bool) → not a ≡ true → a ≡ false
+not_true false e = refl
+not_true true e = absurd (let impossible : ⊥ = cc in impossible)
 
 pub named : (name : List ℕ) → IsLayerName name → is_layer_name name ≡ true
 unfolding is_layer_name

@@ -1,4 +1,3 @@
-pub mod Booleans
 pub mod PointsTheorem
 pub mod Counted
 pub mod Unlike

@@ -6,9 +6,9 @@ use Rattle.std.proofs.lemmas.Slice.Eq.{bytes_eq-Decides}
 use Rattle.std.proofs.lemmas.Bool.Decides.{same_from_decides, Decides-like}
 use Rattle.wf_def.specs.Definition.{LayerDefinition}
 use Rattle.wf_def.specs.Limits.{has_layer, layer_names}
-use Rattle.wf_block.specs.Distinct.{all_differ}
+use Rattle.wf_block.specs.Grammar.{all_differ}
 use Rattle.std.proofs.lemmas.Bool.{or_parts}
-use Rattle.wf_feature.proofs.Booleans.{not_true}
+use Rattle.wf_feature.proofs.LayerNames.{not_true}
 
 abbrev pub Entry : Type 0
 Entry = List ℕ × LayerDefinition

@@ -4,8 +4,8 @@ use Rattle.std.specs.Option.{option_or}
 use Rattle.wf_def.specs.Definition.{FeatureDefinition}
 use Rattle.wf_def.specs.Layer as def
 use Rattle.wf_def.specs.declared.point.Point.{Point}
-use Rattle.wf_feature.specs.declared.slots.feature.FeatureOnce.{FeatureOnce}
-use Rattle.wf_feature.specs.declared.slots.feature.FeatureSlots.{FeatureSlots}
+use Rattle.wf_feature.specs.declared.slots.FeatureOnce.{FeatureOnce}
+use Rattle.wf_feature.specs.declared.slots.FeatureSlots.{FeatureSlots}
 use Rattle.wf_token.specs.Token.{Token}
 use Rattle.wf_block.specs.Grammar.{◌>>=◌, text, number, end}
 use Rattle.wf_block.specs.Steps.{once, any_times, again, step_by, step_or, put_into, block}

@@ -4,7 +4,7 @@ ghost use Rattle.wf_def.specs.Limits.{points_of_feature};
 ghost use Rattle.wf_feature.specs.Feature.{feature, feature_of, feature_once, no_feature, point, points};
 ghost use Rattle.wf_block.specs.ReadContract.{Gives};
 
-use crate::slots::feature::{FeatureOnce, FeatureSlots};
+use crate::slots::{FeatureOnce, FeatureSlots};
 use std::alloc::Global;
 use wf_block::block::{Slots, fill_block};
 use wf_block::default::text_or_empty;
@@ -28,7 +28,7 @@ struct FeatureReading {
 
 impl Slots for FeatureReading {
     ghost use Rattle.std.specs.Prelude.{◌≡◌, ◌≤◌, ℕ, length, sum_by};
-    ghost use Rattle.wf_feature.specs.declared.slots.feature.FeatureSlots.{FeatureSlots as Value};
+    ghost use Rattle.wf_feature.specs.declared.slots.FeatureSlots.{FeatureSlots as Value};
     ghost use Rattle.wf_feature.specs.Feature.{feature_put};
 
     ghost Settings = { Value };

@@ -90,7 +90,7 @@ pub struct Layers {
 impl Model for Layers {
     ghost use Rattle.std.specs.Prelude.{ℕ, List};
     ghost use Rattle.wf_def.specs.Definition.{LayerDefinition};
-    ghost use Rattle.wf_feature.specs.Gathered.{AreGathered};
+    ghost use Rattle.wf_feature.specs.Layers.{AreGathered};
 
     ghost Value = { List (List ℕ × LayerDefinition) };
 

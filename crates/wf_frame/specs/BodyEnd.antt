@@ -1,5 +1,5 @@
 -- What a body ends with, after its fields of fixed length: nothing, a text, or a report.
-use Rattle.std.specs.Prelude.{ℕ, ◌+◌, ◌==◌, ◌&&◌, nat_lt, nat_le, Bool, true, List, [], ◌∷◌, Option, Some, is_some}
+use Rattle.std.specs.Prelude.{ℕ, Bool, true, List, [], ◌∷◌, Option, Some, is_some}
 use Rattle.wf_frame.specs.Report.{Report, IsText, IsReport, report_bytes, most_report, report_of, votes_definitions, texts_of_read}
 
 -- `most` is the most bytes of a text. A text at the end fills the rest of the body.
@@ -24,15 +24,11 @@ end_bytes Nothing end = []
 end_bytes (Text most) text = text
 end_bytes (Votes most) report = report_bytes report
 
--- a text, which isn't empty, after that many bytes of other fields
-abbrev pub has_text_behind : (most fields n : ℕ) → Bool
-has_text_behind most fields n = nat_lt fields n && nat_le n (fields + most)
-
--- A body of n bytes can end so after that many bytes of fields. The shortest report has a slot, a ballot and one mark.
-abbrev pub ends_at : Ending → (fields n : ℕ) → Bool
-ends_at Nothing fields n = n == fields
-ends_at (Text most) fields n = has_text_behind most fields n
-ends_at (Votes most) fields n = nat_le (fields + 8) n && nat_le n (fields + most_report most)
+-- the fewest bytes of the ending: a text isn't empty, and a report has a slot, a ballot and a mark
+abbrev pub least_end : Ending → ℕ
+least_end Nothing = 0
+least_end (Text most) = 1
+least_end (Votes most) = 8
 
 -- the most bytes of the ending
 abbrev pub most_end : Ending → ℕ

@@ -1,10 +1,8 @@
 -- The fields of fixed length that a body is made of: a node, a slot (a sequence from 1 on), a round and a ballot.
 use Rattle.std.specs.Prelude.{ℕ, List, Option}
 use Rattle.wf_ballot.specs.Node.{IsNode, node_bytes}
-use Rattle.wf_ballot.specs.Slot.{IsSlot}
-use Rattle.wf_ballot.specs.Round.{IsRound}
-use Rattle.wf_ballot.specs.Sequence.{seq_bytes}
-use Rattle.wf_ballot.specs.Ballot.{Ballot, IsBallot, round_bytes, ballot_bytes}
+use Rattle.wf_ballot.specs.Sequence.{IsSlot, seq_bytes}
+use Rattle.wf_ballot.specs.Ballot.{IsRound, Ballot, IsBallot, round_bytes, ballot_bytes}
 use Rattle.wf_ballot.specs.Front.{front_node, front_slot, front_round, front_ballot}
 
 pub data Field : Type 0 where
@@ -47,3 +45,29 @@ front_value NodeField = front_node
 front_value SlotField = front_slot
 front_value RoundField = front_round
 front_value BallotField = front_ballot
+
+-- ---- a value with its field
+
+pub data FieldValue : Type 0 where
+  NodeValue : ℕ → FieldValue
+  SlotValue : ℕ → FieldValue
+  RoundValue : ℕ → FieldValue
+  BallotValue : Ballot → FieldValue
+
+abbrev pub field_of : FieldValue → Field
+field_of (NodeValue node) = NodeField
+field_of (SlotValue slot) = SlotField
+field_of (RoundValue round) = RoundField
+field_of (BallotValue ballot) = BallotField
+
+abbrev pub value_of : (v : FieldValue) → Value (field_of v)
+value_of (NodeValue node) = node
+value_of (SlotValue slot) = slot
+value_of (RoundValue round) = round
+value_of (BallotValue ballot) = ballot
+
+abbrev pub value_with : (field : Field) → Value field → FieldValue
+value_with NodeField node = NodeValue node
+value_with SlotField slot = SlotValue slot
+value_with RoundField round = RoundValue round
+value_with BallotField ballot = BallotValue ballot

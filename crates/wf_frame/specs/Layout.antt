@@ -1,7 +1,8 @@
 -- The layout of a body: fields of fixed length, one after the other, and an ending. A kind of message or record has one layout.
-use Rattle.std.specs.Prelude.{ℕ, ◌+◌, ◌&&◌, Bool, List, [], ◌∷◌, ◌++◌, drop, Option, is_some, option_map, option_and_then}
+use Rattle.std.specs.Prelude.{ℕ, ◌+◌, ◌&&◌, nat_le, Bool, List, [], ◌∷◌, ◌++◌, drop, Option, is_some, option_map, option_and_then}
 use Rattle.wf_frame.specs.Field.{Field, Value, IsValue, value_bytes, width, front_value}
-use Rattle.wf_frame.specs.BodyEnd.{Ending, End, IsEnd, end_bytes, ends_at, end_texts, front_end, has_end, texts_in_end}
+use Rattle.wf_frame.specs.BodyEnd.{Ending, End, IsEnd, end_bytes, least_end, most_end, end_texts, front_end, has_end, texts_in_end}
+use Rattle.wf_frame.specs.declared.lengths.Lengths.{Lengths}
 
 pub record Layout : Type 0 where
   pub fields : List Field
@@ -47,9 +48,17 @@ abbrev pub widths : List Field → ℕ
 widths [] = 0
 widths (field ∷ fields) = width field + widths fields
 
+-- an ending can have that many bytes, counted with those of the fields before it
+abbrev pub ends_at : Ending → (fields n : ℕ) → Bool
+ends_at ending fields n = nat_le (fields + least_end ending) n && nat_le n (fields + most_end ending)
+
 -- a body can have that many bytes
 abbrev pub fits : Layout → ℕ → Bool
 fits layout n = ends_at layout.ending (widths layout.fields) n
+
+-- the numbers of bytes that a body can have
+abbrev pub lengths_of : Layout → Lengths
+lengths_of layout = record { least = widths layout.fields + least_end layout.ending; most = widths layout.fields + most_end layout.ending }
 
 -- ---- how a body is read: each field after the one before it, then the ending
 

@@ -1,6 +1,6 @@
 -- Bodies and their layouts: a body is read as its parts, what is read has those bytes, and the checks by byte offset agree with it.
 use Rattle.std.proofs.Common.{◌≡◌, ℕ, ◌+◌, ◌≤◌, Bool, true, false, cond, ltb, leb, ◌&&◌, List, [], ◌∷◌, ◌++◌, length, drop, Option, Some, None, refl, ap, subst, ◌∙◌, length-append, arith}
-use Rattle.std.proofs.lemmas.Bool.{leb-true, eqb-true, lt-ltb, le-leb, eq-eqb, and_parts, and_from}
+use Rattle.std.proofs.lemmas.Bool.{leb-true, le-leb, and_parts, and_from}
 use Rattle.std.proofs.lemmas.Option.{option_and_then_some}
 use Rattle.std.proofs.lemmas.List.{nil_from_length, drop-drop}
 use Rattle.std.specs.Prelude.{is_some, option_map, option_and_then}
@@ -10,10 +10,10 @@ use Rattle.wf_ballot.specs.Front.{AreBytes, ReadsFront, front_node, front_slot, 
 use Rattle.wf_ballot.specs.FrontTheorems.{reads_nodes, reads_slots, reads_rounds, reads_ballots}
 use Rattle.wf_ballot.specs.FieldTheorems.{length-node_bytes, length-seq_bytes, length-round_bytes, length-ballot_bytes}
 use Rattle.wf_frame.specs.Field.{Field, NodeField, SlotField, RoundField, BallotField, Value, IsValue, value_bytes, width, front_value}
-use Rattle.wf_frame.specs.Report.{Report, IsText, IsReport, report_bytes, most_report, report_of, votes_definitions, texts_of_read}
+use Rattle.wf_frame.specs.Report.{Report, report_of, votes_definitions, texts_of_read}
 use Rattle.wf_frame.specs.ReportTheorems.{AreBytes-rest, report_stands, report_again, report_length}
-use Rattle.wf_frame.specs.BodyEnd.{Ending, Nothing, Text, Votes, End, IsEnd, end_bytes, has_text_behind, ends_at, most_end, end_texts, front_end, has_end, texts_in_end}
-use Rattle.wf_frame.specs.Layout.{Layout, Parts, Body, AreParts, IsBody, parts_bytes, body_bytes, end_of, body_texts, widths, fits, read_parts, read_body, has_parts, has_fields, texts_in}
+use Rattle.wf_frame.specs.BodyEnd.{Ending, Nothing, Text, Votes, End, IsEnd, end_bytes, least_end, most_end, end_texts, front_end, has_end, texts_in_end}
+use Rattle.wf_frame.specs.Layout.{Layout, ends_at, Parts, Body, AreParts, IsBody, parts_bytes, body_bytes, end_of, body_texts, widths, fits, read_parts, read_body, has_parts, has_fields, texts_in}
 
 -- ---- fields
 
@@ -23,7 +23,7 @@ reads SlotField = reads_slots
 reads RoundField = reads_rounds
 reads BallotField = reads_ballots
 
-value_length : (field : Field) (value : Value field) → length (value_bytes field value) ≡ width field
+pub value_length : (field : Field) (value : Value field) → length (value_bytes field value) ≡ width field
 value_length NodeField value = length-node_bytes value
 value_length SlotField value = length-seq_bytes value
 value_length RoundField value = length-round_bytes value
@@ -70,28 +70,18 @@ behind BallotField bytes x e = behind_ballot bytes x e
 
 -- ---- endings
 
-text_test : (most fields n : ℕ) (text : List ℕ) → n ≡ fields + length text → IsText most text → has_text_behind most fields n ≡ true
-text_test most fields n text e is_text =
-    and_from (ltb fields n) (leb n (fields + most)) (lt-ltb fields n (omega (arith, is_text.least))) (le-leb n (fields + most) (omega (arith, is_text.within)))
-
-report_test : (most fields n : ℕ) (report : Report) → n ≡ fields + length (report_bytes report) → IsReport most report → ends_at (Votes most) fields n ≡ true
-report_test most fields n report e is =
-    let (least, within) = report_length most report is in
-    and_from (leb (fields + 8) n) (leb n (fields + most_report most)) (le-leb (fields + 8) n (omega arith)) (le-leb n (fields + most_report most) (omega arith))
+end_lengths : (ending : Ending) (end : End ending) → IsEnd ending end → (least_end ending ≤ length (end_bytes ending end)) × (length (end_bytes ending end) ≤ most_end ending)
+end_lengths Nothing end is = (omega arith, omega arith)
+end_lengths (Text most) text is = (is.least, is.within)
+end_lengths (Votes most) report is = report_length most report is
 
 end_fits : (ending : Ending) (fields n : ℕ) (end : End ending) → n ≡ fields + length (end_bytes ending end) → IsEnd ending end → ends_at ending fields n ≡ true
-end_fits Nothing fields n end e is = eq-eqb n fields (omega (arith, e))
-end_fits (Text most) fields n text e is = text_test most fields n text e is
-end_fits (Votes most) fields n report e is = report_test most fields n report e is
-
-text_within : (most fields n : ℕ) → has_text_behind most fields n ≡ true → n ≤ fields + most
-text_within most fields n has = let tests = and_parts (ltb fields n) (leb n (fields + most)) has in leb-true n (fields + most) tests.1
+end_fits ending fields n end e is =
+    let (least, within) = end_lengths ending end is in
+    and_from (leb (fields + least_end ending) n) (leb n (fields + most_end ending)) (le-leb (fields + least_end ending) n (omega (arith, e, least))) (le-leb n (fields + most_end ending) (omega (arith, e, within)))
 
 end_within : (ending : Ending) (fields n : ℕ) → ends_at ending fields n ≡ true → n ≤ fields + most_end ending
-end_within Nothing fields n has = omega (arith, eqb-true n fields has)
-end_within (Text most) fields n has = text_within most fields n has
-end_within (Votes most) fields n has =
-    let tests = and_parts (leb (fields + 8) n) (leb n (fields + most_report most)) has in leb-true n (fields + most_report most) tests.1
+end_within ending fields n has = leb-true n (fields + most_end ending) (and_parts (leb (fields + least_end ending) n) (leb n (fields + most_end ending)) has).1
 
 -- the most bytes of a body
 pub fits_most : (layout : Layout) (n : ℕ) → fits layout n ≡ true → n ≤ widths layout.fields + most_end layout.ending
@@ -108,7 +98,7 @@ some_is P x y e p = let same : x ≡ y = cc in subst P same p
 -- an ending that is read has these bytes: by the length that the body can have, nothing follows the last field
 end_stands : (ending : Ending) (fields : ℕ) (bytes : List ℕ) (end : End ending) → AreBytes bytes → ends_at ending fields (fields + length bytes) ≡ true → front_end ending bytes ≡ Some end →
     bytes ≡ end_bytes ending end
-end_stands Nothing fields bytes end fit has e = nil_from_length bytes (omega (arith, eqb-true (fields + length bytes) fields has))
+end_stands Nothing fields bytes end fit has e = nil_from_length bytes (omega (arith, end_within Nothing fields (fields + length bytes) has))
 end_stands (Text most) fields bytes text fit has e = some_is (λ x. bytes ≡ x) bytes text e refl
 end_stands (Votes most) fields bytes report fit has e = report_stands most bytes report fit e
 

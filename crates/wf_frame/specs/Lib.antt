@@ -2,8 +2,10 @@ pub mod Field
 pub mod Report
 pub mod BodyEnd
 pub mod Layout
+pub mod Row
 pub mod Frame
 pub mod Theorem
 pub mod ReportTheorems
 pub mod LayoutTheorems
 pub mod FrameTheorems
+pub mod RowTheorems

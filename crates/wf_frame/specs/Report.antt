@@ -1,9 +1,8 @@
 -- What a promise reports: the slot from which on it is made, its ballot, and the votes at that slot and the few after it. Each vote
 -- has a mark, and a text its length, since several texts may follow one another.
-use Rattle.std.specs.Prelude.{◌≡◌, ℕ, zero, suc, ◌+◌, ◌*◌, ◌<◌, ◌≤◌, ◌^◌, ◌&&◌, nat_le, List, [], ◌∷◌, ◌++◌, length, take, drop, Option, Some, None, option_and_then, IfSome, if◌then◌else◌}
+use Rattle.std.specs.Prelude.{◌≡◌, ℕ, zero, suc, ◌+◌, ◌*◌, ◌<◌, ◌≤◌, ◌^◌, ◌&&◌, nat_le, List, [], ◌∷◌, ◌++◌, length, take, drop, map, Option, Some, None, option_map, option_and_then, IfSome, if◌then◌else◌}
 use Rattle.std.specs.Int.{w32, to_be_bytes, from_be_bytes}
-use Rattle.wf_ballot.specs.Slot.{IsSlot}
-use Rattle.wf_ballot.specs.Sequence.{seq_bytes}
+use Rattle.wf_ballot.specs.Sequence.{IsSlot, seq_bytes}
 use Rattle.wf_ballot.specs.Ballot.{Ballot, IsBallot, ballot_bytes}
 use Rattle.wf_ballot.specs.Front.{front_slot, front_ballot}
 use Rattle.wf_model.specs.Message.{Vote}
@@ -18,6 +17,13 @@ pub record Report : Type 0 where
 -- the number of votes that a report from the slot on has: one, or none, for each sequence of the window
 abbrev pub votes_in_report : ℕ → ℕ
 votes_in_report slot = sequences_from slot window
+
+-- the vote with f applied to its definition
+abbrev pub vote_with : {V W : Type 0} → (V → W) → Option (Vote V) → Option (Vote W)
+vote_with f v = option_map (λ vote. record { ballot = vote.ballot; definition = f vote.definition }) v
+
+abbrev pub votes_with : {V W : Type 0} → (V → W) → List (Option (Vote V)) → List (Option (Vote W))
+votes_with f votes = map (vote_with f) votes
 
 -- a text that isn't empty and has at most so many bytes
 pub record IsText (most : ℕ) (text : List ℕ) : Type 0 where

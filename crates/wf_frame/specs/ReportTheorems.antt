@@ -6,8 +6,7 @@ use Rattle.std.proofs.lemmas.List.{get_or-append-add, length-take-le, take_at, d
 use Rattle.std.proofs.lemmas.Nat.{from_be_bytes-to_be_bytes_4}
 use Rattle.std.specs.Prelude.{option_and_then}
 use Rattle.std.specs.Int.{w32, to_be_bytes, from_be_bytes}
-use Rattle.wf_ballot.specs.Slot.{IsSlot}
-use Rattle.wf_ballot.specs.Sequence.{last_sequence, seq_bytes}
+use Rattle.wf_ballot.specs.Sequence.{IsSlot, last_sequence, seq_bytes}
 use Rattle.wf_ballot.specs.Ballot.{ballot_bytes}
 use Rattle.wf_ballot.specs.Front.{AreBytes, front_slot, front_ballot}
 use Rattle.wf_ballot.specs.FrontTheorems.{reads_slots, reads_ballots, four_bytes}

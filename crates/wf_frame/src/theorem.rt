@@ -1,11 +1,11 @@
 ghost use Rattle.wf_frame.specs.Theorem.{FramesAreRead, BodiesAreRead, NoneBeginsAnother};
 
-use crate::kind::FrameKind;
+use crate::format::FrameFormat;
 
 /// A whole frame is split off the front of bytes, whatever follows it, and nothing else is; an error remains, whatever follows,
 /// unless it is that more bytes are needed. A theorem about the definitions: the call does nothing.
-pub fn frames_are_read<K: FrameKind>()
-    ensures { FramesAreRead K.format }
+pub fn frames_are_read<F: FrameFormat>()
+    ensures { FramesAreRead F.format }
 {}
 
 /// A body is read as its parts, and nothing else is. A theorem about the definitions: the call does nothing.
@@ -14,6 +14,6 @@ pub fn bodies_are_read()
 {}
 
 /// A frame has one reading, and no frame is a prefix of another. A theorem about the definitions: the call does nothing.
-pub fn none_begins_another<K: FrameKind>()
-    ensures { NoneBeginsAnother K.format }
+pub fn none_begins_another<F: FrameFormat>()
+    ensures { NoneBeginsAnother F.format }
 {}

@@ -38,7 +38,7 @@ small bytes fields spans short room (h, at) = record {
         let most : length (take spans.headers fields) ≡ min spans.headers (length fields) = length-take spans.headers fields in
         omega arith;
   };
-  sends = same_head _ _ _ _ _ _ at.method at.path at.fields;
+  is = same_head _ _ _ _ _ _ at.method at.path at.fields;
 }
 
 -- a head with too many fields isn't within the limits, whatever bytes follow

@@ -40,10 +40,6 @@ TakesFront old new front = (bytes : List ℕ) × Consumes old new bytes × IsFro
 abbrev pub IsUnfinished : List ℕ → Type 0
 IsUnfinished bytes = 0 < length bytes → HasNoRequest bytes
 
--- some bytes were taken from the front of what is left, and appended
-abbrev pub TakesMore : Option (List ℕ) → Option (List ℕ) → List ℕ → List ℕ → Type 0
-TakesMore old new before after = (piece : List ℕ) × (0 < length piece) × Consumes old new piece × (after ≡ before ++ piece)
-
 -- some bytes were taken from the front of what is left: at most as many as there is room for, and as the reader returns a call,
 -- if known
 abbrev pub TakesPiece : Option ℕ → ℕ → Option (List ℕ) → Option (List ℕ) → Type 0

@@ -30,7 +30,7 @@ pub record Begins (input : List ℕ) (head : Head) (rest : List ℕ) : Type 0 wh
   pub printed : RequestHead
   pub reads : ReadsRequest input printed rest
   pub small : IsSmall printed
-  pub sends : head ≡ head_of printed
+  pub is : head ≡ head_of printed
 
 -- no head within the limits is at the front of the input
 abbrev pub HasNoSmallRequest : List ℕ → Type 0

@@ -86,7 +86,7 @@ impl<'b> Fields<'b> {
         Fields { bytes, spans }
     }
 
-    fn found(&self, name: &[u8]) -> Option<&'b [u8]>
+    fn find_value(&self, name: &[u8]) -> Option<&'b [u8]>
         ensures { option_map (λ value. value.now) result
             ≡ option_map (λ field. field.1) (find (is_named name.now) self.now) }
     {
@@ -114,7 +114,7 @@ impl<'b> Fields<'b> {
     pub fn first(&self, name: &[u8]) -> Option<&'b [u8]>
         ensures { option_map (λ value. value.now) result ≡ first_of (values name.now self.now) }
     {
-        self.found(name)
+        self.find_value(name)
     }
 
     /// Whether the value of each field of that name is one or more decimal digits, and the same number as this one.

@@ -3,7 +3,7 @@ ghost use Rattle.std.specs.Prelude.{◌≡◌, ◌≢◌, ◌≤◌, ◌<◌, �
 ghost use Rattle.std.specs.Io.KnownBytes.{Consumes, IsAtEnd};
 ghost use Rattle.httparse.specs.Grammar.{HasNoRequest};
 ghost use Rattle.wf_http.specs.Head.{most_head_bytes, most_fields};
-ghost use Rattle.wf_http.specs.Front.{front_of, IsFront, TakesFront, TakesMore, TakesPiece, TakesHead, IsUnfinished, IsHeadError, IsHeadFault, CountsReads};
+ghost use Rattle.wf_http.specs.Front.{front_of, IsFront, TakesFront, TakesPiece, TakesHead, IsUnfinished, IsHeadError, IsHeadFault, CountsReads};
 ghost use Rattle.wf_http.specs.Checks.{most_body_bytes};
 ghost use Rattle.wf_http.specs.declared.fault.RequestFault.TheVariants.{ReadFailed, Memory};
 ghost use Rattle.wf_stream.specs.Effects.{Counts, ReadsPiece};
@@ -62,7 +62,7 @@ fn parse(bytes: &[u8]) -> Result<Option<Parts>, HttpError>
 }
 
 // The result if the input ends without a complete head.
-fn ended(bytes: &[u8]) -> RequestFault
+fn early_end(bytes: &[u8]) -> RequestFault
     requires { IsUnfinished bytes.now }
     ensures fault { IsHeadFault bytes.now result }
     ensures calm { result ≢ ReadFailed }
@@ -102,40 +102,6 @@ fn read_on<S: Source>(source: &mut S, bytes: &mut HeadBytes) -> io::Result<usize
     }
 }
 
-// Reads one more piece, and looks for a head in the bytes so far.
-#[tactic(auto, using(crate::proofs::HeadTheorem::fault_at_end, crate::proofs::HeadTheorem::nothing_more, crate::proofs::HeadTheorem::head_looked_for, wf_stream::specs::KnownTheorems::piece_length))]
-fn read_more<S: Source>(
-    source: &mut S,
-    bytes: &mut HeadBytes,
-) -> Result<Option<Parts>, RequestFault>
-    requires room { length bytes.old.items < most_head_bytes }
-    requires unfinished { IsUnfinished bytes.old.items }
-    ensures taken { OnOk result
-        (TakesMore (S.left source.old) (S.left source.new) bytes.old.items bytes.new.items) }
-    ensures room { OnOk result (length bytes.new.items ≤ most_head_bytes) }
-    ensures found { IfOk result (λ found. IfSome found
-        (λ parts. IsFront bytes.new.items (front_of bytes.new.items parts.fields parts.spans))) }
-    ensures none { result ≡ Ok None → HasNoRequest bytes.new.items }
-    ensures err { IfErr result (λ fault. (start : Option (List ℕ)) →
-        Consumes start (S.left source.old) bytes.old.items →
-        IfSome start (λ input. IsHeadFault input fault)) }
-    ensures takes { (piece : Option ℕ) (start : Option (List ℕ)) →
-        S.piece source.old ≡ piece → Consumes start (S.left source.old) bytes.old.items →
-        TakesHead piece start (S.left source.new) }
-    ensures piece { S.piece source.new ≡ S.piece source.old }
-    ensures no_memory { IfErr result (λ fault. fault ≢ Memory) }
-    ensures reads { CountsReads result (S.failures source.old) (S.failures source.new) }
-{
-    match read_on(source, bytes) {
-        Ok(0) => Err(ended(bytes.as_slice())),
-        Ok(_) => match parse(bytes.as_slice()) {
-            Ok(found) => Ok(found),
-            Err(http_error) => Err(RequestFault::Rejected(http_error)),
-        },
-        Err(_) => Err(RequestFault::ReadFailed),
-    }
-}
-
 /// A head, and the bytes read after it.
 #[derive(Drop)]
 pub struct Front {
@@ -154,7 +120,7 @@ impl Model for Front {
 impl Front {
     /// Reads from the front of the input until a head is complete, and no further: at most 8,192 bytes, in at most that many
     /// calls, since each call returns a byte, the end or an error. Allocates nothing.
-    #[tactic(auto, using(crate::proofs::HeadTheorem::fault_at_limit, crate::proofs::HeadTheorem::taken_at_limit))]
+    #[tactic(auto, using(crate::proofs::HeadTheorem::fault_at_end, crate::proofs::HeadTheorem::nothing_more, crate::proofs::HeadTheorem::fault_at_limit, crate::proofs::HeadTheorem::taken_at_limit, wf_stream::specs::KnownTheorems::piece_length))]
     pub fn read<S: Source>(source: &mut S) -> Result<Self, RequestFault>
         ensures ok { IfOk result (TakesFront (S.left source.old) (S.left source.new)) }
         ensures err { IfErr result
@@ -165,10 +131,15 @@ impl Front {
     {
         let mut bytes = ArrayVec::new();
         while bytes.len() < MOST_HEAD_BYTES {
-            match read_more(source, &mut bytes) {
+            match read_on(source, &mut bytes) {
+                Ok(0) => return Err(early_end(bytes.as_slice())),
+                Ok(_) => {}
+                Err(_) => return Err(RequestFault::ReadFailed),
+            }
+            match parse(bytes.as_slice()) {
                 Ok(Some(parts)) => return Ok(Front { bytes, parts }),
                 Ok(None) => {}
-                Err(fault) => return Err(fault),
+                Err(http_error) => return Err(RequestFault::Rejected(http_error)),
             }
         }
         Err(RequestFault::Rejected(HttpError::HeadTooLarge))

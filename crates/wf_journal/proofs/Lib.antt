@@ -1,4 +1,3 @@
-pub mod Fields
 pub mod Validated
 pub mod Lists
 pub mod Moments

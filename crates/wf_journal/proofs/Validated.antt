@@ -1,92 +1,82 @@
 -- What the result of decode says about the bytes.
 use Rattle.std.proofs.Common.{◌≡◌, ℕ, ◌+◌, ◌≤◌, true, List, [], ◌∷◌, ◌++◌, length, take, drop, Option, Some, Result, Ok, Err, refl, sym, ap, subst, ◌∙◌, length-append, arith}
 use Rattle.std.proofs.Math.Seq.{take-append_seam, drop-append_seam}
+use Rattle.std.proofs.lemmas.Option.{option_and_then_some, same_Some}
 use Rattle.std.specs.Prelude.{IfOk, IfErr, IsErrOf}
 use Rattle.wf_ballot.specs.Front.{AreBytes}
-use Rattle.wf_ballot.specs.Frame.{frame}
+use Rattle.wf_ballot.specs.Field.{frame}
 use Rattle.wf_def.specs.Definition.{Definition}
 use Rattle.wf_spelling.specs.Canon.{most_canon_bytes}
 use Rattle.wf_canon.specs.TextMeaning.{OneTextOneMap}
 use Rattle.wf_frame.specs.declared.fault.FrameFault.{FrameFault}
 use Rattle.wf_frame.specs.declared.fault.FrameFault.TheVariants as frames
-use Rattle.wf_frame.specs.Frame.{frame_of, frame_front}
+use Rattle.wf_frame.specs.Frame.{Found, HasBody, frame_front}
 use Rattle.wf_frame.specs.Frame as parts
-use Rattle.wf_frame.specs.Theorem.{Payload, IsPayload, payload_bytes}
 use Rattle.wf_frame.specs.FrameTheorems as laws
-use Rattle.wf_frame.specs.Layout.{fits}
+use Rattle.wf_frame.specs.Layout.{Layout, fits}
+use Rattle.wf_frame.specs.Row.{Row, row_bytes, row_layout, layout_of, read_row}
+use Rattle.wf_frame.specs.RowTheorems.{row_stands}
 use Rattle.wf_model.specs.DurableState.{Record}
-use Rattle.wf_journal.specs.declared.header.Header.{Header}
-use Rattle.wf_journal.specs.declared.kind.RecordKind.{RecordKind}
 use Rattle.wf_journal.specs.declared.version.Version.{Version}
-use Rattle.wf_journal.specs.Version.{version_byte, version_written, most_text}
-use Rattle.wf_journal.specs.RecordKind.{kind_byte, layout}
+use Rattle.wf_journal.specs.Version.{version_byte, version_of_byte, version_written, most_text}
+use Rattle.wf_journal.specs.KindTable.{kinds}
 use Rattle.wf_journal.specs.declared.fault.RecordFault.{RecordFault}
 use Rattle.wf_journal.specs.declared.fault.RecordFault.TheVariants.{Torn, Bad, NotCanonical, Memory}
 use Rattle.wf_journal.specs.Record.{texts, IsRecord}
-use Rattle.wf_journal.specs.Encoding.{header_length, kind_of, header_of, record_of, body, format, text_spelling, spelling, Encodes}
-use Rattle.wf_journal.specs.EncodingTheorems.{length-text_spelling, text_is_short}
-use Rattle.wf_journal.specs.FormatTheorems.{is_format}
+use Rattle.wf_journal.specs.Encoding.{header_length, format, text_spelling, spelling, Encodes}
+use Rattle.wf_journal.specs.EncodingTheorems.{length-text_spelling}
+use Rattle.wf_journal.specs.FormatTheorems.{is_format, version_stands}
 use Rattle.wf_journal.specs.Records.{BeginsWithNone, IsTorn, IsBad}
 use Rattle.wf_journal.specs.Front.{BeginsWith}
-use Rattle.wf_journal.specs.Stages.{record_fault, fields_of, ReadsBody, IsValidated, IsFaultOfBytes}
-use Rattle.wf_journal.proofs.Texts.{texts_fit, texts_apart, not_bad}
-use Rattle.wf_journal.proofs.Fields.{values_fit, record_again, payload_in, laid_out, fits_body, text_within, fields_again, fields_stand}
+use Rattle.wf_journal.specs.Stages.{record_fault, ReadsBody, IsValidated, IsFaultOfBytes}
+use Rattle.wf_journal.proofs.Texts.{has_kind, texts_apart, not_bad, text_is_within, row_of_record, body_of_record}
 
 -- ---- a record at the front
 
--- the length of the header and of the body
-pub header_and_body : (r : Record Definition) (n : ℕ) → n ≡ length (body (texts r)) → header_length + n ≡ length (spelling r)
-header_and_body r n is = omega (arith, length-text_spelling version_written (texts r))
+-- the length of the header, of the fields and of the text
+pub whole_length : (r : Record Definition) (fields text : List ℕ) (n k : ℕ) → row_bytes (texts r) ≡ fields ++ text → n ≡ length fields → k ≡ length text → header_length + (n + k) ≡ length (spelling r)
+whole_length r fields text n k body same same_text = omega (arith, length-text_spelling version_written (texts r), ap length body, length-append fields text, same, same_text)
 
 -- a record's encoding isn't empty
 pub spelling_not_empty : (r : Record Definition) (spelled : List ℕ) → Encodes r spelled → 1 ≤ length spelled
 spelling_not_empty r spelled encodes = omega (arith, ap length encodes.spelled, length-text_spelling encodes.version (texts r))
 
--- its body has a length that its kind can have in its version
-fits_texts : (r : Record Definition) {spelled : List ℕ} (encodes : Encodes r spelled) → fits (layout (most_text encodes.version) (kind_of (texts r))) (length (body (texts r))) ≡ true
-fits_texts r encodes = fits_body (most_text encodes.version) (texts r) (texts_fit (most_text encodes.version) r encodes.is_record encodes.short)
-
 -- bytes that begin with a record's encoding: the frame that is split off
-cut_of : (r : Record Definition) (spelled after bytes : List ℕ) (encodes : Encodes r spelled) → bytes ≡ spelled ++ after → frame_front format bytes ≡ Ok (header_of encodes.version (texts r), body (texts r))
+cut_of : (r : Record Definition) (spelled after bytes : List ℕ) (encodes : Encodes r spelled) → bytes ≡ spelled ++ after →
+    frame_front format bytes ≡ Ok (version_byte encodes.version, (texts r).byte, row_bytes (texts r))
 unfolding text_spelling
 cut_of r spelled after bytes encodes e =
-    let header : Header = header_of encodes.version (texts r) in
-    let begins : bytes ≡ frame_of format header (body (texts r)) ++ after = e ∙ ap (λ (t : List ℕ). t ++ after) encodes.spelled in
-    ap (frame_front format) begins ∙ laws.frame_again format is_format header (body (texts r)) after (fits_texts r encodes)
+    let begins : bytes ≡ frame (version_byte encodes.version) (texts r).byte (row_bytes (texts r)) ++ after = e ∙ ap (λ (t : List ℕ). t ++ after) encodes.spelled in
+    ap (frame_front format) begins ∙ laws.frame_again format is_format (version_byte encodes.version) (texts r).byte (row_bytes (texts r)) after (body_of_record encodes.version r encodes.is_record encodes.short)
 
--- the fields of that frame's body
-fields_of_body : (r : Record Definition) → IsRecord r → fields_of (kind_of (texts r)) (body (texts r)) ≡ Some (texts r)
-fields_of_body r is_record = fields_again most_canon_bytes (texts r) (texts_fit most_canon_bytes r is_record (text_is_short r is_record))
-
-abbrev ok : Header × List ℕ → Result (Header × List ℕ) FrameFault
+abbrev ok : Found → Result Found FrameFault
 ok x = Ok x
 
-ok_same : (x y : Header × List ℕ) → ok x ≡ ok y → x ≡ y
+ok_same : (x y : Found) → ok x ≡ ok y → x ≡ y
 ok_same x y e = cc
 
--- an encoding is the frame of what the record says
-spelled_as : (version : Version) (r : Record (List ℕ)) → text_spelling version r ≡ payload_bytes format (payload_in version r)
-unfolding text_spelling
-spelled_as version r = ap (λ (bytes : List ℕ). frame_of format (header_of version r) bytes) (laid_out (most_text version) r)
+some_same : (x y : Row (List ℕ)) → Some x ≡ Some y → x ≡ y
+some_same x y e = cc
 
--- what it says is in its ranges
-payload_fits : (r : Record Definition) {spelled : List ℕ} (encodes : Encodes r spelled) → IsPayload format (payload_in encodes.version (texts r))
-payload_fits r encodes = values_fit (most_text encodes.version) (texts r) (texts_fit (most_text encodes.version) r encodes.is_record encodes.short)
+-- what is read of a frame
+abbrev read_of : Found → Option (Row (List ℕ))
+read_of found = read_row (kinds most_canon_bytes) found.1 found.2
 
 -- no encoding is a prefix of another's
 pub none_begins_another : OneTextOneMap → (q r : Record Definition) (a b after_a after_b : List ℕ) → Encodes q a → Encodes r b →
     a ++ after_a ≡ b ++ after_b → (q ≡ r) × (a ≡ b) × (after_a ≡ after_b)
+unfolding text_spelling
 none_begins_another one_map q r a b after_a after_b encodes_a encodes_b e =
-    let sends_q : a ≡ payload_bytes format (payload_in encodes_a.version (texts q)) = encodes_a.spelled ∙ spelled_as encodes_a.version (texts q) in
-    let sends_r : b ≡ payload_bytes format (payload_in encodes_b.version (texts r)) = encodes_b.spelled ∙ spelled_as encodes_b.version (texts r) in
-    let same_frames : payload_bytes format (payload_in encodes_a.version (texts q)) ++ after_a ≡ payload_bytes format (payload_in encodes_b.version (texts r)) ++ after_b =
-    sym (ap (λ (t : List ℕ). t ++ after_a) sends_q) ∙ e ∙ ap (λ (t : List ℕ). t ++ after_b) sends_r in
-    let same_payload = laws.none_begins_another format is_format (payload_in encodes_a.version (texts q)) (payload_in encodes_b.version (texts r)) after_a after_b
-    (payload_fits q encodes_a) (payload_fits r encodes_b) same_frames in
-    let same_texts : texts q ≡ texts r =
-    sym (record_again (most_text encodes_a.version) (texts q)) ∙ ap (λ (x : Payload format). record_of (most_text x.0.version) x.0.kind x.1) same_payload
-    ∙ record_again (most_text encodes_b.version) (texts r) in
-    let same_bytes : a ≡ b = sends_q ∙ ap (payload_bytes format) same_payload ∙ sym sends_r in (
+    let bytes_q : List ℕ = row_bytes (texts q) in
+    let bytes_r : List ℕ = row_bytes (texts r) in
+    let v : ℕ = version_byte encodes_a.version in
+    let w : ℕ = version_byte encodes_b.version in
+    let same_frames : frame v (texts q).byte bytes_q ++ after_a ≡ frame w (texts r).byte bytes_r ++ after_b =
+    sym (ap (λ (t : List ℕ). t ++ after_a) encodes_a.spelled) ∙ e ∙ ap (λ (t : List ℕ). t ++ after_b) encodes_b.spelled in
+    let same = laws.one_frame format is_format v (texts q).byte w (texts r).byte bytes_q bytes_r after_a after_b
+    (body_of_record encodes_a.version q encodes_a.is_record encodes_a.short) (body_of_record encodes_b.version r encodes_b.is_record encodes_b.short) same_frames in
+    let same_texts : texts q ≡ texts r = some_same (texts q) (texts r) (sym (row_of_record q encodes_a.is_record) ∙ ap read_of same ∙ row_of_record r encodes_b.is_record) in
+    let same_bytes : a ≡ b = encodes_a.spelled ∙ ap (λ (x : Found). frame x.0 x.1 x.2) same ∙ sym encodes_b.spelled in (
       texts_apart one_map q r encodes_a.is_record encodes_b.is_record same_texts,
       same_bytes,
       sym (drop-append_seam a after_a) ∙ ap (drop (length a)) e ∙ ap (λ (t : List ℕ). drop (length t) (b ++ after_b)) same_bytes ∙ drop-append_seam b after_b,
@@ -94,29 +84,44 @@ none_begins_another one_map q r a b after_a after_b encodes_a encodes_b e =
 
 -- ---- the result of decode
 
-begins_by : {X : Type 0} (view : X → Record Definition) (x : X × ℕ) (bytes : List ℕ) (r : Result (Header × List ℕ) FrameFault) → frame_front format bytes ≡ r → AreBytes bytes →
+-- the version and the kind of a frame that was split off
+record IsOfVersion (v byte : ℕ) (layout : Layout) : Type 0 where
+  version : Version
+  version_is : v ≡ version_byte version
+  has_kind : layout_of (kinds (most_text version)) byte ≡ Some layout
+
+version_of : (v byte : ℕ) (body : List ℕ) (has : HasBody format v byte body) → IsOfVersion v byte has.layout
+version_of v byte body has =
+    option_and_then_some (λ version. layout_of (kinds (most_text version)) byte) (version_of_byte v) has.layout has.has_kind (λ version is goes.
+    record { version = version; version_is = version_stands v version is; has_kind = goes })
+
+begins_by : {X : Type 0} (view : X → Record Definition) (x : X × ℕ) (bytes : List ℕ) (r : Result Found FrameFault) → frame_front format bytes ≡ r → AreBytes bytes →
     IsValidated view (Ok x) r → BeginsWith bytes (view x.0) x.1
 unfolding text_spelling
 begins_by view x bytes (Err fault) is are_bytes validated = absurd cc
 begins_by view x bytes (Ok found) is are_bytes validated =
-    let framed = laws.frame_stands format is_format bytes found.0 found.1 are_bytes is in
-    let version : Version = found.0.version in
-    let r : Record (List ℕ) = texts (view x.0) in
-    let stands = fields_stand (most_text version) found.0.kind found.1 r framed.body_bytes framed.has_length validated.0.0 in
-    let has : fits (layout (most_text version) (kind_of r)) (length (body r)) ≡ true =
-    ap (λ (k : RecordKind). fits (layout (most_text version) k) (length (body r))) stands.0 ∙ ap (λ (b : List ℕ). fits (layout (most_text version) found.0.kind) (length b)) (sym stands.1) ∙ framed.has_length in
-    let spelled : frame_of format found.0 found.1 ≡ text_spelling version r =
-    ap (λ (k : RecordKind). frame (version_byte version) (kind_byte k) found.1) (sym stands.0) ∙ ap (λ (b : List ℕ). frame (version_byte version) (kind_byte (kind_of r)) b) stands.1 in
-    let parts : bytes ≡ text_spelling version r ++ framed.rest = framed.parts ∙ ap (λ (t : List ℕ). t ++ framed.rest) spelled in
-    let count : x.1 ≡ length (text_spelling version r) = validated.1 ∙ ap (λ (b : List ℕ). header_length + length b) stands.1 ∙ sym (length-text_spelling version r) in
+    let framed = laws.frame_stands format bytes found.0 found.1 found.2 are_bytes is in
+    let of = version_of found.0 found.1 found.2 framed.has_body in
+    let most : ℕ = most_text of.version in
+    let r : Row (List ℕ) = texts (view x.0) in
+    let reads = validated.0 most in
+    let stands = row_stands (kinds most) found.1 framed.has_body.layout found.2 r of.has_kind framed.body_bytes framed.has_body.has_length reads.0 in
+    let known : layout_of (kinds most) found.1 ≡ Some (row_layout most r) = ap (layout_of (kinds most)) (sym stands.0) ∙ has_kind most (view x.0) in
+    let same_layout : framed.has_body.layout ≡ row_layout most r = same_Some framed.has_body.layout (row_layout most r) (sym of.has_kind ∙ known) in
+    let has : fits (row_layout most r) (length (row_bytes r)) ≡ true =
+    subst (λ (l : Layout). fits l (length (row_bytes r)) ≡ true) same_layout (subst (λ (b : List ℕ). fits framed.has_body.layout (length b) ≡ true) stands.1 framed.has_body.has_length) in
+    let spelled : frame found.0 found.1 found.2 ≡ text_spelling of.version r =
+    ap (λ (v : ℕ). frame v found.1 found.2) of.version_is ∙ ap (λ (k : ℕ). frame (version_byte of.version) k found.2) (sym stands.0) ∙ ap (λ (b : List ℕ). frame (version_byte of.version) r.byte b) stands.1 in
+    let parts : bytes ≡ text_spelling of.version r ++ framed.rest = framed.parts ∙ ap (λ (t : List ℕ). t ++ framed.rest) spelled in
+    let count : x.1 ≡ length (text_spelling of.version r) = validated.1 ∙ ap (λ (b : List ℕ). header_length + length b) stands.1 ∙ sym (length-text_spelling of.version r) in
     record {
       not_empty = omega (arith, validated.1);
-      within = omega (arith, count, ap length parts, length-append (text_spelling version r) framed.rest);
+      within = omega (arith, count, ap length parts, length-append (text_spelling of.version r) framed.rest);
       encodes = record {
-        is_record = validated.0.1;
-        version = version;
-        short = text_within (most_text version) (view x.0) has;
-        spelled = ap (take x.1) parts ∙ ap (λ (n : ℕ). take n (text_spelling version r ++ framed.rest)) count ∙ take-append_seam (text_spelling version r) framed.rest;
+        is_record = reads.1;
+        version = of.version;
+        short = text_is_within most (view x.0) has;
+        spelled = ap (take x.1) parts ∙ ap (λ (n : ℕ). take n (text_spelling of.version r ++ framed.rest)) count ∙ take-append_seam (text_spelling of.version r) framed.rest;
       };
     }
 
@@ -139,13 +144,13 @@ is_short frames.BadKind e = absurd cc
 is_short frames.TooLong e = absurd cc
 is_short frames.BadLength e = absurd cc
 
-abbrev frame_error : FrameFault → Result (Header × List ℕ) FrameFault
+abbrev frame_error : FrameFault → Result Found FrameFault
 frame_error fault = Err fault
 
-torn_by : {X : Type 0} (view : X → Record Definition) (result : Result (X × ℕ) RecordFault) (r : Result (Header × List ℕ) FrameFault) → IsValidated view result r → result ≡ Err Torn → r ≡ Err frames.Short
+torn_by : {X : Type 0} (view : X → Record Definition) (result : Result (X × ℕ) RecordFault) (r : Result Found FrameFault) → IsValidated view result r → result ≡ Err Torn → r ≡ Err frames.Short
 torn_by {X} view result (Err fault) validated torn = ap frame_error (is_short fault (err_same {X = X × ℕ} (record_fault fault) Torn (sym validated ∙ torn)))
 torn_by {X} view result (Ok found) validated torn =
-    absurd (subst (λ (a : Result (X × ℕ) RecordFault). ReadsBody (λ (x : X × ℕ). view x.0) a (fields_of found.0.kind found.1)) torn validated.0)
+    absurd (subst (λ (a : Result (X × ℕ) RecordFault). ReadsBody (λ (x : X × ℕ). view x.0) a (read_of found)) torn (validated.0 most_canon_bytes))
 
 -- part of a frame is a torn record
 torn_record : (bytes : List ℕ) → (bytes ≡ [] → ⊥) → parts.IsUnfinished format bytes → IsTorn bytes
@@ -182,7 +187,7 @@ not_torn_fault fault of_bytes torn = subst IsFaultOfBytes torn of_bytes
 frame_same : (d e : FrameFault) → frame_error d ≡ frame_error e → d ≡ e
 frame_same d e same = cc
 
-bad_by : {X : Type 0} (view : X → Record Definition) (fault : RecordFault) (bytes : List ℕ) (r : Result (Header × List ℕ) FrameFault) → frame_front format bytes ≡ r → IsValidated view (Err fault) r →
+bad_by : {X : Type 0} (view : X → Record Definition) (fault : RecordFault) (bytes : List ℕ) (r : Result Found FrameFault) → frame_front format bytes ≡ r → IsValidated view (Err fault) r →
     IsFaultOfBytes fault → (bytes ≡ [] → ⊥) → IsBad bytes
 bad_by {X} view fault bytes (Err found) is validated of_bytes some =
     let same : fault ≡ record_fault found = err_same {X = X × ℕ} fault (record_fault found) validated in
@@ -194,9 +199,9 @@ bad_by {X} view fault bytes (Err found) is validated of_bytes some =
 bad_by {X} view fault bytes (Ok found) is validated of_bytes some =
     record {
       longest = λ r spelled after encodes e.
-          let same_frame = ok_same (found.0, found.1) (header_of encodes.version (texts r), body (texts r)) (sym is ∙ cut_of r spelled after bytes encodes e) in
-          let fields = ap (λ (f : Header × List ℕ). fields_of f.0.kind f.1) same_frame ∙ fields_of_body r encodes.is_record in
-          body_rejected view fault r of_bytes encodes.is_record (subst (λ (o : Option (Record (List ℕ))). ReadsBody (λ (x : X × ℕ). view x.0) (Err fault) o) fields validated.0);
+          let same_frame = ok_same (found.0, found.1, found.2) (version_byte encodes.version, (texts r).byte, row_bytes (texts r)) (sym is ∙ cut_of r spelled after bytes encodes e) in
+          let read = ap read_of same_frame ∙ row_of_record r encodes.is_record in
+          body_rejected view fault r of_bytes encodes.is_record (subst (λ (o : Option (Row (List ℕ))). ReadsBody (λ (x : X × ℕ). view x.0) (Err fault) o) read (validated.0 most_canon_bytes));
       not_clean = some;
       not_torn = λ torn. let e = torn_validated bytes torn in absurd cc;
     }

@@ -2,7 +2,7 @@ pub mod FormatTheorems
 pub mod Front
 pub mod Journal
 pub mod Stages
-pub mod RecordKind
+pub mod KindTable
 pub mod MomentTheorems
 pub mod OpenFault
 pub mod Record

@@ -1,18 +1,15 @@
 ghost use Rattle.std.specs.Prelude.{◌≡◌, ◌≢◌, [], IfOk, IfErr, IsErrOf};
-ghost use Rattle.wf_journal.specs.declared.kind.RecordKind.TheVariants as kinds;
 ghost use Rattle.wf_journal.specs.Record.{view};
 ghost use Rattle.wf_journal.specs.Records.{IsTorn, IsBad, BeginsWithNone};
 ghost use Rattle.wf_frame.specs.Frame.{frame_front};
 ghost use Rattle.wf_journal.specs.Encoding.{format};
-ghost use Rattle.wf_journal.specs.Stages.{record_fault, fields_of, ReadsBody, ReadsText, IsValidated, IsFaultOfBytes};
+ghost use Rattle.wf_journal.specs.Stages.{record_fault, ReadsText, IsValidated, IsFaultOfBytes};
 ghost use Rattle.wf_journal.specs.Front.{BeginsWith};
 
 use crate::fault::RecordFault;
-use crate::header::Header;
-use crate::kind::RecordKind;
+use crate::format::RecordFormat;
 use crate::record::Record;
 use std::alloc::Global;
-use wf_ballot::{split_ballot, split_round, split_slot};
 use wf_canon::{Canon, CanonFault, MOST_CANON_BYTES};
 use wf_frame::{FrameFault, split_frame};
 
@@ -35,12 +32,12 @@ pub fn decode(alloc: Global, bytes: &[u8]) -> Result<(Record, usize), RecordFaul
 fn validate(alloc: Global, bytes: &[u8]) -> Result<(Record, usize), RecordFault>
     ensures { IsValidated view result (frame_front format bytes.now) }
 {
-    let (header, body) = match split_frame::<Header>(bytes) {
+    let (_, kind, body) = match split_frame::<RecordFormat>(bytes) {
         Ok(frame) => frame,
         Err(fault) => return Err(record_fault(fault)),
     };
     let length = body.len();
-    let record = record_of(alloc, header.kind, body)?;
+    let record = Record::read(alloc, kind, body)?;
     Ok((record, HEADER_BYTES + length))
 }
 
@@ -57,66 +54,8 @@ fn record_fault(fault: FrameFault) -> RecordFault
     }
 }
 
-fn record_of(alloc: Global, kind: RecordKind, body: &[u8]) -> Result<Record, RecordFault>
-    ensures { ReadsBody view result (fields_of kind body.now) }
-{
-    match kind {
-        RecordKind::Tried => parse_tried(body),
-        RecordKind::Promised => parse_promised(body),
-        RecordKind::Accepted => parse_accepted(alloc, body),
-        RecordKind::Published => parse_published(alloc, body),
-    }
-}
-
-#[tactic(auto, unfolding(crate::specs::Stages::fields_of))]
-fn parse_tried(body: &[u8]) -> Result<Record, RecordFault>
-    ensures { ReadsBody view result (fields_of kinds.Tried body.now) }
-{
-    let Some((round, _)) = split_round(body) else {
-        return Err(RecordFault::Bad);
-    };
-    Ok(Record::Tried(round))
-}
-
-#[tactic(auto, unfolding(crate::specs::Stages::fields_of))]
-fn parse_promised(body: &[u8]) -> Result<Record, RecordFault>
-    ensures { ReadsBody view result (fields_of kinds.Promised body.now) }
-{
-    let Some((slot, rest)) = split_slot(body) else {
-        return Err(RecordFault::Bad);
-    };
-    let Some((ballot, _)) = split_ballot(rest) else {
-        return Err(RecordFault::Bad);
-    };
-    Ok(Record::Promised(slot, ballot))
-}
-
-#[tactic(auto, unfolding(crate::specs::Stages::fields_of))]
-fn parse_accepted(alloc: Global, body: &[u8]) -> Result<Record, RecordFault>
-    ensures { ReadsBody view result (fields_of kinds.Accepted body.now) }
-{
-    let Some((slot, rest)) = split_slot(body) else {
-        return Err(RecordFault::Bad);
-    };
-    let Some((ballot, text)) = split_ballot(rest) else {
-        return Err(RecordFault::Bad);
-    };
-    let canon = canon_of(alloc, text)?;
-    Ok(Record::Accepted(slot, ballot, canon))
-}
-
-#[tactic(auto, unfolding(crate::specs::Stages::fields_of))]
-fn parse_published(alloc: Global, body: &[u8]) -> Result<Record, RecordFault>
-    ensures { ReadsBody view result (fields_of kinds.Published body.now) }
-{
-    let Some((slot, text)) = split_slot(body) else {
-        return Err(RecordFault::Bad);
-    };
-    let canon = canon_of(alloc, text)?;
-    Ok(Record::Published(slot, canon))
-}
-
-fn canon_of(alloc: Global, text: &[u8]) -> Result<Canon, RecordFault>
+/// The definition of a canonical text.
+pub(crate) fn canon_of(alloc: Global, text: &[u8]) -> Result<Canon, RecordFault>
     ensures { ReadsText result text.now }
 {
     match Canon::from_bytes(alloc, text) {

@@ -1,6 +1,7 @@
 //! The records of a node on its tape, and the journal that adds them.
 //!
-//! Model: a `Record` is that of wf_model, with definitions (`specs/Record.antt`); its encoding is that of `specs/Encoding.antt`.
+//! Model: a `Record` is that of wf_model, with definitions (`specs/Record.antt`); each kind is a row of a table (`specs/KindTable.antt`),
+//! and its encoding is that of `specs/Encoding.antt`.
 //! In contracts a record is called `entry`, since `record` is one of their words; nothing else on a tape is called so. The records
 //! of bytes are the longest list of whole records that the bytes begin with (`specs/Records.antt`). A `Journal` is its tape, and
 //! whether it is halted.
@@ -20,10 +21,9 @@
 mod decoder;
 mod encoder;
 mod fault;
+mod format;
 mod found;
-mod header;
 mod journal;
-mod kind;
 mod open_error;
 mod record;
 mod record_reader;

@@ -5,10 +5,10 @@ use Rattle.std.proofs.lemmas.List.Sums.{fold_push}
 use Rattle.std.specs.Int.{int_min, int_max}
 use Rattle.std.specs.List.{fold}
 use Rattle.wf_def.specs.declared.point.Point.{Point}
-use Rattle.wf_paint.specs.Position.{PositionValue}
-use Rattle.wf_paint.specs.View.{ViewValue, position_of}
+use Rattle.wf_geometry.specs.Position.{PositionValue}
+use Rattle.wf_geometry.specs.View.{ViewValue, position_of}
 use Rattle.wf_label.specs.Anchor.{bounds_of, shown_x, shown_y}
-use Rattle.wf_label.specs.declared.bounds.Bounds.{Bounds}
+use Rattle.wf_label.specs.declared.feature_anchor.Bounds.{Bounds}
 
 fold_more : (pick : ℤ → ℤ → ℤ) (shown : Point → ℤ) (first : ℤ) (points : List Point) (i : ℕ) (d : Point) → i < length points →
     pick (fold pick first (map shown (take i points))) (shown (get_or points i d)) ≡ fold pick first (map shown (take (i + 1) points))

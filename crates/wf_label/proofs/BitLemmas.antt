@@ -12,7 +12,7 @@ use Rattle.std.specs.List.{enumerate_from}
 use Rattle.std.proofs.lemmas.List.FromFn.{length-enumerate_from, get_or-enumerate_from}
 use Rattle.std.proofs.lemmas.Option.{slice_get_past, slice_get_read}
 use Rattle.wf_def.specs.declared.color.Color.{Color}
-use Rattle.wf_paint.specs.Exact.{plus, difference, is_less}
+use Rattle.wf_geometry.specs.Exact.{plus, difference, is_less}
 use Rattle.wf_paint.specs.Pixmap.{PixmapValue}
 use Rattle.wf_label.specs.Colored.{IsColored, is_between, is_in, bit_at, is_bit, is_in_bits, bit_box, one_bit, row_bits, character_bits}
 use Rattle.wf_label.specs.Glyph.{glyph}

@@ -8,7 +8,7 @@ use Rattle.std.proofs.Math.Nat.{mul-le-mul, mul_comm, mul-zero, zero-mul}
 use Rattle.wf_def.specs.declared.color.Color.{Color}
 use Rattle.wf_paint.specs.Pixmap.{PixmapValue, IsSet, pixel_at, column_of, row_of}
 use Rattle.wf_label.specs.Colored.{IsColored, IsCut, is_between, is_in, is_in_row}
-use Rattle.wf_label.specs.declared.pixel_box.PixelBox.{PixelBox}
+use Rattle.wf_label.specs.declared.placed.PixelBox.{PixelBox}
 
 -- ---- one after another
 

@@ -8,14 +8,14 @@ use Rattle.std.proofs.lemmas.Grind.{flat_map-append}
 use Rattle.std.specs.List.{cons_option, filter_map, flat_map}
 use Rattle.wf_def.specs.Attribute.{class_of}
 use Rattle.wf_def.specs.Definition.{Definition, LayerDefinition, LabelDefinition, FeatureDefinition}
-use Rattle.wf_paint.specs.Operation.{class_at}
-use Rattle.wf_paint.specs.View.{ViewValue}
+use Rattle.wf_geometry.specs.Operation.{class_at}
+use Rattle.wf_geometry.specs.View.{ViewValue}
 use Rattle.wf_label.specs.Anchor.{anchor_of}
 use Rattle.wf_label.specs.Label.{at_anchor, class_label, entry_labels, feature_label, label_of, labelled, labels_of, labels_up_to, layer_labels, of_priority, text_of}
 use Rattle.wf_label.specs.Placed.{PlacedValue, placed_value, placed_values}
 use Rattle.wf_label.specs.Walk.{CandidateValue, candidate_of, candidate_value, candidate_values, chosen, entry_candidates, if_of_priority, layer_candidates, walk, with_priority}
-use Rattle.wf_label.specs.declared.anchor.Anchor.{Anchor}
-use Rattle.wf_label.specs.declared.candidate.Candidate.{Candidate}
+use Rattle.wf_label.specs.declared.feature_anchor.Anchor.{Anchor}
+use Rattle.wf_label.specs.declared.candidates.Candidate.{Candidate}
 use Rattle.wf_label.specs.declared.placed.Placed.{Placed}
 
 -- ---- one feature

@@ -3,7 +3,7 @@ use Rattle.std.proofs.Common.{◌≡◌, ℕ, zero, suc, ◌+◌, ◌<◌, ◌�
 use Rattle.std.proofs.lemmas.Bool.{cases_eq}
 use Rattle.std.proofs.lemmas.List.{append-nil, append_assoc, get_or_append_left, get_or_push, length_push, map_push, take-append-le, take_at, take_all, take_more, take_more_same}
 use Rattle.std.specs.List.{items_where_true}
-use Rattle.wf_paint.specs.View.{ViewValue}
+use Rattle.wf_geometry.specs.View.{ViewValue}
 use Rattle.wf_label.specs.Placed.{PlacedValue, placed_value, placed_values}
 use Rattle.wf_label.specs.LabelLayout.{stands, IsPlacedSet, IsLayout, EachListHasOnePlacedSet, EachListHasOneLayout, PlacedIsTheLayout, placed_after, placed_of}
 use Rattle.wf_label.specs.declared.placed.Placed.{Placed}

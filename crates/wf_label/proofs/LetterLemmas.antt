@@ -8,7 +8,7 @@ use Rattle.std.proofs.lemmas.Int.{ints}
 use Rattle.std.proofs.lemmas.List.Elements.{All-head, All-tail}
 use Rattle.std.proofs.lemmas.Option.{slice_get_past}
 use Rattle.wf_def.specs.declared.color.Color.{Color}
-use Rattle.wf_paint.specs.Exact.{plus, is_less}
+use Rattle.wf_geometry.specs.Exact.{plus, is_less}
 use Rattle.wf_paint.specs.Pixmap.{pixel_at, column_of, row_of}
 use Rattle.wf_label.specs.Colored.{is_between, is_in, bit_at, is_bit, is_in_bits, bit_box, one_bit}
 use Rattle.wf_label.specs.PixelBox.{box_of, text_height, text_width}

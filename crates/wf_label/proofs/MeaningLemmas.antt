@@ -9,15 +9,15 @@ use Rattle.std.specs.List.{All, cons_option, filter_map, flat_map, list_any}
 use Rattle.std.specs.Str.{IsUtf8, chars, encode_utf8_all}
 use Rattle.wf_def.specs.Definition.{Definition, LayerDefinition, LabelDefinition, FeatureDefinition}
 use Rattle.wf_def.specs.Limit.{most_priority}
-use Rattle.wf_paint.specs.Exact.{plus, is_less}
-use Rattle.wf_paint.specs.View.{ViewValue}
+use Rattle.wf_geometry.specs.Exact.{plus, is_less}
+use Rattle.wf_geometry.specs.View.{ViewValue}
 use Rattle.wf_label.specs.Anchor.{anchor_of}
 use Rattle.wf_label.specs.PixelBox.{box_of, is_whole_in, meets, text_width, text_height}
 use Rattle.wf_label.specs.Label.{candidates, entry_labels, feature_label, label_of, labelled, labels_of, labels_up_to, layer_labels, text_of}
 use Rattle.wf_label.specs.Placed.{PlacedValue, placed_value, placed_values}
 use Rattle.wf_label.specs.LabelLayout.{stands}
 use Rattle.wf_label.specs.Taken.{IsSolid, IsShown}
-use Rattle.wf_label.specs.declared.anchor.Anchor.{Anchor}
+use Rattle.wf_label.specs.declared.feature_anchor.Anchor.{Anchor}
 use Rattle.wf_label.specs.declared.placed.Placed.{Placed}
 use Rattle.std.proofs.Common.{get_or}
 use Rattle.std.proofs.lemmas.List.{get_or-map, length-map}

@@ -15,14 +15,14 @@ use Rattle.wf_def.specs.Attribute.{class_of}
 use Rattle.wf_def.specs.Definition.{Definition, LayerDefinition, ClassDefinition, LabelDefinition, FeatureDefinition}
 use Rattle.wf_def.specs.Limit.{most_priority}
 use Rattle.wf_def.specs.Limits.{IsClass, IsLabel, IsLayer, IsWithinLimits}
-use Rattle.wf_paint.specs.Operation.{class_at}
-use Rattle.wf_paint.specs.View.{ViewValue}
+use Rattle.wf_geometry.specs.Operation.{class_at}
+use Rattle.wf_geometry.specs.View.{ViewValue}
 use Rattle.wf_label.specs.Anchor.{anchor_of}
 use Rattle.wf_label.specs.Label.{candidates, class_label, labels_of, labels_up_to, text_of}
 use Rattle.wf_label.specs.Order.{RankedLabel, ranked, ranked_label, ranked_labels, all_labels, label_order, CandidatesAreSorted}
 use Rattle.wf_label.specs.Placed.{PlacedValue}
 use Rattle.wf_label.specs.Walk.{CandidateValue, candidate_of, chosen, entry_candidates, layer_candidates, walk, with_priority}
-use Rattle.wf_label.specs.declared.anchor.Anchor.{Anchor}
+use Rattle.wf_label.specs.declared.feature_anchor.Anchor.{Anchor}
 use Rattle.wf_label.proofs.LabelLemmas.{priority_chosen}
 use Rattle.wf_label.proofs.SortedLemmas.{All-flat_map, IsPermutation-by_levels, IsPermutation-flat_map_reverse, IsSorted-from_strict, IsStrictlySortedBy-append, IsStrictlySortedBy-by_levels, by_levels, flat_map-reverse_more, one_order}
 

@@ -2,11 +2,11 @@
 use Rattle.std.proofs.Common.{◌≡◌, Bool, true, false, ◌&&◌, ℤ, refl, arith}
 use Rattle.std.proofs.lemmas.Bool.{and_from, and_parts}
 use Rattle.std.proofs.lemmas.Int.{ints}
-use Rattle.wf_paint.specs.Exact.{is_less}
+use Rattle.wf_geometry.specs.Exact.{is_less}
 use Rattle.wf_label.specs.Overlap.{BoxesOverlapWhereTheyShare, LiesIn, OverlapIsSharing, ShareAPixel}
 use Rattle.wf_label.specs.PixelBox.{overlap, spans_overlap}
 use Rattle.wf_label.specs.Taken.{IsSolid}
-use Rattle.wf_label.specs.declared.pixel_box.PixelBox.{PixelBox}
+use Rattle.wf_label.specs.declared.placed.PixelBox.{PixelBox}
 
 -- on one axis, a pixel of both spans
 record IsCommon (a b c d : ℤ) : Type 0 where

@@ -10,14 +10,14 @@ use Rattle.std.proofs.lemmas.Bool.Decides.{nat_tests}
 use Rattle.std.proofs.lemmas.Int.{ints}
 use Rattle.std.proofs.lemmas.List.Elements.{All-head, All-tail, All-push}
 use Rattle.std.specs.List.{All, list_any}
-use Rattle.wf_paint.specs.Exact.{plus, difference, is_less}
-use Rattle.wf_paint.specs.View.{ViewValue}
+use Rattle.wf_geometry.specs.Exact.{plus, difference, is_less}
+use Rattle.wf_geometry.specs.View.{ViewValue}
 use Rattle.wf_label.specs.Colored.{IsCut, is_between, is_in}
 use Rattle.wf_label.specs.PixelBox.{box_of, is_whole_in, overlap, spans_overlap, widen}
 use Rattle.wf_label.specs.Placed.{PlacedValue, placed_value, placed_values}
 use Rattle.wf_label.specs.declared.placed.Placed.{Placed}
 use Rattle.wf_label.specs.Taken.{IsSolid, IsShown, IsTaken, IsMet, IsMarkedWithin, is_taken, is_marked}
-use Rattle.wf_label.specs.declared.pixel_box.PixelBox.{PixelBox}
+use Rattle.wf_label.specs.declared.placed.PixelBox.{PixelBox}
 
 -- ---- two boxes
 

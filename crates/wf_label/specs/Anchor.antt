@@ -3,12 +3,12 @@ use Rattle.std.specs.Prelude.{List, [], ◌∷◌, map, Option, Some, None, ℤ,
 use Rattle.std.specs.Int.{int_min, int_max}
 use Rattle.std.specs.List.{fold}
 use Rattle.wf_def.specs.declared.point.Point.{Point}
-use Rattle.wf_paint.specs.Exact.{plus, quotient}
-use Rattle.wf_paint.specs.Limit.{pixel_side}
-use Rattle.wf_paint.specs.Near.{IsNear}
-use Rattle.wf_paint.specs.View.{ViewValue, position_of}
-use Rattle.wf_label.specs.declared.anchor.Anchor.{Anchor}
-use Rattle.wf_label.specs.declared.bounds.Bounds.{Bounds}
+use Rattle.wf_geometry.specs.Exact.{plus, quotient}
+use Rattle.wf_geometry.specs.Limit.{pixel_side}
+use Rattle.wf_geometry.specs.Near.{IsNear}
+use Rattle.wf_geometry.specs.View.{ViewValue, position_of}
+use Rattle.wf_label.specs.declared.feature_anchor.Anchor.{Anchor}
+use Rattle.wf_label.specs.declared.feature_anchor.Bounds.{Bounds}
 
 -- ---- the box around points
 

@@ -2,13 +2,13 @@
 use Rattle.std.specs.Prelude.{◌≡◌, ℕ, ◌*◌, ◌/◌, ◌%◌, ◌<◌, ◌==◌, ◌&&◌, Bool, false, not, nat_le, nat_lt, Option, Some, None, ℤ, pos, if◌then◌else◌}
 use Rattle.std.specs.Option.{option_map}
 use Rattle.wf_def.specs.declared.color.Color.{Color}
-use Rattle.wf_paint.specs.Exact.{plus, is_less}
+use Rattle.wf_geometry.specs.Exact.{plus, is_less}
 use Rattle.wf_paint.specs.Pixmap.{PixmapValue, pixel_at, column_of, row_of}
 use Rattle.wf_label.specs.Glyph.{glyph}
 use Rattle.wf_label.specs.Ink.{steps, has_bit, row_up}
 use Rattle.wf_label.specs.Limit.{cell_width}
 use Rattle.wf_label.specs.Placed.{PlacedValue}
-use Rattle.wf_label.specs.declared.pixel_box.PixelBox.{PixelBox}
+use Rattle.wf_label.specs.declared.placed.PixelBox.{PixelBox}
 
 -- the pixels that the function names by column and row, rows counted upward, got the colour, and every other has its old one
 pub record IsColored (shown : ℕ → ℕ → Bool) (color : Color) (old new : PixmapValue) : Type 0 where

@@ -4,7 +4,7 @@ use Rattle.std.specs.List.{find}
 use Rattle.std.specs.Option.{option_map, unwrap_or}
 use Rattle.std.specs.Str.{chars}
 use Rattle.wf_def.specs.declared.color.Color.{Color}
-use Rattle.wf_paint.specs.Exact.{difference, is_less}
+use Rattle.wf_geometry.specs.Exact.{difference, is_less}
 use Rattle.wf_paint.specs.Pixmap.{PixmapValue, pixel_at, column_of, row_of}
 use Rattle.wf_label.specs.Glyph.{glyph}
 use Rattle.wf_label.specs.Limit.{cell_width, glyph_height}

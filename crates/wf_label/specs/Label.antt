@@ -7,13 +7,13 @@ use Rattle.wf_def.specs.Definition.{Definition, LayerDefinition, ClassDefinition
 use Rattle.wf_def.specs.Limit.{most_priority}
 use Rattle.wf_def.specs.declared.choice.LabelPosition.{LabelPosition}
 use Rattle.wf_def.specs.declared.choice.LabelPosition.TheVariants.{UpperLeft, UpperCenter, UpperRight, CenterLeft, CenterCenter, CenterRight, LowerLeft, LowerCenter, LowerRight}
-use Rattle.wf_paint.specs.Exact.{plus, difference}
-use Rattle.wf_paint.specs.Operation.{class_at}
-use Rattle.wf_paint.specs.View.{ViewValue}
+use Rattle.wf_geometry.specs.Exact.{plus, difference}
+use Rattle.wf_geometry.specs.Operation.{class_at}
+use Rattle.wf_geometry.specs.View.{ViewValue}
 use Rattle.wf_label.specs.Anchor.{anchor_of}
 use Rattle.wf_label.specs.PixelBox.{text_width, text_height}
 use Rattle.wf_label.specs.Placed.{PlacedValue, scale_of}
-use Rattle.wf_label.specs.declared.anchor.Anchor.{Anchor}
+use Rattle.wf_label.specs.declared.feature_anchor.Anchor.{Anchor}
 
 -- ---- the text of a label
 

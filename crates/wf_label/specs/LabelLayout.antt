@@ -1,7 +1,7 @@
 -- Which labels are placed: the one set that the rule describes.
 use Rattle.std.specs.Prelude.{◌≡◌, ℕ, ◌<◌, Bool, false, not, ◌&&◌, ◌||◌, List, [], ◌∷◌, ◌++◌, length, get_or, take, if◌then◌else◌}
 use Rattle.std.specs.List.{list_any, items_where_true}
-use Rattle.wf_paint.specs.View.{ViewValue}
+use Rattle.wf_geometry.specs.View.{ViewValue}
 use Rattle.wf_label.specs.PixelBox.{box_of, is_whole_in, meets}
 use Rattle.wf_label.specs.Placed.{PlacedValue}
 

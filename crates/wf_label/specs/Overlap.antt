@@ -1,9 +1,9 @@
 -- What the overlap of two boxes means: a pixel that lies in both.
 use Rattle.std.specs.Prelude.{◌≡◌, Bool, true, ℤ}
-use Rattle.wf_paint.specs.Exact.{is_less}
+use Rattle.wf_geometry.specs.Exact.{is_less}
 use Rattle.wf_label.specs.PixelBox.{overlap}
 use Rattle.wf_label.specs.Taken.{IsSolid}
-use Rattle.wf_label.specs.declared.pixel_box.PixelBox.{PixelBox}
+use Rattle.wf_label.specs.declared.placed.PixelBox.{PixelBox}
 
 -- the pixel lies in the box: its left and bottom sides count, its right and top ones don't
 pub record LiesIn (b : PixelBox) (column row : ℤ) : Type 0 where

@@ -1,11 +1,11 @@
 -- The boxes of labels, in pixels.
 use Rattle.std.specs.Prelude.{ℕ, ◌*◌, ◌^◌, ◌≤◌, ◌&&◌, Bool, not, List, length, ℤ, pos, nat_abs}
 use Rattle.std.specs.Str.{chars}
-use Rattle.wf_paint.specs.Exact.{plus, difference, is_less}
-use Rattle.wf_paint.specs.View.{ViewValue}
+use Rattle.wf_geometry.specs.Exact.{plus, difference, is_less}
+use Rattle.wf_geometry.specs.View.{ViewValue}
 use Rattle.wf_label.specs.Limit.{cell_height, cell_width}
 use Rattle.wf_label.specs.Placed.{PlacedValue}
-use Rattle.wf_label.specs.declared.pixel_box.PixelBox.{PixelBox}
+use Rattle.wf_label.specs.declared.placed.PixelBox.{PixelBox}
 
 -- how wide a text is: each character has a cell
 unfoldable pub text_width : ℕ → List ℕ → ℕ

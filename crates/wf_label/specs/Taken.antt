@@ -1,12 +1,12 @@
 -- Which pixels of a view the boxes of placed labels take.
 use Rattle.std.specs.Prelude.{◌≡◌, ℕ, ◌+◌, ◌*◌, ◌<◌, ◌≤◌, ◌==◌, Bool, true, not, List, length, slice_index}
 use Rattle.std.specs.List.{All, list_any}
-use Rattle.wf_paint.specs.Exact.{is_less}
-use Rattle.wf_paint.specs.View.{ViewValue}
+use Rattle.wf_geometry.specs.Exact.{is_less}
+use Rattle.wf_geometry.specs.View.{ViewValue}
 use Rattle.wf_label.specs.Colored.{is_in}
 use Rattle.wf_label.specs.PixelBox.{box_of, is_whole_in}
 use Rattle.wf_label.specs.Placed.{PlacedValue}
-use Rattle.wf_label.specs.declared.pixel_box.PixelBox.{PixelBox}
+use Rattle.wf_label.specs.declared.placed.PixelBox.{PixelBox}
 
 -- the box has a pixel
 pub record IsSolid (b : PixelBox) : Type 0 where

@@ -3,13 +3,13 @@ use Rattle.std.specs.Prelude.{ℕ, ◌==◌, List, [], ◌∷◌, map, reverse, 
 use Rattle.std.specs.List.{filter_map, flat_map}
 use Rattle.wf_def.specs.Attribute.{class_of}
 use Rattle.wf_def.specs.Definition.{Definition, LayerDefinition, LabelDefinition, FeatureDefinition}
-use Rattle.wf_paint.specs.Operation.{class_at}
-use Rattle.wf_paint.specs.View.{ViewValue}
+use Rattle.wf_geometry.specs.Operation.{class_at}
+use Rattle.wf_geometry.specs.View.{ViewValue}
 use Rattle.wf_label.specs.Anchor.{anchor_of}
 use Rattle.wf_label.specs.Label.{at_anchor, class_label, text_of}
 use Rattle.wf_label.specs.Placed.{PlacedValue, placed_value}
-use Rattle.wf_label.specs.declared.anchor.Anchor.{Anchor}
-use Rattle.wf_label.specs.declared.candidate.Candidate.{Candidate}
+use Rattle.wf_label.specs.declared.feature_anchor.Anchor.{Anchor}
+use Rattle.wf_label.specs.declared.candidates.Candidate.{Candidate}
 
 pub record CandidateValue : Type 0 where
   pub priority : ℕ

@@ -3,12 +3,11 @@ ghost use Rattle.std.specs.Prelude.{◌≡◌, ◌++◌, ◌<◌, length, IfOk, 
 ghost use Rattle.std.specs.List.{All};
 ghost use Rattle.std.specs.Option.{option_map};
 ghost use Rattle.wf_def.specs.Attribute.{class_of};
-ghost use Rattle.wf_paint.specs.Operation.{class_at};
+ghost use Rattle.wf_geometry.specs.Operation.{class_at};
 ghost use Rattle.wf_label.specs.Label.{candidates, class_label};
 ghost use Rattle.wf_label.specs.Placed.{placed_values};
 ghost use Rattle.wf_label.specs.Walk.{candidate_of, candidate_value, candidate_values, chosen, layer_candidates, walk};
 
-use crate::candidate::Candidate;
 use crate::feature_anchor::anchor_of;
 use crate::placed::Placed;
 use crate::position::at_anchor;
@@ -19,7 +18,14 @@ use wf_def::label::Label;
 use wf_def::layer::Layer;
 use wf_def::limits::MOST_PRIORITY;
 use wf_def::map::MapDef;
-use wf_paint::view::View;
+use wf_geometry::View;
+
+/// A label with its position in a view, and its priority: the higher is placed first.
+#[derive(Clone, Copy)]
+pub(crate) struct Candidate<'a> {
+    pub(crate) priority: u8,
+    pub(crate) label: Placed<'a>,
+}
 
 /// The labels of the map's layers at these indices, placed or not, in label order (MapServer mapfile reference, LABEL PRIORITY):
 /// the higher priority first; within a priority the layer that is listed later first; within a layer the features in their

@@ -10,10 +10,9 @@ use crate::glyph::glyph;
 use crate::ink::{has_bit, row_up};
 use crate::limits::{CELL_HEIGHT, CELL_WIDTH, GLYPH_WIDTH};
 use crate::overlap::plus;
-use crate::pixel_box::PixelBox;
-use crate::placed::Placed;
+use crate::placed::{PixelBox, Placed};
 use crate::scale::scale_of;
-use wf_paint::pixmap::Pixmap;
+use wf_paint::Pixmap;
 
 /// Draws the letters of the labels over the picture of their view: each pixel that a letter inks gets the colour of the first
 /// label that inks it, and no other pixel changes. It allocates nothing.

@@ -1,16 +1,29 @@
 //! Where a feature's label is anchored.
 ghost use Rattle.std.specs.Prelude.{◌≡◌, IfSome};
 ghost use Rattle.std.specs.Int.{int_max, int_min};
-ghost use Rattle.wf_paint.specs.Near.{IsNear};
+ghost use Rattle.wf_geometry.specs.Near.{IsNear};
 ghost use Rattle.wf_label.specs.Anchor.{IsAnchor, IsBounds, anchor_of, part_anchor, bounds_of, middle_of, middle, pixel_of};
 
-use crate::anchor::Anchor;
-use crate::bounds::Bounds;
 use wf_def::feature::Part;
 use wf_def::point::Point;
-use wf_paint::limits::PIXEL_SIDE;
-use wf_paint::position::Position;
-use wf_paint::view::View;
+use wf_geometry::{PIXEL_SIDE, Position, View};
+
+/// The box around some positions, in sixteenths of a pixel: the least and the greatest on each axis.
+#[derive(Clone, Copy, PartialEq, Eq)]
+pub struct Bounds {
+    pub left: i64,
+    pub right: i64,
+    pub bottom: i64,
+    pub top: i64,
+}
+
+/// The pixel beside which a feature's label is placed: its column from the left of the view and its row from the bottom. It may
+/// lie outside the view.
+#[derive(Clone, Copy, PartialEq, Eq)]
+pub struct Anchor {
+    pub column: i64,
+    pub row: i64,
+}
 
 /// The pixel in the middle of the box around the points of the first part, as the view shows them; none where there is no point.
 pub(crate) fn anchor_of(view: &View, parts: &[Part]) -> Option<Anchor>
@@ -110,7 +123,7 @@ fn middle_of(bounds: Bounds) -> Anchor
 }
 
 /// Halfway between two positions on an axis, rounded down.
-#[tactic(auto, unfolding(crate::specs::Anchor::middle, wf_paint::specs::Exact::plus, wf_paint::specs::Exact::quotient))]
+#[tactic(auto, unfolding(crate::specs::Anchor::middle, wf_geometry::specs::Exact::plus, wf_geometry::specs::Exact::quotient))]
 fn middle(low: i64, high: i64) -> i64
     requires low { IsNear low }
     requires high { IsNear high }
@@ -121,7 +134,7 @@ fn middle(low: i64, high: i64) -> i64
 }
 
 /// The pixel that holds a position on one axis.
-#[tactic(auto, unfolding(crate::specs::Anchor::pixel_of, wf_paint::specs::Exact::quotient))]
+#[tactic(auto, unfolding(crate::specs::Anchor::pixel_of, wf_geometry::specs::Exact::quotient))]
 fn pixel_of(position: i64) -> i64
     requires { IsNear position }
     ensures value { result ≡ pixel_of position }

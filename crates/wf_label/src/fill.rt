@@ -1,11 +1,11 @@
 //! Boxes of pixels filled with a colour.
 ghost use Rattle.std.specs.Prelude.{◌≡◌, ◌≤◌, ◌<◌, ℕ, pos, nat_lt};
-ghost use Rattle.wf_paint.specs.Exact.{is_less};
+ghost use Rattle.wf_geometry.specs.Exact.{is_less};
 ghost use Rattle.wf_label.specs.Colored.{IsColored, IsCut, is_in, is_in_row};
 
-use crate::pixel_box::PixelBox;
+use crate::placed::PixelBox;
 use wf_def::color::Color;
-use wf_paint::pixmap::Pixmap;
+use wf_paint::Pixmap;
 
 /// Gives the pixels of the picture that lie in the box the colour.
 pub(crate) fn fill(pixmap: &mut Pixmap, pixel_box: &PixelBox, color: Color)
@@ -21,7 +21,7 @@ pub(crate) fn fill(pixmap: &mut Pixmap, pixel_box: &PixelBox, color: Color)
 }
 
 /// A side of a box, clamped to a picture of `most` pixels on that axis.
-#[tactic(auto, unfolding(wf_paint::specs::Exact::is_less))]
+#[tactic(auto, unfolding(wf_geometry::specs::Exact::is_less))]
 pub(crate) fn cut(side: i128, most: u32) -> u32
     ensures most { result ≤ most }
     ensures value { IsCut most result side }

@@ -20,9 +20,6 @@
 //! that its characters' glyphs set, all of them in its box.
 #![tactic(auto)]
 
-pub mod anchor;
-pub mod bounds;
-mod candidate;
 pub mod candidates;
 pub mod draw;
 mod feature_anchor;
@@ -31,7 +28,6 @@ pub mod glyph;
 mod ink;
 pub mod limits;
 mod overlap;
-pub mod pixel_box;
 pub mod placed;
 pub mod placement;
 mod position;

@@ -1,14 +1,13 @@
 //! Boxes of labels: where they are, and whether they lie in the view.
 ghost use Rattle.std.specs.Prelude.{◌≡◌, ◌≤◌, ◌+◌, ◌^◌, ◌<◌, length, pos, nat_abs};
-ghost use Rattle.wf_paint.specs.Exact.{plus, difference, is_less};
+ghost use Rattle.wf_geometry.specs.Exact.{plus, difference, is_less};
 ghost use Rattle.wf_label.specs.PixelBox.{IsPixelBox, box_of, is_whole_in, widen};
 ghost use Rattle.wf_label.specs.Placed.{placed_value};
 ghost use Rattle.wf_label.specs.Taken.{IsSolid};
 
-use crate::pixel_box::PixelBox;
-use crate::placed::Placed;
+use crate::placed::{PixelBox, Placed};
 use crate::text::{text_height, text_width};
-use wf_paint::view::View;
+use wf_geometry::View;
 
 /// The box of a label.
 #[tactic(auto, unfolding(crate::specs::PixelBox::box_of))]
@@ -28,7 +27,7 @@ pub(crate) fn box_of(label: &Placed) -> PixelBox
 }
 
 /// A side moved by `by` pixels to the right or upward.
-#[tactic(auto, unfolding(wf_paint::specs::Exact::plus))]
+#[tactic(auto, unfolding(wf_geometry::specs::Exact::plus))]
 pub(crate) fn plus(side: i128, by: u128) -> i128
     requires side { nat_abs side ≤ 2 ^ 100 }
     requires by { by ≤ 2 ^ 80 }
@@ -39,7 +38,7 @@ pub(crate) fn plus(side: i128, by: u128) -> i128
 }
 
 /// A side moved by `by` pixels to the left or downward.
-#[tactic(auto, unfolding(wf_paint::specs::Exact::difference))]
+#[tactic(auto, unfolding(wf_geometry::specs::Exact::difference))]
 fn minus(side: i128, by: u8) -> i128
     requires { nat_abs side ≤ 2 ^ 100 }
     ensures { result ≡ difference side (pos by) }
@@ -73,7 +72,7 @@ pub(crate) fn is_whole_in(view: &View, pixel_box: &PixelBox) -> bool
 }
 
 /// Whether one side lies before another.
-#[tactic(auto, unfolding(wf_paint::specs::Exact::is_less))]
+#[tactic(auto, unfolding(wf_geometry::specs::Exact::is_less))]
 fn is_less(a: i128, b: i128) -> bool
     ensures { result ≡ is_less a b }
 {

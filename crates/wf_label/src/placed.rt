@@ -3,6 +3,16 @@
 use wf_def::choice::LabelSize;
 use wf_def::color::Color;
 
+/// A box of pixels: the columns from `left` to before `right`, the rows from `bottom` to before `top`. It may lie outside the
+/// view.
+#[derive(Clone, Copy, PartialEq, Eq)]
+pub struct PixelBox {
+    pub left: i128,
+    pub right: i128,
+    pub bottom: i128,
+    pub top: i128,
+}
+
 /// A label with its position in a view. Columns of pixels count from the left of the view, rows from its bottom. The box of a
 /// label that isn't placed may lie outside the view.
 #[derive(Clone, Copy)]

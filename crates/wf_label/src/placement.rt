@@ -9,12 +9,11 @@ ghost use Rattle.wf_label.specs.Taken.{IsShown, IsSolid, IsTaken};
 
 use crate::candidates::candidates;
 use crate::overlap::{box_of, is_whole_in, widen};
-use crate::pixel_box::PixelBox;
-use crate::placed::Placed;
+use crate::placed::{PixelBox, Placed};
 use crate::taken::{mark, meets_marked};
 use std::alloc::{AllocError, Global};
 use wf_def::map::MapDef;
-use wf_paint::view::View;
+use wf_geometry::View;
 
 /// The placed labels of the map's layers at these indices, in label order (MapServer mapfile reference, LABEL FORCE, BUFFER):
 /// those whose box lies whole in the view and that are forced, or whose box widened by the buffer has no pixel in common with the

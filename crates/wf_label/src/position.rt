@@ -1,13 +1,13 @@
 //! The position of a label's box relative to its anchor.
 ghost use Rattle.std.specs.Prelude.{◌≡◌, ◌≤◌, pos, length};
 ghost use Rattle.wf_def.specs.Limit.{most_text_bytes};
-ghost use Rattle.wf_paint.specs.Exact.{plus, difference};
-ghost use Rattle.wf_paint.specs.Near.{IsNear};
+ghost use Rattle.wf_geometry.specs.Exact.{plus, difference};
+ghost use Rattle.wf_geometry.specs.Near.{IsNear};
 ghost use Rattle.wf_label.specs.Anchor.{IsAnchor};
 ghost use Rattle.wf_label.specs.Label.{at_anchor, bottom_of, left_of};
 ghost use Rattle.wf_label.specs.Placed.{placed_value};
 
-use crate::anchor::Anchor;
+use crate::feature_anchor::Anchor;
 use crate::placed::Placed;
 use crate::text::{short_width, text_height};
 use wf_def::choice::LabelPosition;
@@ -68,7 +68,7 @@ fn bottom_of(position: LabelPosition, row: i64, height: u32) -> i64
 }
 
 /// The pixel `by` pixels to the left, or down.
-#[tactic(auto, unfolding(wf_paint::specs::Exact::difference))]
+#[tactic(auto, unfolding(wf_geometry::specs::Exact::difference))]
 fn minus(pixel: i64, by: u32) -> i64
     requires { IsNear pixel }
     ensures { result ≡ difference pixel (pos by) }
@@ -77,7 +77,7 @@ fn minus(pixel: i64, by: u32) -> i64
 }
 
 /// The next pixel to the right, or up.
-#[tactic(auto, unfolding(wf_paint::specs::Exact::plus))]
+#[tactic(auto, unfolding(wf_geometry::specs::Exact::plus))]
 fn next(pixel: i64) -> i64
     requires { IsNear pixel }
     ensures { result ≡ plus pixel (pos 1) }

@@ -1,12 +1,12 @@
 //! Which pixels of a view are taken by the boxes of placed labels.
 ghost use Rattle.std.specs.Prelude.{◌≡◌, ◌≤◌, ◌<◌, ◌*◌, ◌+◌, ℕ, ◌&&◌, ◌||◌, false, true, length, nat_le, nat_lt};
 ghost use Rattle.wf_label.specs.Colored.{IsCut, is_in};
-ghost use Rattle.wf_paint.specs.View.{IsView};
+ghost use Rattle.wf_geometry.specs.View.{IsView};
 ghost use Rattle.wf_label.specs.Taken.{IsMarkedWithin, IsMet, is_marked};
 
 use crate::fill::cut;
-use crate::pixel_box::PixelBox;
-use wf_paint::view::View;
+use crate::placed::PixelBox;
+use wf_geometry::View;
 
 /// The columns and rows of a view that a box covers: `left` to before `right`, `bottom` to before `top`.
 #[derive(Clone, Copy)]

@@ -4,7 +4,7 @@ use Rattle.wf_def.specs.Definition.{Definition}
 use Rattle.wf_model.specs.DurableState.{DurableState, published, next_sequence, with_record}
 use Rattle.wf_model.specs.VolatileState.{VolatileState}
 use Rattle.wf_model.specs.Table.{store, on_chosen, only_sends, quiet}
-use Rattle.wf_learner.specs.declared.learned.Learned.{Learned}
+use Rattle.wf_learner.specs.declared.history.Learned.{Learned}
 use Rattle.wf_learner.specs.History.{with_chosen, learned_at, asked, IsChosenTransition}
 
 -- for each outcome of the table's two tests

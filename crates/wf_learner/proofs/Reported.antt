@@ -3,8 +3,7 @@ use Rattle.std.proofs.Common.{◌≡◌, ℕ, zero, suc, ◌+◌, ◌-◌, ◌<�
 use Rattle.std.proofs.lemmas.Bool.{cases_lt}
 use Rattle.std.proofs.lemmas.List.{map-append}
 use Rattle.std.proofs.lemmas.Option.{slice_get_past, slice_get_within}
-use Rattle.wf_ballot.specs.Sequence.{last_sequence}
-use Rattle.wf_ballot.specs.Slot.{IsSlot}
+use Rattle.wf_ballot.specs.Sequence.{last_sequence, IsSlot}
 use Rattle.wf_def.specs.Definition.{Definition}
 use Rattle.wf_model.specs.Message.{Message, Chosen}
 use Rattle.wf_model.specs.DurableState.{definition_at}

@@ -6,8 +6,8 @@ use Rattle.wf_model.specs.Message as model
 use Rattle.wf_model.specs.DurableState.{DurableState, definition_at}
 use Rattle.wf_model.specs.VolatileState.{VolatileState}
 use Rattle.wf_model.specs.Table.{store, on_chosen}
-use Rattle.wf_learner.specs.declared.learned.Learned.{Learned}
-use Rattle.wf_learner.specs.declared.learned.Learned.TheVariants.{Published, Known, Missing}
+use Rattle.wf_learner.specs.declared.history.Learned.{Learned}
+use Rattle.wf_learner.specs.declared.history.Learned.TheVariants.{Published, Known, Missing}
 
 -- Its definitions, sequence 1 first, and whether there is room for one more. Only contracts about memory use the second.
 pub record History : Type 0 where

@@ -1,12 +1,22 @@
 //! The published map definitions.
 
-use crate::learned::Learned;
 use std::alloc::{AllocError, Global};
 use std::marker::Model;
 use wf_ballot::{Seq, Slot};
 use wf_canon::Canon;
 use wf_codec::Message;
 use wf_def::map::MapDef;
+
+/// The result of learning a chosen definition.
+#[derive(Clone, Copy, Debug, PartialEq, Eq)]
+pub enum Learned {
+    /// It is the history's newest: its slot was the next.
+    Published,
+    /// Its slot was published before; nothing changed.
+    Known,
+    /// Its slot is later, and the definitions from this slot on are missing; nothing changed.
+    Missing(Slot),
+}
 
 /// The most definitions that answer one Ask.
 pub const MOST_REPORTS: u16 = 8;
@@ -112,7 +122,7 @@ impl History {
     /// Chosen with the definition that is published at the slot, if there is one: the answer to a Prepare or an Accept of a
     /// published slot. Allocation can fail only for a published slot.
     #[tactic(auto, using(crate::proofs::Reported::reported_published, crate::proofs::Reported::reported_unpublished, crate::proofs::Reported::is_published))]
-    pub fn chosen(&self, slot: Slot) -> Result<Option<Message>, AllocError>
+    pub fn chosen_message(&self, slot: Slot) -> Result<Option<Message>, AllocError>
         ensures transition { IfOk result (λ message.
             option_to_list (option_map view_message message) ≡ reports self.now.definitions slot) }
         ensures memory { OnErr result (slot ≤ length self.now.definitions) }
@@ -149,7 +159,7 @@ impl History {
         let Some(slot) = Slot::new(number) else {
             return Ok(());
         };
-        if let Some(message) = self.chosen(slot)? {
+        if let Some(message) = self.chosen_message(slot)? {
             messages.push(message)?;
         }
         Ok(())

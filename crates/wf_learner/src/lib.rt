@@ -13,7 +13,5 @@
 #![tactic(auto)]
 
 mod history;
-mod learned;
 
-pub use history::{History, MOST_REPORTS};
-pub use learned::Learned;
+pub use history::{History, Learned, MOST_REPORTS};

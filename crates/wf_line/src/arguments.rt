@@ -525,7 +525,7 @@ fn serve<'a>(found: &ArgMatches<'a>) -> Option<Line<'a>>
 }
 
 // The line that the parsed arguments ask for.
-fn asked<'a>(matches: &ArgMatches<'a>) -> Option<Line<'a>>
+fn line_of<'a>(matches: &ArgMatches<'a>) -> Option<Line<'a>>
     ensures some { IfSome result (Asks (subcommand_rows_of matches.now)) }
     ensures none { IfNone result ((line : Line) → ¬ (Asks (subcommand_rows_of matches.now) line)) }
 {
@@ -558,7 +558,7 @@ pub fn line<'a, S: AsStr>(alloc: Global, words: &'a [S]) -> Result<Line<'a>, Err
         (λ error. IsRejection (map S.text words.entry.now) (kind_of error)) }
 {
     let matches = command(alloc)?.try_get_matches_from(words)?;
-    let asked = asked(&matches);
+    let asked = line_of(&matches);
     drop(matches);
     // The parser has checked that there is a line, but clap's contract doesn't cover a subcommand's values.
     match asked {

@@ -85,7 +85,7 @@ fn replica<'a>(found: &ArgMatches<'a>) -> Option<ProcessCommand<'a>>
 }
 
 // The command that the parsed arguments ask for.
-fn asked<'a>(matches: &ArgMatches<'a>) -> Option<ProcessCommand<'a>>
+fn command_of<'a>(matches: &ArgMatches<'a>) -> Option<ProcessCommand<'a>>
     ensures some { IfSome result (AsksProcess (subcommand_rows_of matches.now)) }
     ensures none { IfNone result
         ((command : ProcessCommand) → ¬ (AsksProcess (subcommand_rows_of matches.now) command)) }
@@ -155,7 +155,7 @@ pub fn process_command<'a, S: AsStr>(
         (λ error. IsProcessRejection (map S.text words.entry.now) (kind_of error)) }
 {
     let matches = program(alloc)?.try_get_matches_from(words)?;
-    let asked = asked(&matches);
+    let asked = command_of(&matches);
     drop(matches);
     // The parser has checked that there is a command, but clap's contract doesn't cover a subcommand's values.
     match asked {

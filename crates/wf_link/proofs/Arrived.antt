@@ -2,7 +2,6 @@
 use Rattle.std.proofs.Common.{◌≡◌, ◌∙◌, ◌+◌, ℕ, List, [], ◌∷◌, ◌++◌, length, map, refl, sym, ap, subst, arith}
 use Rattle.std.specs.Prelude.{Option}
 use Rattle.std.proofs.lemmas.List.{append_assoc, append-nil, length-append, map-append}
-use Rattle.wf_codec.specs.Theorem.{BeginsWithNone, NoneIsEmpty}
 use Rattle.wf_codec.specs.Message.{view}
 use Rattle.wf_codec.specs.declared.message.Message as code
 use Rattle.wf_def.specs.Definition.{Definition}
@@ -10,24 +9,17 @@ use Rattle.wf_model.specs.Message.{Message}
 use Rattle.wf_stream.specs.KnownTheorems.{consumes_more, consumes_none}
 use Rattle.wf_stream.specs.Effects.{ReadsPiece}
 use Rattle.wf_wire.specs.Inbox.{InboxState, Open, Failed, IsFed, pending_bytes}
-use Rattle.wf_wire.specs.Theorem.{JoinedReads}
-use Rattle.wf_wire.specs.Stream.{IsPart, Reads, Splits}
+use Rattle.wf_wire.proofs.Split.{joined_reads}
+use Rattle.wf_wire.proofs.Streams.{nothing_is_part}
+use Rattle.wf_wire.specs.Stream.{Reads, Splits}
 use Rattle.wf_link.specs.Arrival.{Arrives, HasReceived, HasTaken, HaveArrived, came_out}
-use Rattle.wf_link.specs.declared.arrival.Arrival.{Arrival}
+use Rattle.wf_link.specs.declared.receiver.Arrival.{Arrival}
 
--- no message is nothing
-none_in_nothing : NoneIsEmpty → BeginsWithNone []
-none_in_nothing some m [] after spells is = absurd (omega (arith, some m [] spells))
-none_in_nothing some m (x ∷ spelled) after spells is = absurd (cc)
-
-pub nothing_is_part : NoneIsEmpty → IsPart []
-nothing_is_part some = record { longest = none_in_nothing some; unfinished = tt }
-
-pub nothing_received : NoneIsEmpty → (arrival : Arrival) → arrival.inbox ≡ Open [] → arrival.messages.items ≡ [] → HasReceived [] arrival
-nothing_received some arrival fresh none = record {
+pub nothing_received : (arrival : Arrival) → arrival.inbox ≡ Open [] → arrival.messages.items ≡ [] → HasReceived [] arrival
+nothing_received arrival fresh none = record {
   rest = [];
   keeps = fresh;
-  reads = record { splits = subst (λ ms. Splits [] (map view ms) []) (sym none) refl; part = nothing_is_part some };
+  reads = record { splits = subst (λ ms. Splits [] (map view ms) []) (sym none) refl; part = nothing_is_part };
 }
 
 -- ---- a piece more
@@ -36,16 +28,16 @@ fed_open : (rest piece : List ℕ) (more : List (Message Definition)) (state : I
 fed_open rest piece more (Open after) fed = (after, refl, fed)
 fed_open rest piece more (Failed fault) fed = absurd fed
 
-pub piece_taken : JoinedReads → (piece : List ℕ) (before after : Arrival) (more : List (Message Definition)) → IsFed before.inbox piece more after.inbox → came_out after ≡ came_out before ++ more
+pub piece_taken : (piece : List ℕ) (before after : Arrival) (more : List (Message Definition)) → IsFed before.inbox piece more after.inbox → came_out after ≡ came_out before ++ more
     → HasTaken piece before after
 unfolding HasTaken
-piece_taken joins piece before after more fed is = λ earlier had.
+piece_taken piece before after more fed is = λ earlier had.
     let opened = fed_open had.rest piece more after.inbox (subst (λ (s : InboxState). IsFed s piece more after.inbox) had.keeps fed) in
     record {
       rest = opened.0;
       keeps = opened.1;
       reads = subst (λ (ms : List (Message Definition)). Reads (earlier ++ piece) ms opened.0) (sym is)
-          (joins [] earlier piece (came_out before) more had.rest opened.0 had.reads opened.2);
+          (joined_reads [] earlier piece (came_out before) more had.rest opened.0 had.reads opened.2);
     }
 
 pub kept : (old new more : List code.Message) → new ≡ old ++ more → map view new ≡ map view old ++ map view more

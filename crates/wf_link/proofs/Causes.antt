@@ -9,12 +9,12 @@ use Rattle.wf_farm.specs.declared.carrier.CarrierFault.TheVariants as faults
 use Rattle.wf_stream.specs.KnownTheorems.{consumes_more}
 use Rattle.wf_stream.specs.Effects.{ReadsPiece, Rises}
 use Rattle.wf_wire.specs.Inbox.{InboxState, IsBroken, pending_bytes}
-use Rattle.wf_wire.specs.Theorem.{JoinedBreaks, SplitOneWay}
+use Rattle.wf_wire.proofs.Split.{joined_breaks, split_one_way}
 use Rattle.wf_wire.specs.Stream.{Breaks}
 use Rattle.wf_wire.specs.declared.fault.InboxFault.{InboxFault}
 use Rattle.wf_link.specs.Arrival.{Arrives, HasReceived, HasTaken, came_out}
 use Rattle.wf_link.specs.Cause.{BeginsNoMessage, BreaksOff, ComesOtherwise, EndsEarly, FailsFor, Fares, HasBroken, IsAny, IsOneMessage, IsUnpassed, IsUnread}
-use Rattle.wf_link.specs.declared.arrival.Arrival.{Arrival}
+use Rattle.wf_link.specs.declared.receiver.Arrival.{Arrival}
 
 -- ---- outcomes
 
@@ -56,11 +56,11 @@ on_lost (Err fault) cause is = cause
 
 -- ---- a piece
 
-pub broken_piece : JoinedBreaks → (piece : List ℕ) (before : Arrival) (fault : InboxFault) (after : InboxState) → IsBroken before.inbox piece fault after → HasBroken piece before
+pub broken_piece : (piece : List ℕ) (before : Arrival) (fault : InboxFault) (after : InboxState) → IsBroken before.inbox piece fault after → HasBroken piece before
 unfolding HasBroken
-broken_piece joins piece before fault after is = λ earlier had.
+broken_piece piece before fault after is = λ earlier had.
     let breaks = subst (λ (s : InboxState). IsBroken s piece fault after) had.keeps is in
-    (fault, joins [] earlier piece (came_out before) had.rest fault had.reads breaks.0)
+    (fault, joined_breaks [] earlier piece (came_out before) had.rest fault had.reads breaks.0)
 
 pub breaks_off : (count : ℕ) (left left_after : Option (List ℕ)) (piece empty : List ℕ) (before : Arrival) → empty ≡ [] → ReadsPiece count left left_after empty piece → HasBroken piece before → BreaksOff left left_after before
 breaks_off count left left_after piece empty before none (bytes, size, consumed, is) broken =
@@ -142,12 +142,12 @@ lost_more size other is left left_after same (inr (inr (inr (bytes, consumed, in
 lost_more size other is left left_after same (inr (inr (inr (bytes, consumed, inr (long, none))))) = absurd (none tt)
 
 -- of one message one arrived, and nothing is kept behind it
-pub one_received : SplitOneWay → (bytes : List ℕ) (arrival : Arrival) → HasReceived bytes arrival → IsOneMessage bytes → (length arrival.messages.items ≡ 1) × (pending_bytes arrival.inbox ≡ 0)
-one_received one bytes arrival had (message, reads) =
-    let both = one bytes (came_out arrival) (message ∷ []) had.rest [] had.reads reads in
+pub one_received : (bytes : List ℕ) (arrival : Arrival) → HasReceived bytes arrival → IsOneMessage bytes → (length arrival.messages.items ≡ 1) × (pending_bytes arrival.inbox ≡ 0)
+one_received bytes arrival had (message, reads) =
+    let both = split_one_way bytes (came_out arrival) (message ∷ []) had.rest [] had.reads reads in
     (sym (length-map arrival.messages.items view) ∙ ap length both.0, ap pending_bytes had.keeps ∙ ap length both.1)
 
-pub none_received : SplitOneWay → (bytes : List ℕ) (arrival : Arrival) → HasReceived bytes arrival → BeginsNoMessage bytes → length arrival.messages.items ≡ 0
-none_received one bytes arrival had (rest, reads) =
-    let both = one bytes (came_out arrival) [] had.rest rest had.reads reads in
+pub none_received : (bytes : List ℕ) (arrival : Arrival) → HasReceived bytes arrival → BeginsNoMessage bytes → length arrival.messages.items ≡ 0
+none_received bytes arrival had (rest, reads) =
+    let both = split_one_way bytes (came_out arrival) [] had.rest rest had.reads reads in
     sym (length-map arrival.messages.items view) ∙ ap length both.0

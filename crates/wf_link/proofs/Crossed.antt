@@ -3,18 +3,18 @@ use Rattle.std.proofs.Common.{◌≡◌, ◌∙◌, ◌-◌, ℕ, zero, suc, Lis
 use Rattle.std.specs.Prelude.{Option, Some, None, Result, Ok, Err, OnErr, OnOk, min}
 use Rattle.std.specs.Io.KnownBytes.{Appends, Consumes}
 use Rattle.std.proofs.lemmas.List.{append-nil, append_assoc, length-append, take-append-drop}
-use Rattle.wf_codec.specs.Theorem.{NoneIsEmpty}
 use Rattle.wf_codec.specs.Encoding.{spelling}
 use Rattle.wf_codec.specs.Message.{IsMessage}
 use Rattle.wf_def.specs.Definition.{Definition}
 use Rattle.wf_model.specs.Message.{Message}
 use Rattle.wf_stream.specs.KnownTheorems.{appends_more, appends_none}
-use Rattle.wf_wire.specs.Theorem.{SplitOneWay}
+use Rattle.wf_wire.proofs.Split.{split_one_way}
+use Rattle.wf_wire.proofs.Streams.{nothing_is_part}
 use Rattle.wf_wire.specs.Stream.{Reads}
 use Rattle.wf_link.specs.Arrival.{Arrives, HaveArrived}
 use Rattle.wf_link.specs.MessageCrossing.{AppendsPart, ComeOut, IsSentIfLooped, front_of}
-use Rattle.wf_link.specs.declared.arrival.Arrival.{Arrival}
-use Rattle.wf_link.proofs.Arrived.{arrived_more, arrived_none, nothing_is_part}
+use Rattle.wf_link.specs.declared.receiver.Arrival.{Arrival}
+use Rattle.wf_link.proofs.Arrived.{arrived_more, arrived_none}
 
 -- ---- prefixes
 
@@ -90,10 +90,10 @@ part_passed bytes rest n old now new left between writes writes_after reads read
 -- ---- what came out
 
 -- an encoding is read as its message
-reads_itself : NoneIsEmpty → (m : Message Definition) → IsMessage m → Reads (spelling m) (m ∷ []) []
-reads_itself some m is = record {
+reads_itself : (m : Message Definition) → IsMessage m → Reads (spelling m) (m ∷ []) []
+reads_itself m is = record {
   splits = (spelling m, [], record { is_message = is; spelled = refl }, sym (append-nil (spelling m)), refl);
-  part = nothing_is_part some;
+  part = nothing_is_part;
 }
 
 same_front : (a b c d : List ℕ) → a ++ c ≡ b ++ d → length a ≡ length b → a ≡ b
@@ -115,12 +115,12 @@ came_back known (Some left) sent more bytes is consumed long =
 first_of_one : {A : Type 0} (x y : A) → x ∷ [] ≡ y ∷ [] → x ≡ y
 first_of_one x y is = cc
 
-pub sent_if_looped : NoneIsEmpty → SplitOneWay → (sent arrived : Message Definition) (left left_after : Option (List ℕ)) → IsMessage sent → ComeOut (length (spelling sent)) left left_after (arrived ∷ []) []
+pub sent_if_looped : (sent arrived : Message Definition) (left left_after : Option (List ℕ)) → IsMessage sent → ComeOut (length (spelling sent)) left left_after (arrived ∷ []) []
     → IsSentIfLooped sent left arrived
-sent_if_looped some one sent arrived left left_after is out = λ more known.
+sent_if_looped sent arrived left left_after is out = λ more known.
     let same : spelling sent ≡ out.bytes = came_back left left_after (spelling sent) more out.bytes known out.taken out.as_long in
-    let itself : Reads out.bytes (sent ∷ []) [] = subst (λ (xs : List ℕ). Reads xs (sent ∷ []) []) same (reads_itself some sent is) in
-    first_of_one arrived sent (one out.bytes (arrived ∷ []) (sent ∷ []) [] [] out.reads itself).0
+    let itself : Reads out.bytes (sent ∷ []) [] = subst (λ (xs : List ℕ). Reads xs (sent ∷ []) []) same (reads_itself sent is) in
+    first_of_one arrived sent (split_one_way out.bytes (arrived ∷ []) (sent ∷ []) [] [] out.reads itself).0
 
 -- of the bytes that were written, as many have come out, and what arrived are these messages
 pub came_out_of : (sent piece : List ℕ) (left left_after : Option (List ℕ)) (arrival : Arrival) (messages : List (Message Definition)) (rest : List ℕ) → piece ≡ sent

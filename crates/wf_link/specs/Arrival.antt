@@ -6,7 +6,7 @@ use Rattle.wf_def.specs.Definition.{Definition}
 use Rattle.wf_model.specs.Message.{Message}
 use Rattle.wf_wire.specs.Inbox.{Open}
 use Rattle.wf_wire.specs.Stream.{Reads}
-use Rattle.wf_link.specs.declared.arrival.Arrival.{Arrival}
+use Rattle.wf_link.specs.declared.receiver.Arrival.{Arrival}
 
 -- the messages that came out
 abbrev pub came_out : Arrival → List (Message Definition)

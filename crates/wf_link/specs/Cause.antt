@@ -11,7 +11,7 @@ use Rattle.wf_stream.specs.declared.stream.Source.{Ghosts as Source}
 use Rattle.wf_wire.specs.Stream.{Breaks, Reads}
 use Rattle.wf_wire.specs.declared.fault.InboxFault.{InboxFault}
 use Rattle.wf_link.specs.Arrival.{HasReceived}
-use Rattle.wf_link.specs.declared.arrival.Arrival.{Arrival}
+use Rattle.wf_link.specs.declared.receiver.Arrival.{Arrival}
 
 -- an allocation failure leaves the ends like that, and a loss has this cause
 abbrev pub FailsFor : CarrierFault → Type 0 → Type 0 → Type 0

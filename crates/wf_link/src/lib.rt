@@ -18,7 +18,6 @@
 //! write at a connection that waits for ten seconds fails.
 #![tactic(auto)]
 
-mod arrival;
 mod connection;
 mod message_crossing;
 mod receiver;

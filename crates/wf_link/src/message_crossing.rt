@@ -9,13 +9,11 @@ ghost use Rattle.wf_link.specs.Arrival.{Arrives, HaveArrived};
 ghost use Rattle.wf_link.specs.Cause.{BeginsNoMessage, Fares, IsAny, IsCalm, IsLost, IsOneMessage, IsUnpassed};
 ghost use Rattle.wf_link.specs.MessageCrossing.{AppendsPart, ComesOut, IsSentIfLooped, NoneComesOut, front_of};
 
-use crate::arrival::Arrival;
-use crate::receiver::{no_message, nothing, only_message, receive};
+use crate::receiver::{Arrival, no_message, nothing, only_message, receive};
 use std::alloc::Global;
-use wf_codec::{Message, encode, no_spelling_is_empty};
+use wf_codec::{Message, encode};
 use wf_farm::CarrierFault;
 use wf_stream::{Sink, Source, write_all};
-use wf_wire::streams_split_one_way;
 
 /// The most bytes of a piece: a socket's buffers hold them, so a piece can be written before any of it is read.
 pub const PIECE_BYTES: usize = 4_096;
@@ -43,9 +41,6 @@ pub fn cross<K: Sink, S: Source>(
         (IsLost K.Sink S.Source (length (spelling (view message.now))) IsOneMessage
         sink.old sink.new source.old source.new) }
 {
-    // The theorems: the bytes of a stream determine its messages, and an encoding has at least one byte.
-    streams_split_one_way();
-    no_spelling_is_empty();
     let bytes = match encode_message(alloc, message) {
         Ok(bytes) => bytes,
         Err(fault) => return Err(fault),

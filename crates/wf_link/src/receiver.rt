@@ -8,22 +8,26 @@ ghost use Rattle.wf_link.specs.Arrival.{Arrives, HasReceived, HasTaken};
 ghost use Rattle.wf_link.specs.Cause.{BeginsNoMessage, Fares, HasBroken, IsOneMessage, IsUnread};
 ghost use Rattle.wf_wire.specs.Stream.{Reads};
 
-use crate::arrival::Arrival;
 use std::alloc::Global;
 use std::io;
 use std::io::ErrorKind;
-use wf_codec::{Message, no_spelling_is_empty};
+use wf_codec::Message;
 use wf_farm::CarrierFault;
 use wf_stream::{Source, read_piece};
-use wf_wire::{Inbox, InboxFault, cuts_do_not_matter, streams_split_one_way};
+use wf_wire::{Inbox, InboxFault};
+
+/// An inbox, and the messages that came out of it.
+#[derive(Drop)]
+pub struct Arrival {
+    pub inbox: Inbox,
+    pub messages: Vec<Message>,
+}
 
 /// Nothing has arrived.
 #[tactic(auto, using(crate::proofs::Arrived::nothing_received))]
 pub fn nothing(alloc: Global) -> Arrival
     ensures { HasReceived [] result }
 {
-    // The theorem: an encoding has at least one byte.
-    no_spelling_is_empty();
     Arrival {
         inbox: Inbox::new(alloc),
         messages: Vec::new(alloc),
@@ -98,8 +102,6 @@ fn take(arrival: &mut Arrival, piece: &[u8]) -> Result<(), CarrierFault>
     ensures taken { OnOk result (HasTaken piece.now arrival.old arrival.new) }
     ensures broken { result ≡ Err faults.Lost → HasBroken piece.now arrival.old }
 {
-    // The theorem: two pieces give what they give when joined.
-    cuts_do_not_matter();
     match arrival.inbox.feed(piece) {
         Ok(messages) => keep(&mut arrival.messages, messages),
         Err(fault) => Err(why_unfed(fault)),
@@ -139,8 +141,6 @@ pub fn only_message(arrival: Arrival) -> Result<Message, CarrierFault>
         OnErr result (IsOneMessage bytes → ⊥) }
     ensures lost { IfErr result (λ fault. fault ≡ faults.Lost) }
 {
-    // The theorem: the bytes of a stream determine its messages.
-    streams_split_one_way();
     let Arrival { inbox, messages } = arrival;
     let rest = inbox.pending();
     drop(inbox);
@@ -180,8 +180,6 @@ pub fn no_message(arrival: Arrival) -> Result<(), CarrierFault>
         OnErr result (BeginsNoMessage bytes → ⊥) }
     ensures lost { IfErr result (λ fault. fault ≡ faults.Lost) }
 {
-    // The theorem: the bytes of a stream determine its messages.
-    streams_split_one_way();
     let count = arrival.messages.len();
     drop(arrival);
     if count != 0 {

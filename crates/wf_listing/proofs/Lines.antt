@@ -9,8 +9,8 @@ use Rattle.wf_model.specs.DurableState.{Record}
 use Rattle.wf_journal.specs.Records.{AreReadOneWay, IsCleanOrTorn, IsTorn, Splits, length_of}
 use Rattle.wf_journal.specs.Encoding.{spelling}
 use Rattle.wf_journal.specs.EncodingTheorems.{length_of_encoding}
-use Rattle.wf_listing.specs.declared.rest.Rest.{Rest}
-use Rattle.wf_listing.specs.declared.rest.Rest.TheVariants as rests
+use Rattle.wf_listing.specs.declared.line.Rest.{Rest}
+use Rattle.wf_listing.specs.declared.line.Rest.TheVariants as rests
 use Rattle.wf_listing.proofs.Splits.{length_splits}
 use Rattle.wf_listing.specs.Listing.{AreFound, HasOneListing, IsListing, IsRest, record_line, record_lines, rest_line, rest_of}
 

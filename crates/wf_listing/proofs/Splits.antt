@@ -1,11 +1,10 @@
 -- Records at the front of bytes: their length, and that exactly they stand before bad bytes.
 use Rattle.std.proofs.Common.{◌≡◌, ◌≢◌, ◌∙◌, ◌+◌, ◌<◌, ◌≤◌, ℕ, List, [], ◌∷◌, ◌++◌, Bool, true, false, length, take, drop, refl, sym, ap, subst, append_assoc, length-append, length-drop, arith, inl, inr}
 use Rattle.std.proofs.lemmas.List.{nil_from_length, take_at}
-use Rattle.wf_ballot.specs.Frame.{frame}
+use Rattle.wf_ballot.specs.Field.{frame}
 use Rattle.wf_def.specs.Definition.{Definition}
 use Rattle.wf_model.specs.DurableState.{Record}
 use Rattle.wf_journal.specs.Journal.{IsBadAt}
-use Rattle.wf_journal.specs.Record.{texts}
 use Rattle.wf_journal.specs.Records.{AreReadOneWay, AreRecords, BeginsWithNone, IsTapeOf, ReadsAs, Splits, length_of}
 use Rattle.wf_journal.specs.Encoding.{spelling, text_spelling}
 use Rattle.wf_journal.specs.EncodingTheorems.{length_of_encoding}

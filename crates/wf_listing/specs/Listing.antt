@@ -8,8 +8,8 @@ use Rattle.wf_def.specs.Definition.{Definition}
 use Rattle.wf_model.specs.DurableState.{Record, Tried, Promised, Accepted, Published}
 use Rattle.wf_journal.specs.Records.{Reads, IsTorn, IsBad, IsCleanOrTorn, length_of}
 use Rattle.wf_journal.specs.Encoding.{spelling}
-use Rattle.wf_listing.specs.declared.rest.Rest.{Rest}
-use Rattle.wf_listing.specs.declared.rest.Rest.TheVariants as rests
+use Rattle.wf_listing.specs.declared.line.Rest.{Rest}
+use Rattle.wf_listing.specs.declared.line.Rest.TheVariants as rests
 
 -- the text is appended
 abbrev pub Prints : {A : Type 0} → String A → String A → List ℕ → Type 0

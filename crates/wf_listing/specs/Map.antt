@@ -3,15 +3,13 @@ use Rattle.std.specs.Prelude.{◌≡◌, ℕ, ◌==◌, List, [], ◌∷◌, Opt
 use Rattle.std.specs.declared.alloc.Global.{Global}
 use Rattle.wf_def.specs.Definition.{Definition}
 use Rattle.wf_journal.specs.Records.{Reads}
-use Rattle.wf_model.specs.DurableState.{Record, Tried, Promised, Accepted, Published}
+use Rattle.wf_model.specs.DurableState.{Record, Published}
 use Rattle.wf_spelling.specs.Canon.{canon}
 
 -- the map of a record that publishes one under this sequence
 abbrev pub published_by : ℕ → Record Definition → Option Definition
-published_by sequence (Tried round) = None
-published_by sequence (Promised s b) = None
-published_by sequence (Accepted s b d) = None
 published_by sequence (Published s d) = if s == sequence then Some d else None
+published_by sequence r = None
 
 -- the first one there is
 abbrev pub first_or : Option Definition → Option Definition → Option Definition

@@ -17,7 +17,6 @@ mod line;
 mod listing;
 mod map;
 mod record_search;
-mod rest;
 mod tape_bytes;
 mod theorem;
 

@@ -3,11 +3,21 @@ ghost use Rattle.std.specs.Prelude.{OnOk};
 ghost use Rattle.wf_listing.specs.Listing.{Prints, accepted_line, left_line, promised_line, published_line, record_line, rest_line, tried_line};
 ghost use Rattle.wf_journal.specs.Record.{view};
 
-use crate::rest::Rest;
 use std::alloc::AllocError;
 use std::fmt::Write;
 use wf_ballot::{Ballot, Round, Slot};
 use wf_journal::Record;
+
+/// What follows the whole records of a tape.
+#[derive(Clone, Copy)]
+pub enum Rest {
+    /// Nothing.
+    Nothing,
+    /// The beginning of a record: what a crash may leave.
+    Torn,
+    /// Bytes that are neither a record nor the beginning of one.
+    Bad,
+}
 
 /// Appends the line of the record at a byte offset.
 pub(crate) fn push_record(out: &mut String, offset: usize, entry: &Record) -> Result<(), AllocError>

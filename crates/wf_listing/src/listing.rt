@@ -5,9 +5,8 @@ ghost use Rattle.wf_listing.specs.Listing.{AreFound, IsListing, Prints, record_l
 ghost use Rattle.wf_journal.specs.Record.{view};
 ghost use Rattle.wf_journal.specs.Records.{length_of};
 
-use crate::line::{push_record, push_rest};
+use crate::line::{Rest, push_record, push_rest};
 use crate::record_search::find;
-use crate::rest::Rest;
 use std::alloc::{AllocError, Global};
 use wf_journal::Record;
 

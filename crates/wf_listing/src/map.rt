@@ -62,6 +62,6 @@ fn published_by(entry: &Record, sequence: u16) -> Option<&Canon>
                 None
             }
         }
-        Record::Tried(_) | Record::Promised(..) | Record::Accepted(..) => None,
+        _ => None,
     }
 }

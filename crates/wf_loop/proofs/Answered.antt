@@ -10,7 +10,7 @@ use Rattle.wf_edge.specs.declared.outcome.Outcome.{Outcome}
 use Rattle.wf_node.specs.Node.{Node}
 use Rattle.wf_visitors.specs.ServerReply.{nothing}
 use Rattle.wf_loop.specs.Answer.{AreAnswered, IsResponse}
-use Rattle.wf_loop.specs.declared.voter.Voter.{Voter}
+use Rattle.wf_loop.specs.declared.hub.Voter.{Voter}
 use Rattle.wf_tape.specs.declared.tape.Tape.{Ghosts as Tape}
 
 module _ {T : Type 0} (tapes : Tape T) where

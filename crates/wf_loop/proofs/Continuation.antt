@@ -5,7 +5,7 @@ use Rattle.wf_actor.specs.Life.{logged}
 use Rattle.wf_actor.specs.Process.{ReceivesFrom, ReceivesOwn, IsActed, IsGoingOn, IsLinkChanged, IsReception, IsSameActor, is_peer, emitted_by}
 use Rattle.wf_actor.specs.declared.actor.Actor.{Actor}
 use Rattle.wf_actor.specs.declared.link.Link.{Link}
-use Rattle.wf_actor.specs.declared.origin.Origin.{Origin}
+use Rattle.wf_actor.specs.declared.actor.Origin.{Origin}
 use Rattle.wf_actor.specs.declared.process.Process.{Process}
 use Rattle.wf_actor.specs.declared.target.Target.{Target}
 use Rattle.wf_def.specs.Definition.{Definition}
@@ -18,7 +18,7 @@ use Rattle.wf_tape.specs.declared.tape.Tape.{Ghosts as Tape}
 use Rattle.wf_wire.specs.declared.fault.InboxFault.{InboxFault}
 use Rattle.wf_loop.specs.Answer.{IsAnswer, IsResponse}
 use Rattle.wf_loop.specs.Continuation.{GoesOn, IsEarlier, IsLater, IsOfRuns, KeepsEarlier}
-use Rattle.wf_loop.specs.declared.voter.Voter.{Voter}
+use Rattle.wf_loop.specs.declared.hub.Voter.{Voter}
 
 -- ---- beginnings of lists
 
@@ -118,12 +118,12 @@ module _ {T : Type 0} (tapes : Tape T) where
   -- an end of a connection
   pub relinked : (peer : ℕ) (change : Link → Link → Type 0) (before after : Process T tapes)
       → (peer < length before.links.items → IsLinkChanged peer change before after) → (length before.links.items ≤ peer → after ≡ before) → GoesOn tapes before after
-  relinked peer change before after linked unlinked =
-      by_order peer (length before.links.items) (λ below. same_actor before after (linked below).rest) (λ above. unchanged before after (unlinked above))
+  relinked peer change before after linked no_links =
+      by_order peer (length before.links.items) (λ below. same_actor before after (linked below).rest) (λ above. unchanged before after (no_links above))
 
   pub written : {A B : Type 0} (peer : ℕ) (change : Link → Link → Type 0) (before after : Process T tapes)
       → (peer < length before.links.items → IsLinkChanged peer change before after) → (length before.links.items ≤ peer → A × (after ≡ before) × B) → GoesOn tapes before after
-  written peer change before after linked unlinked = relinked peer change before after linked (λ above. (unlinked above).1)
+  written peer change before after linked no_links = relinked peer change before after linked (λ above. (no_links above).1)
 
   pub received : {A : Type 0} (peer : ℕ) (piece : List ℕ) (before : Process T tapes) (result : Result ℕ InboxFault) (after : Process T tapes)
       → (is_peer before peer ≡ true → IsReception peer piece before result after) → (is_peer before peer ≡ false → A × (after ≡ before)) → GoesOn tapes before after

@@ -10,7 +10,7 @@ use Rattle.wf_edge.specs.RequestEffect.{IsOutcome}
 use Rattle.wf_edge.specs.declared.outcome.Outcome.{Outcome}
 use Rattle.wf_edge.specs.declared.outcome.Outcome.TheVariants as outcome
 use Rattle.wf_loop.specs.Lived.{HasLived}
-use Rattle.wf_loop.specs.declared.voter.Voter.{Voter}
+use Rattle.wf_loop.specs.declared.hub.Voter.{Voter}
 use Rattle.wf_tape.specs.declared.tape.Tape.{Ghosts as Tape}
 
 -- unless a response was written, nothing was

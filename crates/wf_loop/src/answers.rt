@@ -5,7 +5,7 @@ ghost use Rattle.wf_loop.specs.Answer.{IsAnswer, IsResponse, IsUnsent};
 ghost use Rattle.wf_loop.specs.Continuation.{GoesOn};
 ghost use Rattle.wf_visitors.specs.ServerReply.{nothing};
 
-use crate::voter::Voter;
+use crate::hub::Voter;
 use std::alloc::Global;
 use wf_actor::Process;
 use wf_client::partial_request::Incoming;

@@ -5,14 +5,11 @@ ghost use Rattle.wf_loop.specs.Answer.{AreAnswered};
 ghost use Rattle.wf_loop.specs.Continuation.{GoesOn};
 ghost use Rattle.wf_visitors.specs.Visitors.{responses_of};
 
-use crate::voter::Voter;
+use crate::hub::Voter;
 use http_server::Log as Past;
 use std::time::Clock;
 use wf_tape::Tape;
 use wf_visitors::{Context, Visitors};
-
-/// The most requests of clients that a turn answers.
-const MOST_SERVED: usize = 8;
 
 /// The clients of a node. A clause sees logs that only proofs read: for each client that was answered, in order, the process before and
 /// after it.
@@ -68,27 +65,26 @@ impl<T: Tape + Drop> Clients<T> {
         self.visitors.tick(time);
     }
 
-    /// Answers requests that are whole, a bounded number of them. Returns whether there are more.
-    #[tactic(auto, using(crate::proofs::Continuation::still, crate::proofs::Continuation::twice))]
-    pub(crate) fn serve<R: Clock + Eprint + AllocGlobal>(
+    /// Answers the next request, if it is whole. Returns its slot, whose turn is to follow: the client is yet to take the response, or
+    /// to send the rest.
+    #[tactic(auto, using(crate::proofs::Continuation::still))]
+    pub(crate) fn answer_next<R: Clock + Eprint + AllocGlobal>(
         &mut self,
         context: &Context<'_, '_, R>,
         voter: &mut Voter<T>,
-    ) -> bool
+    ) -> Option<usize>
         ensures { GoesOn T.Tape voter.old.process voter.new.process }
     {
-        for _ in 0..MOST_SERVED {
-            let Some(index) = self.visitors.next() else {
-                return false;
-            };
-            self.serve_one(context, voter, index);
-        }
-        self.visitors.waits()
+        let Some(index) = self.visitors.next() else {
+            return None;
+        };
+        self.answer(context, voter, index);
+        Some(index)
     }
 
     /// Answers the request in a slot, if it is whole.
     #[tactic(auto, using(crate::proofs::Continuation::responded, crate::proofs::Continuation::stayed))]
-    fn serve_one<R: Clock + Eprint + AllocGlobal>(
+    fn answer<R: Clock + Eprint + AllocGlobal>(
         &mut self,
         context: &Context<'_, '_, R>,
         voter: &mut Voter<T>,
@@ -97,7 +93,7 @@ impl<T: Tape + Drop> Clients<T> {
         ensures { GoesOn T.Tape voter.old.process voter.new.process }
     {
         let before = self.before.and(&*voter, &0);
-        if self.visitors.serve(context, voter, index) {
+        if self.visitors.answer(context, voter, index) {
             self.before = before;
             self.after = self.after.and(&*voter, &0);
         }

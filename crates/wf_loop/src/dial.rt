@@ -94,22 +94,24 @@ impl Dial {
         self.is_open = true;
     }
 
-    /// Connects, if there is no connection and it is time to.
+    /// Whether there is no connection, and it is time to connect.
+    pub(crate) fn is_due(&self, now: u64) -> bool {
+        self.stream.is_none() && self.due.is_due(now)
+    }
+
+    /// Connects, in the place of an older connection.
     pub(crate) fn connect<R: Net + AllocGlobal>(
         &mut self,
         context: &Context<'_, '_, R>,
         index: usize,
         greeting: &[u8],
     ) {
-        if self.stream.is_some() || !self.due.is_due(context.time) {
-            return;
-        }
         self.greeting = Outgoing::new(context.alloc());
         self.reply = Vec::new(context.alloc());
         self.is_open = false;
         self.since = context.time;
         let _ = self.greeting.write(greeting);
-        match connected(context, self.address, index) {
+        match begin_connection(context, self.address, index) {
             Some(stream) => self.stream = Some(stream),
             None => self.postpone(context.time),
         }
@@ -132,7 +134,7 @@ impl Dial {
         self.postpone(now);
     }
 
-    /// Writes what waits, and reads what came.
+    /// Reads what came, and writes what waits: what is to be done once the connection is ready.
     #[tactic(auto, using(crate::proofs::Continuation::still))]
     pub(crate) fn turn<T: Tape + Drop>(
         &mut self,
@@ -166,7 +168,33 @@ impl Dial {
         if turned != DialTurn::Same || !self.is_open {
             return turned;
         }
-        send(process, peer, stream, &mut self.written)
+        match send(process, peer, stream, &mut self.written) {
+            Some(why) => DialTurn::Ended(why),
+            None => DialTurn::Same,
+        }
+    }
+
+    /// Writes what waits, if messages can be sent: nothing is read. Some: the connection has ended.
+    #[tactic(auto, using(crate::proofs::Continuation::still))]
+    pub(crate) fn send<T: Tape + Drop>(
+        &mut self,
+        process: &mut Process<T>,
+        peer: NodeId,
+    ) -> Option<PeerEnd>
+        ensures { GoesOn T.Tape process.old process.new }
+    {
+        if !self.is_open {
+            return None;
+        }
+        let Dial {
+            stream,
+            written,
+            ..
+        } = self;
+        match stream {
+            Some(stream) => send(process, peer, stream, written),
+            None => None,
+        }
     }
 
     /// Writes the rest of the greeting.
@@ -226,7 +254,7 @@ impl Dial {
 }
 
 /// A connection to an address, in progress. None: it can't begin.
-fn connected<R: Net>(
+fn begin_connection<R: Net>(
     context: &Context<'_, '_, R>,
     address: SocketAddr,
     index: usize,
@@ -239,24 +267,26 @@ fn connected<R: Net>(
     }
 }
 
-/// Writes what waits for a peer, and counts the bytes.
+/// Writes what waits for a peer, and counts the bytes. Some: the connection has ended.
 #[tactic(auto, using(crate::proofs::Continuation::still, crate::proofs::Continuation::twice))]
 fn send<T: Tape + Drop>(
     process: &mut Process<T>,
     peer: NodeId,
     stream: &TcpStream,
     written: &mut u64,
-) -> DialTurn
+) -> Option<PeerEnd>
     ensures { GoesOn T.Tape process.old process.new }
 {
     let mut sink = Stream::new(stream);
     for _ in 0..MOST_WRITES {
+        if process.remaining(peer) == 0 {
+            return None;
+        }
         match write_to(process, peer, &mut sink) {
-            Ok(0) => return DialTurn::Same,
             Ok(count) => *written = written.saturating_add(count as u64),
-            Err(error) if error.kind() == ErrorKind::WouldBlock => return DialTurn::Same,
-            Err(_) => return DialTurn::Ended(PeerEnd::Failed),
+            Err(error) if error.kind() == ErrorKind::WouldBlock => return None,
+            Err(_) => return Some(PeerEnd::Failed),
         }
     }
-    DialTurn::Same
+    None
 }

@@ -1,8 +1,7 @@
 //! What a node tells its operator.
 
-use crate::mesh::Differing;
+use crate::mesh::{Differing, PeerState};
 use crate::notes::Notes;
-use crate::peer_state::PeerState;
 use crate::steps::Steps;
 use crate::tally::Tally;
 use std::alloc::AllocError;
@@ -11,7 +10,7 @@ use std::fs;
 use std::rt::Files;
 use wf_learner::History;
 use wf_operator::metrics::{counter, gauge, seconds};
-use wf_operator::{Health, Operated, Pictures};
+use wf_operator::{Health, Operated, PictureCounts};
 use wf_proposer::ProposalState;
 use wf_visitors::Counts;
 
@@ -24,7 +23,7 @@ pub(crate) struct NodeFacts<'a, R> {
     pub(crate) peers: &'a [PeerState],
     pub(crate) requests: &'a Counts,
     pub(crate) rejected: &'a Tally,
-    pub(crate) pictures: Pictures,
+    pub(crate) pictures: PictureCounts,
     pub(crate) unkept: u64,
     pub(crate) steps: Steps,
     pub(crate) tape: &'a str,
@@ -76,7 +75,7 @@ impl<'a, R: Files> Operated for NodeFacts<'a, R> {
         seconds(
             text,
             "wfarm_drawing_seconds_total",
-            self.requests.spent("/wms", 200),
+            self.requests.duration("/wms", 200),
         )?;
         self.rejected.push_to(text)?;
         counter(text, "wfarm_steps_total", self.steps.number)?;

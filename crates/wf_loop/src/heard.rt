@@ -12,9 +12,6 @@ use wf_stream::Sink;
 use wf_timing::is_silent;
 use wf_visitors::{Done, read, write};
 
-/// The most bytes of a piece.
-pub(crate) const PIECE_BYTES: usize = 4_096;
-
 /// A connection from a peer.
 #[derive(Drop)]
 pub(crate) struct Inbound {
@@ -109,13 +106,13 @@ impl Inbound {
         None
     }
 
-    /// Reads once, into a buffer.
-    pub(crate) fn handle(&mut self, piece: &mut [u8; PIECE_BYTES], now: u64) -> Came {
+    /// Reads once, to the front of a buffer.
+    pub(crate) fn handle(&mut self, piece: &mut [u8], now: u64) -> Came {
         let room = match self.from {
             None => GREETING_BYTES.saturating_sub(self.greeting.len()),
-            Some(_) => PIECE_BYTES,
+            Some(_) => piece.len(),
         };
-        let room = room.min(PIECE_BYTES);
+        let room = room.min(piece.len());
         match read(&mut self.stream, &mut piece[..room]) {
             Done::Bytes(count) => {
                 self.last = now;

@@ -1,10 +1,19 @@
 use crate::clients::Clients;
 use crate::pace::Pace;
 use crate::parts::HubParts;
-use crate::voter::Voter;
+use crate::tally::Tally;
 use std::net::SocketAddr;
-use wf_operator::Behind;
+use wf_actor::Process;
+use wf_operator::{Behind, PictureCounts};
 use wf_tape::Tape;
+
+/// A process that answers clients, how many maps it rejected, and which pictures it answered with.
+#[derive(Drop)]
+pub struct Voter<T: Tape> {
+    pub(crate) process: Process<T>,
+    pub(crate) rejected: Tally,
+    pub(crate) pictures: PictureCounts,
+}
 
 /// A node, the connections to and from its peers, its clients, and who only reads. A clause sees its process, and logs that only proofs
 /// read: each client that was answered, with the process before and after it.

@@ -2,7 +2,8 @@
 //!
 //! - [`Hub`] has the node, the connections to and from its peers, its clients, and its readers and operators, who only read.
 //!   [`Hub::go_on`] is one turn: it waits until a socket is ready or a tick is over, and does what there is to do, a bounded part
-//! of it.
+//! of it. A message for the peers is written before anything else is done. Digests of the history are made once nothing came for a
+//! moment, or where one is needed.
 //! - [`NodePlan`] says which node it is, and where the others are.
 //! - [`Log`] writes each [`NodeEvent`] as a line on standard error.
 //!
@@ -28,14 +29,12 @@ mod notes;
 mod pace;
 mod parts;
 mod peer_calls;
-mod peer_state;
 mod plan;
 mod service;
 mod steps;
 mod tally;
 mod token;
 mod turn;
-mod voter;
 
 pub use event::{NodeEvent, PeerEnd};
 pub use file::{path_in, replace, write_file};

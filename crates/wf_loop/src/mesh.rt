@@ -4,26 +4,44 @@ ghost use Rattle.wf_loop.specs.Continuation.{GoesOn};
 use crate::acts::{handle, open_receiver, receive};
 use crate::dial::Dial;
 use crate::event::{NodeEvent, PeerEnd};
-use crate::heard::{Came, Inbound, PIECE_BYTES};
+use crate::heard::{Came, Inbound};
 use crate::notes::Notes;
-use crate::peer_state::PeerState;
 use crate::plan::NodePlan;
 use crate::steps::Steps;
 use crate::token::Socket;
 use mio::net::{TcpListener, TcpStream};
 use std::alloc::{AllocError, Global};
+use std::mem;
 use std::net::SocketAddr;
 use std::rt::Files;
 use std::time::Clock;
 use wf_actor::Process;
 use wf_ballot::{NodeId, SEQUENCES};
+use wf_learner::History;
 use wf_peer::{Greeting, Heard as HeardOf, PeerRejection, Progress};
 use wf_tape::Tape;
 use wf_timing::CatchUp;
 use wf_visitors::{Context, micros, register, register_again};
 
+/// What is known of a peer: whether messages can be sent to it, how many were dropped since its connection opened, how many were put into
+/// its outboxes, how many came, and how many bytes were written to it.
+#[derive(Clone, Copy, Default)]
+pub(crate) struct PeerState {
+    pub(crate) is_connected: bool,
+    pub(crate) lost: u64,
+    pub(crate) posted: u64,
+    pub(crate) heard: u64,
+    pub(crate) written: u64,
+}
+
+/// The most bytes of a piece. Nearly all messages come in one.
+const PIECE_BYTES: usize = 65_536;
+
 /// The most pieces that a turn reads of a peer.
-const MOST_PIECES: u32 = 64;
+const MOST_PIECES: u32 = 4;
+
+/// The most sequences without a digest that a turn leaves.
+const MOST_LACKING: u16 = 8;
 
 /// The most connections from peers at once.
 const HEARD_SLOTS: usize = 128;
@@ -42,6 +60,8 @@ pub(crate) struct Mesh {
     listener: TcpListener,
     pub(crate) dials: Vec<Dial>,
     heards: Vec<Option<Inbound>>,
+    // where a piece is read to
+    piece: Vec<u8>,
     pub(crate) states: Vec<PeerState>,
     pub(crate) notes: Notes,
     pub(crate) catch_up: CatchUp,
@@ -54,6 +74,8 @@ pub(crate) struct Mesh {
     pub(crate) end: Option<PeerRejection>,
     // whether more waits to be read
     pub(crate) is_busy: bool,
+    // whether nothing came in this turn
+    is_idle: bool,
 }
 
 /// A connection to each node, none of them open.
@@ -94,6 +116,7 @@ impl Mesh {
     ) -> Result<Self, AllocError> {
         let dials = dials_of(alloc, plan.peers.as_slice())?;
         let heards = free_slots(alloc)?;
+        let piece = vec![in alloc; 0; PIECE_BYTES]?;
         let states = unknown_peers(alloc, plan.peers.len())?;
         let notes = Notes::new(alloc, plan.own, heard)?;
         Ok(Mesh {
@@ -101,6 +124,7 @@ impl Mesh {
             listener,
             dials,
             heards,
+            piece,
             states,
             notes,
             catch_up: CatchUp::new(time),
@@ -109,7 +133,26 @@ impl Mesh {
             differs: None,
             end: None,
             is_busy: false,
+            is_idle: false,
         })
+    }
+
+    /// A turn begins, in which so many sockets are ready. Where it could wait for one, and none is, there is time for the digests.
+    pub(crate) fn begin_turn(&mut self, could_wait: bool, ready: usize) {
+        self.is_busy = false;
+        self.is_idle = could_wait && ready == 0;
+    }
+
+    /// Extends the digests to the history if there is time for it, or if too many lack. What needs one sooner extends them itself.
+    pub(crate) fn extend_digests(&mut self, history: &History) {
+        if self.is_idle || self.notes.lacks_more_than(history, MOST_LACKING) {
+            self.notes.extend(history);
+        }
+    }
+
+    /// Whether digests are to be made once nothing comes: some lack, and it wasn't just tried in vain.
+    pub(crate) fn wants_digests(&self, history: &History) -> bool {
+        !self.is_idle && self.notes.lacks_more_than(history, 0)
     }
 
     /// How far the node is, with the round and the promise of its start: peers compare these at the first greeting of a start alone, and
@@ -232,15 +275,16 @@ impl Mesh {
                 }
             }
             Some(why) => {
+                // its line is there once the peer sees that it was closed
                 let peer = number_of(heard.from());
-                drop(heard);
                 context.log.write(&NodeEvent::Dropped { peer, why });
+                drop(heard);
             }
         }
     }
 
     /// Reads what came on a connection, a bounded part of it. Some: it has ended.
-    #[tactic(auto, using(crate::proofs::Continuation::still, crate::proofs::Continuation::twice))]
+    #[tactic(auto, using(crate::proofs::Continuation::still))]
     fn read<R: Clock + Eprint + AllocGlobal, T: Tape + Drop>(
         &mut self,
         context: &Context<'_, '_, R>,
@@ -249,10 +293,26 @@ impl Mesh {
     ) -> Option<PeerEnd>
         ensures { GoesOn T.Tape process.old process.new }
     {
-        let mut piece = [0u8; PIECE_BYTES];
+        let mut piece = mem::replace(&mut self.piece, Vec::new(context.alloc()));
+        let ended = self.read_pieces(context, process, heard, piece.as_mut_slice());
+        self.piece = piece;
+        ended
+    }
+
+    /// Reads what came on a connection, a bounded number of pieces, each to the front of the buffer. Some: it has ended.
+    #[tactic(auto, using(crate::proofs::Continuation::still, crate::proofs::Continuation::twice))]
+    fn read_pieces<R: Clock + Eprint + AllocGlobal, T: Tape + Drop>(
+        &mut self,
+        context: &Context<'_, '_, R>,
+        process: &mut Process<T>,
+        heard: &mut Inbound,
+        piece: &mut [u8],
+    ) -> Option<PeerEnd>
+        ensures { GoesOn T.Tape process.old process.new }
+    {
         for _ in 0..MOST_PIECES {
-            let came = heard.handle(&mut piece, context.time);
-            match self.heed(context, process, heard, came, &piece) {
+            let came = heard.handle(piece, context.time);
+            match self.heed(context, process, heard, came, piece) {
                 Ok(()) => {}
                 Err(ended) => return ended,
             }
@@ -304,7 +364,7 @@ impl Mesh {
     ) -> Option<PeerEnd>
         ensures { GoesOn T.Tape process.old process.new }
     {
-        if let Err(why) = self.admit_peer(None, greeting) {
+        if let Err(why) = self.admit_peer(process, None, greeting) {
             heard.reject(context.alloc(), why);
             return Some(PeerEnd::Rejected(why));
         }
@@ -321,12 +381,14 @@ impl Mesh {
         heard.let_in(context.alloc(), peer, &own)
     }
 
-    /// Whether a peer is let in that greets so. Whether its history differs is noted.
-    pub(crate) fn admit_peer(
+    /// Whether a peer is let in that greets so, by all that the node has published. Whether its history differs is noted.
+    pub(crate) fn admit_peer<T: Tape + Drop>(
         &mut self,
+        process: &Process<T>,
         place: Option<NodeId>,
         greeting: &Greeting,
     ) -> Result<(), PeerRejection> {
+        self.notes.extend(process.node().history());
         let admitted = self.notes.admit(place, greeting);
         if admitted == Err(PeerRejection::OtherHistory) {
             self.note_difference(greeting.node, greeting.progress.published.number());
@@ -356,18 +418,18 @@ impl Mesh {
     fn close_older<R: Clock + Eprint>(&mut self, context: &Context<'_, '_, R>, peer: NodeId) {
         for slot in &mut self.heards {
             if is_of(slot, peer) {
-                *slot = None;
                 context.log.write(&NodeEvent::Dropped {
                     peer: Some(peer.number() as usize),
                     why: PeerEnd::Replaced,
                 });
+                *slot = None;
             }
         }
     }
 
     /// Judges what came from a peer, and delivers it. Some: the connection has ended.
     #[tactic(auto, using(crate::proofs::Continuation::still, crate::proofs::Continuation::twice))]
-    fn deliver<R: Clock + AllocGlobal, T: Tape + Drop>(
+    fn deliver<R: Clock + Eprint + AllocGlobal, T: Tape + Drop>(
         &mut self,
         context: &Context<'_, '_, R>,
         process: &mut Process<T>,
@@ -387,11 +449,25 @@ impl Mesh {
                 open_receiver(context.alloc(), process, peer);
                 return Some(PeerEnd::WrongSender);
             }
-            let from = micros(context.rt);
-            handle(context.alloc(), process, peer);
-            self.steps.add(from, micros(context.rt));
+            self.deliver_first(context, process, peer);
         }
         None
+    }
+
+    /// Delivers the first message that has arrived from a peer, and writes the answer at once: the peers wait for it.
+    #[tactic(auto, using(crate::proofs::Continuation::twice))]
+    fn deliver_first<R: Clock + Eprint + AllocGlobal, T: Tape + Drop>(
+        &mut self,
+        context: &Context<'_, '_, R>,
+        process: &mut Process<T>,
+        peer: NodeId,
+    )
+        ensures { GoesOn T.Tape process.old process.new }
+    {
+        let from = micros(context.rt);
+        handle(context.alloc(), process, peer);
+        self.steps.add(from, micros(context.rt));
+        self.send(context, process);
     }
 
     /// Closes the connections from peers on which nothing came for too long. Once the last sequence is published nobody asks any more,
@@ -406,12 +482,11 @@ impl Mesh {
         }
         for slot in &mut self.heards {
             if is_silent_at(slot, context.time) {
-                let peer = peer_in(slot);
-                *slot = None;
                 context.log.write(&NodeEvent::Dropped {
-                    peer,
+                    peer: peer_in(slot),
                     why: PeerEnd::Silent,
                 });
+                *slot = None;
             }
         }
     }

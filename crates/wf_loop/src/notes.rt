@@ -5,7 +5,7 @@ use std::alloc::{AllocError, Global};
 use std::io;
 use std::rt::Files;
 use wf_actor::Process;
-use wf_ballot::NodeId;
+use wf_ballot::{NodeId, Seq};
 use wf_digest::Digests;
 use wf_learner::History;
 use wf_peer::{Greeting, Heard, Own, PeerRejection, Progress, admit, is_from};
@@ -58,6 +58,14 @@ impl Notes {
         let _ = self.digests.extend(history);
     }
 
+    /// Whether more than so many sequences of a history have no digest yet.
+    pub(crate) fn lacks_more_than(&self, history: &History, most: u16) -> bool {
+        match Seq::new(history.published().number().saturating_sub(most)) {
+            Some(seq) => self.digests.at(seq).is_none(),
+            None => false,
+        }
+    }
+
     /// The digests of the history, up to where they were extended.
     pub(crate) fn digests(&self) -> &Digests {
         &self.digests
@@ -65,7 +73,7 @@ impl Notes {
 
     /// The digest of the history up to a sequence.
     pub(crate) fn digest_at(&self, number: u16) -> Option<[u8; 32]> {
-        let seq = wf_ballot::Seq::new(number)?;
+        let seq = Seq::new(number)?;
         self.digests.at(seq)
     }
 

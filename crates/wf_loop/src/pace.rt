@@ -75,7 +75,7 @@ impl Pace {
     }
 
     /// The tape was opened anew.
-    pub(crate) fn reopened(&mut self, time: u64) {
+    pub(crate) fn note_reopening(&mut self, time: u64) {
         self.reopening = None;
         self.stands_since = time;
     }

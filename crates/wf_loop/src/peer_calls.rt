@@ -53,8 +53,7 @@ impl Mesh {
     )
         ensures { GoesOn T.Tape process.old process.new }
     {
-        let published = process.node().published().number();
-        if let Some(why) = self.why_not(peer, reply, published) {
+        if let Some(why) = self.why_not(process, peer, reply) {
             self.end(context, process, index, peer, why);
             return;
         }
@@ -71,15 +70,22 @@ impl Mesh {
     }
 
     /// Why the connection to a peer doesn't open, by its reply.
-    fn why_not(&mut self, peer: NodeId, reply: GreetingReply, published: u16) -> Option<PeerEnd> {
+    fn why_not<T: Tape + Drop>(
+        &mut self,
+        process: &Process<T>,
+        peer: NodeId,
+        reply: GreetingReply,
+    ) -> Option<PeerEnd> {
         match reply {
-            GreetingReply::Greeting(greeting) => match self.admit_peer(Some(peer), &greeting) {
-                Ok(()) => None,
-                Err(why) => Some(PeerEnd::Rejected(why)),
-            },
+            GreetingReply::Greeting(greeting) => {
+                match self.admit_peer(process, Some(peer), &greeting) {
+                    Ok(()) => None,
+                    Err(why) => Some(PeerEnd::Rejected(why)),
+                }
+            }
             GreetingReply::Rejected(why) => {
                 if why == PeerRejection::OtherHistory {
-                    self.note_difference(peer, published);
+                    self.note_difference(peer, process.node().published().number());
                 }
                 if why.ends_a_node() || (why == PeerRejection::OtherHistory && !self.was_let_in) {
                     self.end = Some(why);
@@ -121,15 +127,8 @@ impl Mesh {
     )
         ensures { GoesOn T.Tape process.old process.new }
     {
-        let Some(greeting) = self.greeting(process) else {
-            return;
-        };
-        let mut bytes = Vec::new(context.alloc());
-        if encode(&greeting, &mut bytes).is_err() {
-            return;
-        }
         for index in 0..self.dials.len() {
-            self.connect_to(context, process, index, bytes.as_slice());
+            self.connect_to(context, process, index);
         }
     }
 
@@ -140,7 +139,6 @@ impl Mesh {
         context: &Context<'_, '_, R>,
         process: &mut Process<T>,
         index: usize,
-        greeting: &[u8],
     )
         ensures { GoesOn T.Tape process.old process.new }
     {
@@ -153,8 +151,36 @@ impl Mesh {
         if self.is_late(index, context.time) {
             self.end(context, process, index, peer, PeerEnd::Silent);
         }
+        self.connect_if_due(context, process, index);
+    }
+
+    /// Connects to a peer and greets it, if there is no connection and it is time to.
+    fn connect_if_due<R: Net + Clock + Eprint + AllocGlobal, T: Tape + Drop>(
+        &mut self,
+        context: &Context<'_, '_, R>,
+        process: &Process<T>,
+        index: usize,
+    ) {
+        if !self.is_due(index, context.time) {
+            return;
+        }
+        let Some(greeting) = self.greeting(process) else {
+            return;
+        };
+        let mut bytes = Vec::new(context.alloc());
+        if encode(&greeting, &mut bytes).is_err() {
+            return;
+        }
         if let Some(dial) = self.dials.get_mut(index) {
-            dial.connect(context, index, greeting);
+            dial.connect(context, index, bytes.as_slice());
+        }
+    }
+
+    /// Whether there is no connection to a node, and it is time to connect.
+    fn is_due(&self, index: usize, time: u64) -> bool {
+        match self.dials.get(index) {
+            Some(dial) => dial.is_due(time),
+            None => false,
         }
     }
 
@@ -201,7 +227,7 @@ impl Mesh {
         }
     }
 
-    /// Asks for what the node lacks, writes what waits for the peers, and notes what is known.
+    /// Asks for what the node lacks, writes what waits for the peers, and extends the digests if there is time.
     #[tactic(auto, using(crate::proofs::Continuation::still, crate::proofs::Continuation::twice))]
     pub(crate) fn go_on<R: Clock + Eprint + AllocGlobal, T: Tape + Drop>(
         &mut self,
@@ -214,23 +240,47 @@ impl Mesh {
             self.ask_next(context.alloc(), process, context.time);
             self.send(context, process);
         }
-        self.notes.extend(process.node().history());
-        self.note_states(process);
+        self.extend_digests(process.node().history());
     }
 
-    /// Writes what waits for the peers.
+    /// Writes what waits for the peers: nothing once the tape has failed.
     #[tactic(auto, using(crate::proofs::Continuation::still, crate::proofs::Continuation::twice))]
-    fn send<R: Clock + Eprint + AllocGlobal, T: Tape + Drop>(
+    pub(crate) fn send<R: Clock + Eprint + AllocGlobal, T: Tape + Drop>(
         &mut self,
         context: &Context<'_, '_, R>,
         process: &mut Process<T>,
     )
         ensures { GoesOn T.Tape process.old process.new }
     {
+        if process.is_halted() {
+            return;
+        }
         for index in 0..self.dials.len() {
-            if waits(process, index) {
-                self.turn(context, process, index);
-            }
+            self.send_to(context, process, index);
+        }
+    }
+
+    /// Writes what waits for a peer, if anything does.
+    #[tactic(auto, using(crate::proofs::Continuation::still, crate::proofs::Continuation::twice))]
+    fn send_to<R: Clock + Eprint + AllocGlobal, T: Tape + Drop>(
+        &mut self,
+        context: &Context<'_, '_, R>,
+        process: &mut Process<T>,
+        index: usize,
+    )
+        ensures { GoesOn T.Tape process.old process.new }
+    {
+        let Some(peer) = id_of(index) else {
+            return;
+        };
+        if process.remaining(peer) == 0 {
+            return;
+        }
+        let Some(dial) = self.dials.get_mut(index) else {
+            return;
+        };
+        if let Some(why) = dial.send(process, peer) {
+            self.end(context, process, index, peer, why);
         }
     }
 }
@@ -241,13 +291,5 @@ fn ask<T: Tape + Drop>(alloc: Global, process: &mut Process<T>, peer: usize)
 {
     if let Some(peer) = id_of(peer) {
         let _ = process.catch_up(alloc, peer);
-    }
-}
-
-/// Whether bytes wait for a peer.
-fn waits<T: Tape + Drop>(process: &Process<T>, peer: usize) -> bool {
-    match id_of(peer) {
-        Some(peer) => process.remaining(peer) != 0,
-        None => false,
     }
 }

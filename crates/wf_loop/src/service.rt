@@ -10,22 +10,24 @@ ghost use Rattle.wf_visitors.specs.Visitors.{responses_of};
 use crate::acts::reopen;
 use crate::clients::Clients;
 use crate::event::NodeEvent;
-use crate::hub::Hub;
+use crate::hub::{Hub, Voter};
 use crate::pace::{Pace, TICK_MILLIS};
 use crate::parts::{HubParts, HubStart, MOST_EVENTS, bind};
 use crate::plan::{LoopFault, NodePlan};
 use crate::tally::Tally;
-use crate::turn::{answer_operators, serve_all};
-use crate::voter::Voter;
+use crate::turn::{answer_operators, has_more, serve_all};
 use std::alloc::Global;
 use std::net::{Net, SocketAddr};
 use std::rt::Files;
 use std::time::{Clock, Duration};
 use wf_actor::Process;
-use wf_operator::{Behind, Pictures};
+use wf_operator::{Behind, PictureCounts};
 use wf_peer::{Heard, PeerRejection};
 use wf_tape::Tape;
 use wf_visitors::{Context, Log, Visitors, now};
+
+/// For how long nothing comes before the digests are made that lack, in milliseconds.
+const MOMENT_MILLIS: u64 = 1;
 
 /// How a turn ended.
 #[derive(Clone, Copy, PartialEq, Eq)]
@@ -64,7 +66,7 @@ fn voter_of<T: Tape>(alloc: Global, process: Process<T>) -> Voter<T>
     Voter {
         process,
         rejected: Tally::new(alloc),
-        pictures: Pictures::default(),
+        pictures: PictureCounts::default(),
     }
 }
 
@@ -188,7 +190,7 @@ impl<T: Tape + Drop> Hub<T> {
         match reopen(rt.alloc(), &mut self.voter.process, tape) {
             Ok(()) => {
                 self.parts.mesh.close_all(self.time);
-                self.pace.reopened(self.time);
+                self.pace.note_reopening(self.time);
                 log.write(&NodeEvent::Reopened);
                 Ok(())
             }
@@ -215,11 +217,16 @@ impl<T: Tape + Drop> Hub<T> {
         ensures earlier { KeepsEarlier T.Tape (process_of self.old) (process_of self.new) }
         ensures time { time_of self.old ≤ time_of self.new }
     {
-        self.wait(rt);
+        let could_wait = self.wait(rt);
         let mut ready = [0usize; MOST_EVENTS];
         let count = self.ready(&mut ready);
         self.time = now(rt).max(self.time);
-        self.is_busy = self.act(rt, log, ready.split_at(count.min(MOST_EVENTS)).0);
+        self.is_busy = self.act(
+            rt,
+            log,
+            ready.split_at(count.min(MOST_EVENTS)).0,
+            could_wait,
+        );
         self.always_lived();
         match self.parts.mesh.end {
             Some(rejection) => Begun::Ended(rejection),
@@ -227,18 +234,30 @@ impl<T: Tape + Drop> Hub<T> {
         }
     }
 
-    /// Waits until a socket is ready or a tick is over; not at all if there is more to do.
-    fn wait<R: Clock>(&mut self, rt: &R)
+    /// Waits until a socket is ready or the patience is over. Returns whether it could wait.
+    fn wait<R: Clock>(&mut self, rt: &R) -> bool
         ensures process { process_of self.new ≡ process_of self.old }
         ensures time { time_of self.new ≡ time_of self.old }
     {
-        let millis = if self.is_busy || self.voter.process.waiting() != 0 {
-            0
-        } else {
-            self.pace.rest(now(rt)).min(TICK_MILLIS)
-        };
+        let millis = self.patience(now(rt));
         let HubParts { poll, events, .. } = &mut self.parts;
         let _ = poll.poll(events, Some(Duration::from_millis(millis)));
+        millis != 0
+    }
+
+    /// For how long a turn may wait, in milliseconds: up to the next tick, for a moment while digests are to be made, not at all if there is
+    /// more to do.
+    fn patience(&self, time: u64) -> u64 {
+        if self.is_busy || self.voter.process.waiting() != 0 {
+            return 0;
+        }
+        let history = self.voter.process.node().history();
+        let most = if self.parts.mesh.wants_digests(history) {
+            MOMENT_MILLIS
+        } else {
+            TICK_MILLIS
+        };
+        self.pace.rest(time).min(most)
     }
 
     /// The tokens of the sockets that are ready, and their number.
@@ -259,6 +278,7 @@ impl<T: Tape + Drop> Hub<T> {
         rt: &R,
         log: &Log<'_, R>,
         ready: &[usize],
+        could_wait: bool,
     ) -> bool
         ensures on { GoesOn T.Tape (process_of self.old) (process_of self.new) }
         ensures time { time_of self.new ≡ time_of self.old }
@@ -284,10 +304,10 @@ impl<T: Tape + Drop> Hub<T> {
             registry: poll.registry(),
             time: *time,
         };
-        mesh.is_busy = false;
-        let is_busy = serve_all(&context, voter, mesh, desk, clients, ready);
+        mesh.begin_turn(could_wait, ready.len());
+        serve_all(&context, voter, mesh, desk, clients, ready);
         pace.turn(&context, &mut voter.process, mesh, desk, clients);
         answer_operators(&context, voter, mesh, desk, clients, behind);
-        is_busy || mesh.is_busy
+        has_more(mesh, clients)
     }
 }

@@ -79,4 +79,17 @@ impl Socket {
             Socket::Client(token - CLIENT)
         }
     }
+
+    /// Whether it is a listener for peers, or a connection to or from one.
+    pub(crate) fn is_of_peer(self) -> bool {
+        match self {
+            Socket::Listen | Socket::Dial(_) | Socket::Inbound(_) => true,
+            Socket::Http
+            | Socket::Admin
+            | Socket::Readers
+            | Socket::Asker(_)
+            | Socket::Reader(_)
+            | Socket::Client(_) => false,
+        }
+    }
 }

@@ -6,11 +6,9 @@ use crate::acts::handle_own;
 use crate::clients::Clients;
 use crate::desk::{Desk, serve_operators};
 use crate::facts::NodeFacts;
+use crate::hub::Voter;
 use crate::mesh::Mesh;
-use crate::pace::Pace;
-use crate::steps::Steps;
 use crate::token::Socket;
-use crate::voter::Voter;
 use std::net::Net;
 use std::rt::Files;
 use std::time::Clock;
@@ -23,7 +21,10 @@ use wf_visitors::{Context, micros};
 /// The most of its own messages that a turn delivers.
 const MOST_OWN: u32 = 64;
 
-/// Does what the sockets with these tokens ask for, which are ready, and answers clients. Returns whether there is more to do.
+/// The most requests of clients that a turn answers.
+const MOST_SERVED: usize = 8;
+
+/// Does what the sockets with these tokens ask for, which are ready, and answers clients.
 pub(crate) fn serve_all<R: Net + Clock + Eprint + AllocGlobal, T: Tape + Drop>(
     context: &Context<'_, '_, R>,
     voter: &mut Voter<T>,
@@ -31,15 +32,20 @@ pub(crate) fn serve_all<R: Net + Clock + Eprint + AllocGlobal, T: Tape + Drop>(
     desk: &mut Desk,
     clients: &mut Clients<T>,
     tokens: &[usize],
-) -> bool
+)
     ensures { GoesOn T.Tape voter.old.process voter.new.process }
 {
     act_on_all(context, &mut voter.process, mesh, desk, clients, tokens);
-    handle_all_own(context, &mut voter.process, &mut mesh.steps);
-    clients.serve(context, voter)
+    handle_all_own(context, &mut voter.process, mesh);
+    serve_clients(context, voter, mesh, clients);
 }
 
-/// Does what the sockets with these tokens ask for.
+/// Whether there is more to do.
+pub(crate) fn has_more<T: Tape + Drop>(mesh: &Mesh, clients: &Clients<T>) -> bool {
+    mesh.is_busy || clients.visitors.is_busy()
+}
+
+/// Does what the sockets with these tokens ask for: those of peers first.
 #[tactic(auto, using(crate::proofs::Continuation::still, crate::proofs::Continuation::twice))]
 fn act_on_all<R: Net + Clock + Eprint + AllocGlobal, T: Tape + Drop>(
     context: &Context<'_, '_, R>,
@@ -52,8 +58,29 @@ fn act_on_all<R: Net + Clock + Eprint + AllocGlobal, T: Tape + Drop>(
     ensures on { GoesOn T.Tape process.old process.new }
     ensures befores { clients.new.before.items ≡ clients.old.before.items }
 {
+    act_on_those(context, process, mesh, desk, clients, tokens, true);
+    act_on_those(context, process, mesh, desk, clients, tokens, false);
+}
+
+/// Does what those of the sockets with these tokens ask for that are of peers, or the others.
+#[tactic(auto, using(crate::proofs::Continuation::still, crate::proofs::Continuation::twice))]
+fn act_on_those<R: Net + Clock + Eprint + AllocGlobal, T: Tape + Drop>(
+    context: &Context<'_, '_, R>,
+    process: &mut Process<T>,
+    mesh: &mut Mesh,
+    desk: &mut Desk,
+    clients: &mut Clients<T>,
+    tokens: &[usize],
+    are_of_peers: bool,
+)
+    ensures on { GoesOn T.Tape process.old process.new }
+    ensures befores { clients.new.before.items ≡ clients.old.before.items }
+{
     for token in tokens {
         let socket = Socket::of(*token);
+        if socket.is_of_peer() != are_of_peers {
+            continue;
+        }
         act_on(context, process, mesh, desk, clients, socket);
     }
 }
@@ -109,35 +136,107 @@ fn answer_reader<R: Clock + Eprint + AllocGlobal, T: Tape + Drop>(
 
 /// Delivers messages of the node to itself, a bounded number of them.
 #[tactic(auto, using(crate::proofs::Continuation::still, crate::proofs::Continuation::twice))]
-fn handle_all_own<R: Clock + AllocGlobal, T: Tape + Drop>(
+fn handle_all_own<R: Clock + Eprint + AllocGlobal, T: Tape + Drop>(
     context: &Context<'_, '_, R>,
     process: &mut Process<T>,
-    steps: &mut Steps,
+    mesh: &mut Mesh,
 )
     ensures { GoesOn T.Tape process.old process.new }
 {
     for _ in 0..MOST_OWN {
-        let from = micros(context.rt);
-        if !handle_own(context.alloc(), process) {
+        if !handle_next_own(context, process, mesh) {
             return;
         }
-        steps.add(from, micros(context.rt));
     }
+}
+
+/// Delivers the first message of the node to itself. What waits for the peers is written before: they store it while the node does.
+/// Returns whether a message waited.
+#[tactic(auto, using(crate::proofs::Continuation::twice))]
+fn handle_next_own<R: Clock + Eprint + AllocGlobal, T: Tape + Drop>(
+    context: &Context<'_, '_, R>,
+    process: &mut Process<T>,
+    mesh: &mut Mesh,
+) -> bool
+    ensures { GoesOn T.Tape process.old process.new }
+{
+    mesh.send(context, process);
+    let from = micros(context.rt);
+    if !handle_own(context.alloc(), process) {
+        return false;
+    }
+    mesh.steps.add(from, micros(context.rt));
+    true
+}
+
+/// Answers requests of clients that are whole, a bounded number of them.
+#[tactic(auto, using(crate::proofs::Continuation::still, crate::proofs::Continuation::twice))]
+fn serve_clients<R: Clock + Eprint + AllocGlobal, T: Tape + Drop>(
+    context: &Context<'_, '_, R>,
+    voter: &mut Voter<T>,
+    mesh: &mut Mesh,
+    clients: &mut Clients<T>,
+)
+    ensures { GoesOn T.Tape voter.old.process voter.new.process }
+{
+    for _ in 0..MOST_SERVED {
+        if !serve_next(context, voter, mesh, clients) {
+            return;
+        }
+    }
+}
+
+/// Answers the next request of a client, if it is whole. What it makes the node send is written to the peers before the client is
+/// written to. Returns whether there was one.
+#[tactic(auto, using(crate::proofs::Continuation::twice))]
+fn serve_next<R: Clock + Eprint + AllocGlobal, T: Tape + Drop>(
+    context: &Context<'_, '_, R>,
+    voter: &mut Voter<T>,
+    mesh: &mut Mesh,
+    clients: &mut Clients<T>,
+) -> bool
+    ensures { GoesOn T.Tape voter.old.process voter.new.process }
+{
+    let Some(index) = clients.answer_next(context, voter) else {
+        return false;
+    };
+    mesh.send(context, &mut voter.process);
+    clients.turn(context, index);
+    true
 }
 
 /// Answers operators, who only read.
 pub(crate) fn answer_operators<R: Files + Clock + Eprint + AllocGlobal, T: Tape + Drop>(
     context: &Context<'_, '_, R>,
     voter: &Voter<T>,
-    mesh: &Mesh,
+    mesh: &mut Mesh,
     desk: &mut Desk,
     clients: &Clients<T>,
     behind: &mut Behind,
 ) {
+    let history = voter.process.node().history();
+    let heard = mesh.notes.latest(mesh.dials.len());
+    let is_behind = behind.judge(history.published().number() < heard, context.time);
+    if desk.operators.waits() {
+        // what was published in this turn has its digests too
+        mesh.notes.extend(history);
+        mesh.note_states(&voter.process);
+        serve_facts(context, voter, mesh, desk, clients, is_behind);
+    }
+}
+
+/// Answers operators with what is known.
+fn serve_facts<R: Files + Clock + Eprint + AllocGlobal, T: Tape + Drop>(
+    context: &Context<'_, '_, R>,
+    voter: &Voter<T>,
+    mesh: &Mesh,
+    desk: &mut Desk,
+    clients: &Clients<T>,
+    is_behind: bool,
+) {
     let process = &voter.process;
     let history = process.node().history();
-    let published = history.published().number();
-    let latest = mesh.notes.latest(mesh.dials.len());
+    let heard = mesh.notes.latest(mesh.dials.len());
     let Desk {
         operators,
         readers,
@@ -158,8 +257,8 @@ pub(crate) fn answer_operators<R: Files + Clock + Eprint + AllocGlobal, T: Tape 
         proposal: process.node().proposal(),
         differs: mesh.differs,
         reader_differs: readers.differs(context.time),
-        heard: latest.max(published),
-        is_behind: behind.judge(published < latest, context.time),
+        heard: heard.max(history.published().number()),
+        is_behind,
         clients: clients.visitors.taken(),
         readers: readers.taken(),
     };

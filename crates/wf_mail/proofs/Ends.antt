@@ -1,6 +1,6 @@
 -- The two ends of a connection.
 use Rattle.std.proofs.Common.{◌≡◌, ◌≢◌, ℕ, Bool, true, false, take, drop, List, [], ◌++◌, refl, sym, ap, subst, ◌∙◌, append_assoc, append-nil}
-use Rattle.wf_mail.specs.Theorem.{OnlySentCome, AllSentCome, NeverBreaks}
+use Rattle.wf_mail.proofs.Streams.{all_sent_come, never_breaks, only_sent_come}
 use Rattle.wf_mail.specs.Mail.{spelled, AreMessages, IsBeginning}
 use Rattle.wf_mail.specs.Outbox.{OutboxState}
 use Rattle.wf_mail.specs.Receiver.{ReceiverState, Open, Closed, is_memory, came, taken, IsOpen, IsClosed}
@@ -15,15 +15,15 @@ begins_through xs ys zs (rest, e) (more, h) = (rest ++ more, sym (append_assoc x
 
 module _ (outbox : OutboxState) (receiver : ReceiverState) (are : AreMessages outbox.put) (spells : outbox.written ++ outbox.waiting ≡ spelled outbox.put)
     (reads : (rest : List ℕ) × Reads (taken receiver) (came receiver) rest) where
-  pub only_sent : OnlySentCome → IsBeginning (taken receiver) outbox.written → IsBeginning (came receiver) outbox.put
-  only_sent theorem begins =
-      theorem outbox.put (came receiver) (taken receiver) reads.0
+  pub only_sent : IsBeginning (taken receiver) outbox.written → IsBeginning (came receiver) outbox.put
+  only_sent begins =
+      only_sent_come outbox.put (came receiver) (taken receiver) reads.0
       (record { messages = are; begins = begins_through (taken receiver) outbox.written (spelled outbox.put) begins (outbox.waiting, spells) }) reads.1.splits
 
-  pub all_sent : AllSentCome → outbox.waiting ≡ [] → taken receiver ≡ outbox.written → came receiver ≡ outbox.put
-  all_sent theorem none_waits all =
+  pub all_sent : outbox.waiting ≡ [] → taken receiver ≡ outbox.written → came receiver ≡ outbox.put
+  all_sent none_waits all =
       let whole : taken receiver ≡ spelled outbox.put = all ∙ sym (append-nil outbox.written) ∙ ap (λ bytes. outbox.written ++ bytes) (sym none_waits) ∙ spells in
-      (theorem outbox.put (came receiver) reads.0 are (subst (λ bytes. Reads bytes (came receiver) reads.0) whole reads.1)).0
+      (all_sent_come outbox.put (came receiver) reads.0 are (subst (λ bytes. Reads bytes (came receiver) reads.0) whole reads.1)).0
 
 -- ---- pieces of what waits
 
@@ -36,13 +36,13 @@ unless : (is : Bool) (fault : InboxFault) → is_memory fault ≡ is → ((fault
 unless true fault e never = memory_is fault e
 unless false fault e never = absurd (never (not_memory fault e))
 
-pub only_memory : NeverBreaks → (outbox : OutboxState) (receiver now : ReceiverState) (piece after : List ℕ) (fault : InboxFault) → AreMessages outbox.put → outbox.written ++ outbox.waiting ≡ spelled outbox.put →
+pub only_memory : (outbox : OutboxState) (receiver now : ReceiverState) (piece after : List ℕ) (fault : InboxFault) → AreMessages outbox.put → outbox.written ++ outbox.waiting ≡ spelled outbox.put →
     IsOpen receiver → taken receiver ≡ outbox.written → piece ++ after ≡ outbox.waiting → IsClosed receiver piece fault now → fault ≡ Memory
-only_memory theorem outbox (Open messages rest) now piece after fault are spells is_open same next closed =
-    unless (is_memory fault) fault refl (λ differs. theorem outbox.put ((spelled messages ++ rest) ++ piece) fault
+only_memory outbox (Open messages rest) now piece after fault are spells is_open same next closed =
+    unless (is_memory fault) fault refl (λ differs. never_breaks outbox.put ((spelled messages ++ rest) ++ piece) fault
     (record {
       messages = are;
       begins = (after, append_assoc (spelled messages ++ rest) piece after ∙ ap (λ bytes. (spelled messages ++ rest) ++ bytes) next ∙ ap (λ bytes. bytes ++ outbox.waiting) same ∙ spells);
     })
     (closed.1 differs))
-only_memory theorem outbox (Closed messages earlier) now piece after fault are spells is_open same next closed = absurd is_open
+only_memory outbox (Closed messages earlier) now piece after fault are spells is_open same next closed = absurd is_open

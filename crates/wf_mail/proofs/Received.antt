@@ -2,7 +2,6 @@
 use Rattle.std.proofs.Common.{◌≡◌, ◌≢◌, ℕ, Bool, true, false, List, [], ◌∷◌, ◌++◌, map, Vec, Result, Ok, Err, refl, sym, ap, subst, ◌∙◌, append_assoc, append-nil}
 use Rattle.std.specs.declared.alloc.Global.{Global}
 use mathlib.Core.Bool.{true≢false}
-use Rattle.wf_codec.specs.Theorem.{NoneIsEmpty}
 use Rattle.wf_codec.specs.Message.{view}
 use Rattle.wf_codec.specs.declared.message.Message as code
 use Rattle.wf_def.specs.Definition.{Definition}
@@ -15,7 +14,8 @@ use Rattle.wf_wire.specs.declared.fault.InboxFault.TheVariants.{BadVersion, BadK
 use Rattle.wf_mail.specs.Mail.{spelled, AreMessages}
 use Rattle.wf_mail.specs.Receiver.{ReceiverState, Closed, is_memory, logged, with_inbox, state_of, came, taken, IsReceived, IsClosed, KeepsPartIn, IsReceiver}
 use Rattle.wf_mail.proofs.Spelled.{spelled_then, messages_then}
-use Rattle.wf_mail.proofs.Streams.{splits_are, are_split, breaks_behind, nothing_is_part}
+use Rattle.wf_mail.proofs.Streams.{splits_are, are_split, breaks_behind}
+use Rattle.wf_wire.proofs.Streams.{nothing_is_part}
 
 abbrev Log : Type 0
 Log = List (Vec code.Message Global × ℕ)
@@ -39,10 +39,10 @@ logged_more (entry ∷ log) messages count =
 
 -- ---- a new one
 
-pub new_is_receiver : NoneIsEmpty → (log : Log) (state : InboxState) → log ≡ [] → state ≡ inbox.Open [] → IsReceiver (logged log) state
-new_is_receiver none_is_empty log state no_log no_rest = record {
+pub new_is_receiver : (log : Log) (state : InboxState) → log ≡ [] → state ≡ inbox.Open [] → IsReceiver (logged log) state
+new_is_receiver log state no_log no_rest = record {
   messages = subst (λ l. AreMessages (logged l)) (sym no_log) tt;
-  part = subst KeepsPartIn (sym no_rest) (nothing_is_part none_is_empty);
+  part = subst KeepsPartIn (sym no_rest) nothing_is_part;
 }
 
 -- ---- a piece that is taken
@@ -137,20 +137,20 @@ broken_part (inbox.Failed earlier) new piece fault broken = failed_part new earl
 -- ---- what came, always
 
 -- of a closed one
-closed_reads : NoneIsEmpty → (messages : List (Message Definition)) → AreMessages messages → (rest : List ℕ) × Reads (spelled messages) messages rest
-closed_reads none_is_empty messages are = (
+closed_reads : (messages : List (Message Definition)) → AreMessages messages → (rest : List ℕ) × Reads (spelled messages) messages rest
+closed_reads messages are = (
   [],
   record {
     splits = subst (λ bytes. Splits bytes messages []) (append-nil (spelled messages)) (are_split messages [] are);
-    part = nothing_is_part none_is_empty;
+    part = nothing_is_part;
   },
 )
 
-reads_of : NoneIsEmpty → (messages : List (Message Definition)) (state : InboxState) → IsReceiver messages state → (rest : List ℕ) × Reads (taken (with_inbox messages state)) (came (with_inbox messages state)) rest
-reads_of none_is_empty messages (inbox.Open rest) is = (rest, record { splits = are_split messages rest is.messages; part = is.part })
-reads_of none_is_empty messages (inbox.Failed fault) is = closed_reads none_is_empty messages is.messages
+reads_of : (messages : List (Message Definition)) (state : InboxState) → IsReceiver messages state → (rest : List ℕ) × Reads (taken (with_inbox messages state)) (came (with_inbox messages state)) rest
+reads_of messages (inbox.Open rest) is = (rest, record { splits = are_split messages rest is.messages; part = is.part })
+reads_of messages (inbox.Failed fault) is = closed_reads messages is.messages
 
-pub reads_always : NoneIsEmpty → (is_out_of_memory : Bool) (messages : List (Message Definition)) (state : InboxState) → IsReceiver messages state →
+pub reads_always : (is_out_of_memory : Bool) (messages : List (Message Definition)) (state : InboxState) → IsReceiver messages state →
     (rest : List ℕ) × Reads (taken (state_of is_out_of_memory messages state)) (came (state_of is_out_of_memory messages state)) rest
-reads_always none_is_empty true messages state is = closed_reads none_is_empty messages is.messages
-reads_always none_is_empty false messages state is = reads_of none_is_empty messages state is
+reads_always true messages state is = closed_reads messages is.messages
+reads_always false messages state is = reads_of messages state is

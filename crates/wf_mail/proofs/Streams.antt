@@ -1,11 +1,13 @@
 -- What comes of a connection.
 use Rattle.std.proofs.Common.{◌≡◌, ℕ, List, [], ◌∷◌, ◌++◌, length, refl, sym, ap, subst, ◌∙◌, append_assoc, append-nil, length-append, arith}
-use Rattle.wf_codec.specs.Theorem.{NoneBeginsAnother, NoneIsEmpty}
+use Rattle.wf_canon.proofs.MeaningTheorem.{one_definition}
+use Rattle.wf_codec.proofs.Validated.{none_begins_another, none_is_empty}
 use Rattle.wf_codec.specs.Encoding.{spelling}
 use Rattle.wf_def.specs.Definition.{Definition}
 use Rattle.wf_model.specs.Message.{Message}
-use Rattle.wf_wire.specs.Theorem.{SplitOneWay, BreaksOrReads, StaysBroken}
-use Rattle.wf_wire.specs.Stream.{Splits, IsPart, Reads, Breaks}
+use Rattle.wf_wire.proofs.Split.{breaks_or_reads, split_one_way, stays_broken}
+use Rattle.wf_wire.proofs.Streams.{nothing_is_part}
+use Rattle.wf_wire.specs.Stream.{Splits, Reads, Breaks}
 use Rattle.wf_wire.specs.declared.fault.InboxFault.{InboxFault}
 use Rattle.wf_mail.specs.Mail.{spelled, AreMessages, IsBeginning}
 use Rattle.wf_mail.specs.Theorem.{OnlySentCome, AllSentCome, NeverBreaks}
@@ -49,43 +51,36 @@ breaks_behind messages stream fault are breaks = record {
   wrong = breaks.wrong;
 }
 
--- no bytes are part of a message
-pub nothing_is_part : NoneIsEmpty → IsPart []
-nothing_is_part none_is_empty = record {
-  longest = λ m bytes more spells e. absurd (omega (arith, none_is_empty m bytes spells, ap length e, length-append bytes more));
-  unfinished = tt;
-}
-
 -- ---- what comes of a connection
 
-come_of : NoneBeginsAnother → NoneIsEmpty → (put came : List (Message Definition)) (bytes rest more : List ℕ) → AreMessages put → Splits bytes came rest → bytes ++ more ≡ spelled put → IsBeginning came put
+come_of : (put came : List (Message Definition)) (bytes rest more : List ℕ) → AreMessages put → Splits bytes came rest → bytes ++ more ≡ spelled put → IsBeginning came put
 unfolding spelled
-come_of none_begins none_is_empty put [] bytes rest more are splits e = (put, refl)
-come_of none_begins none_is_empty [] (m ∷ came) bytes rest more are splits e =
+come_of put [] bytes rest more are splits e = (put, refl)
+come_of [] (m ∷ came) bytes rest more are splits e =
     absurd (omega (arith, none_is_empty m splits.0 splits.2, ap length e, length-append bytes more, ap length splits.3, length-append splits.0 splits.1))
-come_of none_begins none_is_empty (p ∷ put) (m ∷ came) bytes rest more are splits e =
-    let same = none_begins m p splits.0 (spelling p) (splits.1 ++ more) (spelled put) splits.2 (record { is_message = are.0; spelled = refl })
+come_of (p ∷ put) (m ∷ came) bytes rest more are splits e =
+    let same = none_begins_another one_definition m p splits.0 (spelling p) (splits.1 ++ more) (spelled put) splits.2 (record { is_message = are.0; spelled = refl })
     (sym (append_assoc splits.0 splits.1 more) ∙ ap (λ all. all ++ more) (sym splits.3) ∙ e) in
-    let later = come_of none_begins none_is_empty put came splits.1 rest more are.1 splits.4 same.2 in
+    let later = come_of put came splits.1 rest more are.1 splits.4 same.2 in
     (later.0, ap (λ first. first ∷ (came ++ later.0)) same.0 ∙ ap (λ messages. p ∷ messages) later.1)
 
-pub only_sent_come : NoneBeginsAnother → NoneIsEmpty → OnlySentCome
-only_sent_come none_begins none_is_empty put came bytes rest carried splits =
-    come_of none_begins none_is_empty put came bytes rest carried.begins.0 carried.messages splits carried.begins.1
+pub only_sent_come : OnlySentCome
+only_sent_come put came bytes rest carried splits =
+    come_of put came bytes rest carried.begins.0 carried.messages splits carried.begins.1
 
 -- the encodings of messages are read as them
-reads_all : NoneIsEmpty → (put : List (Message Definition)) → AreMessages put → Reads (spelled put) put []
-reads_all none_is_empty put are = record {
+reads_all : (put : List (Message Definition)) → AreMessages put → Reads (spelled put) put []
+reads_all put are = record {
   splits = subst (λ bytes. Splits bytes put []) (append-nil (spelled put)) (are_split put [] are);
-  part = nothing_is_part none_is_empty;
+  part = nothing_is_part;
 }
 
-pub all_sent_come : NoneIsEmpty → SplitOneWay → AllSentCome
-all_sent_come none_is_empty one_way put came rest are reads = one_way (spelled put) came put rest [] reads (reads_all none_is_empty put are)
+pub all_sent_come : AllSentCome
+all_sent_come put came rest are reads = split_one_way (spelled put) came put rest [] reads (reads_all put are)
 
-pub never_breaks : NoneIsEmpty → BreaksOrReads → StaysBroken → NeverBreaks
-never_breaks none_is_empty apart stays put bytes fault carried breaks =
-    apart (spelled put) fault put [] (subst (λ all. Breaks all fault) carried.begins.1 (stays bytes carried.begins.0 fault breaks)) (reads_all none_is_empty put carried.messages)
+pub never_breaks : NeverBreaks
+never_breaks put bytes fault carried breaks =
+    breaks_or_reads (spelled put) fault put [] (subst (λ all. Breaks all fault) carried.begins.1 (stays_broken bytes carried.begins.0 fault breaks)) (reads_all put carried.messages)
 
 -- ---- the two ends
 

@@ -6,7 +6,7 @@ ghost use Rattle.wf_wire.specs.Stream.{Reads};
 use http_server::Log;
 use std::alloc::Global;
 use std::marker::Model;
-use wf_codec::{Message, no_spelling_is_empty};
+use wf_codec::Message;
 use wf_wire::{Inbox, InboxFault};
 
 /// The receiving end of a connection. Model: the messages that came, and the bytes after the last of them; or, once it is closed,
@@ -35,8 +35,6 @@ impl Receiver {
     pub fn new(alloc: Global) -> Receiver
         ensures { result ≡ Open [] [] }
     {
-        // The theorem: an encoding has at least one byte, so no bytes are part of a message.
-        no_spelling_is_empty();
         Receiver {
             inbox: Inbox::new(alloc),
             is_out_of_memory: false,
@@ -73,8 +71,6 @@ impl Receiver {
     pub fn always_reads(&self)
         ensures { (rest : List ℕ) × Reads (taken self.now) (came self.now) rest }
     {
-        // The theorem: an encoding has at least one byte, so no bytes are part of a message.
-        no_spelling_is_empty();
         let _ = &self.is_out_of_memory;
     }
 }

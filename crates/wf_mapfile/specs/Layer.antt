@@ -7,11 +7,11 @@ use Rattle.wf_def.specs.Limits.{has_layer, points_of_feature}
 use Rattle.wf_def.specs.declared.choice.LayerKind.{LayerKind}
 use Rattle.wf_def.specs.declared.choice.LayerKind.TheVariants as kind
 use Rattle.wf_def.specs.Limit.{most_classes}
-use Rattle.wf_mapfile.specs.declared.slots.layer.LayerDropped.{LayerDropped}
-use Rattle.wf_mapfile.specs.declared.slots.layer.LayerOnce.{LayerOnce}
-use Rattle.wf_mapfile.specs.declared.slots.layer.LayerSlots.{LayerSlots}
+use Rattle.wf_mapfile.specs.declared.slots.LayerDropped.{LayerDropped}
+use Rattle.wf_mapfile.specs.declared.slots.LayerOnce.{LayerOnce}
+use Rattle.wf_mapfile.specs.declared.slots.LayerSlots.{LayerSlots}
 use Rattle.wf_token.specs.Token.{Token}
-use Rattle.wf_block.specs.Grammar.{◌>>=◌, text, chosen}
+use Rattle.wf_block.specs.Grammar.{◌>>=◌, text, one_of}
 use Rattle.wf_block.specs.Steps.{once, again, step_by, step_or, put_into, block}
 use Rattle.wf_metadata.specs.Metadata.{metadata}
 use Rattle.wf_metadata.specs.Web.{no_metadata}
@@ -33,7 +33,7 @@ layer_kinds =
     (codes "POLYGON", kind.Polygons) ∷ []
 
 unfoldable pub layer_kind : List Token → Option (LayerKind × List Token)
-layer_kind tokens = chosen layer_kinds tokens
+layer_kind tokens = one_of layer_kinds tokens
 
 -- the text begins with `ITEMS=`, in any letter case
 abbrev pub begins_items : List ℕ → Bool

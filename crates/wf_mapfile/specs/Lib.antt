@@ -3,7 +3,6 @@ pub use Rattle.wf_token.specs.Token
 pub use Rattle.wf_block.specs.Grammar
 pub use Rattle.wf_block.specs.Steps
 pub use Rattle.wf_block.specs.ReadContract
-pub use Rattle.wf_block.specs.Distinct
 pub use Rattle.wf_metadata.specs.Metadata
 pub use Rattle.wf_metadata.specs.Web
 pub use Rattle.wf_class.specs.Color
@@ -13,7 +12,6 @@ pub use Rattle.wf_class.specs.Class
 pub use Rattle.wf_feature.specs.Feature
 pub mod Layer
 pub use Rattle.wf_feature.specs.Layers
-pub use Rattle.wf_feature.specs.Gathered
 pub mod Map
 pub mod Meaning
 pub mod Rejection

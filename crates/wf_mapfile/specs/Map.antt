@@ -5,9 +5,9 @@ use Rattle.wf_def.specs.Extent.{ExtentValue}
 use Rattle.wf_def.specs.Limit.{most_layers}
 use Rattle.wf_def.specs.declared.choice.Projection.{Projection}
 use Rattle.wf_def.specs.declared.choice.Projection.TheVariants.{Epsg4326, Epsg3857}
-use Rattle.wf_mapfile.specs.declared.slots.map.MapDropped.{MapDropped}
-use Rattle.wf_mapfile.specs.declared.slots.map.MapOnce.{MapOnce}
-use Rattle.wf_mapfile.specs.declared.slots.map.MapSlots.{MapSlots}
+use Rattle.wf_mapfile.specs.declared.slots.MapDropped.{MapDropped}
+use Rattle.wf_mapfile.specs.declared.slots.MapOnce.{MapOnce}
+use Rattle.wf_mapfile.specs.declared.slots.MapSlots.{MapSlots}
 use Rattle.wf_token.specs.Token.{Token}
 use Rattle.wf_block.specs.Grammar.{◌>>=◌, choice, text, number, end}
 use Rattle.wf_block.specs.Steps.{once, again, step_by, step_or, put_into, block}

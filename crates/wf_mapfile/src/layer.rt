@@ -10,7 +10,7 @@ ghost use Rattle.wf_feature.specs.Feature.{feature};
 ghost use Rattle.wf_metadata.specs.Web.{no_metadata};
 ghost use Rattle.wf_def.specs.Limit.{most_classes};
 
-use crate::slots::layer::{LayerDropped, LayerOnce, LayerSlots};
+use crate::slots::{LayerDropped, LayerOnce, LayerSlots};
 use std::alloc::{AllocError, Global};
 use wf_block::block::{Slots, fill_block};
 use wf_block::default::text_or_empty;
@@ -42,7 +42,7 @@ impl Slots for LayerReading<'_> {
     ghost use Rattle.std.specs.Prelude.{◌≡◌, ◌≤◌, ℕ, List, IfSome, false, length, sum_by};
     ghost use Rattle.wf_def.specs.Definition.{LayerDefinition};
     ghost use Rattle.wf_def.specs.Limits.{has_layer, points_of_feature};
-    ghost use Rattle.wf_mapfile.specs.declared.slots.layer.LayerSlots.{LayerSlots as Value};
+    ghost use Rattle.wf_mapfile.specs.declared.slots.LayerSlots.{LayerSlots as Value};
     ghost use Rattle.wf_mapfile.specs.Layer.{features_left, layer_put, points_left};
 
     ghost Settings = { Value };
@@ -460,7 +460,7 @@ fn read_layer_name(parser: &mut Parser<'_>) -> Result<LayerName, MapFault>
 fn read_layer_kind(parser: &mut Parser<'_>) -> Result<LayerKind, MapFault>
     ensures { Gives (λ kind. (kind, parser.new)) result (layer_kind parser.old) }
 {
-    parser.chosen(&[
+    parser.one_of(&[
         ("POINT", LayerKind::Points),
         ("LINE", LayerKind::Lines),
         ("POLYGON", LayerKind::Polygons),

@@ -6,7 +6,7 @@ ghost use Rattle.wf_metadata.specs.Web.{no_metadata};
 ghost use Rattle.wf_def.specs.Limit.{most_layers};
 
 use crate::layer::read_layer;
-use crate::slots::map::{MapDropped, MapOnce, MapSlots};
+use crate::slots::{MapDropped, MapOnce, MapSlots};
 use std::alloc::{AllocError, Global};
 use wf_block::block::{Slots, fill_block};
 use wf_block::choice::choose;
@@ -32,7 +32,7 @@ const DEFAULT_NAME: &str = "map";
 const DEFAULT_ADDRESS: &str = "http://localhost/wms?";
 
 impl Slots for MapSlots {
-    ghost use Rattle.wf_mapfile.specs.declared.slots.map.MapSlots.{MapSlots as Value};
+    ghost use Rattle.wf_mapfile.specs.declared.slots.MapSlots.{MapSlots as Value};
     ghost use Rattle.wf_mapfile.specs.Map.{map_put};
 
     ghost Settings = { Value };

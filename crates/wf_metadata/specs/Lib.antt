@@ -1,7 +1,6 @@
 pub use Rattle.wf_block.specs.Grammar
 pub use Rattle.wf_block.specs.Steps
 pub use Rattle.wf_block.specs.ReadContract
-pub use Rattle.wf_block.specs.Distinct
 pub mod Metadata
 pub mod Pairs
 pub mod Web

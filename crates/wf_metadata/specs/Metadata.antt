@@ -5,7 +5,7 @@ use Rattle.std.specs.Str.{bytes_eq, str_to_ascii_lowercase}
 use Rattle.wf_metadata.specs.declared.slots.Metadata.{Metadata}
 use Rattle.wf_token.specs.Token.{Token}
 use Rattle.wf_block.specs.Grammar.{◌>>=◌, text, end}
-unfoldable pub use Rattle.wf_block.specs.Distinct.{all_differ}
+unfoldable pub use Rattle.wf_block.specs.Grammar.{all_differ}
 
 -- at most n pairs up to END, each a key in lower case and its value
 unfoldable pub pairs : ℕ → List Token → Option (List (List ℕ × List ℕ) × List Token)

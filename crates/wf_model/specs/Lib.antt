@@ -8,7 +8,6 @@ pub mod Kept
 pub mod Chosen
 pub mod Examples
 pub mod Fits
-pub mod Steps
 pub mod PutTheorems
 pub mod RaisedTheorems
 pub mod VotesTheorems

@@ -4,8 +4,7 @@ use Rattle.std.proofs.lemmas.Option.{none-some}
 use Rattle.wf_model.specs.DurableState.{DurableState}
 use Rattle.wf_model.specs.VolatileState.{VolatileState}
 use Rattle.wf_model.specs.Table.{Action, Input, StepRejection}
-use Rattle.wf_model.specs.World.{Node, World, Event, Act, Stop, Restart, Torn, Kept, input_of, step_rejection_running, step_rejection_of, rejected_at, refused, after_turn, after_torn, turn_running, turn_of, turn, happens, steps}
-use Rattle.wf_model.specs.Steps.{StepsInTurn, RejectedChangesNothing}
+use Rattle.wf_model.specs.World.{Node, World, Event, Act, Stop, Restart, Torn, Kept, input_of, step_rejection_running, step_rejection_of, rejected_at, refused, after_turn, after_torn, turn_running, turn_of, turn, happens, steps, StepsInTurn, RejectedChangesNothing}
 
 module _ {V : Type 0} (same : V → V → Bool) where
   in_turn : (w : World V) (events more : List (Event V)) → steps same w (events ++ more) ≡ steps same (steps same w events) more

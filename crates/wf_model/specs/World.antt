@@ -1,5 +1,5 @@
 -- The farm: its nodes and all messages ever sent, the events, and whole runs.
-use Rattle.std.specs.Prelude.{ℕ, Bool, List, [], ◌∷◌, ◌++◌, length, replicate, slice_get, slice_set, Option, Some, None, is_some, if◌then◌else◌}
+use Rattle.std.specs.Prelude.{ℕ, Bool, List, [], ◌∷◌, ◌++◌, length, replicate, slice_get, slice_set, Option, Some, None, is_some, if◌then◌else◌, ◌≡◌}
 use Rattle.wf_model.specs.Message.{Message}
 use Rattle.wf_model.specs.DurableState.{DurableState, nothing_stored}
 use Rattle.wf_model.specs.VolatileState.{VolatileState, at_start}
@@ -156,3 +156,11 @@ start n = record { nodes = replicate n (record { stored = nothing_stored; volati
 
 unfoldable pub after : {V : Type 0} → (V → V → Bool) → ℕ → List (Event V) → World V
 after same n events = steps same (start n) events
+
+-- Running two lists of events in turn is running their concatenation.
+abbrev pub StepsInTurn : Type 0 → Type 0
+StepsInTurn V = (same : V → V → Bool) (w : World V) (events more : List (Event V)) → steps same w (events ++ more) ≡ steps same (steps same w events) more
+
+-- A rejected event leaves the world unchanged, and so does a rejected event with a crash within its step.
+abbrev pub RejectedChangesNothing : Type 0 → Type 0
+RejectedChangesNothing V = (same : V → V → Bool) (w : World V) (event : Event V) (why : StepRejection) → refused w event ≡ Some why → happens same w event ≡ w

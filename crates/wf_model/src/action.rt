@@ -1,3 +1,12 @@
+/// What a crash within a step leaves.
+#[derive(Clone, Copy, Debug, PartialEq, Eq)]
+pub enum Kept {
+    /// What was stored before the step.
+    Before,
+    /// What was stored after it.
+    After,
+}
+
 /// A step of a node. `D` is the type of a definition, `M` that of a message or of its number.
 #[derive(Clone, Copy, Drop)]
 pub enum Action<D, M> {

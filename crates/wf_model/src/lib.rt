@@ -21,19 +21,16 @@
 #![tactic(auto)]
 
 pub mod action;
-pub mod kept;
 
 ghost use Rattle.std.specs.Prelude.{◌≡◌, [], ◌∷◌, None, Some};
 ghost use Rattle.wf_model.specs.Chosen.{definition};
 ghost use Rattle.wf_model.specs.Examples.{a, alone, b, ballot, behind, catches_up, comes_back, empty, fifth_prepared, four_led, full_history, full_rounds, just, last_leader, late_accept, leader_restarts, led_again, led_too_low, new_round, no_votes, none, old_accept, only, outrun, repeated, run, same_map, sent_from, proposal_state, taken_over, three_of_four, three_pumped, reported_ahead, torn, torn_then, two_led, two_of_four, two_reported, vote, voted_once, Leaves, LeavesEach, OvertakenAt, PublishedAt, Runs};
 ghost use Rattle.wf_model.specs.Fits.{FoldsAreOpen, RecordsFit, TransitionsAreShort, VotesArePromised};
 ghost use Rattle.wf_model.specs.Message.{Accept, Accepted, Ask, Chosen, Nack, Prepare, Promise};
-ghost use Rattle.wf_model.specs.Steps.{RejectedChangesNothing, StepsInTurn};
+ghost use Rattle.wf_model.specs.World.{RejectedChangesNothing, StepsInTurn, happens, refused, After, Before, catch_up, propose, retry};
 ghost use Rattle.wf_model.specs.Table.{Busy, NothingToRetry, RoundsFull, SequenceFull};
-ghost use Rattle.wf_model.specs.World.{happens, refused, After, Before, catch_up, propose, retry};
 
-pub use action::Action;
-pub use kept::Kept;
+pub use action::{Action, Kept};
 
 /// Each transition's record fits its node's stored state: a record that publishes is of the next sequence. A running proposal is
 /// for the next sequence, and remains so.

@@ -1,7 +1,7 @@
 -- The step of an input is made if its transition's effects are.
 use Rattle.std.proofs.Common.{◌≡◌, ℕ, false, List, Option, Some, None, option_map, Result, Ok, Err, IsSome, Vec, refl, sym, subst, ap, ◌∙◌}
 use Rattle.wf_acceptor.specs.AcceptorAnswer as answered
-use Rattle.wf_acceptor.specs.declared.answer.AcceptorAnswer.{AcceptorAnswer}
+use Rattle.wf_acceptor.specs.declared.acceptor.AcceptorAnswer.{AcceptorAnswer}
 use Rattle.wf_ballot.specs.Ballot.{Ballot}
 use Rattle.wf_codec.specs.declared.message.Message.{Message}
 use Rattle.wf_def.specs.Definition.{Definition}
@@ -21,11 +21,9 @@ use Rattle.wf_journal.specs.Record.{view}
 use Rattle.wf_node.specs.declared.fault.NodeFault.{NodeFault}
 use Rattle.wf_node.specs.declared.fault.NodeFault.TheVariants.{Memory}
 use Rattle.wf_node.specs.Act.{IsAct, IsChange, IsRejectedOr, IsReply}
-use Rattle.wf_node.specs.Fault.{rejected_by}
+use Rattle.wf_node.specs.Fault.{rejected_by, TakesMemory, ByEntry, ByMessages, fault_of}
 use Rattle.wf_node.specs.DurablePart as keeping
 use Rattle.wf_node.specs.DurablePart.{DurablePart}
-use Rattle.wf_node.specs.Memory.{TakesMemory, ByEntry, ByMessages}
-use Rattle.wf_node.specs.Proposed.{fault_of}
 use Rattle.wf_node.specs.Parts.{Parts, stored_of}
 use Rattle.wf_node.proofs.Replies.{change_as, change_from, memory_changes, sends_changes}
 use Rattle.wf_tape.specs.declared.tape.Tape.{Ghosts as Tape}

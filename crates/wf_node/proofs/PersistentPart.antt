@@ -17,7 +17,7 @@ use Rattle.wf_acceptor.specs.Acceptor as acceptor
 use Rattle.wf_acceptor.specs.Acceptor.{Part, ActsFor, Applies, IsNext}
 use Rattle.wf_acceptor.specs.AcceptorAnswer as answers
 use Rattle.wf_acceptor.specs.AcceptorAnswer.{Answers}
-use Rattle.wf_acceptor.specs.declared.answer.AcceptorAnswer.{AcceptorAnswer}
+use Rattle.wf_acceptor.specs.declared.acceptor.AcceptorAnswer.{AcceptorAnswer}
 use Rattle.wf_node.specs.Parts.{Parts, stored_of}
 use Rattle.wf_node.specs.DurablePart.{IsTransition, Stores, IsRoomFor, tried_after, definitions_after}
 

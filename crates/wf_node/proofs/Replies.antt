@@ -17,7 +17,7 @@ use Rattle.wf_tape.specs.Tape.{IsUnchanged, IsExtended, HasRisen}
 use Rattle.wf_node.specs.declared.fault.NodeFault.{NodeFault}
 use Rattle.wf_node.specs.declared.fault.NodeFault.TheVariants.{Memory, Busy, SequenceFull, RoundsFull, Halted, TapeFailed, Nothing}
 use Rattle.wf_node.specs.Act.{IsChange, IsReply}
-use Rattle.wf_node.specs.Memory.{TakesMemory, ByEntry, ByMessages}
+use Rattle.wf_node.specs.Fault.{TakesMemory, ByEntry, ByMessages}
 use Rattle.wf_node.specs.Parts.{Parts, stored_of}
 use Rattle.wf_node.specs.TapeWrites.{bytes_of, IsTornAt, IsWritten, IsSpared, IsBroken, IsStoredBy, IsWrite}
 use Rattle.wf_tape.specs.Change.{inside}

@@ -7,8 +7,7 @@ use Rattle.std.proofs.lemmas.List.{take_all, take_more}
 use Rattle.std.proofs.lemmas.Option.{none-some, same_Some, slice_get_within, slice_get_cases, get_or_from_slice_get}
 use Rattle.wf_ballot.specs.Ballot.{Ballot, below}
 use Rattle.wf_ballot.specs.OrderTheorems as order
-use Rattle.wf_ballot.specs.Sequence.{last_sequence}
-use Rattle.wf_ballot.specs.Slot.{IsSlot}
+use Rattle.wf_ballot.specs.Sequence.{last_sequence, IsSlot}
 use Rattle.wf_def.specs.Definition.{Definition}
 use Rattle.wf_model.specs.Fits.{IsOpenAlone, NotBelow, FoldsAreOpen, VotesArePromised}
 use Rattle.wf_model.specs.Message.{Vote}

@@ -17,7 +17,7 @@ use Rattle.wf_node.specs.Act.{IsAct, IsChange, IsRejectedOr, IsSame}
 use Rattle.wf_node.specs.Fault.{step_rejection_of, rejected_by}
 use Rattle.wf_node.specs.Images.{StandsFor, AllStandFor, EachStandsFor, EachIsCut}
 use Rattle.wf_node.specs.DurablePart.{DurablePart}
-use Rattle.wf_node.specs.Memory as memory
+use Rattle.wf_node.specs.Fault as memory
 use Rattle.wf_node.specs.Node.{IsNode, view_of}
 use Rattle.wf_node.specs.Parts.{Parts, stored_of}
 use Rattle.wf_node.specs.TapeWrites.{bytes_of}

@@ -15,7 +15,7 @@ use Rattle.wf_model.specs.Table.{Transition, running_transition, on_promise, on_
 use Rattle.wf_model.specs.VolatileState.{VolatileState, Proposing, Idle, Running, Won, Overtaken, Proposal, Preparing, Accepting, Leadership, proposed, is_at, leading_at}
 use Rattle.wf_proposer.specs.Proposer.{runs_for}
 use Rattle.wf_node.specs.Act.{IsOwn, runs}
-use Rattle.wf_node.specs.Memory.{TakesMemory, ByEntry, ByMessages}
+use Rattle.wf_node.specs.Fault.{TakesMemory, ByEntry, ByMessages}
 
 -- ---- records of the proposer
 

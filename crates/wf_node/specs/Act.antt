@@ -17,10 +17,9 @@ use Rattle.wf_journal.specs.declared.record.Record.TheVariants as tape_case
 use Rattle.wf_node.specs.declared.machine.Machine.{Machine}
 use Rattle.wf_node.specs.declared.fault.NodeFault.{NodeFault}
 use Rattle.wf_node.specs.declared.fault.NodeFault.TheVariants.{Memory, Busy, SequenceFull, RoundsFull, Halted, TapeFailed, Nothing}
-use Rattle.wf_node.specs.Fault.{rejected_by}
+use Rattle.wf_node.specs.Fault.{rejected_by, TakesMemory}
 use Rattle.wf_node.specs.DurablePart as keeping
 use Rattle.wf_node.specs.Parts.{Parts, stored_of}
-use Rattle.wf_node.specs.Memory.{TakesMemory}
 use Rattle.wf_node.specs.TapeWrites.{IsTornAt, IsWritten, IsSpared, IsBroken}
 use Rattle.wf_tape.specs.Change.{inside}
 use Rattle.wf_tape.specs.declared.tape.Tape.{Ghosts as Tape}

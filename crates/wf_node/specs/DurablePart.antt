@@ -6,7 +6,7 @@ use Rattle.wf_model.specs.DurableState.{DurableState}
 use Rattle.wf_model.specs.VolatileState.{VolatileState}
 use Rattle.wf_model.specs.Table.{Transition, on_prepare, on_accept}
 use Rattle.wf_acceptor.specs.AcceptorAnswer.{transition_of}
-use Rattle.wf_acceptor.specs.declared.answer.AcceptorAnswer.{AcceptorAnswer}
+use Rattle.wf_acceptor.specs.declared.acceptor.AcceptorAnswer.{AcceptorAnswer}
 use Rattle.wf_journal.specs.declared.record.Record.{Record}
 use Rattle.wf_journal.specs.declared.record.Record.TheVariants.{Tried, Promised, Accepted, Published}
 use Rattle.wf_learner.specs.History.{with_chosen}

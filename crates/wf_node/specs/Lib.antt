@@ -4,10 +4,8 @@ pub mod Node
 pub mod Images
 pub mod Input
 pub mod Fault
-pub mod Proposed
 pub mod DurablePart
 pub mod TapeWrites
-pub mod Memory
 pub mod Act
 pub mod Step
 pub mod Compaction

@@ -11,7 +11,7 @@ use Rattle.wf_node.specs.declared.fault.NodeFault.{NodeFault}
 use Rattle.wf_node.specs.declared.fault.NodeFault.TheVariants.{Memory, Halted, TapeFailed}
 use Rattle.wf_node.specs.Fault.{rejected_by}
 use Rattle.wf_node.specs.Images.{EachStandsFor}
-use Rattle.wf_node.specs.Memory as memory
+use Rattle.wf_node.specs.Fault as memory
 use Rattle.wf_node.specs.Node.{Node, stored_of, volatile_of, IsOnTape}
 use Rattle.wf_node.specs.TapeWrites.{bytes_of}
 use Rattle.wf_tape.specs.Change.{Stays, HasFailed}

@@ -1,12 +1,12 @@
 -- The volatile state of a node as data: the nodes whose answers a proposal has counted are the bits of a number.
-use Rattle.std.specs.Prelude.{ℕ, List, Option}
+use Rattle.std.specs.Prelude.{ℕ, List, Option, if◌then◌else◌}
 use Rattle.wf_ballot.specs.Ballot.{Ballot}
 use Rattle.wf_def.specs.Definition.{Definition}
 use Rattle.wf_model.specs.Message.{Vote}
 use Rattle.wf_model.specs.VolatileState as model
 use Rattle.wf_model.specs.VolatileState.{Phase, Leadership}
 use Rattle.wf_proposer.specs.Responders.{among}
-use Rattle.wf_proposer.specs.VolatileState.{leading_of, led_votes}
+use Rattle.wf_proposer.specs.VolatileState.{best_of, leading_of, phase_of}
 use Rattle.wf_proposer.specs.declared.proposal.Proposal as proposer
 use Rattle.wf_proposer.specs.declared.volatile.Proposing as held
 use Rattle.wf_proposer.specs.declared.volatile.Proposing.TheVariants as held_case
@@ -71,10 +71,8 @@ shown_proposal phase best p =
 
 abbrev pub shown_proposing : Option (Leadership Definition) → held.Proposing → Proposing
 shown_proposing leadership held_case.Idle = Idle
-shown_proposing leadership (held_case.Preparing p best) = Running (shown_proposal model.Preparing best p)
-shown_proposing leadership (held_case.Accepting p) = Running (shown_proposal model.Accepting (led_votes leadership p.slot) p)
-shown_proposing leadership (held_case.Won s) = Won s
-shown_proposing leadership (held_case.Overtaken s) = Overtaken s
+shown_proposing leadership (held_case.Running p phase) = Running (shown_proposal (phase_of phase) (best_of leadership p.slot phase) p)
+shown_proposing leadership (held_case.Ended s is_own) = if is_own then Won s else Overtaken s
 
 abbrev pub shown : held_volatile.VolatileState → VolatileState
 shown volatile =

@@ -1,8 +1,7 @@
 //! A node rewrites its tape with as few records as its durable state needs.
 
 ghost use Rattle.std.specs.Prelude.{◌≡◌, ◌++◌, ◌∷◌, [], false, map, IfOk, OnOk};
-ghost use Rattle.wf_ballot.specs.Sequence.{last_sequence};
-ghost use Rattle.wf_ballot.specs.Slot.{IsSlot};
+ghost use Rattle.wf_ballot.specs.Sequence.{last_sequence, IsSlot};
 ghost use Rattle.wf_node.specs.DurablePart.{stored_of as stored_in};
 ghost use Rattle.wf_node.specs.Compaction.{tried_records, vote_records, promised_sequence, promise_records, is_voted, records_at, records_from, short_records, Appends};
 ghost use Rattle.wf_node.specs.TapeWrites.{IsReplacement, LeavesOldOrRecords};
@@ -215,7 +214,7 @@ fn is_voted(persistent: &DurablePart, ballot: Ballot) -> bool
     ensures { result ≡ is_voted (stored_in persistent.now).votes ballot last_sequence }
 {
     for number in 1..SEQUENCES + 1 {
-        if persistent.voted_at(slot_of(number), ballot) {
+        if persistent.is_voted_at(slot_of(number), ballot) {
             return true;
         }
     }

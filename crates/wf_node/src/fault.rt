@@ -1,7 +1,6 @@
 ghost use Rattle.std.specs.Prelude.{◌≡◌, Option};
 ghost use Rattle.wf_model.specs.Table as table;
-ghost use Rattle.wf_node.specs.Fault.{IsWhyNot};
-ghost use Rattle.wf_node.specs.Proposed.{fault_of};
+ghost use Rattle.wf_node.specs.Fault.{IsWhyNot, fault_of};
 ghost use Rattle.wf_proposer.specs.StepRejection as proposer;
 
 use std::alloc::{AllocError, AllocFailed};

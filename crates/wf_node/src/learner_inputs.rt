@@ -78,7 +78,7 @@ impl<T: Tape> Machine<T> {
         ensures { IsReply (reports self.now.persistent.parts.history slot) result }
     {
         counts_from_one(slot);
-        match self.persistent.history().chosen(slot) {
+        match self.persistent.history().chosen_message(slot) {
             Ok(message) => reply(alloc, message),
             Err(_) => Err(NodeFault::Memory),
         }

@@ -17,7 +17,6 @@
 mod acceptor_inputs;
 mod compaction;
 mod fault;
-mod input;
 mod learner_inputs;
 mod machine;
 mod node;
@@ -29,5 +28,5 @@ mod stored_part;
 mod tape_writes;
 
 pub use fault::NodeFault;
-pub use input::Input;
 pub use node::Node;
+pub use step::Input;

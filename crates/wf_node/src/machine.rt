@@ -8,7 +8,7 @@ ghost use Rattle.wf_node.specs.Act.{Acts, IsReady};
 ghost use Rattle.wf_node.specs.Input.{view};
 
 use crate::fault::NodeFault;
-use crate::input::Input;
+use crate::step::Input;
 use crate::stored_part::DurablePart;
 use std::alloc::Global;
 use wf_codec::Message;

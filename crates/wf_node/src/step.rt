@@ -1,13 +1,15 @@
 //! One step of a node.
 
 use crate::fault::NodeFault;
-use crate::input::Input;
 use crate::node::Node;
 use std::alloc::Global;
 use wf_canon::Canon;
 use wf_codec::Message;
-use wf_model::records_fit;
+use wf_model::{Action, records_fit};
 use wf_tape::Tape;
+
+/// An input of a node's step: an action, whose message is the message itself.
+pub type Input = Action<Canon, Message>;
 
 impl<T: Tape> Node<T> {
     ghost use Rattle.std.specs.Prelude.{◌≡◌, ◌≢◌, ◌++◌, true, false, Err, IfOk, IfErr, IsSome, OnOk};

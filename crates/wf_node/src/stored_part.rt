@@ -105,10 +105,10 @@ impl DurablePart {
     }
 
     /// Whether the vote at the slot is at this ballot.
-    pub(crate) fn voted_at(&self, slot: Slot, ballot: Ballot) -> bool
+    pub(crate) fn is_voted_at(&self, slot: Slot, ballot: Ballot) -> bool
         ensures { result ≡ votes_at ((stored_of self.now).votes slot) ballot }
     {
-        self.acceptor.voted_at(slot, ballot)
+        self.acceptor.is_voted_at(slot, ballot)
     }
 
     /// Answers `Prepare(slot, ballot)` at a slot that isn't published. Allocation can fail only for a promise.

@@ -1,14 +1,16 @@
 -- From the error of a part to that of the command.
 use Rattle.std.proofs.Common.{◌≡◌, ℕ, List, refl}
 use Rattle.std.specs.Prelude.{Option, Some, IsSome, Err, option_map}
+use Rattle.wf_address.specs.Address.{IsListFault, IsNoAddress, words_of}
+use Rattle.wf_address.specs.declared.address_option.AddressOption.TheVariants as options
+use Rattle.wf_address.specs.declared.list.ListFault.{ListFault}
+use Rattle.wf_address.specs.declared.list.ListFault.TheVariants as lists
 use Rattle.wf_folder.specs.declared.node_file.NodeFile.{NodeFile}
 use Rattle.wf_line.specs.declared.node_line.InitLine.{InitLine}
 use Rattle.wf_line.specs.declared.node_line.NodeLine.{NodeLine}
 use Rattle.wf_tape.specs.declared.tape.Tape.{Ghosts as Tape}
-use Rattle.wf_node_command.specs.Address.{IsListFault, IsNoAddress, words_of}
 use Rattle.wf_node_command.specs.Done.{IsEnd, IsFromFault, IsInitFault, IsNodeDone, IsNodeFault}
-use Rattle.wf_node_command.specs.Fault.{IsFromSystem}
-use Rattle.wf_node_command.specs.declared.fault.AddressOption.TheVariants as options
+use Rattle.wf_node_command.specs.Fault.{IsFromSystem, fault_of}
 use Rattle.wf_node_command.specs.declared.fault.CommandFault.{CommandFault}
 use Rattle.wf_node_command.specs.declared.fault.CommandFault.TheVariants as faults
 
@@ -63,29 +65,10 @@ system_of_init line (faults.Loop why) is = tt
 system_of_init line (faults.Ended why) is = absurd is
 
 -- what a list of addresses causes
-pub list_fault : (line : NodeLine) (fault : CommandFault) → IsListFault (words_of line.peers.now) fault → IsNodeFault line fault
-list_fault line (faults.BadPeer index) is = is
-list_fault line (faults.PeerCount count) is = is
-list_fault line (faults.BadAddress option) is = absurd is
-list_fault line (faults.Id id nodes) is = absurd is
-list_fault line faults.Name is = absurd is
-list_fault line faults.NoFolder is = absurd is
-list_fault line faults.Held is = absurd is
-list_fault line (faults.NotEmpty why) is = absurd is
-list_fault line (faults.Unread kind) is = absurd is
-list_fault line (faults.Unwritten kind) is = absurd is
-list_fault line (faults.Rejected why) is = absurd is
-list_fault line (faults.Heard why) is = absurd is
-list_fault line (faults.FromUnread kind) is = absurd is
-list_fault line (faults.FromBad offset) is = absurd is
-list_fault line (faults.TapeUnread kind) is = absurd is
-list_fault line (faults.TapeUnwritten kind) is = absurd is
-list_fault line faults.TapeFailed is = absurd is
-list_fault line (faults.TapeBad offset) is = absurd is
-list_fault line faults.NoRandomBits is = absurd is
-list_fault line faults.Memory is = tt
-list_fault line (faults.Loop why) is = absurd is
-list_fault line (faults.Ended why) is = absurd is
+pub list_fault : (line : NodeLine) (why : ListFault) → IsListFault (words_of line.peers.now) why → IsNodeFault line (fault_of why)
+list_fault line (lists.Bad index) is = is
+list_fault line (lists.Count count) is = is
+list_fault line lists.Memory is = tt
 
 -- what the tape to begin with causes
 pub from_fault : (line : InitLine) (fault : CommandFault) → IsSome line.from → IsFromFault fault → IsInitFault line fault

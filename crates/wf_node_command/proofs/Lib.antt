@@ -1,3 +1,3 @@
-mod Listing
 mod Faults
+mod Kept
 mod Started

@@ -2,6 +2,7 @@
 use Rattle.std.proofs.Common.{◌≡◌, ◌∙◌, ◌≤◌, ◌<◌, ℕ, [], append-nil, arith, inl, refl, sym, subst}
 use Rattle.std.specs.Prelude.{Result, Ok, Err, length}
 use Rattle.wf_actor.specs.declared.process.Process.{Process}
+use Rattle.wf_address.specs.Address.{words_of}
 use Rattle.wf_folder.specs.NodeAdmission.{IsNodeRejection, IsNodeStart, IsSoundFind}
 use Rattle.wf_folder.specs.NodeFile.{IsNodeFile, last_start, started}
 use Rattle.wf_folder.specs.declared.node_admission.NodeFound.{NodeFound}
@@ -15,7 +16,6 @@ use Rattle.wf_loop.specs.Hub.{HasAnswered, process_of}
 use Rattle.wf_loop.specs.Lived.{HasLived}
 use Rattle.wf_loop.specs.declared.hub.Hub.{Hub}
 use Rattle.wf_tape.specs.declared.tape.Tape.{Ghosts as Tape}
-use Rattle.wf_node_command.specs.Address.{words_of}
 use Rattle.wf_node_command.specs.Done.{HasGoneOn, IsAdmitted, IsEnd, IsNodeDone, IsRejected, IsStarted}
 use Rattle.wf_node_command.specs.declared.fault.CommandFault.{CommandFault}
 use Rattle.wf_node_command.specs.declared.fault.CommandFault.TheVariants as faults

@@ -1,8 +1,11 @@
 -- What a command did.
-use Rattle.std.specs.Prelude.{◌≡◌, ◌≤◌, ℕ, ⊤, List, [], Option, Some, None, Result, Ok, Err, IsSome, MatchOption, length, option_map}
+use Rattle.std.specs.Prelude.{◌≡◌, ◌≤◌, ◌<◌, ℕ, ⊤, List, [], Option, Some, None, Result, Ok, Err, IsSome, MatchOption, length, option_map}
 use Rattle.wf_actor.specs.Start.{IsOpened}
 use Rattle.wf_actor.specs.Process.{IsBegun}
 use Rattle.wf_actor.specs.declared.process.Process.{Process}
+use Rattle.wf_address.specs.Address.{IsFirstBad, IsNoAddress, words_of}
+use Rattle.wf_address.specs.declared.address_option.AddressOption.{AddressOption}
+use Rattle.wf_address.specs.declared.address_option.AddressOption.TheVariants as options
 use Rattle.wf_folder.specs.Name.{IsNameText, pad}
 use Rattle.wf_folder.specs.NodeAdmission.{IsNodeRejection, IsNodeStart, IsSoundFind}
 use Rattle.wf_folder.specs.NodeFile.{IsNodeFile}
@@ -20,12 +23,10 @@ use Rattle.wf_loop.specs.Lived.{HasLived}
 use Rattle.wf_loop.specs.declared.hub.Hub.{Hub}
 use Rattle.wf_def.specs.Definition.{Definition}
 use Rattle.wf_model.specs.DurableState.{DurableState}
+use Rattle.wf_node.specs.Images.{AllStandFor, StandsFor}
 use Rattle.wf_node.specs.OpenedNode.{IsFoldOf}
 use Rattle.wf_tape.specs.declared.tape.Tape.{Ghosts as Tape}
-use Rattle.wf_node_command.specs.Address.{IsListFault, IsNoAddress, words_of}
 use Rattle.wf_node_command.specs.Fault.{IsFromSystem, fault_status}
-use Rattle.wf_node_command.specs.declared.fault.AddressOption.{AddressOption}
-use Rattle.wf_node_command.specs.declared.fault.AddressOption.TheVariants as options
 use Rattle.wf_node_command.specs.declared.fault.CommandFault.{CommandFault}
 use Rattle.wf_node_command.specs.declared.fault.CommandFault.TheVariants as faults
 
@@ -60,15 +61,22 @@ pub record IsBadOption (line : NodeLine) (option : AddressOption) : Type 0 where
 
 -- Why a node didn't begin: the list or an option of the command line, what was found in the folder, or the system.
 abbrev pub IsNodeFault : NodeLine → CommandFault → Type 0
-IsNodeFault line (faults.BadPeer index) = IsListFault (words_of line.peers.now) (faults.BadPeer index)
-IsNodeFault line (faults.PeerCount count) = IsListFault (words_of line.peers.now) (faults.PeerCount count)
+IsNodeFault line (faults.BadPeer index) = IsFirstBad (words_of line.peers.now) index
+IsNodeFault line (faults.PeerCount count) = (count ≡ length (words_of line.peers.now)) × (64 < count)
 IsNodeFault line (faults.BadAddress option) = IsBadOption line option
 IsNodeFault line (faults.Rejected why) = IsRejected line why
 IsNodeFault line fault = IsFromSystem fault
 
+-- each image stands for the durable state that the content's records fold to
+abbrev pub StandsAlike : List ℕ → (List ℕ → Type 0) → Type 0
+StandsAlike content images = (stored : DurableState Definition) → StandsFor stored content → AllStandFor stored images
+
 module _ {T : Type 0} (tapes : Tape T) where
-  -- The process was just opened on a tape as the node of this file, of as many nodes as the file says.
+  -- The process was just opened on a tape as the node of this file, of as many nodes as the file says. Before that the tape was put in
+  -- order: if the one that was found is durable, whatever a crash leaves stands for all that its records say.
   pub record IsStarted (file : NodeFile) (process : Process T tapes) : Type 0 where
+    pub found : T
+    pub kept : tapes.durable → StandsAlike (tapes.content found) (tapes.images process.actor.node.tape)
     pub tape : T
     pub opened : IsOpened tapes tape file.node file.nodes process.actor.node
     pub begun : IsBegun process

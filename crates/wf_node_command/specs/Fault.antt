@@ -1,5 +1,7 @@
--- The exit status of an error, and the errors that the system causes.
+-- The exit status of an error, the error of a list of addresses, and the errors that the system causes.
 use Rattle.std.specs.Prelude.{ℕ, ⊤}
+use Rattle.wf_address.specs.declared.list.ListFault.{ListFault}
+use Rattle.wf_address.specs.declared.list.ListFault.TheVariants as lists
 use Rattle.wf_node_command.specs.declared.fault.CommandFault.{CommandFault}
 use Rattle.wf_node_command.specs.declared.fault.CommandFault.TheVariants as faults
 
@@ -11,6 +13,12 @@ fault_status (faults.BadAddress option) = 2
 fault_status (faults.Id id nodes) = 2
 fault_status faults.Name = 2
 fault_status fault = 1
+
+-- the error of a list of peers
+abbrev pub fault_of : ListFault → CommandFault
+fault_of (lists.Bad index) = faults.BadPeer index
+fault_of (lists.Count count) = faults.PeerCount count
+fault_of lists.Memory = faults.Memory
 
 -- The error is one that files, sockets or memory caused before a node began: none of the command line, of where a node may begin, or of
 -- what a peer said.

@@ -1,3 +1,2 @@
-pub mod Address
 pub mod Done
 pub mod Fault

@@ -2,35 +2,12 @@
 ghost use Rattle.std.specs.Prelude.{◌≡◌, ◌≤◌};
 ghost use Rattle.wf_node_command.specs.Fault.{fault_status};
 
-use std::{fmt, io};
+use std::io;
 use thiserror::Error;
+use wf_address::AddressOption;
 use wf_folder::{NodeRejection, NotEmpty};
 use wf_loop::LoopFault;
 use wf_peer::{HeardFault, PeerRejection};
-
-/// An option whose value is an address.
-#[derive(Clone, Copy, Debug)]
-pub enum AddressOption {
-    /// `--http`
-    Http,
-    /// `--listen`
-    Listen,
-    /// `--admin`
-    Admin,
-    /// `--readers`
-    Readers,
-}
-
-impl fmt::Display for AddressOption {
-    fn fmt<W: fmt::Write>(&self, f: &mut fmt::Formatter<W>) -> fmt::Result {
-        f.write_str(match self {
-            AddressOption::Http => "--http",
-            AddressOption::Listen => "--listen",
-            AddressOption::Admin => "--admin",
-            AddressOption::Readers => "--readers",
-        })
-    }
-}
 
 /// Why a command ends with an error. Its text is the line on standard error.
 #[derive(Clone, Copy, Debug, Error)]

@@ -6,7 +6,9 @@
 //! **Promises** (`specs/Done.antt`).
 //! - `node` begins only on a folder whose file `farm` was found, is a node's, of a farm of as many nodes as addresses are listed,
 //! and whose
-//!   tape is there: never on an empty or an unknown folder. Its node was opened on a tape as that node of that farm.
+//!   tape is there: never on an empty or an unknown folder. Its node was opened on that tape as that node of that farm. Before, zeros
+//!   that were never synced are dropped from the tape (`wf_recovery`), and it is shortened; if it is durable, whatever a crash leaves
+//!   stands for all that its records said.
 //! - However many turns it was to take, and however it ended after it had begun, its process has lived as `HasLived` of `wf_loop` says,
 //!   from that node on, and each client was sent the response to exactly what had come of its request (`HasAnswered`).
 //! - `init` leaves the file of a node of that number, farm and name that never started, and a tape that is empty, or one on which that
@@ -17,8 +19,8 @@
 //! lock holds, and that what is written stays, is tried with the built program.
 #![tactic(auto)]
 
-mod addresses;
 mod command;
+mod event;
 mod fault;
 mod folder;
 mod init;
@@ -27,4 +29,5 @@ mod stored;
 mod tape;
 
 pub use command::run;
-pub use fault::{AddressOption, CommandFault};
+pub use fault::CommandFault;
+pub use wf_address::AddressOption;

@@ -1,23 +1,23 @@
 //! `wfarm node`.
-ghost use Rattle.std.specs.Prelude.{◌≡◌, ◌≤◌, IfErr, IfNone, IfOk, List, Some, length, option_map, ℕ};
+ghost use Rattle.std.specs.Prelude.{◌≡◌, ◌≤◌, IfErr, IfOk, length};
+ghost use Rattle.wf_address.specs.Address.{words_of};
 ghost use Rattle.wf_folder.specs.NodeFile.{IsNodeFile};
 ghost use Rattle.wf_line.specs.NodeLine.{IsNodeInRange};
 ghost use Rattle.wf_loop.specs.Hub.{HasAnswered, process_of};
 ghost use Rattle.wf_loop.specs.Lived.{HasLived};
 ghost use Rattle.wf_loop.specs.Continuation.{KeepsEarlier};
-ghost use Rattle.wf_node_command.specs.Address.{IsNoAddress, words_of};
 ghost use Rattle.wf_node_command.specs.Done.{IsAdmitted, IsEnd, IsNodeDone, IsNodeFault, IsStarted};
-ghost use Rattle.wf_node_command.specs.Fault.{IsFromSystem};
+ghost use Rattle.wf_node_command.specs.Fault.{IsFromSystem, fault_of};
 
-use crate::addresses::{address, addresses};
-use crate::fault::{AddressOption, CommandFault};
+use crate::fault::CommandFault;
 use crate::folder::{find_in, hold, presence, read_heard, replace_farm, tape_path};
-use crate::tape::{FileOpener, Opener, open_process, read_progress};
+use crate::tape::{FileOpener, Opener, open_process, open_tape};
 use std::alloc::Global;
 use std::fs::File;
 use std::net::{Net, SocketAddr};
 use std::rt::Files;
 use std::time::Clock;
+use wf_address::{AddressOption, ListFault, address, address_if_any, addresses};
 use wf_ballot::NodeId;
 use wf_folder::{NodeFile, NodeFound, admit_node};
 use wf_line::node_line::NodeLine;
@@ -63,7 +63,7 @@ pub(crate) fn node<'a, R: Files<File = File> + Clock + Eprint + Net + AllocGloba
 }
 
 /// The addresses of a command line.
-#[tactic(auto, using(crate::proofs::Faults::list_fault, crate::proofs::Faults::bad_http, crate::proofs::Faults::bad_listen, crate::proofs::Faults::bad_admin, crate::proofs::Faults::bad_readers, crate::proofs::Listing::as_many))]
+#[tactic(auto, using(crate::proofs::Faults::list_fault, crate::proofs::Faults::bad_http, crate::proofs::Faults::bad_listen, crate::proofs::Faults::bad_admin, crate::proofs::Faults::bad_readers, wf_address::proofs::AddressList::as_many))]
 fn places_of(alloc: Global, line: &NodeLine<'_>) -> Result<Places, CommandFault>
     ensures peers { IfOk result (λ places.
         length places.peers.items ≡ length (words_of line.now.peers.now)) }
@@ -94,22 +94,18 @@ fn places_of(alloc: Global, line: &NodeLine<'_>) -> Result<Places, CommandFault>
             admin,
             readers,
         }),
-        Err(fault) => Err(fault),
+        Err(fault) => Err(fault_of(fault)),
     }
 }
 
-/// The address that a word spells, if there is a word. None: it spells none.
-#[tactic(auto, using(crate::proofs::Listing::no_address))]
-fn address_if_any(word: Option<&str>) -> Option<Option<SocketAddr>>
-    ensures { IfNone result
-        ((text : List ℕ) × (option_map (λ w. w.now) word.entry ≡ Some text) × IsNoAddress text) }
+/// The error of a list of peers.
+fn fault_of(fault: ListFault) -> CommandFault
+    ensures { result ≡ fault_of fault }
 {
-    match word {
-        Some(word) => match address(word) {
-            Some(address) => Some(Some(address)),
-            None => None,
-        },
-        None => Some(None),
+    match fault {
+        ListFault::Bad(index) => CommandFault::BadPeer(index),
+        ListFault::Count(count) => CommandFault::PeerCount(count),
+        ListFault::Memory => CommandFault::Memory,
     }
 }
 
@@ -230,7 +226,7 @@ fn serve_at<'a, R: Files<File = File> + Clock + Eprint + Net + AllocGlobal>(
 }
 
 /// How far the node of this file is, and its process on the tape at this path.
-fn opened<'a, R: Files + AllocGlobal>(
+fn opened<'a, R: Files + Clock + Eprint + AllocGlobal>(
     rt: &'a R,
     line: &NodeLine<'_>,
     file: &NodeFile,
@@ -241,14 +237,12 @@ fn opened<'a, R: Files + AllocGlobal>(
     ensures started { IfOk result (λ opened. IsStarted ⟦<FileTape<&'a R> as Tape>⟧ file.now opened.1) }
     ensures fault { IfErr result IsFromSystem }
 {
-    let (progress, tape) = match read_progress(rt, file, path) {
-        Ok(read) => read,
+    let log = Log::new(rt, line.log);
+    let tape = match open_tape(rt, path) {
+        Ok(tape) => tape,
         Err(fault) => return Err(fault),
     };
-    match open_process(rt, file, tape, path, line.cache) {
-        Ok(process) => Ok((progress, process)),
-        Err(fault) => Err(fault),
-    }
+    open_process(rt, &log, file, tape, path, line.cache)
 }
 
 /// Which node it is, and where the others are.
@@ -314,7 +308,7 @@ fn begin<'a, R: Files<File = File> + Clock + Eprint + Net + AllocGlobal>(
     requires started { IsStarted ⟦<FileTape<&'a R> as Tape>⟧ file.now process }
     ensures { IsEnd ⟦<FileTape<&'a R> as Tape>⟧ file.now result }
 {
-    match counted(rt, line, file) {
+    match count_start(rt, line, file) {
         Ok(heard) => serve(
             rt,
             line,
@@ -334,7 +328,7 @@ fn begin<'a, R: Files<File = File> + Clock + Eprint + Net + AllocGlobal>(
 }
 
 /// Counts the start in the folder's file. Ok is what was heard of the peers before.
-fn counted<R: Files + AllocGlobal>(
+fn count_start<R: Files + AllocGlobal>(
     rt: &R,
     line: &NodeLine<'_>,
     file: &NodeFile,

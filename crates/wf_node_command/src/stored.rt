@@ -26,14 +26,14 @@ fn note(progress: &mut Progress, record: &Record) {
     match record {
         Record::Tried(round) => progress.round = progress.round.max(round.number()),
         Record::Promised(_, ballot) | Record::Accepted(_, ballot, _) => {
-            progress.promise = Some(raised(progress.promise, *ballot));
+            progress.promise = Some(higher_ballot(progress.promise, *ballot));
         }
         Record::Published(slot, _) => progress.published = slot.seq(),
     }
 }
 
 /// The higher one of a promise and a ballot.
-fn raised(promise: Option<Ballot>, ballot: Ballot) -> Ballot {
+fn higher_ballot(promise: Option<Ballot>, ballot: Ballot) -> Ballot {
     match promise {
         Some(promise) if !promise.is_below(ballot) => promise,
         _ => ballot,

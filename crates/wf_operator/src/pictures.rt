@@ -8,12 +8,12 @@ const PICTURE: &[u8] = b"HTTP/1.1 200 OK\r\nContent-Type: image/";
 
 /// How many pictures clients were answered with: those that were drawn, and the tiles that were cut out of a cached picture.
 #[derive(Clone, Copy, Default)]
-pub struct Pictures {
+pub struct PictureCounts {
     drawn: u64,
     cached: u64,
 }
 
-impl Pictures {
+impl PictureCounts {
     /// Counts a response, if it is a picture, and whether that is a tile of a cached one.
     pub fn note(&mut self, response: &[u8], is_cached: bool) {
         if !response.starts_with(PICTURE) {

@@ -6,8 +6,8 @@ use Rattle.wf_def.specs.Limit.{most_styles}
 use Rattle.wf_def.specs.declared.expression.Expression.TheVariants.{Equals, OneOf}
 use Rattle.wf_token.specs.Token.{Token, Word, Quoted, Braced}
 use Rattle.wf_block.specs.Grammar.{◌>>=◌, text, value_list, argument, choice}
-use Rattle.wf_class.specs.declared.slots.class.ClassOnce.{ClassOnce}
-use Rattle.wf_class.specs.declared.slots.class.ClassSlots.{ClassSlots}
+use Rattle.wf_class.specs.declared.slots.ClassOnce.{ClassOnce}
+use Rattle.wf_class.specs.declared.slots.ClassSlots.{ClassSlots}
 use Rattle.wf_class.specs.Class.{class, class_put, class_once, class_of, no_class, expression, begins_list, begins_pattern}
 use Rattle.wf_class.specs.Style.{style}
 use Rattle.wf_class.specs.Label.{label}

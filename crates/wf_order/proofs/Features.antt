@@ -8,8 +8,8 @@ use Rattle.wf_def.specs.Limit.{most_points}
 use Rattle.wf_token.specs.Token.{Token}
 use Rattle.wf_block.specs.Grammar.{◌>>=◌, text, number, argument, end, choice}
 use Rattle.wf_block.specs.Steps.{again}
-use Rattle.wf_feature.specs.declared.slots.feature.FeatureOnce.{FeatureOnce}
-use Rattle.wf_feature.specs.declared.slots.feature.FeatureSlots.{FeatureSlots}
+use Rattle.wf_feature.specs.declared.slots.FeatureOnce.{FeatureOnce}
+use Rattle.wf_feature.specs.declared.slots.FeatureSlots.{FeatureSlots}
 use Rattle.wf_feature.specs.Feature.{feature, feature_put, feature_once, feature_of, no_feature, point, points, points_behind}
 use Rattle.wf_order.specs.Entries.{MayBeReordered, ConsistsOfEntries}
 use Rattle.wf_order.proofs.Readers.{Reader, give, ReadsOn, then_reads, gives_reads, option_reads, text_reads, number_reads}

@@ -6,7 +6,7 @@ use Rattle.wf_def.specs.declared.choice.LabelSize.{LabelSize}
 use Rattle.wf_def.specs.declared.choice.LabelPosition.{LabelPosition}
 use Rattle.wf_def.specs.Limit.{most_priority, most_buffer}
 use Rattle.wf_block.specs.Grammar.{whole, choice}
-use Rattle.wf_class.specs.declared.slots.label.LabelSlots.{LabelSlots}
+use Rattle.wf_class.specs.declared.slots.LabelSlots.{LabelSlots}
 use Rattle.wf_class.specs.Color.{color}
 use Rattle.wf_class.specs.Label.{label, label_put, label_of, no_label, label_sizes, label_positions, truths, label_kinds, label_size, label_position, truth, label_kind}
 use Rattle.wf_order.specs.Entries.{MayBeReordered, ConsistsOfEntries}

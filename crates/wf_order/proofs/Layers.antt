@@ -15,9 +15,9 @@ use Rattle.wf_metadata.specs.Metadata.{metadata}
 use Rattle.wf_class.specs.Class.{class}
 use Rattle.wf_feature.specs.Feature.{feature}
 use Rattle.wf_feature.specs.Layers.{is_layer_name, features_left, points_left}
-use Rattle.wf_mapfile.specs.declared.slots.layer.LayerDropped.{LayerDropped}
-use Rattle.wf_mapfile.specs.declared.slots.layer.LayerOnce.{LayerOnce}
-use Rattle.wf_mapfile.specs.declared.slots.layer.LayerSlots.{LayerSlots}
+use Rattle.wf_mapfile.specs.declared.slots.LayerDropped.{LayerDropped}
+use Rattle.wf_mapfile.specs.declared.slots.LayerOnce.{LayerOnce}
+use Rattle.wf_mapfile.specs.declared.slots.LayerSlots.{LayerSlots}
 use Rattle.wf_mapfile.specs.Layer.{layer, layer_put, layer_once, layer_dropped, layer_of, layer_name, layer_kind, layer_kinds, new_name, processing, no_layer, no_layer_once, no_layer_dropped}
 use Rattle.wf_order.specs.Entries.{MayBeReordered, ConsistsOfEntries}
 use Rattle.wf_order.proofs.Options.{none_is_not_some}

@@ -10,9 +10,9 @@ use Rattle.wf_block.specs.Grammar.{◌>>=◌, text, number, end, choice}
 use Rattle.wf_metadata.specs.declared.slots.Metadata as kept
 use Rattle.wf_metadata.specs.Web.{web}
 use Rattle.wf_class.specs.Color.{color}
-use Rattle.wf_mapfile.specs.declared.slots.map.MapDropped.{MapDropped}
-use Rattle.wf_mapfile.specs.declared.slots.map.MapOnce.{MapOnce}
-use Rattle.wf_mapfile.specs.declared.slots.map.MapSlots.{MapSlots}
+use Rattle.wf_mapfile.specs.declared.slots.MapDropped.{MapDropped}
+use Rattle.wf_mapfile.specs.declared.slots.MapOnce.{MapOnce}
+use Rattle.wf_mapfile.specs.declared.slots.MapSlots.{MapSlots}
 use Rattle.wf_mapfile.specs.Layer.{layer}
 use Rattle.wf_mapfile.specs.Map as spec
 use Rattle.wf_mapfile.specs.Map.{map_put, map_once, map_dropped, map_of, extent, two_numbers, projection, projection_named, no_map, no_map_once, no_map_dropped}

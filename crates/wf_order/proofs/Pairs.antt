@@ -5,7 +5,7 @@ use Rattle.std.proofs.lemmas.Slice.Eq.{bytes_eq-Decides}
 use Rattle.std.specs.Prelude.{Option, Some, None, filter, bytes_eq, codes, if◌then◌else◌}
 use Rattle.std.specs.List.{list_any}
 use Rattle.wf_token.specs.Token.{Token}
-use Rattle.wf_block.specs.Distinct.{all_differ}
+use Rattle.wf_block.specs.Grammar.{all_differ}
 use Rattle.wf_metadata.specs.Metadata.{metadata, pairs, kept, value_at}
 use Rattle.wf_order.specs.Pairs.{has_key, ArePairsReordered, PairsMayBeReordered}
 use Rattle.wf_order.proofs.Readers.{Reads}

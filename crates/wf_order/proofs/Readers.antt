@@ -2,11 +2,11 @@
 use Rattle.std.proofs.Common.{◌≡◌, ◌∙◌, ℕ, Bool, true, false, List, [], ◌∷◌, ◌++◌, refl, sym, ap, append_assoc}
 use Rattle.std.specs.Prelude.{Option, Some, None, if◌then◌else◌}
 use Rattle.wf_token.specs.Token.{Token, Word, Quoted, Braced}
-use Rattle.wf_block.specs.Grammar.{◌>>=◌, word, argument, text, value_list, chosen, choice, number, whole, end, is_end}
+use Rattle.wf_block.specs.Grammar.{◌>>=◌, word, argument, text, value_list, one_of, choice, number, whole, end, is_end}
 use Rattle.wf_text.specs.Text.{is_text}
 use Rattle.wf_text.specs.ValueList.{is_value_list}
 use Rattle.wf_text.specs.Number as micro
-use Rattle.wf_text.specs.Whole.{whole_between}
+use Rattle.wf_text.specs.Number.{whole_between}
 use Rattle.std.specs.Result.{result_ok}
 use Rattle.wf_order.proofs.Options.{none_is_not_some, some_same, Binds, binds}
 
@@ -118,8 +118,8 @@ value_list_reads value (Word bytes ∷ more) rest e = none_is_not_some (value, r
 value_list_reads value (Quoted bytes ∷ more) rest e = none_is_not_some (value, rest) e
 value_list_reads value (Braced inside ∷ more) rest e = list_is_read inside (is_value_list inside) refl value more rest e
 
-pub chosen_reads : {A : Type 0} (table : List (List ℕ × A)) → ReadsOn (chosen table)
-unfolding chosen
+pub chosen_reads : {A : Type 0} (table : List (List ℕ × A)) → ReadsOn (one_of table)
+unfolding one_of
 chosen_reads table = then_reads argument _ argument_reads (λ x. option_reads (choice table x) (λ value tokens. Some (value, tokens)) (λ value. gives_reads value))
 
 pub number_reads : ReadsOn number

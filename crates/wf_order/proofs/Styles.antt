@@ -4,7 +4,7 @@ use Rattle.std.specs.Prelude.{Option, Some, codes}
 use Rattle.wf_def.specs.declared.color.Color.{Color}
 use Rattle.wf_def.specs.Limit.{most_width, most_size}
 use Rattle.wf_block.specs.Grammar.{whole, choice}
-use Rattle.wf_class.specs.declared.slots.style.StyleSlots.{StyleSlots}
+use Rattle.wf_class.specs.declared.slots.StyleSlots.{StyleSlots}
 use Rattle.wf_class.specs.Color.{color}
 use Rattle.wf_class.specs.Style.{style, style_put, style_of, no_style}
 use Rattle.wf_order.specs.Entries.{MayBeReordered, ConsistsOfEntries}

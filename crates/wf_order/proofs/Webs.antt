@@ -4,8 +4,7 @@ use Rattle.std.specs.Prelude.{Option, Some, None, codes, unwrap_or, if◌then◌
 use Rattle.std.specs.Option.{option_or}
 use Rattle.std.specs.Str.{str_to_ascii_lowercase}
 use Rattle.wf_token.specs.Token.{Token}
-use Rattle.wf_block.specs.Grammar.{◌>>=◌, text, argument, end, choice}
-use Rattle.wf_block.specs.Distinct.{all_differ}
+use Rattle.wf_block.specs.Grammar.{◌>>=◌, text, argument, end, choice, all_differ}
 use Rattle.wf_metadata.specs.declared.slots.Metadata as kept
 use Rattle.wf_metadata.specs.declared.slots.WebSlots.{WebSlots}
 use Rattle.wf_metadata.specs.Metadata.{metadata, pairs, kept as kept_of}

@@ -7,16 +7,16 @@ use Rattle.wf_token.specs.Token.{Token, Word, tokens}
 use Rattle.wf_block.specs.Grammar.{choice, is_end}
 use Rattle.wf_metadata.specs.declared.slots.WebSlots.{WebSlots}
 use Rattle.wf_metadata.specs.Web.{web_put, no_settings}
-use Rattle.wf_class.specs.declared.slots.style.StyleSlots.{StyleSlots}
-use Rattle.wf_class.specs.declared.slots.label.LabelSlots.{LabelSlots}
-use Rattle.wf_class.specs.declared.slots.class.ClassSlots.{ClassSlots}
+use Rattle.wf_class.specs.declared.slots.StyleSlots.{StyleSlots}
+use Rattle.wf_class.specs.declared.slots.LabelSlots.{LabelSlots}
+use Rattle.wf_class.specs.declared.slots.ClassSlots.{ClassSlots}
 use Rattle.wf_class.specs.Style.{style_put, no_style}
 use Rattle.wf_class.specs.Label.{label_put, no_label}
 use Rattle.wf_class.specs.Class.{class_put, no_class}
-use Rattle.wf_feature.specs.declared.slots.feature.FeatureSlots.{FeatureSlots}
+use Rattle.wf_feature.specs.declared.slots.FeatureSlots.{FeatureSlots}
 use Rattle.wf_feature.specs.Feature.{feature_put, no_feature}
-use Rattle.wf_mapfile.specs.declared.slots.layer.LayerSlots.{LayerSlots}
-use Rattle.wf_mapfile.specs.declared.slots.map.MapSlots.{MapSlots}
+use Rattle.wf_mapfile.specs.declared.slots.LayerSlots.{LayerSlots}
+use Rattle.wf_mapfile.specs.declared.slots.MapSlots.{MapSlots}
 use Rattle.wf_mapfile.specs.Layer.{layer_put, no_layer}
 use Rattle.wf_mapfile.specs.Map.{map_put, no_map}
 use Rattle.wf_mapfile.specs.Meaning.{Means, longest_mapfile}

@@ -9,7 +9,7 @@ use Rattle.std.proofs.lemmas.Nat.{div-mul-add, mod-mul-add}
 use Rattle.std.proofs.lemmas.Bool.{cases_Bool, cases_lt, cases_eq, false≢true, lt-ltb, le-ltb}
 use Rattle.std.proofs.lemmas.Bool.Decides.{nat_tests}
 use Rattle.wf_def.specs.declared.color.Color.{Color}
-use Rattle.wf_paint.specs.Limit.{most_pixels}
+use Rattle.wf_geometry.specs.Limit.{most_pixels}
 use Rattle.wf_paint.specs.Pixmap.{column_of, row_of}
 use Rattle.wf_paint.specs.Cells.{IsCells, HasFreeBit, IsPlain, IsRangePainted, AreBlocks, IsSized, is_free, painted_in}
 use Rattle.wf_paint.specs.Canvas.{CanvasValue, IsCanvas, IsBlank, IsFull, HasFree, IsAlike, IsFinished, IsBoxPainted, painted_at}

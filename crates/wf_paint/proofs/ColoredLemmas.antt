@@ -2,7 +2,7 @@
 use Rattle.std.proofs.Common.{◌≡◌, ℕ, zero, suc, ◌*◌, ◌<◌, ◌||◌, Bool, true, false, Option, Some, None, ℤ, pos, refl, sym, ap, ◌∙◌, arith}
 use Rattle.std.specs.Option.{option_or}
 use Rattle.wf_def.specs.declared.color.Color.{Color}
-use Rattle.wf_paint.specs.Operation.{ShapeValue, covers, shape_covers, in_color}
+use Rattle.wf_geometry.specs.Operation.{ShapeValue, covers, shape_covers, in_color}
 use Rattle.wf_paint.specs.Pixmap.{column_of, row_of}
 use Rattle.wf_paint.specs.Canvas.{CanvasValue, IsAlike, painted_at}
 use Rattle.wf_paint.specs.Shown.{IsShown, IsColored, color_where, seen}

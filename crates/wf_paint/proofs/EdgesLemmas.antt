@@ -9,12 +9,12 @@ use Rattle.std.proofs.lemmas.List.Folds.{list_any-append}
 use Rattle.std.proofs.lemmas.List.Sorted.{list_any-IsPermutation, sum_by-IsPermutation}
 use Rattle.std.proofs.lemmas.List.Sums.{sum_by_push}
 use Rattle.wf_def.specs.declared.color.Color.{Color}
-use Rattle.wf_paint.specs.Position.{centre}
-use Rattle.wf_paint.specs.Coverage.{crosses, is_inside, is_on, is_on_any}
+use Rattle.wf_geometry.specs.Position.{centre}
+use Rattle.wf_geometry.specs.Coverage.{crosses, is_inside, is_on, is_on_any}
 use Rattle.wf_paint.specs.Edges.{AreAlong, AreAround}
 use Rattle.wf_paint.specs.Canvas.{CanvasValue}
 use Rattle.wf_paint.specs.Shown.{IsColored}
-use Rattle.wf_paint.specs.declared.segment.Segment.{Segment}
+use Rattle.wf_geometry.specs.declared.operation.Segment.{Segment}
 use Rattle.wf_paint.proofs.ColoredLemmas.{IsColored-alike}
 
 pub along_same : (segments : List Segment) → AreAlong segments segments

@@ -1,6 +1,3 @@
-pub mod QuotientLemmas
-pub mod StepsLemmas
-pub mod OperationLemmas
 pub mod PixelLemmas
 pub mod PlainLemmas
 pub mod CellsLemmas
@@ -12,17 +9,10 @@ pub mod ColoredLemmas
 pub mod EdgesLemmas
 pub mod WidthLemmas
 pub mod StylesLemmas
-pub mod SpanLemmas
-pub mod LevelLemmas
+pub mod RowsLemmas
 pub mod AlongLemmas
-pub mod StripLemmas
-pub mod BandLemmas
+pub mod RowEndsLemmas
 pub mod InsideLemmas
 pub mod WalkLemmas
 pub mod MarksLemmas
 pub mod SegmentsLemmas
-pub mod GridLemmas
-pub mod MovedLemmas
-pub mod DrawingLemmas
-pub mod DirectionLemmas
-pub mod FittingLemmas

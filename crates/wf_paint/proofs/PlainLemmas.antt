@@ -4,7 +4,7 @@ use Rattle.std.proofs.Math.Nat.{mul-le-mul}
 use Rattle.std.proofs.lemmas.Bool.{cases_lt, cases_eq}
 use Rattle.std.proofs.lemmas.List.{get_or_append_left, get_or-append_right, get_or-take, length-append, length-take-le, length-drop, length-set, take_all, take_more, take_more_set, take-append-drop, drop-append-le, drop-set-add, drop-set-lt}
 use Rattle.wf_def.specs.declared.color.Color.{Color}
-use Rattle.wf_paint.specs.Limit.{most_pixels}
+use Rattle.wf_geometry.specs.Limit.{most_pixels}
 use Rattle.wf_paint.specs.Pixmap.{pixel_at}
 use Rattle.wf_paint.specs.Cells.{IsPlain, IsWritten}
 use Rattle.wf_paint.proofs.PixelLemmas.{color-same, pixel_written, with_pixel}

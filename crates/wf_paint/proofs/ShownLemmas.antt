@@ -7,7 +7,7 @@ use Rattle.std.proofs.lemmas.List.{reverse-append, drop_more, drop_all, take-app
 use Rattle.std.proofs.lemmas.List.Folds.{find-append}
 use Rattle.std.proofs.lemmas.Grind.{flat_map-append}
 use Rattle.wf_def.specs.declared.color.Color.{Color}
-use Rattle.wf_paint.specs.Operation.{OperationValue, covers, color_or, color_at}
+use Rattle.wf_geometry.specs.Operation.{OperationValue, covers, color_or, color_at}
 use Rattle.wf_paint.specs.Pixmap.{PixmapValue, IsPicture, column_of, row_of}
 use Rattle.wf_paint.specs.Canvas.{CanvasValue, IsBlank, IsFull, IsAlike, IsFinished, painted_at}
 use Rattle.wf_paint.specs.Shown.{IsShown, seen}

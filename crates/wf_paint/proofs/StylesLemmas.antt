@@ -3,11 +3,11 @@ use Rattle.std.proofs.Common.{◌≡◌, ℕ, ◌≤◌, ◌<◌, ◌⊎◌, inl
 use Rattle.std.specs.Option.{option_or, is_some}
 use Rattle.std.proofs.lemmas.Bool.{false≢true, cases_lt}
 use Rattle.wf_def.specs.declared.color.Color.{Color}
-use Rattle.wf_paint.specs.Position.{centre}
-use Rattle.wf_paint.specs.Operation.{ShapeValue, OperationValue, FillOf, LineOf, in_color, shape_covers}
+use Rattle.wf_geometry.specs.Position.{centre}
+use Rattle.wf_geometry.specs.Operation.{ShapeValue, OperationValue, FillOf, LineOf, in_color, shape_covers}
 use Rattle.wf_paint.specs.Canvas.{CanvasValue, IsAlike}
 use Rattle.wf_paint.specs.Shown.{IsShown, seen, color_where}
-use Rattle.wf_paint.specs.declared.segment.Segment.{Segment}
+use Rattle.wf_geometry.specs.declared.operation.Segment.{Segment}
 use Rattle.wf_paint.proofs.ColoredLemmas.{shape_seen}
 use Rattle.wf_paint.proofs.ShownLemmas.{IsHidden, IsHidden-none, IsHidden-more, IsShown-none, IsShown-append, IsShown-alike, IsShown-hidden, seen-append}
 use Rattle.wf_paint.proofs.WidthLemmas.{any_wider}

@@ -5,13 +5,13 @@ use Rattle.std.proofs.lemmas.Bool.{false≢true, cases_Bool, and_parts, and_from
 use Rattle.std.proofs.lemmas.Int.{ints}
 use Rattle.std.proofs.Math.Nat.{mul-le-mul}
 use Rattle.std.proofs.Math.IntN.{pos-*ℤ-pos, pos-*ℤ-negsuc}
-use Rattle.wf_paint.specs.Exact.{product, opposite, is_less}
-use Rattle.wf_paint.specs.Level.{is_in_margin}
-use Rattle.wf_paint.specs.Position.{PositionValue, turned}
-use Rattle.wf_paint.specs.Coverage.{run, deviation, margin, is_along, is_in_band, is_across, is_on_flat, is_steep, is_on, is_on_any}
-use Rattle.wf_paint.specs.declared.segment.Segment.{Segment}
-use Rattle.wf_paint.specs.Limit.{half_side}
-use Rattle.wf_paint.proofs.AlongLemmas.{band_level, flat_back, flat_forth, on_steep, on_flat}
+use Rattle.wf_geometry.specs.Exact.{product, opposite, is_less}
+use Rattle.wf_geometry.specs.Level.{is_in_margin}
+use Rattle.wf_geometry.specs.Position.{PositionValue, turned}
+use Rattle.wf_geometry.specs.Coverage.{run, deviation, margin, is_along, is_in_band, is_across, is_on_flat, is_steep, is_on, is_on_any}
+use Rattle.wf_geometry.specs.declared.operation.Segment.{Segment}
+use Rattle.wf_geometry.specs.Limit.{half_side}
+use Rattle.wf_geometry.proofs.LineLemmas.{band_level, flat_back, flat_forth, on_steep, on_flat}
 
 -- ---- margins
 

@@ -3,7 +3,7 @@
 use Rattle.std.specs.Prelude.{◌≡◌, ℕ, ◌+◌, ◌*◌, ◌/◌, ◌<◌, ◌≤◌, true, false, List, length, Option, None, is_some}
 use Rattle.std.specs.Option.{unwrap_or}
 use Rattle.wf_def.specs.declared.color.Color.{Color}
-use Rattle.wf_paint.specs.Limit.{most_pixels}
+use Rattle.wf_geometry.specs.Limit.{most_pixels}
 use Rattle.wf_paint.specs.Pixmap.{PixmapValue, pixel_at, column_of, row_of}
 use Rattle.wf_paint.specs.Cells.{IsCells, AreBlocks, is_free, painted_in}
 

@@ -1,9 +1,9 @@
 -- Segments that lines are drawn along and insides are bounded by.
 use Rattle.std.specs.Prelude.{◌≡◌, ◌%◌, ℕ, List, Option, Some, None, Vec}
 use Rattle.std.specs.List.{count_by}
-use Rattle.wf_paint.specs.Position.{PositionValue}
-use Rattle.wf_paint.specs.Coverage.{crosses, is_on_any}
-use Rattle.wf_paint.specs.declared.segment.Segment.{Segment}
+use Rattle.wf_geometry.specs.Position.{PositionValue}
+use Rattle.wf_geometry.specs.Coverage.{crosses, is_on_any}
+use Rattle.wf_geometry.specs.declared.operation.Segment.{Segment}
 
 -- lines along these cover what lines along all of them cover
 unfoldable pub AreAlong : List Segment → List Segment → Type 0

@@ -1,7 +1,7 @@
 -- Pictures as bytes: three a pixel, red, green and blue, the top row first.
 use Rattle.std.specs.Prelude.{◌≡◌, ◌≢◌, ℕ, ◌+◌, ◌-◌, ◌*◌, ◌/◌, ◌%◌, ◌<◌, ◌≤◌, List, length, slice_index, ℤ, pos}
 use Rattle.wf_def.specs.declared.color.Color.{Color}
-use Rattle.wf_paint.specs.Limit.{most_pixels}
+use Rattle.wf_geometry.specs.Limit.{most_pixels}
 
 -- a size in pixels, and the bytes
 pub record PixmapValue : Type 0 where

@@ -3,7 +3,7 @@ use Rattle.std.specs.Prelude.{◌≡◌, ℕ, ◌*◌, ◌<◌, ◌==◌, ◌&&�
 use Rattle.std.specs.Option.{option_map, option_or}
 use Rattle.std.specs.List.{find}
 use Rattle.wf_def.specs.declared.color.Color.{Color}
-use Rattle.wf_paint.specs.Operation.{OperationValue, covers}
+use Rattle.wf_geometry.specs.Operation.{OperationValue, covers}
 use Rattle.wf_paint.specs.Pixmap.{column_of, row_of}
 use Rattle.wf_paint.specs.Canvas.{CanvasValue, painted_at}
 

@@ -1,8 +1,8 @@
 -- The operations of a class's styles, given the segments of a feature.
 use Rattle.std.specs.Prelude.{List, ◌++◌}
 use Rattle.wf_def.specs.Definition.{StyleDefinition}
-use Rattle.wf_paint.specs.Operation.{OperationValue, FillOf, LineOf, in_color}
-use Rattle.wf_paint.specs.declared.segment.Segment.{Segment}
+use Rattle.wf_geometry.specs.Operation.{OperationValue, FillOf, LineOf, in_color}
+use Rattle.wf_geometry.specs.declared.operation.Segment.{Segment}
 
 -- a line along the segments
 abbrev pub line_along : List Segment → StyleDefinition → List OperationValue

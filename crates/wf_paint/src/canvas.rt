@@ -2,7 +2,7 @@
 //! is free, so one test passes over all painted pixels of a word.
 ghost use Rattle.std.specs.Prelude.{◌≡◌, ◌≤◌, ◌<◌, ◌*◌, ◌+◌, ◌/◌, ◌-◌, ◌^◌, ℕ, true, false, length, slice_index, nat_lt, IfOk};
 ghost use Rattle.std.specs.Int.{bit_at};
-ghost use Rattle.wf_paint.specs.Limit.{most_pixels};
+ghost use Rattle.wf_geometry.specs.Limit.{most_pixels};
 ghost use Rattle.wf_paint.specs.Cells.{IsCells, HasFreeBit, IsRangePainted, AreWritten, AreBlocks, IsSized, is_free};
 ghost use Rattle.wf_paint.specs.Canvas.{IsCanvas, IsBlank, IsFull, HasFree, IsAlike, IsFinished, IsBoxPainted};
 ghost use Rattle.wf_paint.specs.Shown.{IsColored, is_in_run};
@@ -241,12 +241,12 @@ fn is_window_painted(free: &Vec<u64>, start: u32, end: u32) -> bool
 {
     let first = word_at(free, start / 64);
     let last = word_at(free, (end - 1) / 64);
-    joined(first, last, start % 64) << (64 - (end - start)) == 0
+    word_across(first, last, start % 64) << (64 - (end - start)) == 0
 }
 
 /// The bits of the first word from `bit` on, and above them those of the last word from its lowest on.
 #[inline(always)]
-fn joined(first: u64, last: u64, bit: u32) -> u64
+fn word_across(first: u64, last: u64, bit: u32) -> u64
     requires { bit < 64 }
     ensures first { (k : ℕ) → bit + k < 64 → bit_at first (bit + k) ≤ bit_at result k }
     ensures last { (k : ℕ) → 64 ≤ bit + k → k < 64 → bit_at last (bit + k - 64) ≤ bit_at result k }

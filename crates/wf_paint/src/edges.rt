@@ -3,10 +3,9 @@ ghost use Rattle.std.specs.Prelude.{◌≡◌, ◌++◌, ◌∷◌, ◌-◌, [],
 ghost use Rattle.std.specs.List.Sorted.{IsPermutation};
 ghost use Rattle.wf_paint.specs.Edges.{AreAlong, AreAround, drawn_of};
 
-use crate::position::Position;
-use crate::segment::Segment;
 use std::alloc::{AllocError, Global};
 use std::marker::Model;
+use wf_geometry::{Position, Segment};
 
 /// From so many segments on equal ones are looked for. Fewer are drawn sooner than sorted.
 const MANY: usize = 256;
@@ -23,7 +22,7 @@ pub(crate) struct Edges {
 impl Model for Edges {
     ghost use Rattle.std.specs.Prelude.{List};
     ghost use Rattle.wf_paint.specs.Edges.{AreAlong, AreAround, drawn_of};
-    ghost use Rattle.wf_paint.specs.declared.segment.Segment.{Segment};
+    ghost use Rattle.wf_geometry.specs.declared.operation.Segment.{Segment};
 
     ghost Value = { List Segment };
 

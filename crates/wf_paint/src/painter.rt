@@ -5,7 +5,7 @@
 ghost use Rattle.std.specs.Prelude.{◌≡◌, ◌<◌, ◌≤◌, ◌+◌, None, is_some, cond, max, length, drop, slice_index, OnOk, IfOk};
 ghost use Rattle.std.specs.Bool.{Decides};
 ghost use Rattle.std.specs.List.{All, Contains, flat_map};
-ghost use Rattle.wf_paint.specs.Operation.{operations, layer_operations, feature_operations, squares, part_squares, color_at};
+ghost use Rattle.wf_geometry.specs.Operation.{operations, layer_operations, feature_operations, squares, part_squares, color_at};
 ghost use Rattle.wf_paint.specs.Styles.{line_along, filled_and_outlined};
 ghost use Rattle.wf_paint.specs.Pixmap.{IsPicture};
 ghost use Rattle.wf_paint.specs.Shown.{IsShown};
@@ -17,7 +17,6 @@ use crate::edges::Edges;
 use crate::inside::draw_inside;
 use crate::pixmap::Pixmap;
 use crate::segments::{paths, rings};
-use crate::view::View;
 use std::alloc::{AllocError, Global};
 use wf_def::choice::LayerKind;
 use wf_def::color::Color;
@@ -26,6 +25,7 @@ use wf_def::layer::Layer;
 use wf_def::map::MapDef;
 use wf_def::point::Point;
 use wf_def::style::Style;
+use wf_geometry::View;
 
 /// Paints the layers at these indices of the map, each over those before it, over a background. Each pixel has the colour of the
 /// last operation that covers it, else the background. Returns Ok unless allocation fails.
@@ -64,7 +64,7 @@ pub fn paint_after(
 
 /// Paints the layers from the last to the first. A layer that is listed again later is painted only there: it would cover the
 /// same pixels.
-#[tactic(auto, unfolding(crate::specs::Operation::operations))]
+#[tactic(auto, unfolding(wf_geometry::specs::Operation::operations))]
 fn draw_layers(
     alloc: Global,
     canvas: &mut Canvas,
@@ -95,7 +95,7 @@ fn is_named_again(layers: &[usize], index: usize) -> bool
 }
 
 /// Paints a layer's features from the last to the first, until the canvas is full.
-#[tactic(auto, unfolding(crate::specs::Operation::layer_operations))]
+#[tactic(auto, unfolding(wf_geometry::specs::Operation::layer_operations))]
 fn draw_layer(
     alloc: Global,
     canvas: &mut Canvas,
@@ -115,7 +115,7 @@ fn draw_layer(
 }
 
 /// Paints a feature's parts by the styles of its class; nothing if it has none.
-#[tactic(auto, unfolding(crate::specs::Operation::line, crate::specs::Operation::polygon))]
+#[tactic(auto, unfolding(wf_geometry::specs::Operation::line, wf_geometry::specs::Operation::polygon))]
 fn draw_feature(
     alloc: Global,
     canvas: &mut Canvas,
@@ -235,7 +235,7 @@ fn draw_markers(canvas: &mut Canvas, view: &View, parts: &[Part], styles: &[Styl
 }
 
 /// Paints a square about each point, from the last part to the first.
-#[tactic(auto, unfolding(crate::specs::Operation::squares))]
+#[tactic(auto, unfolding(wf_geometry::specs::Operation::squares))]
 fn draw_squares(canvas: &mut Canvas, view: &View, parts: &[Part], style: &Style)
     ensures { IsShown (squares view.now style.now parts.now) canvas.old canvas.new }
 {
@@ -245,7 +245,7 @@ fn draw_squares(canvas: &mut Canvas, view: &View, parts: &[Part], style: &Style)
 }
 
 /// Paints a square about each point of a part, from the last to the first.
-#[tactic(auto, unfolding(crate::specs::Operation::part_squares))]
+#[tactic(auto, unfolding(wf_geometry::specs::Operation::part_squares))]
 fn draw_part_squares(canvas: &mut Canvas, view: &View, points: &[Point], style: &Style)
     ensures { IsShown (part_squares view.now style.now points.now) canvas.old canvas.new }
 {

@@ -75,7 +75,7 @@ impl Pixels {
         if head.len() == room as usize {
             Ok(with_head(bytes, head))
         } else {
-            joined(alloc, head, &bytes[room as usize..])
+            concatenate(alloc, head, &bytes[room as usize..])
         }
     }
 }
@@ -124,7 +124,7 @@ fn with_head(bytes: Vec<u8>, head: &[u8]) -> Vec<u8>
 }
 
 /// The head and the bytes after it, copied.
-fn joined(alloc: Global, head: &[u8], bytes: &[u8]) -> Result<Vec<u8>, AllocError>
+fn concatenate(alloc: Global, head: &[u8], bytes: &[u8]) -> Result<Vec<u8>, AllocError>
     ensures { IfOk result (λ file. file.items ≡ head.now ++ bytes.now) }
 {
     let mut file = Vec::with_capacity(alloc, head.len() + bytes.len())?;

@@ -1,17 +1,15 @@
 //! The segments of a feature's parts, in a view.
 ghost use Rattle.std.specs.Prelude.{◌≡◌, List, ◌++◌, OnOk, IfOk};
-ghost use Rattle.wf_paint.specs.Position.{PositionValue};
-ghost use Rattle.wf_paint.specs.Segments.{path_from, path, ring, positions, paths, rings};
+ghost use Rattle.wf_geometry.specs.Position.{PositionValue};
+ghost use Rattle.wf_geometry.specs.Segments.{path_from, path, ring, positions, paths, rings};
 
-use crate::position::Position;
-use crate::segment::Segment;
-use crate::view::View;
 use std::alloc::{AllocError, Global};
 use wf_def::feature::Part;
 use wf_def::point::Point;
+use wf_geometry::{Position, Segment, View};
 
 /// The segments from each point of a part to the next, part by part.
-#[tactic(auto, unfolding(crate::specs::Segments::paths))]
+#[tactic(auto, unfolding(wf_geometry::specs::Segments::paths))]
 pub(crate) fn paths(alloc: Global, view: &View, parts: &[Part]) -> Result<Vec<Segment>, AllocError>
     ensures { IfOk result (λ s. s.items ≡ paths view.now parts.now) }
 {
@@ -23,7 +21,7 @@ pub(crate) fn paths(alloc: Global, view: &View, parts: &[Part]) -> Result<Vec<Se
 }
 
 /// The segments from each point of a part to the next and from its last back to its first, part by part.
-#[tactic(auto, unfolding(crate::specs::Segments::rings))]
+#[tactic(auto, unfolding(wf_geometry::specs::Segments::rings))]
 pub(crate) fn rings(alloc: Global, view: &View, parts: &[Part]) -> Result<Vec<Segment>, AllocError>
     ensures { IfOk result (λ s. s.items ≡ rings view.now parts.now) }
 {

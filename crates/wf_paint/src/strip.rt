@@ -1,26 +1,20 @@
 //! Strips, painted row by row. The ends of a row's pixels are those of the row before, moved by a constant, so no row but the first
 //! takes a division. Only lines whose numbers are too large for it take one in each row.
-ghost use Rattle.std.specs.Prelude.{◌≡◌, ℕ, ◌+◌, ◌*◌, ◌^◌, ◌<◌, ◌≤◌, nat_abs, pos, ◌≤ℤ◌, ◌<ℤ◌, true, false, IfSome};
-ghost use Rattle.wf_paint.specs.Near.{IsReach, IsArea};
-ghost use Rattle.wf_paint.specs.Exact.{plus, difference, product, opposite};
-ghost use Rattle.wf_paint.specs.Quotient.{number_of};
-ghost use Rattle.wf_paint.specs.Level.{level_at, row_level, is_in_margin};
+ghost use Rattle.std.specs.Prelude.{◌≡◌, ℕ, ◌+◌, ◌*◌, ◌^◌, ◌<◌, ◌≤◌, nat_abs, pos, ◌≤ℤ◌, ◌<ℤ◌, true, false};
+ghost use Rattle.wf_geometry.specs.Near.{IsReach, IsArea};
+ghost use Rattle.wf_geometry.specs.Exact.{plus, product, opposite};
 ghost use Rattle.wf_paint.specs.Canvas.{IsBoxPainted};
 ghost use Rattle.wf_paint.specs.Shown.{IsColored};
-ghost use Rattle.wf_paint.specs.Span.{IsSpanOf, shared};
-ghost use Rattle.wf_paint.specs.Strip.{is_in_strip, most_between, AreEnds, IsPart, IsBetween, IsEnd, IsHiddenBlock, StaysBetween};
-ghost use Rattle.wf_paint.specs.Limit.{most_pixels, pixel_side};
+ghost use Rattle.wf_geometry.specs.Span.{shared};
+ghost use Rattle.wf_geometry.specs.Strip.{is_in_strip, AreEnds, IsEnd};
+ghost use Rattle.wf_paint.specs.RowPart.{most_between, IsPart, IsBetween, IsHiddenBlock, StaysBetween};
+ghost use Rattle.wf_geometry.specs.Limit.{most_pixels, pixel_side};
 
 use crate::canvas::{BLOCK_SIDE, Canvas};
-use crate::ends::Ends;
-use crate::exact::{opposite, product};
-use crate::level::level_within;
-use crate::levels::{Levels, Strip};
-use crate::limits::PIXEL_SIDE;
-use crate::quotient::Quotient;
-use crate::span::Span;
-use crate::steps::{multiples_up_to, quotient, steps_below, sum};
 use wf_def::color::Color;
+use wf_geometry::{
+    Quotient, RowEnds, Span, Strip, ends_in, leap, multiples_up_to, quotient_sum, row_within,
+};
 
 /// Paints the strip's pixels, 16 rows at a time.
 pub(crate) fn draw_strip(canvas: &mut Canvas, strip: Strip, color: Color)
@@ -55,11 +49,11 @@ pub(crate) fn draw_strip(canvas: &mut Canvas, strip: Strip, color: Color)
             from,
             to: from + BLOCK_SIDE,
         };
-        let next = sum(low, leap, ends.step);
+        let next = quotient_sum(low, leap, ends.step);
         draw_block(
             canvas,
             Strip { rows, ..strip },
-            Ends { low, ..ends },
+            RowEnds { low, ..ends },
             next,
             color,
         );
@@ -69,11 +63,16 @@ pub(crate) fn draw_strip(canvas: &mut Canvas, strip: Strip, color: Color)
         from: strip.rows.from + BLOCK_SIDE * blocks,
         to: strip.rows.to,
     };
-    draw_cut(canvas, Strip { rows, ..strip }, Ends { low, ..ends }, color);
+    draw_cut(
+        canvas,
+        Strip { rows, ..strip },
+        RowEnds { low, ..ends },
+        color,
+    );
 }
 
 /// Whether the strip has no rows or no columns.
-#[tactic(auto, using(crate::proofs::StripLemmas::strip_nowhere, crate::proofs::StripLemmas::strip_without_columns))]
+#[tactic(auto, using(wf_geometry::proofs::StripLemmas::strip_nowhere, wf_geometry::proofs::StripLemmas::strip_without_columns))]
 fn is_empty(strip: Strip) -> bool
     ensures none { result ≡ true → (column row : ℕ) →
         is_in_strip strip.levels strip.rows strip.columns column row ≡ false }
@@ -82,67 +81,9 @@ fn is_empty(strip: Strip) -> bool
     strip.rows.from >= strip.rows.to || strip.columns.from >= strip.columns.to
 }
 
-/// The ends of a row's pixels, and how they change from row to row. None if levels don't change from column to column, or if 64 bits
-/// don't hold the quotients.
-fn ends_in(levels: Levels, row: u32) -> Option<Ends>
-    requires origin { nat_abs levels.origin ≤ 2 ^ 110 }
-    requires across { IsReach levels.across }
-    requires rising { pos 0 ≤ℤ levels.across }
-    requires up { IsReach levels.up }
-    requires margin { IsArea levels.margin }
-    requires row { row ≤ most_pixels }
-    ensures { IfSome result (AreEnds levels row) }
-{
-    if levels.across == 0 {
-        return None;
-    }
-    let step = step(levels.across);
-    let start = row_level(levels, row);
-    let Some(low) = quotient(room(opposite(levels.margin), start), step) else {
-        return None;
-    };
-    let Some(gap) = quotient(double(levels.margin), step) else {
-        return None;
-    };
-    let Some(change) = quotient(opposite(product(PIXEL_SIDE, levels.up)), step) else {
-        return None;
-    };
-    Some(Ends {
-        low,
-        gap,
-        change,
-        step,
-    })
-}
-
-/// How an end changes over 16 rows. None if 64 bits don't hold it.
-fn leap(levels: Levels, step: u64) -> Option<Quotient>
-    requires up { IsReach levels.up }
-    requires step { 1 ≤ step }
-    ensures value { IfSome result (λ q. number_of step q
-        ≡ opposite (product (pos (16 * pixel_side)) levels.up)) }
-    ensures rest { IfSome result (λ q. q.rest < step) }
-    ensures within { IfSome result (λ q. nat_abs q.whole ≤ 2 ^ 50) }
-{
-    quotient(
-        opposite(product(i64::from(BLOCK_SIDE) * PIXEL_SIDE, levels.up)),
-        step,
-    )
-}
-
-/// Twice the margin.
-#[tactic(auto, unfolding(crate::specs::Exact::plus))]
-fn double(margin: i128) -> i128
-    requires { IsArea margin }
-    ensures value { result ≡ plus margin margin }
-    ensures within { nat_abs result ≤ 2 ^ 112 }
-{
-    2 * margin
-}
-
 /// Paints 16 rows of a strip; `next` is the lower end of the row after them. Nothing is left to do if painted blocks hide all that lies
 /// between the first of them and that row. In most blocks the ends of the columns cut off no pixel.
-fn draw_block(canvas: &mut Canvas, strip: Strip, ends: Ends, next: Quotient, color: Color)
+fn draw_block(canvas: &mut Canvas, strip: Strip, ends: RowEnds, next: Quotient, color: Color)
     requires block { strip.rows.to ≡ strip.rows.from + 16 }
     requires rows { strip.rows.to ≤ canvas.old.height }
     requires most_rows { strip.rows.to ≤ most_pixels }
@@ -163,7 +104,7 @@ fn draw_block(canvas: &mut Canvas, strip: Strip, ends: Ends, next: Quotient, col
 }
 
 /// The most pixels of a row whose ends lie so far apart; 0 if there may be none of them, or more than 64.
-#[tactic(auto, unfolding(crate::specs::Strip::most_between))]
+#[tactic(auto, unfolding(crate::specs::RowPart::most_between))]
 fn most_between(gap: Quotient) -> u8
     ensures some { 1 ≤ result → pos 1 ≤ℤ gap.whole }
     ensures value { 1 ≤ result → result ≡ most_between gap }
@@ -213,7 +154,7 @@ fn is_hidden(canvas: &Canvas, low: Quotient, next: Quotient, width: u8, row: u32
 
 /// Whether painted blocks hide the pixels of 16 rows after the one column and up to `width` after the other.
 #[inline(always)]
-#[tactic(auto, unfolding(crate::specs::Exact::plus))]
+#[tactic(auto, unfolding(wf_geometry::specs::Exact::plus))]
 fn is_box_hidden(canvas: &Canvas, left: i64, right: i64, width: u8, row: u32) -> bool
     requires row { row + 16 ≤ canvas.now.height }
     requires least { pos 0 ≤ℤ plus left (pos 1) }
@@ -230,7 +171,7 @@ fn is_box_hidden(canvas: &Canvas, left: i64, right: i64, width: u8, row: u32) ->
 }
 
 /// Paints a strip of which each row has its pixels in the columns, at least one and at most 64.
-fn draw_whole(canvas: &mut Canvas, strip: Strip, ends: Ends, color: Color)
+fn draw_whole(canvas: &mut Canvas, strip: Strip, ends: RowEnds, color: Color)
     requires order { strip.rows.from ≤ strip.rows.to }
     requires rows { strip.rows.to ≤ canvas.old.height }
     requires most_rows { strip.rows.to ≤ most_pixels }
@@ -244,19 +185,19 @@ fn draw_whole(canvas: &mut Canvas, strip: Strip, ends: Ends, color: Color)
 {
     let mut low = ends.low;
     for row in strip.rows.from..strip.rows.to {
-        let high = sum(low, ends.gap, ends.step);
+        let high = quotient_sum(low, ends.gap, ends.step);
         canvas.cover_few(
             row,
             count(low.whole + 1),
             count(high.whole - low.whole),
             color,
         );
-        low = sum(low, ends.change, ends.step);
+        low = quotient_sum(low, ends.change, ends.step);
     }
 }
 
 /// Paints a strip where the ends of the columns may cut off pixels of each row.
-fn draw_cut(canvas: &mut Canvas, strip: Strip, ends: Ends, color: Color)
+fn draw_cut(canvas: &mut Canvas, strip: Strip, ends: RowEnds, color: Color)
     requires order { strip.rows.from ≤ strip.rows.to }
     requires rows { strip.rows.to ≤ canvas.old.height }
     requires most_rows { strip.rows.to ≤ most_pixels }
@@ -266,12 +207,12 @@ fn draw_cut(canvas: &mut Canvas, strip: Strip, ends: Ends, color: Color)
         canvas.old canvas.new }
 {
     let mut low = ends.low;
-    let mut high = sum(low, ends.gap, ends.step);
+    let mut high = quotient_sum(low, ends.gap, ends.step);
     for row in strip.rows.from..strip.rows.to {
         let span = part(strip.columns, low, high);
         canvas.cover(row, span.from, span.to, color);
-        low = sum(low, ends.change, ends.step);
-        high = sum(high, ends.change, ends.step);
+        low = quotient_sum(low, ends.change, ends.step);
+        high = quotient_sum(high, ends.change, ends.step);
     }
 }
 
@@ -295,94 +236,6 @@ fn draw_far(canvas: &mut Canvas, strip: Strip, color: Color)
         let span = both(strip.columns, within);
         canvas.cover(row, span.from, span.to, color);
     }
-}
-
-/// The pixels, of the first `most` of a row, whose level lies within the margin about 0.
-fn row_within(levels: Levels, row: u32, most: u32) -> Span
-    requires origin { nat_abs levels.origin ≤ 2 ^ 110 }
-    requires across { IsReach levels.across }
-    requires rising { pos 0 ≤ℤ levels.across }
-    requires up { IsReach levels.up }
-    requires margin { IsArea levels.margin }
-    requires row { row ≤ most_pixels }
-    ensures { IsSpanOf (λ u. is_in_margin levels.margin (level_at levels u row)) most result }
-{
-    if levels.across == 0 {
-        level_within(row_level(levels, row), levels.margin, most)
-    } else {
-        rising_within(levels, row, most)
-    }
-}
-
-/// The pixels, of the first `most` of a row, whose level lies within the margin about 0, if levels rise from column to column.
-fn rising_within(levels: Levels, row: u32, most: u32) -> Span
-    requires origin { nat_abs levels.origin ≤ 2 ^ 110 }
-    requires across { IsReach levels.across }
-    requires rising { pos 1 ≤ℤ levels.across }
-    requires up { IsReach levels.up }
-    requires margin { IsArea levels.margin }
-    requires row { row ≤ most_pixels }
-    ensures { IsSpanOf (λ u. is_in_margin levels.margin (level_at levels u row)) most result }
-{
-    let step = i128::from(step(levels.across));
-    let start = row_level(levels, row);
-    Span {
-        from: steps_below(step, gap(opposite(levels.margin), start), most),
-        to: steps_below(step, gap(levels.margin, start), most),
-    }
-}
-
-/// The change of a level from one column to the next.
-#[tactic(auto, unfolding(crate::specs::Exact::product))]
-fn step(across: i64) -> u64
-    requires reach { IsReach across }
-    requires rising { pos 1 ≤ℤ across }
-    ensures value { pos result ≡ product (pos pixel_side) across }
-    ensures least { 1 ≤ result }
-    ensures most { result ≤ 2 ^ 60 }
-{
-    PIXEL_SIDE as u64 * across.unsigned_abs()
-}
-
-/// The level in the first column of a row.
-fn row_level(levels: Levels, row: u32) -> i128
-    requires origin { nat_abs levels.origin ≤ 2 ^ 110 }
-    requires up { IsReach levels.up }
-    requires row { row ≤ most_pixels }
-    ensures value { result ≡ row_level levels row }
-    ensures within { nat_abs result ≤ 2 ^ 111 }
-{
-    levels.origin + product(sixteenths(row), levels.up)
-}
-
-/// A number of pixels in sixteenths of a pixel.
-fn sixteenths(pixels: u32) -> i64
-    requires { pixels ≤ most_pixels }
-    ensures value { result ≡ pos (pixel_side * pixels) }
-    ensures within { IsReach result }
-{
-    PIXEL_SIDE * i64::from(pixels)
-}
-
-/// The greatest number that, added to the level, is below the bound.
-#[tactic(auto, unfolding(crate::specs::Exact::difference))]
-fn room(bound: i128, level: i128) -> i128
-    requires bound { IsArea bound }
-    requires level { nat_abs level ≤ 2 ^ 111 }
-    ensures value { result ≡ difference (difference bound level) (pos 1) }
-    ensures within { nat_abs result ≤ 2 ^ 112 }
-{
-    bound - level - 1
-}
-
-/// How far the bound lies above the level.
-#[tactic(auto, unfolding(crate::specs::Exact::difference))]
-fn gap(bound: i128, level: i128) -> i128
-    requires bound { IsArea bound }
-    requires level { nat_abs level ≤ 2 ^ 111 }
-    ensures { result ≡ difference bound level }
-{
-    bound - level
 }
 
 /// The columns that the high number counts and the low one doesn't. In most rows they lie between the ends of `columns`, which is

@@ -7,8 +7,8 @@ use Rattle.wf_ballot.specs.Ballot.{Ballot, below}
 use Rattle.wf_ballot.specs.OrderTheorems.{below-asymmetric, below-irreflexive}
 use Rattle.wf_model.specs.Message.{Message, Prepare, Promise, Accept, Accepted, Nack, Chosen, Ask}
 use Rattle.wf_model.specs.DurableState.{raised}
-use Rattle.wf_peer.specs.Progress.{HasKept, IsNoLess, IsNoLower, both_promised, together}
-use Rattle.wf_peer.specs.Sender.{NeverFalls, heard_of, promised, published_to, advanced_by, tried}
+use Rattle.wf_peer.specs.Progress.{HasKept, IsNoLess, IsNoLower, higher_promise, together}
+use Rattle.wf_peer.specs.Sender.{NeverFalls, heard_of, promised, publish_up_to, advance_by, tried}
 use Rattle.wf_peer.specs.declared.progress.Progress.{Progress}
 
 pub no_lower_self : (promise : Option Ballot) → IsNoLower promise promise
@@ -33,10 +33,10 @@ by_tried p r = record { mark = refl; starts = omega arith; life = λ same. refl;
 by_promised : (p : Progress) (b : Ballot) → IsNoLess p (promised p b)
 by_promised p b = record { mark = refl; starts = omega arith; life = λ same. refl; round = omega arith; promise = no_lower_raised p.promise b; published = omega arith }
 
-by_published : (p : Progress) (s : ℕ) → IsNoLess p (published_to p s)
+by_published : (p : Progress) (s : ℕ) → IsNoLess p (publish_up_to p s)
 by_published p s = record { mark = refl; starts = omega arith; life = λ same. refl; round = omega arith; promise = no_lower_self p.promise; published = omega arith }
 
-by_reported : {V : Type 0} (p : Progress) (m : Message V) → IsNoLess p (advanced_by p m)
+by_reported : {V : Type 0} (p : Progress) (m : Message V) → IsNoLess p (advance_by p m)
 by_reported p (Prepare s b) = by_tried p b.round
 by_reported p (Promise sender s b votes) = by_promised p b
 by_reported p (Accept s b d) = by_tried p b.round
@@ -47,7 +47,7 @@ by_reported p (Ask s) = by_published p (s - 1)
 
 -- ---- together they are no less than what was heard
 
-no_lower_both : (heard claimed : Option Ballot) → IsNoLower heard (both_promised heard claimed)
+no_lower_both : (heard claimed : Option Ballot) → IsNoLower heard (higher_promise heard claimed)
 no_lower_both heard None = no_lower_self heard
 no_lower_both heard (Some b) = no_lower_raised heard b
 
@@ -93,6 +93,6 @@ falls_by_greeting old new node claimed kept is =
     falls_by old new node (together (heard_of old node) claimed) (λ p at. subst (λ (h : Option Progress). IsNoLess p (together h claimed)) (sym at) (by_together p claimed (subst (λ (h : Option Progress). HasKept h claimed) at kept))) is
 
 pub falls_by_message : {V : Type 0} (old new : List (Option Progress)) (node : ℕ) (p : Progress) (m : Message V) → heard_of old node ≡ Some p →
-    new ≡ slice_set old node (Some (advanced_by p m)) → NeverFalls old new
+    new ≡ slice_set old node (Some (advance_by p m)) → NeverFalls old new
 falls_by_message old new node p m there is =
-    falls_by old new node (advanced_by p m) (λ h at. let same : h ≡ p = cc in subst (λ (x : Progress). IsNoLess x (advanced_by p m)) (sym same) (by_reported p m)) is
+    falls_by old new node (advance_by p m) (λ h at. let same : h ≡ p = cc in subst (λ (x : Progress). IsNoLess x (advance_by p m)) (sym same) (by_reported p m)) is

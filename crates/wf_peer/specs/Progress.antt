@@ -33,15 +33,15 @@ HasKept (Some heard) claimed = IsSameStart heard claimed ⊎ IsNoLess heard clai
 
 -- ---- what was heard and what is said, together
 
-abbrev pub both_promised : (heard claimed : Option Ballot) → Option Ballot
-both_promised heard None = heard
-both_promised heard (Some b) = raised heard b
+abbrev pub higher_promise : (heard claimed : Option Ballot) → Option Ballot
+higher_promise heard None = heard
+higher_promise heard (Some b) = raised heard b
 
 -- the start that says it, and of each the more
 abbrev pub together : Option Progress → Progress → Progress
 together None claimed = claimed
 together (Some heard) claimed = record claimed {
   round = max heard.round claimed.round;
-  promise = both_promised heard.promise claimed.promise;
+  promise = higher_promise heard.promise claimed.promise;
   published = max heard.published claimed.published;
 }

@@ -24,17 +24,17 @@ tried p round = record p { round = max p.round round }
 abbrev pub promised : Progress → Ballot → Progress
 promised p b = record p { promise = raised p.promise b }
 
-abbrev pub published_to : Progress → ℕ → Progress
-published_to p s = record p { published = max p.published s }
+abbrev pub publish_up_to : Progress → ℕ → Progress
+publish_up_to p s = record p { published = max p.published s }
 
-abbrev pub advanced_by : {V : Type 0} → Progress → Message V → Progress
-advanced_by p (Prepare s b) = tried p b.round
-advanced_by p (Promise sender s b votes) = promised p b
-advanced_by p (Accept s b d) = tried p b.round
-advanced_by p (Accepted sender s b) = promised p b
-advanced_by p (Nack sender s b promise) = promised p promise
-advanced_by p (Chosen s d) = published_to p s
-advanced_by p (Ask s) = published_to p (s - 1)
+abbrev pub advance_by : {V : Type 0} → Progress → Message V → Progress
+advance_by p (Prepare s b) = tried p b.round
+advance_by p (Promise sender s b votes) = promised p b
+advance_by p (Accept s b d) = tried p b.round
+advance_by p (Accepted sender s b) = promised p b
+advance_by p (Nack sender s b promise) = promised p promise
+advance_by p (Chosen s d) = publish_up_to p s
+advance_by p (Ask s) = publish_up_to p (s - 1)
 
 -- ---- what was heard of each node of a farm, that of node i at index i
 
@@ -44,7 +44,7 @@ heard_of heard i = slice_index_or heard i None
 -- after a node's message: where it greeted, what that tells
 abbrev pub with_reported : {V : Type 0} → List (Option Progress) → ℕ → Option Progress → Message V → List (Option Progress)
 with_reported heard i None m = heard
-with_reported heard i (Some p) m = slice_set heard i (Some (advanced_by p m))
+with_reported heard i (Some p) m = slice_set heard i (Some (advance_by p m))
 
 -- nothing that was heard falls
 abbrev pub NeverFalls : (old new : List (Option Progress)) → Type 0

@@ -70,7 +70,7 @@ impl Heard {
         let Some(progress) = self.of(node) else {
             return;
         };
-        self.put(node, advanced_by(&progress, message));
+        self.put(node, advance_by(&progress, message));
     }
 }
 
@@ -78,8 +78,8 @@ ghost use Rattle.std.specs.Prelude.{◌≡◌, ◌≤◌};
 ghost use Rattle.wf_ballot.specs.Sequence.{IsSequence};
 ghost use Rattle.wf_codec.specs.Message.{view};
 ghost use Rattle.wf_model.specs.DurableState.{raised};
-ghost use Rattle.wf_peer.specs.Progress.{both_promised, together};
-ghost use Rattle.wf_peer.specs.Sender.{promised, published_to, advanced_by, tried};
+ghost use Rattle.wf_peer.specs.Progress.{higher_promise, together};
+ghost use Rattle.wf_peer.specs.Sender.{promised, publish_up_to, advance_by, tried};
 
 /// The progress that was heard, if any was, and the one that is said, together.
 fn together(heard: Option<Progress>, claimed: &Progress) -> Progress
@@ -91,15 +91,15 @@ fn together(heard: Option<Progress>, claimed: &Progress) -> Progress
     let number = heard.published.number().max(claimed.published.number());
     Progress {
         round: heard.round.max(claimed.round),
-        promise: both_promised(heard.promise, claimed.promise),
+        promise: higher_promise(heard.promise, claimed.promise),
         published: Seq::new(number).unwrap(),
         ..*claimed
     }
 }
 
 /// The higher one of two promises.
-fn both_promised(heard: Option<Ballot>, claimed: Option<Ballot>) -> Option<Ballot>
-    ensures { result ≡ both_promised heard claimed }
+fn higher_promise(heard: Option<Ballot>, claimed: Option<Ballot>) -> Option<Ballot>
+    ensures { result ≡ higher_promise heard claimed }
 {
     match claimed {
         Some(ballot) => Some(raised(heard, ballot)),
@@ -108,8 +108,8 @@ fn both_promised(heard: Option<Ballot>, claimed: Option<Ballot>) -> Option<Ballo
 }
 
 /// The progress that a message of the node tells.
-fn advanced_by(progress: &Progress, message: &Message) -> Progress
-    ensures { result ≡ advanced_by progress.now (view message.now) }
+fn advance_by(progress: &Progress, message: &Message) -> Progress
+    ensures { result ≡ advance_by progress.now (view message.now) }
 {
     match message {
         Message::Prepare(_, ballot) => tried(progress, *ballot),
@@ -117,8 +117,8 @@ fn advanced_by(progress: &Progress, message: &Message) -> Progress
         Message::Accept(_, ballot, _) => tried(progress, *ballot),
         Message::Accepted(_, _, ballot) => promised(progress, *ballot),
         Message::Nack(_, _, _, promise) => promised(progress, *promise),
-        Message::Chosen(slot, _) => published_to(progress, slot.number()),
-        Message::Ask(slot) => published_to(progress, slot.number() - 1),
+        Message::Chosen(slot, _) => publish_up_to(progress, slot.number()),
+        Message::Ask(slot) => publish_up_to(progress, slot.number() - 1),
     }
 }
 
@@ -154,9 +154,9 @@ fn raised(promise: Option<Ballot>, ballot: Ballot) -> Ballot
 }
 
 /// The progress of a node that published this sequence.
-fn published_to(progress: &Progress, number: u16) -> Progress
+fn publish_up_to(progress: &Progress, number: u16) -> Progress
     requires { IsSequence number }
-    ensures { result ≡ published_to progress.now number }
+    ensures { result ≡ publish_up_to progress.now number }
 {
     let number = progress.published.number().max(number);
     Progress {

@@ -5,9 +5,9 @@ use Rattle.std.proofs.lemmas.Grind.{flat_map-append}
 use Rattle.std.proofs.lemmas.List.{append-nil, append_assoc, drop_more, reverse-append}
 use Rattle.std.proofs.lemmas.Nat.{div-mul-add, mod-mul-add}
 use Rattle.wf_def.specs.declared.color.Color.{Color}
-use Rattle.wf_paint.specs.Exact.{plus}
+use Rattle.wf_geometry.specs.Exact.{plus}
 use Rattle.wf_paint.specs.Pixmap.{PixmapValue, IsPixmap, IsPicture, pixel_at, column_of, row_of}
-use Rattle.wf_paint.specs.declared.corner.Corner.{Corner}
+use Rattle.wf_geometry.specs.declared.view.Corner.{Corner}
 use Rattle.wf_picture.specs.Image.{color_bytes, row_bytes}
 use Rattle.wf_picture.specs.Picture.{crop}
 

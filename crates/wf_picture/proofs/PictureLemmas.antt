@@ -2,10 +2,10 @@
 use Rattle.std.proofs.Common.{◌≡◌, ℕ, List, Result, Ok, Err, IfOk, ℤ, sym, ap, subst₂, ◌∙◌}
 use Rattle.wf_def.specs.Definition.{Definition}
 use Rattle.wf_def.specs.declared.color.Color.{Color}
-use Rattle.wf_paint.specs.Operation.{operations, color_at}
+use Rattle.wf_geometry.specs.Operation.{operations, color_at}
 use Rattle.wf_paint.specs.Pixmap.{PixmapValue, IsPicture}
-use Rattle.wf_paint.specs.View.{ViewValue}
-use Rattle.wf_paint.specs.declared.corner.Corner.{Corner}
+use Rattle.wf_geometry.specs.View.{ViewValue}
+use Rattle.wf_geometry.specs.declared.view.Corner.{Corner}
 use Rattle.wf_label.specs.Ink.{inked, IsInked}
 use Rattle.wf_label.specs.Label.{candidates}
 use Rattle.wf_label.specs.Placed.{PlacedValue}
@@ -13,7 +13,7 @@ use Rattle.wf_label.specs.LabelLayout.{IsLayout, EachListHasOneLayout, PlacedIsT
 use Rattle.wf_picture.specs.Image.{image}
 use Rattle.wf_picture.specs.Picture.{placed, labelled, corner_of, crop, picture, IsImageOf, IsViewFor}
 use Rattle.wf_picture.specs.Request.{RequestValue}
-use Rattle.wf_picture.specs.declared.size.Size.{Size}
+use Rattle.wf_picture.specs.declared.request.Size.{Size}
 
 -- labels over a picture make the picture of their colours over its own
 inked_over : (labels : List PlacedValue) (width height : ℕ) (below : ℤ → ℤ → Color) (old new : PixmapValue) → IsPicture width height below old → IsInked labels old new →

@@ -5,14 +5,14 @@ use Rattle.wf_def.specs.Definition.{Definition, LayerDefinition, FeatureDefiniti
 use Rattle.wf_def.specs.Limit.{most_priority}
 use Rattle.wf_def.specs.declared.color.Color.{Color}
 use Rattle.wf_def.specs.declared.point.Point.{Point}
-use Rattle.wf_paint.specs.Drawing.{IsPartOfTheDrawing, drawing, first_pixel}
-use Rattle.wf_paint.specs.Exact.{plus, quotient, product}
-use Rattle.wf_paint.specs.Operation.{operations, color_at}
-use Rattle.wf_paint.specs.Limit.{most_pixels, pixel_side, shared_tiles, tile_pixels}
-use Rattle.wf_paint.specs.Tile.{tile_view, tile_shift}
-use Rattle.wf_paint.specs.View.{ViewValue}
-use Rattle.wf_paint.specs.declared.cell.GridCell.{GridCell}
-use Rattle.wf_paint.specs.declared.corner.Corner.{Corner}
+use Rattle.wf_geometry.specs.Drawing.{IsPartOfTheDrawing, drawing, first_pixel}
+use Rattle.wf_geometry.specs.Exact.{plus, quotient, product}
+use Rattle.wf_geometry.specs.Operation.{operations, color_at}
+use Rattle.wf_geometry.specs.Limit.{most_pixels, pixel_side, shared_tiles, tile_pixels}
+use Rattle.wf_geometry.specs.Tile.{tile_view, tile_shift}
+use Rattle.wf_geometry.specs.View.{ViewValue}
+use Rattle.wf_geometry.specs.declared.grid.GridCell.{GridCell}
+use Rattle.wf_geometry.specs.declared.view.Corner.{Corner}
 use Rattle.wf_label.specs.Anchor.{anchor_of}
 use Rattle.wf_label.specs.Ink.{inked}
 use Rattle.wf_label.specs.Label.{labelled as label_at, label_of, text_of, feature_label, layer_labels, entry_labels, labels_of, labels_up_to, candidates}

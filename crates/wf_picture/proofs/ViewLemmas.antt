@@ -4,12 +4,12 @@ use Rattle.std.specs.Bool.{Decides}
 use Rattle.std.proofs.lemmas.Bool.Decides.{Decides-eqb, Decides-int_eq, nat_tests}
 use Rattle.std.proofs.lemmas.Int.{ints}
 use Rattle.wf_def.specs.Extent.{ExtentValue}
-use Rattle.wf_paint.specs.Grid.{fits}
-use Rattle.wf_paint.specs.Limit.{tile_pixels}
-use Rattle.wf_paint.specs.Tile.{EachRequestHasAView, IsViewOf, tile_start}
-use Rattle.wf_paint.specs.View.{AxisValue, ViewValue}
-use Rattle.wf_paint.specs.declared.cell.GridCell.{GridCell}
-use Rattle.wf_paint.specs.declared.corner.Corner.{Corner}
+use Rattle.wf_geometry.specs.Grid.{fits}
+use Rattle.wf_geometry.specs.Limit.{tile_pixels}
+use Rattle.wf_geometry.specs.Tile.{EachRequestHasAView, IsViewOf, tile_start}
+use Rattle.wf_geometry.specs.View.{AxisValue, ViewValue}
+use Rattle.wf_geometry.specs.declared.grid.GridCell.{GridCell}
+use Rattle.wf_geometry.specs.declared.view.Corner.{Corner}
 use Rattle.wf_picture.specs.Image.{image}
 use Rattle.wf_picture.specs.Picture.{picture, corner_of, EachRequestHasOneView, EachRequestHasOneImage, EachRequestHasAnImage}
 

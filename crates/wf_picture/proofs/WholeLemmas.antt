@@ -7,10 +7,10 @@ use Rattle.std.proofs.Math.Seq.{take-add}
 use Rattle.std.proofs.lemmas.List.{take_all}
 use Rattle.wf_def.specs.Definition.{Definition}
 use Rattle.wf_def.specs.declared.color.Color.{Color}
-use Rattle.wf_paint.specs.Exact.{plus}
+use Rattle.wf_geometry.specs.Exact.{plus}
 use Rattle.wf_paint.specs.Pixmap.{PixmapValue, IsPixmap, IsPicture}
-use Rattle.wf_paint.specs.View.{ViewValue}
-use Rattle.wf_paint.specs.declared.corner.Corner.{Corner}
+use Rattle.wf_geometry.specs.View.{ViewValue}
+use Rattle.wf_geometry.specs.declared.view.Corner.{Corner}
 use Rattle.wf_picture.specs.Image.{header, image, pixel_bytes, row_bytes}
 use Rattle.wf_picture.specs.Picture.{corner_of, crop, labelled, picture, IsImageOf, IsViewFor, LiesIn}
 use Rattle.wf_picture.specs.Request.{RequestValue}

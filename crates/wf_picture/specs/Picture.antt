@@ -4,19 +4,19 @@ use Rattle.std.specs.Option.{unwrap_or}
 use Rattle.wf_def.specs.Definition.{Definition}
 use Rattle.wf_def.specs.Extent.{ExtentValue}
 use Rattle.wf_def.specs.declared.color.Color.{Color}
-use Rattle.wf_paint.specs.Exact.{plus}
-use Rattle.wf_paint.specs.Operation.{operations, color_at}
+use Rattle.wf_geometry.specs.Exact.{plus}
+use Rattle.wf_geometry.specs.Operation.{operations, color_at}
 use Rattle.wf_paint.specs.Pixmap.{PixmapValue, IsPicture}
-use Rattle.wf_paint.specs.Tile.{IsViewOf}
-use Rattle.wf_paint.specs.View.{ViewValue}
-use Rattle.wf_paint.specs.declared.corner.Corner.{Corner}
+use Rattle.wf_geometry.specs.Tile.{IsViewOf}
+use Rattle.wf_geometry.specs.View.{ViewValue}
+use Rattle.wf_geometry.specs.declared.view.Corner.{Corner}
 use Rattle.wf_label.specs.Ink.{inked}
 use Rattle.wf_label.specs.Label.{candidates}
 use Rattle.wf_label.specs.Placed.{PlacedValue}
 use Rattle.wf_label.specs.LabelLayout.{placed_of}
 use Rattle.wf_picture.specs.Image.{image}
 use Rattle.wf_picture.specs.Request.{RequestValue}
-use Rattle.wf_picture.specs.declared.size.Size.{Size}
+use Rattle.wf_picture.specs.declared.request.Size.{Size}
 
 -- the labels that are placed in the view, in label order
 unfoldable pub placed : Definition → List ℕ → ViewValue → List PlacedValue

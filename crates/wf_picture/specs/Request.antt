@@ -2,8 +2,8 @@
 use Rattle.std.specs.Prelude.{ℕ, ◌≤◌, ◌≤ℤ◌, ◌+ℤ◌, pos, List}
 use Rattle.wf_def.specs.Extent.{ExtentValue}
 use Rattle.wf_def.specs.declared.color.Color.{Color}
-use Rattle.wf_paint.specs.Limit.{least_cell, most_pixels}
-use Rattle.wf_picture.specs.declared.size.Size.{Size}
+use Rattle.wf_geometry.specs.Limit.{least_cell, most_pixels}
+use Rattle.wf_picture.specs.declared.request.Size.{Size}
 
 -- the layers as indices into the map's, the lowest in the picture first; the box; the size in pixels; the colour of what no layer
 -- covers

@@ -2,12 +2,12 @@
 use Rattle.std.specs.Prelude.{◌≡◌, ℕ, true, List, pos}
 use Rattle.wf_def.specs.Definition.{Definition}
 use Rattle.wf_def.specs.declared.color.Color.{Color}
-use Rattle.wf_paint.specs.Exact.{quotient}
-use Rattle.wf_paint.specs.Grid.{fits}
-use Rattle.wf_paint.specs.Limit.{shared_tiles, tile_pixels}
-use Rattle.wf_paint.specs.Tile.{tile_start, tile_view}
-use Rattle.wf_paint.specs.declared.cell.GridCell.{GridCell}
-use Rattle.wf_paint.specs.declared.corner.Corner.{Corner}
+use Rattle.wf_geometry.specs.Exact.{quotient}
+use Rattle.wf_geometry.specs.Grid.{fits}
+use Rattle.wf_geometry.specs.Limit.{shared_tiles, tile_pixels}
+use Rattle.wf_geometry.specs.Tile.{tile_start, tile_view}
+use Rattle.wf_geometry.specs.declared.grid.GridCell.{GridCell}
+use Rattle.wf_geometry.specs.declared.view.Corner.{Corner}
 use Rattle.wf_picture.specs.Image.{image}
 use Rattle.wf_picture.specs.Picture.{labelled, crop, IsImageOf}
 use Rattle.wf_picture.specs.Request.{RequestValue}

@@ -7,8 +7,8 @@ ghost use Rattle.wf_picture.specs.Picture.{crop};
 
 use itoa::Buffer;
 use std::alloc::{AllocError, Global};
-use wf_paint::corner::Corner;
-use wf_paint::pixmap::Pixmap;
+use wf_geometry::Corner;
+use wf_paint::Pixmap;
 
 /// The file of a part of a picture, from its lower left corner: a header, then three bytes a pixel (Netpbm, PPM, raw form).
 #[tactic(auto, unfolding(crate::specs::Image::image))]

@@ -23,5 +23,4 @@
 mod image;
 pub mod picture;
 pub mod request;
-pub mod size;
 pub mod theorem;

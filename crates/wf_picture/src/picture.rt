@@ -5,18 +5,15 @@ ghost use Rattle.wf_picture.specs.Image.{image};
 ghost use Rattle.wf_picture.specs.Picture.{corner_of, labelled, IsCutOut, IsImageOf, IsWholePicture, IsViewFor, LiesIn};
 
 use crate::image::{file, header_size, image};
-use crate::request::PictureRequest;
-use crate::size::Size;
+use crate::request::{PictureRequest, Size};
 use std::alloc::{AllocError, Global};
 use wf_def::color::Color;
 use wf_def::map::MapDef;
+use wf_geometry::{Corner, View};
 use wf_label::draw::draw_labels;
 use wf_label::placement::place;
 use wf_label::theorem::there_is_one_placed_set;
-use wf_paint::corner::Corner;
-use wf_paint::painter::paint_after;
-use wf_paint::pixmap::Pixmap;
-use wf_paint::view::View;
+use wf_paint::{Pixmap, paint_after};
 
 /// The picture of a request, as a file: its layers from the lowest to the uppermost over the background, with their labels over
 /// them (OGC 06-042, 7.3.3). Where box and size are those of a tile of the map's grid, the tile is cut out of the picture that

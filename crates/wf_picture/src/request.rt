@@ -2,10 +2,16 @@
 ghost use Rattle.std.specs.Prelude.{◌≡◌};
 ghost use Rattle.wf_picture.specs.Request.{IsSize, IsLargeEnough, IsRequest};
 
-use crate::size::Size;
 use std::marker::Model;
 use wf_def::color::Color;
 use wf_def::extent::Extent;
+
+/// How wide and how high a picture is, in pixels.
+#[derive(Clone, Copy, PartialEq, Eq)]
+pub struct Size {
+    pub width: u32,
+    pub height: u32,
+}
 
 /// What a picture of a map shows and how large it is: the layers as indices into the map's, the lowest first; the box, in the
 /// axes of the map's EXTENT, with sides of at least a thousandth of a unit; the size, 1 to 1,024 pixels each way; and the colour

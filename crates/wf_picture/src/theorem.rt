@@ -13,7 +13,7 @@ pub fn there_is_one_image()
     ensures one_image { EachRequestHasOneImage }
     ensures an_image { EachRequestHasAnImage }
 {
-    wf_paint::theorem::each_request_has_a_view();
+    wf_geometry::each_request_has_a_view();
 }
 
 /// Tiles whose cells are among the same four columns and the same four rows of a level are parts of one picture: whichever of
@@ -23,5 +23,5 @@ pub fn tiles_are_crops_of_one_picture()
     ensures one_picture { SharedViewsHaveOnePicture }
     ensures crops { TilesAreCropsOfOnePicture }
 {
-    wf_paint::theorem::tiles_are_parts_of_one_drawing();
+    wf_geometry::tiles_are_parts_of_one_drawing();
 }

@@ -16,7 +16,7 @@ use Rattle.wf_farm.specs.Carriage.{IsMemory}
 use Rattle.wf_farm.specs.Farm.{MemoryFarm, IsAtOnce, Runs, Refines, size}
 use Rattle.wf_farm.specs.NodeHost.{MemoryHost, IsNode}
 use Rattle.wf_farm.specs.declared.fault.FarmFault.{FarmFault}
-use Rattle.wf_farm.specs.declared.host.NodeHost.TheVariants.{Running, Stopped}
+use Rattle.wf_farm.specs.declared.cluster.NodeHost.TheVariants.{Running, Stopped}
 use Rattle.wf_play.specs.OrderEffect.{Delivers}
 use Rattle.wf_play.specs.Session.{Plays}
 use Rattle.wf_play.proofs.FarmCalls.{nothing_played}

@@ -2,8 +2,8 @@
 use Rattle.std.proofs.Common.{◌≡◌, ◌&&◌, ℕ, Bool, true, List, refl, sym, ap, subst, ◌∙◌, bytes_eq}
 use Rattle.std.proofs.lemmas.Slice.Eq.{bytes_eq-Decides}
 use Rattle.wf_wms.specs.Answer.{AnswerValue}
-use Rattle.wf_wms.specs.declared.kind.Kind.{Kind}
-use Rattle.wf_wms.specs.contracts.kind.KindEq.TheImpl.Laws.{laws-law}
+use Rattle.wf_wms.specs.declared.answer.Kind.{Kind}
+use Rattle.wf_wms.specs.contracts.answer.KindEq.TheImpl.Laws.{laws-law}
 use Rattle.wf_farm.specs.ClientAnswers.{Answers, HasOneAnswer, HasOneMapAnswer, sequence_at}
 use Rattle.wf_farm.specs.Farm.{MemoryFarm}
 use Rattle.wf_play.specs.Comparison.{Compares, IsTrueWhereOne, is_same_answer, is_same_kind}

@@ -15,7 +15,7 @@ use Rattle.wf_farm.specs.Cluster.{Moves}
 use Rattle.wf_farm.specs.Farm.{MemoryFarm, Runs, RunsPart, running_in, size}
 use Rattle.wf_farm.specs.NodeHost.{MemoryHost}
 use Rattle.wf_farm.specs.Pump.{IsPumped, IsPumpedPart}
-use Rattle.wf_farm.specs.declared.host.NodeHost.TheVariants.{Running, Stopped}
+use Rattle.wf_farm.specs.declared.cluster.NodeHost.TheVariants.{Running, Stopped}
 use Rattle.wf_farm.specs.declared.fault.FarmFault.{FarmFault}
 use Rattle.wf_farm.specs.declared.fault.FarmFault.TheVariants.{Memory, NoNode, Carried}
 use Rattle.wf_play.specs.Session.{Plays, IsPublished}

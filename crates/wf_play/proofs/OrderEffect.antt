@@ -9,7 +9,7 @@ use Rattle.std.proofs.lemmas.Option.{same_Some}
 use Rattle.wf_script.specs.declared.fault.ScriptFault.{ScriptFault}
 use Rattle.wf_script.specs.declared.fault.ScriptFault.TheVariants.{Memory}
 use Rattle.wf_script.specs.Fault.{IsMemory}
-use Rattle.wf_model.specs.declared.kept.Kept.{Kept}
+use Rattle.wf_model.specs.declared.action.Kept.{Kept}
 use Rattle.wf_play.specs.Session.{Stage}
 use Rattle.wf_play.specs.OrderEffect.{ArePumped, Happens, HappensIf, IsPerformed, PerformsAt, fault_at, may_use, may_use_at}
 use Rattle.wf_script.specs.Script.{Numbered}

@@ -3,7 +3,7 @@ use Rattle.std.proofs.Common.{◌≡◌, ◌∙◌, ℕ, true, List, [], ◌++�
 use Rattle.std.specs.Prelude.{Option, Some, None, Ok, Err, Result, IfErr, IfSome}
 use Rattle.std.specs.Io.KnownBytes.{Appends}
 use Rattle.wf_farm.specs.Farm.{Refines}
-use Rattle.wf_model.specs.declared.kept.Kept.{Kept}
+use Rattle.wf_model.specs.declared.action.Kept.{Kept}
 use Rattle.wf_play.specs.Session.{Stage}
 use Rattle.wf_model.specs.World.{start}
 use Rattle.wf_stream.specs.KnownTheorems.{appends_more, keeps_same}

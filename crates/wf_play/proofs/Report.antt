@@ -14,7 +14,7 @@ use Rattle.wf_farm.specs.NodeHost.{MemoryHost}
 use Rattle.wf_farm.specs.Pump.{IsPumped}
 use Rattle.wf_farm.specs.declared.fault.FarmFault.{FarmFault}
 use Rattle.wf_farm.specs.declared.fault.FarmFault.TheVariants.{NoNode}
-use Rattle.wf_model.specs.declared.kept.Kept.{Kept}
+use Rattle.wf_model.specs.declared.action.Kept.{Kept}
 use Rattle.wf_play.specs.Comparison.{IsUncompared}
 use Rattle.wf_script.specs.Script.{Numbered, Script}
 use Rattle.wf_play.specs.Report.{Adds, IsOfAnswer, IsReportedAbsent, ReportsAnswer, ReportsEqual, ReportsPump, WritesAt, WritesWith, no_node, published_word, pump_line}

@@ -11,7 +11,7 @@ use Rattle.wf_farm.specs.Cluster.{last_rejected}
 use Rattle.wf_farm.specs.Farm.{MemoryFarm, size}
 use Rattle.wf_farm.specs.Fused.{PumpsOrTears, RunsOrTears, ReportsUnlessTorn, with_torn}
 use Rattle.wf_farm.specs.Pump.{IsPumped}
-use Rattle.wf_model.specs.declared.kept.Kept.{Kept}
+use Rattle.wf_model.specs.declared.action.Kept.{Kept}
 use Rattle.wf_script.specs.Order as order
 use Rattle.wf_script.specs.Order.{Order}
 use Rattle.wf_script.specs.Script.{Script}

@@ -4,7 +4,8 @@ use Rattle.wf_def.specs.Definition.{Definition}
 use Rattle.wf_def.specs.Equality.{definition_eq}
 use Rattle.wf_model.specs.Chosen.{IsIn}
 use Rattle.wf_model.specs.World.{World, after, happens}
-use Rattle.wf_safety.specs.Theorems.{AsksForItself, KeptPromises, KeptPromisesIn, OwnBallots, OwnBallotsIn, PromisedMajority, PromisedMajorityIn, node_of}
+use Rattle.wf_safety.specs.Theorems.{AsksForItself, KeptPromisesIn, OwnBallotsIn, PromisedMajorityIn, node_of}
+use Rattle.wf_safety.proofs.Theorems.{kept_promises, own_ballots, promised_majority}
 use Rattle.wf_farm.specs.Agreement.{IsOneWorld}
 use Rattle.wf_farm.specs.Farm.{MemoryFarm, Refines, size}
 use Rattle.wf_play.specs.Theorem.{HasKeptPromises, HasOwnBallots, HasPromisedMajorities}
@@ -13,19 +14,19 @@ use Rattle.wf_play.specs.Theorem.{HasKeptPromises, HasOwnBallots, HasPromisedMaj
 reached : (farm : MemoryFarm) (one : IsOneWorld farm) (w : World Definition) → Refines farm w → after definition_eq (size farm) one.events ≡ w
 reached farm one w refines = sym (one.no_other w refines ∙ one.reached)
 
-pub own_ballots_there : (farm : MemoryFarm) → OwnBallots Definition → IsOneWorld farm → HasOwnBallots farm
-own_ballots_there farm theorem one = record {
-  now = λ w refines. subst (λ (v : World Definition). OwnBallotsIn v) (reached farm one w refines) (theorem.facts definition_eq (size farm) one.events);
+pub own_ballots_there : (farm : MemoryFarm) → IsOneWorld farm → HasOwnBallots farm
+own_ballots_there farm one = record {
+  now = λ w refines. subst (λ (v : World Definition). OwnBallotsIn v) (reached farm one w refines) ((own_ballots Definition).facts definition_eq (size farm) one.events);
   next = λ w event message refines.
       subst (λ (v : World Definition). IsIn message (drop (length v.sent) (happens definition_eq v event).sent) → AsksForItself (happens definition_eq v event) (node_of event) message)
-      (reached farm one w refines) (theorem.asked definition_eq (size farm) one.events event message);
+      (reached farm one w refines) ((own_ballots Definition).asked definition_eq (size farm) one.events event message);
 }
 
-pub kept_promises_there : (farm : MemoryFarm) → KeptPromises Definition → IsOneWorld farm → HasKeptPromises farm
+pub kept_promises_there : (farm : MemoryFarm) → IsOneWorld farm → HasKeptPromises farm
 unfolding HasKeptPromises
-kept_promises_there farm theorem one = λ w refines. subst (λ (v : World Definition). KeptPromisesIn v) (reached farm one w refines) (theorem definition_eq (size farm) one.events)
+kept_promises_there farm one = λ w refines. subst (λ (v : World Definition). KeptPromisesIn v) (reached farm one w refines) (kept_promises Definition definition_eq (size farm) one.events)
 
-pub promised_majorities_there : (farm : MemoryFarm) → PromisedMajority Definition → IsOneWorld farm → HasPromisedMajorities farm
+pub promised_majorities_there : (farm : MemoryFarm) → IsOneWorld farm → HasPromisedMajorities farm
 unfolding HasPromisedMajorities
-promised_majorities_there farm theorem one = λ w refines.
-    subst (λ (v : World Definition). PromisedMajorityIn (size farm) v.sent) (reached farm one w refines) (theorem definition_eq (size farm) one.events)
+promised_majorities_there farm one = λ w refines.
+    subst (λ (v : World Definition). PromisedMajorityIn (size farm) v.sent) (reached farm one w refines) (promised_majority Definition definition_eq (size farm) one.events)

@@ -12,7 +12,7 @@ use Rattle.wf_farm.specs.Pump.{IsPumped}
 use Rattle.wf_model.specs.Kept.{view as view_kept}
 use Rattle.wf_model.specs.declared.action.Action.{Action}
 use Rattle.wf_model.specs.declared.action.Action.TheVariants as action
-use Rattle.wf_model.specs.declared.kept.Kept.{Kept}
+use Rattle.wf_model.specs.declared.action.Kept.{Kept}
 use Rattle.wf_script.specs.declared.fault.ScriptFault.{ScriptFault}
 use Rattle.wf_script.specs.declared.fault.ScriptFault.TheVariants as fault
 use Rattle.wf_script.specs.Order.{Order}

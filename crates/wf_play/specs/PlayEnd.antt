@@ -2,7 +2,7 @@
 use Rattle.std.specs.Io.KnownBytes.{Appends, Keeps}
 use Rattle.std.specs.Prelude.{◌≡◌, ◌⊎◌, ◌++◌, ℕ, true, Option, Some, None, Ok, List, slice_get, take, IfSome}
 use Rattle.wf_farm.specs.Farm.{Refines}
-use Rattle.wf_model.specs.declared.kept.Kept.{Kept}
+use Rattle.wf_model.specs.declared.action.Kept.{Kept}
 use Rattle.wf_play.specs.Session.{Stage}
 use Rattle.wf_model.specs.World.{start}
 use Rattle.wf_play.specs.OrderEffect.{PerformsAt, fault_at, may_use_at}

@@ -11,8 +11,8 @@ use Rattle.wf_tape.specs.MemoryTape.{TapeValue}
 use Rattle.wf_wms.specs.Answer.{AnswerValue}
 use Rattle.wf_wms.specs.declared.exception.Exception.{Exception}
 use Rattle.wf_wms.specs.declared.exception.Exception.TheVariants as exception
-use Rattle.wf_wms.specs.declared.kind.Kind.{Kind}
-use Rattle.wf_wms.specs.declared.kind.Kind.TheVariants as kind
+use Rattle.wf_wms.specs.declared.answer.Kind.{Kind}
+use Rattle.wf_wms.specs.declared.answer.Kind.TheVariants as kind
 use Rattle.wf_farm.specs.ClientAnswers.{Answers, sequence_at}
 use Rattle.wf_farm.specs.Farm.{MemoryFarm, running_in}
 use Rattle.wf_farm.specs.Fault.{number_of as rejection_number}
@@ -24,8 +24,8 @@ use Rattle.wf_farm.specs.declared.rejection.Rejection.{Rejection}
 use Rattle.wf_play.specs.Comparison.{Compares}
 use Rattle.wf_script.specs.Order as order
 use Rattle.wf_script.specs.Order.{Order}
-use Rattle.wf_model.specs.declared.kept.Kept.{Kept}
-use Rattle.wf_model.specs.declared.kept.Kept.TheVariants as kept
+use Rattle.wf_model.specs.declared.action.Kept.{Kept}
+use Rattle.wf_model.specs.declared.action.Kept.TheVariants as kept
 use Rattle.wf_play.specs.OrderEffect.{TearsPump, event_at, order_at}
 use Rattle.wf_play.specs.Session.{Session, node_at}
 use Rattle.wf_script.specs.Script.{Numbered, Script, name_of}

@@ -2,7 +2,7 @@
 use Rattle.std.specs.Io.KnownBytes.{Appends, IsAtEnd}
 use Rattle.std.specs.Prelude.{◌≡◌, ◌≤◌, ◌++◌, ℕ, zero, suc, ⊤, false, Option, None, List, [], length, slice_get, Result, Ok, Err, IfSome}
 use Rattle.wf_farm.specs.Farm.{Refines}
-use Rattle.wf_model.specs.declared.kept.Kept.{Kept}
+use Rattle.wf_model.specs.declared.action.Kept.{Kept}
 use Rattle.wf_play.specs.Session.{Stage}
 use Rattle.wf_model.specs.World.{start}
 use Rattle.wf_script.specs.Fault.{is_memory}

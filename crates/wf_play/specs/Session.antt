@@ -6,7 +6,7 @@ use Rattle.wf_node.specs.Node.{Node}
 use Rattle.wf_tape.specs.MemoryTape.{TapeValue}
 use Rattle.wf_farm.specs.Agreement.{HistoriesGrow, Publishes}
 use Rattle.wf_farm.specs.Farm.{MemoryFarm, Runs, running_in, size}
-use Rattle.wf_model.specs.declared.kept.Kept.{Kept}
+use Rattle.wf_model.specs.declared.action.Kept.{Kept}
 use Rattle.wf_script.specs.Script.{Script}
 
 -- The script, and the farm after its orders so far; the node whose tape will fail, if one will; and where the last order was torn: within

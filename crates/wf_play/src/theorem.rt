@@ -4,7 +4,6 @@ ghost use Rattle.std.specs.Prelude.{◌≡◌, true};
 ghost use Rattle.wf_farm.specs.Agreement.{HasOneHistory, IsOneWorld};
 ghost use Rattle.wf_play.specs.Theorem.{HasKeptPromises, HasOwnBallots, HasPromisedMajorities};
 
-use wf_delivery::{kept_promises, own_ballots, promised_majority};
 use wf_farm::Farm;
 
 /// The theorems about the farm, which has all messages, hold of it as it is, whatever led to it.
@@ -18,7 +17,4 @@ pub(crate) fn farm_obeys_theorems(farm: &Farm)
     ensures majorities { HasPromisedMajorities farm.now }
 {
     farm.agree();
-    own_ballots();
-    kept_promises();
-    promised_majority();
 }

@@ -1,23 +1,24 @@
 -- The beginning of a proposal is the table's: with a leadership, in a new round, and for a retry.
-use Rattle.std.proofs.Common.{◌≡◌, ℕ, ◌+◌, max, Bool, true, false, if◌then◌else◌, List, [], ◌∷◌, Option, Some, None, Result, Ok, Err, IfOk, ap, sym, subst, ◌∙◌}
+use Rattle.std.proofs.Common.{◌≡◌, ℕ, ◌+◌, max, Bool, true, false, if◌then◌else◌, [], ◌∷◌, Option, Some, None, Result, Ok, Err, IfOk, ap, sym, subst, ◌∙◌}
 use Rattle.wf_ballot.specs.Ballot.{Ballot}
 use Rattle.wf_def.specs.Definition.{Definition}
 use Rattle.wf_model.specs.Fits.{IsForNext}
 use Rattle.wf_model.specs.DurableState.{HasStored, DurableState, published, next_sequence}
-use Rattle.wf_model.specs.Message.{Vote, Prepare, Accept, from_sequence, vote_of}
+use Rattle.wf_model.specs.Message.{Prepare, Accept, from_sequence, vote_of}
 use Rattle.wf_model.specs.DurableState as stored_part
 use Rattle.wf_model.specs.Table.{Transition, StepRejection, begin_at, stores, only_sends, ask_votes, lead, propose_by, on_propose, on_retry, running_transition, round_known, rounds_full, reject_round}
 use Rattle.wf_model.specs.VolatileState as model
 use Rattle.wf_model.specs.VolatileState.{leading_at, is_in_window, nobody, proposed, carried}
 use Rattle.wf_proposer.specs.Next.{Next, begun, led, transition_at}
-use Rattle.wf_proposer.specs.Proposal.{proposal_of}
 use Rattle.wf_proposer.specs.StepRejection.{rejected_by, IsWhyNot}
 use Rattle.wf_proposer.specs.VolatileState.{leadership_of, leading_of, proposing_of, volatile_from}
 use Rattle.wf_proposer.specs.declared.proposal.Proposal.{Proposal}
 use Rattle.wf_proposer.specs.declared.step_rejection.StepRejection as held
 use Rattle.wf_proposer.specs.declared.volatile.Leadership.{Leadership}
 use Rattle.wf_proposer.specs.declared.volatile.Proposing.{Proposing}
-use Rattle.wf_proposer.specs.declared.volatile.Proposing.TheVariants.{Accepting}
+use Rattle.wf_proposer.specs.declared.volatile.Proposing.TheVariants.{Running}
+use Rattle.wf_proposer.specs.declared.volatile.Phase.{Phase}
+use Rattle.wf_proposer.specs.declared.volatile.Phase.TheVariants.{Accepting}
 use Rattle.wf_proposer.proofs.ResponderSets.{among-nobody}
 
 abbrev Leading : Type 0
@@ -106,7 +107,7 @@ led_under l slot own m =
     record {
       entry = None;
       messages = Accept slot l.ballot (carried (vote_of l.base l.best slot) own) ∷ [];
-      volatile = volatile_from m (Accepting (record { slot = slot; ballot = l.ballot; own = own; responders = 0; seen = 0 }));
+      volatile = volatile_from m (Running (record { slot = slot; ballot = l.ballot; own = own; responders = 0; seen = 0 }) Accepting);
     }
 
 led-transition : (l : Leadership) (o : Option Leadership) (q : Proposing) (me slot : ℕ) (own : Definition) (stored : DurableState Definition) → slot ≡ next_sequence stored →
@@ -160,21 +161,21 @@ first_why why o slot tried sequence stored has after leads_not is =
 -- ---- a retry
 
 -- a retry is for the same sequence, in the round after the highest one known
-again-transition : (next : Next) (o : Option Leadership) (q : Proposing) (p : Proposal) (phase : model.Phase) (best : List (Option (Vote Definition))) (me tried : ℕ) (stored : DurableState Definition) →
-    proposing_of (leading_of o) q ≡ model.Running (proposal_of phase best p) → stored.tried ≡ tried → p.slot ≡ next_sequence stored →
+again-transition : (next : Next) (o : Option Leadership) (q : Proposing) (p : Proposal) (phase : Phase) (me tried : ℕ) (stored : DurableState Definition) →
+    q ≡ Running p phase → stored.tried ≡ tried → p.slot ≡ next_sequence stored →
     next ≡ begun p.slot p.own (record { round = max tried p.seen + 1; node = me }) →
     transition_at o q next ≡ on_retry me stored (volatile_from (leading_of o) q)
 unfolding on_retry round_known
-again-transition next o q p phase best me tried stored runs same for_next is =
+again-transition next o q p phase me tried stored runs same for_next is =
     let W : model.VolatileState Definition = volatile_from (leading_of o) q in
     ap (transition_at o q) (is ∙ ap (λ (r : ℕ). begun p.slot p.own (record { round = max r p.seen + 1; node = me })) (sym same)) ∙
     begun-transition o q me p.slot (max stored.tried p.seen + 1) p.own stored for_next ∙
-    ap (λ (x : model.Proposing Definition). running_transition W x (λ proposal. begin_at me stored proposal.own (round_known stored proposal + 1))) (sym runs)
+    ap (λ (x : Proposing). running_transition W (proposing_of (leading_of o) x) (λ proposal. begin_at me stored proposal.own (round_known stored proposal + 1))) (sym runs)
 
-pub again_answer : (r : Result Next held.StepRejection) (o : Option Leadership) (q : Proposing) (p : Proposal) (phase : model.Phase) (best : List (Option (Vote Definition))) (me tried : ℕ) (stored : DurableState Definition) →
-    proposing_of (leading_of o) q ≡ model.Running (proposal_of phase best p) → stored.tried ≡ tried → IsForNext stored (proposing_of (leading_of o) q) →
+pub again_answer : (r : Result Next held.StepRejection) (o : Option Leadership) (q : Proposing) (p : Proposal) (phase : Phase) (me tried : ℕ) (stored : DurableState Definition) →
+    q ≡ Running p phase → stored.tried ≡ tried → IsForNext stored (proposing_of (leading_of o) q) →
     IfOk r (λ next. next ≡ begun p.slot p.own (record { round = max tried p.seen + 1; node = me })) →
     IfOk r (λ next. transition_at o q next ≡ on_retry me stored (volatile_from (leading_of o) q))
-again_answer (Ok next) o q p phase best me tried stored runs same for_next is =
-    again-transition next o q p phase best me tried stored runs same (subst (IsForNext stored) runs for_next) is
-again_answer (Err e) o q p phase best me tried stored runs same for_next is = is
+again_answer (Ok next) o q p phase me tried stored runs same for_next is =
+    again-transition next o q p phase me tried stored runs same (subst (λ (x : Proposing). IsForNext stored (proposing_of (leading_of o) x)) runs for_next) is
+again_answer (Err e) o q p phase me tried stored runs same for_next is = is

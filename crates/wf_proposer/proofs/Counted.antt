@@ -16,14 +16,16 @@ use Rattle.wf_proposer.specs.Responders.{among}
 use Rattle.wf_proposer.specs.Next.{Next, transition_at, Sends, elect, ended_with, chosen_for, promised_by, voted_by, nacked_by}
 use Rattle.wf_proposer.specs.Proposal.{proposal_of}
 use Rattle.wf_proposer.specs.Proposer.{runs_for}
-use Rattle.wf_proposer.specs.VolatileState.{leading_of, led_votes, proposing_of, volatile_from}
+use Rattle.wf_proposer.specs.VolatileState.{best_of, leading_of, led_votes, phase_of, proposing_of, volatile_from}
 use Rattle.wf_proposer.specs.declared.change.Change.TheVariants as change
 use Rattle.wf_proposer.specs.declared.proposal.Proposal.{Proposal}
 use Rattle.wf_proposer.specs.declared.step_rejection.StepRejection.{StepRejection}
 use Rattle.wf_proposer.specs.declared.step_rejection.StepRejection.TheVariants.{Memory}
 use Rattle.wf_proposer.specs.declared.volatile.Leadership.{Leadership}
 use Rattle.wf_proposer.specs.declared.volatile.Proposing.{Proposing}
-use Rattle.wf_proposer.specs.declared.volatile.Proposing.TheVariants.{Preparing, Accepting, Won, Overtaken}
+use Rattle.wf_proposer.specs.declared.volatile.Proposing.TheVariants.{Running}
+use Rattle.wf_proposer.specs.declared.volatile.Phase.{Phase}
+use Rattle.wf_proposer.specs.declared.volatile.Phase.TheVariants.{Preparing, Accepting}
 use Rattle.wf_proposer.proofs.ResponderSets.{among-nobody}
 
 abbrev Votes : Type 0
@@ -41,21 +43,13 @@ if_false false x y e = refl
 
 -- ---- how a proposal ends
 
-ended_if : (o : Option (model.Leadership Definition)) (s : ℕ) (b : Bool) → proposing_of o (if b then Won s else Overtaken s) ≡ (if b then model.Won s else model.Overtaken s)
-ended_if o s true = refl
-ended_if o s false = refl
-
-pub ended_view : (o : Option (model.Leadership Definition)) (p : Proposal) (d : Definition) → proposing_of o (ended_with p d) ≡ (if definition_eq p.own d then model.Won p.slot else model.Overtaken p.slot)
-ended_view o p d = ended_if o p.slot (definition_eq p.own d)
-
 -- its definition, or another's, is published at its slot
-pub published_there : (o : Option (model.Leadership Definition)) (q : Proposing) (phase : model.Phase) (best : Votes) (p : Proposal) (s : ℕ) (d : Definition) →
-    proposing_of o q ≡ model.Running (proposal_of phase best p) → (p.slot == s) ≡ true →
+pub published_there : (o : Option (model.Leadership Definition)) (q : Proposing) (p : Proposal) (phase : Phase) (s : ℕ) (d : Definition) → q ≡ Running p phase → (p.slot == s) ≡ true →
     volatile_from o (ended_with p d) ≡ (if runs_for s (proposing_of o q) then after_publishing definition_eq (volatile_from o q) d else volatile_from o q)
 unfolding after_publishing ends ended
-published_there o q phase best p s d runs here =
-    ap (λ (x : model.Proposing Definition). record { proposing = x; leadership = o }) (ended_view o p d ∙ ap (λ (x : model.Proposing Definition). ends definition_eq x d) (sym runs)) ∙
-    sym (if_true (runs_for s (proposing_of o q)) (after_publishing definition_eq (volatile_from o q) d) (volatile_from o q) (ap (runs_for s) runs ∙ here))
+published_there o q p phase s d runs here =
+    ap (λ (x : Proposing). after_publishing definition_eq (volatile_from o x) d) (sym runs) ∙
+    sym (if_true (runs_for s (proposing_of o q)) (after_publishing definition_eq (volatile_from o q) d) (volatile_from o q) (ap (λ (x : Proposing). runs_for s (proposing_of o x)) runs ∙ here))
 
 -- ---- promises
 
@@ -67,7 +61,7 @@ from_first s (vote ∷ rest) = if_true (s == s) (vote ∷ rest) (from_sequence (
 
 module _ (o : Option Leadership) (p : Proposal) (best : Votes) (n from : ℕ) (b : Ballot) (report : Report) where
   abbrev W : model.VolatileState Definition
-  W = volatile_from (leading_of o) (Preparing p best)
+  W = volatile_from (leading_of o) (Running p (Preparing best))
 
   abbrev Better : Votes
   Better = better_each best (view_votes report.votes)
@@ -104,11 +98,11 @@ module _ (o : Option Leadership) (p : Proposal) (best : Votes) (n from : ℕ) (b
         };
       }
 
-  elected_transition : transition_at o (Preparing p best) (elect p Better) ≡ asked nobody Better
+  elected_transition : transition_at o (Running p (Preparing best)) (elect p Better) ≡ asked nobody Better
   elected_transition = ap (asked (among 0)) (from_first p.slot Better) ∙ ap (λ (nodes : ℕ → Bool). asked nodes Better) among-nobody
 
   by_majority : (responders : ℕ) (m : Bool) →
-      transition_at o (Preparing p best) (if m then elect p Better else record { entry = None; messages = []; change = change.Promised responders report }) ≡
+      transition_at o (Running p (Preparing best)) (if m then elect p Better else record { entry = None; messages = []; change = change.CountsPromise responders report }) ≡
       (if m then asked nobody Better else quiet (with_proposal W (Responders (among responders))))
   unfolding quiet with_proposal
   by_majority responders true = elected_transition
@@ -118,7 +112,7 @@ module _ (o : Option Leadership) (p : Proposal) (best : Votes) (n from : ℕ) (b
   unfolding promised ask_votes only_sends asking_votes leadership_of proposed
   table_transition nodes = refl
 
-  counted : (responders : ℕ) → IsNewResponse ≡ true → among responders ≡ and_node (among p.responders) from → transition_at o (Preparing p best) (promised_by n p best responders report) ≡ OnPromise
+  counted : (responders : ℕ) → IsNewResponse ≡ true → among responders ≡ and_node (among p.responders) from → transition_at o (Running p (Preparing best)) (promised_by n p best responders report) ≡ OnPromise
   counted responders receives_it set =
       by_majority responders (IsMajority (among responders)) ∙ sym (table_transition (among responders)) ∙ ap (λ (nodes : ℕ → Bool). promised n W (Responders nodes)) set ∙ promised_transition receives_it
 
@@ -129,13 +123,13 @@ module _ (o : Option Leadership) (p : Proposal) (best : Votes) (n from : ℕ) (b
       sym (table_transition (among responders)) ∙ ap (λ (nodes : ℕ → Bool). promised n W (Responders nodes)) set ∙ promised_transition receives_it in
       let some : (asked nobody Better).messages ≡ [] = ap (λ (r : Transition Definition). r.messages) transition ∙ none in absurd cc
 
-  pub promise_ignored : IsNewResponse ≡ false → transition_at o (Preparing p best) (record { entry = None; messages = []; change = change.Nothing }) ≡ OnPromise
+  pub promise_ignored : IsNewResponse ≡ false → transition_at o (Running p (Preparing best)) (record { entry = None; messages = []; change = change.Nothing }) ≡ OnPromise
   unfolding quiet
   promise_ignored e = not_received e
 
   pub promise_counted : (r : Result Next StepRejection) (responders : ℕ) → IsNewResponse ≡ true → among responders ≡ and_node (among p.responders) from → IfOk r (λ next. next ≡ promised_by n p best responders report) →
-      IfOk r (λ next. transition_at o (Preparing p best) next ≡ OnPromise)
-  promise_counted (Ok next) responders receives_it set e = ap (transition_at o (Preparing p best)) e ∙ counted responders receives_it set
+      IfOk r (λ next. transition_at o (Running p (Preparing best)) next ≡ OnPromise)
+  promise_counted (Ok next) responders receives_it set e = ap (transition_at o (Running p (Preparing best))) e ∙ counted responders receives_it set
   promise_counted (Err fault) responders receives_it set e = e
 
   pub promise_sends : (r : Result Next StepRejection) (responders : ℕ) → IsNewResponse ≡ true → among responders ≡ and_node (among p.responders) from →
@@ -147,7 +141,7 @@ module _ (o : Option Leadership) (p : Proposal) (best : Votes) (n from : ℕ) (b
 
 module _ (o : Option Leadership) (p : Proposal) (n from s : ℕ) (b : Ballot) where
   abbrev V : model.VolatileState Definition
-  V = volatile_from (leading_of o) (Accepting p)
+  V = volatile_from (leading_of o) (Running p Accepting)
 
   abbrev Reported : Votes
   Reported = led_votes (leading_of o) p.slot
@@ -188,17 +182,17 @@ module _ (o : Option Leadership) (p : Proposal) (n from s : ℕ) (b : Ballot) wh
   Ended = if definition_eq p.own Asked then model.Won p.slot else model.Overtaken p.slot
 
   by_most : (responders : ℕ) (m : Bool) →
-      transition_at o (Accepting p) (if m then chosen_for p Asked else record { entry = None; messages = []; change = change.Voted responders }) ≡
+      transition_at o (Running p Accepting) (if m then chosen_for p Asked else record { entry = None; messages = []; change = change.CountsVote responders }) ≡
       (if m then published_as Ended else quiet (with_proposal V (With (among responders))))
   unfolding quiet with_proposal
-  by_most responders true = ap published_as (ended_view (leading_of o) p Asked)
+  by_most responders true = refl
   by_most responders false = refl
 
   table_vote_transition : (nodes : ℕ → Bool) → voted definition_eq n V (With nodes) ≡ (if IsAMajority nodes then published_as Ended else quiet (with_proposal V (With nodes)))
   unfolding voted stores ended proposed
   table_vote_transition nodes = refl
 
-  vote_counted : (responders : ℕ) → Waits ≡ true → among responders ≡ and_node (among p.responders) from → transition_at o (Accepting p) (voted_by n p Asked responders) ≡ OnAccepted
+  vote_counted : (responders : ℕ) → Waits ≡ true → among responders ≡ and_node (among p.responders) from → transition_at o (Running p Accepting) (voted_by n p Asked responders) ≡ OnAccepted
   vote_counted responders receives_it set =
       by_most responders (IsAMajority (among responders)) ∙ sym (table_vote_transition (among responders)) ∙ ap (λ (nodes : ℕ → Bool). voted definition_eq n V (With nodes)) set ∙ voted_transition receives_it
 
@@ -209,13 +203,13 @@ module _ (o : Option Leadership) (p : Proposal) (n from s : ℕ) (b : Ballot) wh
       sym (table_vote_transition (among responders)) ∙ ap (λ (nodes : ℕ → Bool). voted definition_eq n V (With nodes)) set ∙ voted_transition receives_it in
       let some : (published_as Ended).messages ≡ [] = ap (λ (r : Transition Definition). r.messages) transition ∙ none in absurd cc
 
-  pub vote_ignored : Waits ≡ false → transition_at o (Accepting p) (record { entry = None; messages = []; change = change.Nothing }) ≡ OnAccepted
+  pub vote_ignored : Waits ≡ false → transition_at o (Running p Accepting) (record { entry = None; messages = []; change = change.Nothing }) ≡ OnAccepted
   unfolding quiet
   vote_ignored e = vote_not_received e
 
   pub vote_transition : (r : Result Next StepRejection) (responders : ℕ) (d : Definition) → Waits ≡ true → among responders ≡ and_node (among p.responders) from → d ≡ Asked → IfOk r (λ next. next ≡ voted_by n p d responders) →
-      IfOk r (λ next. transition_at o (Accepting p) next ≡ OnAccepted)
-  vote_transition (Ok next) responders d receives_it set is_asked e = ap (transition_at o (Accepting p)) (e ∙ ap (λ (x : Definition). voted_by n p x responders) is_asked) ∙ vote_counted responders receives_it set
+      IfOk r (λ next. transition_at o (Running p Accepting) next ≡ OnAccepted)
+  vote_transition (Ok next) responders d receives_it set is_asked e = ap (transition_at o (Running p Accepting)) (e ∙ ap (λ (x : Definition). voted_by n p x responders) is_asked) ∙ vote_counted responders receives_it set
   vote_transition (Err fault) responders d receives_it set is_asked e = e
 
   pub vote_memory : (r : Result Next StepRejection) (responders : ℕ) → Waits ≡ true → among responders ≡ and_node (among p.responders) from →
@@ -225,34 +219,16 @@ module _ (o : Option Leadership) (p : Proposal) (n from s : ℕ) (b : Ballot) wh
 
 -- ---- a Nack
 
--- the proposal with this as the highest round that a Nack reported
-abbrev seeing : model.Phase → Votes → Proposal → ℕ → model.Proposal Definition
-seeing phase best p round = record { sequence = p.slot; ballot = p.ballot; own = p.own; phase = phase; responders = among p.responders; best = best; seen = round }
-
-preparing_nacked : (o : Option Leadership) (p : Proposal) (best : Votes) (round : ℕ) (m : Bool) →
-    transition_at o (Preparing p best) (record { entry = None; messages = []; change = if m then change.Sees round else change.Nothing }) ≡
-    (if m then quiet (with_proposal (volatile_from (leading_of o) (Preparing p best)) (seeing model.Preparing best p round)) else quiet (volatile_from (leading_of o) (Preparing p best)))
+nacked : (o : Option Leadership) (p : Proposal) (phase : Phase) (round : ℕ) (m : Bool) →
+    transition_at o (Running p phase) (record { entry = None; messages = []; change = if m then change.Sees round else change.Nothing }) ≡
+    (if m then quiet (with_proposal (volatile_from (leading_of o) (Running p phase)) (proposal_of (phase_of phase) (best_of (leading_of o) p.slot phase) (record p { seen = round }))) else quiet (volatile_from (leading_of o) (Running p phase)))
 unfolding quiet with_proposal
-preparing_nacked o p best round true = refl
-preparing_nacked o p best round false = refl
+nacked o p phase round true = refl
+nacked o p phase round false = refl
 
-accepting_nacked : (o : Option Leadership) (p : Proposal) (round : ℕ) (m : Bool) →
-    transition_at o (Accepting p) (record { entry = None; messages = []; change = if m then change.Sees round else change.Nothing }) ≡
-    (if m then quiet (with_proposal (volatile_from (leading_of o) (Accepting p)) (seeing model.Accepting (led_votes (leading_of o) p.slot) p round)) else quiet (volatile_from (leading_of o) (Accepting p)))
-unfolding quiet with_proposal
-accepting_nacked o p round true = refl
-accepting_nacked o p round false = refl
-
-pub nack_while_preparing : (o : Option Leadership) (q : Proposing) (p : Proposal) (best : Votes) (next : Next) (s : ℕ) (b promise : Ballot) → q ≡ Preparing p best → next ≡ nacked_by p s b promise →
+pub nack_counted : (o : Option Leadership) (q : Proposing) (p : Proposal) (phase : Phase) (next : Next) (s : ℕ) (b promise : Ballot) → q ≡ Running p phase → next ≡ nacked_by p s b promise →
     transition_at o q next ≡ on_nack (volatile_from (leading_of o) q) s b promise
 unfolding on_nack is_at
-nack_while_preparing o q p best next s b promise is e =
+nack_counted o q p phase next s b promise is e =
     subst (λ (x : Proposing). transition_at o x next ≡ on_nack (volatile_from (leading_of o) x) s b promise) (sym is)
-    (ap (transition_at o (Preparing p best)) e ∙ preparing_nacked o p best (max p.seen promise.round) ((p.slot == s) && same_ballot p.ballot b))
-
-pub nack_while_accepting : (o : Option Leadership) (q : Proposing) (p : Proposal) (next : Next) (s : ℕ) (b promise : Ballot) → q ≡ Accepting p → next ≡ nacked_by p s b promise →
-    transition_at o q next ≡ on_nack (volatile_from (leading_of o) q) s b promise
-unfolding on_nack is_at
-nack_while_accepting o q p next s b promise is e =
-    subst (λ (x : Proposing). transition_at o x next ≡ on_nack (volatile_from (leading_of o) x) s b promise) (sym is)
-    (ap (transition_at o (Accepting p)) e ∙ accepting_nacked o p (max p.seen promise.round) ((p.slot == s) && same_ballot p.ballot b))
+    (ap (transition_at o (Running p phase)) e ∙ nacked o p phase (max p.seen promise.round) ((p.slot == s) && same_ballot p.ballot b))

@@ -23,10 +23,11 @@ use Rattle.wf_proposer.specs.declared.step_rejection.StepRejection.{StepRejectio
 use Rattle.wf_proposer.specs.declared.step_rejection.StepRejection.TheVariants.{Memory}
 use Rattle.wf_proposer.specs.declared.volatile.Leadership.{Leadership}
 use Rattle.wf_proposer.specs.declared.volatile.Proposing.{Proposing}
-use Rattle.wf_proposer.specs.declared.volatile.Proposing.TheVariants.{Preparing, Accepting, Won, Overtaken}
+use Rattle.wf_proposer.specs.declared.volatile.Proposing.TheVariants.{Running, Ended}
+use Rattle.wf_proposer.specs.declared.volatile.Phase.TheVariants.{Preparing, Accepting}
 use Rattle.wf_proposer.specs.declared.volatile.VolatileState.{VolatileState}
 use Rattle.wf_proposer.specs.declared.change.Change.{Change}
-use Rattle.wf_proposer.specs.declared.change.Change.TheVariants.{Nothing, Becomes, Proposes, Promised, Voted, Sees}
+use Rattle.wf_proposer.specs.declared.change.Change.TheVariants.{Nothing, Becomes, Proposes, CountsPromise, CountsVote, Sees}
 
 -- the record to store, None if there is none; the messages to send after that; and the effect of a commit on the volatile state
 pub record Next : Type 0 where
@@ -50,7 +51,7 @@ begun slot own ballot =
       entry = Some (Tried ballot.round);
       messages = Prepare slot ballot ∷ [];
       change = Becomes (record {
-        proposing = Preparing (record { slot = slot; ballot = ballot; own = own; responders = 0; seen = 0 }) [];
+        proposing = Running (record { slot = slot; ballot = ballot; own = own; responders = 0; seen = 0 }) (Preparing []);
         leadership = None;
       });
     }
@@ -61,7 +62,7 @@ led leadership slot own =
     record {
       entry = None;
       messages = Accept slot leadership.ballot (carried (vote_of leadership.base leadership.best slot) own) ∷ [];
-      change = Proposes (Accepting (record { slot = slot; ballot = leadership.ballot; own = own; responders = 0; seen = 0 }));
+      change = Proposes (Running (record { slot = slot; ballot = leadership.ballot; own = own; responders = 0; seen = 0 }) Accepting);
     }
 
 -- the leadership once a majority has promised, with these best votes
@@ -75,7 +76,7 @@ elected_for p best d =
       entry = None;
       messages = Accept p.slot p.ballot d ∷ [];
       change = Becomes (record {
-        proposing = Accepting (record p { responders = 0 });
+        proposing = Running (record p { responders = 0 }) Accepting;
         leadership = Some (leadership_from p best);
       });
     }
@@ -88,11 +89,11 @@ abbrev pub promised_by : ℕ → Proposal → List (Option (Vote Definition)) �
 promised_by n p best responders report =
     if are_majority n responders
     then elect p (better_each best (view_votes report.votes))
-    else record { entry = None; messages = []; change = Promised responders report }
+    else record { entry = None; messages = []; change = CountsPromise responders report }
 
 -- how the proposal ends if d is published at its slot
 abbrev pub ended_with : Proposal → Definition → Proposing
-ended_with p d = if definition_eq p.own d then Won p.slot else Overtaken p.slot
+ended_with p d = Ended p.slot (definition_eq p.own d)
 
 -- the result once a majority has voted for d
 abbrev pub chosen_for : Proposal → Definition → Next
@@ -108,7 +109,7 @@ abbrev pub voted_by : ℕ → Proposal → Definition → ℕ → Next
 voted_by n p d responders =
     if are_majority n responders
     then chosen_for p d
-    else record { entry = None; messages = []; change = Voted responders }
+    else record { entry = None; messages = []; change = CountsVote responders }
 
 -- the result after a Nack of this ballot at the slot, with the promise
 abbrev pub nacked_by : Proposal → ℕ → Ballot → Ballot → Next

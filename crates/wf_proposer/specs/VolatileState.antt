@@ -1,5 +1,5 @@
 -- The volatile state of a node, as in wf_model.
-use Rattle.std.specs.Prelude.{ℕ, List, [], Option, Some, None, option_map}
+use Rattle.std.specs.Prelude.{ℕ, List, [], Option, Some, None, option_map, if◌then◌else◌}
 use Rattle.wf_def.specs.Definition.{Definition}
 use Rattle.wf_model.specs.Message.{Vote, from_sequence}
 use Rattle.wf_model.specs.VolatileState as model
@@ -7,7 +7,9 @@ use Rattle.wf_proposer.specs.Proposal.{proposal_of}
 use Rattle.wf_proposer.specs.declared.proposal.Proposal.{Proposal}
 use Rattle.wf_proposer.specs.declared.volatile.Leadership.{Leadership}
 use Rattle.wf_proposer.specs.declared.volatile.Proposing.{Proposing}
-use Rattle.wf_proposer.specs.declared.volatile.Proposing.TheVariants.{Idle, Preparing, Accepting, Won, Overtaken}
+use Rattle.wf_proposer.specs.declared.volatile.Proposing.TheVariants.{Idle, Running, Ended}
+use Rattle.wf_proposer.specs.declared.volatile.Phase.{Phase}
+use Rattle.wf_proposer.specs.declared.volatile.Phase.TheVariants.{Preparing, Accepting}
 use Rattle.wf_proposer.specs.declared.volatile.VolatileState.{VolatileState}
 
 abbrev pub leadership_of : Leadership → model.Leadership Definition
@@ -21,12 +23,19 @@ abbrev pub led_votes : Option (model.Leadership Definition) → ℕ → List (Op
 led_votes None s = []
 led_votes (Some leadership) s = from_sequence leadership.base leadership.best s
 
+-- the phase of a proposal, and the best votes of one at s
+abbrev pub phase_of : Phase → model.Phase
+phase_of (Preparing best) = model.Preparing
+phase_of Accepting = model.Accepting
+
+abbrev pub best_of : Option (model.Leadership Definition) → ℕ → Phase → List (Option (Vote Definition))
+best_of leadership s (Preparing best) = best
+best_of leadership s Accepting = led_votes leadership s
+
 abbrev pub proposing_of : Option (model.Leadership Definition) → Proposing → model.Proposing Definition
 proposing_of leadership Idle = model.Idle
-proposing_of leadership (Preparing p best) = model.Running (proposal_of model.Preparing best p)
-proposing_of leadership (Accepting p) = model.Running (proposal_of model.Accepting (led_votes leadership p.slot) p)
-proposing_of leadership (Won s) = model.Won s
-proposing_of leadership (Overtaken s) = model.Overtaken s
+proposing_of leadership (Running p phase) = model.Running (proposal_of (phase_of phase) (best_of leadership p.slot phase) p)
+proposing_of leadership (Ended s is_own) = if is_own then model.Won s else model.Overtaken s
 
 -- the volatile state of this leadership and proposal
 abbrev pub volatile_from : Option (model.Leadership Definition) → Proposing → model.VolatileState Definition
@@ -37,7 +46,7 @@ volatile_of volatile = volatile_from (leading_of volatile.leadership) volatile.p
 
 -- the volatile state while this proposal asks for promises, with the best votes so far; and while it asks for votes
 abbrev pub preparing : Option Leadership → Proposal → List (Option (Vote Definition)) → VolatileState
-preparing leadership p best = record { proposing = Preparing p best; leadership = leadership }
+preparing leadership p best = record { proposing = Running p (Preparing best); leadership = leadership }
 
 abbrev pub accepting : Option Leadership → Proposal → VolatileState
-accepting leadership p = record { proposing = Accepting p; leadership = leadership }
+accepting leadership p = record { proposing = Running p Accepting; leadership = leadership }

@@ -12,9 +12,9 @@ pub enum Change {
     /// What is proposed now, or how it ended; a leadership stays.
     Proposes(Proposing),
     /// These nodes have promised, and this is the report of the last one.
-    Promised(Responders, Report),
+    CountsPromise(Responders, Report),
     /// These nodes have voted.
-    Voted(Responders),
+    CountsVote(Responders),
     /// The highest round that a Nack reported.
     Sees(u32),
 }

@@ -4,7 +4,7 @@ use crate::change::Change;
 use crate::next::Next;
 use crate::responders::Responders;
 use crate::step_rejection::StepRejection;
-use crate::volatile::{Leadership, Proposing, VolatileState};
+use crate::volatile::{Leadership, Phase, Proposing, VolatileState};
 use std::alloc::{AllocError, Global};
 use wf_ballot::{Ballot, NodeId, Round, Slot};
 use wf_canon::Canon;
@@ -57,7 +57,7 @@ impl Proposal {
     {
         let proposal = Proposal::new(slot, ballot, own);
         let volatile = VolatileState {
-            proposing: Proposing::Preparing(proposal, BestVotes::none()),
+            proposing: Proposing::Running(proposal, Phase::Preparing(BestVotes::none())),
             leadership: None,
         };
         let tried = Record::Tried(Round::of(ballot));
@@ -172,7 +172,7 @@ impl Proposal {
         ensures next { IfOk result (λ next. next ≡ promised_by n self.now best.now responders report) }
     {
         if !responders.is_majority(n) {
-            return Ok(Next::quiet(alloc, Change::Promised(responders, report)));
+            return Ok(Next::quiet(alloc, Change::CountsPromise(responders, report)));
         }
         let next = self.elect(alloc, best, report)?;
         Ok(next)
@@ -230,7 +230,7 @@ impl Proposal {
     /// The volatile state once votes are asked for; `own` is a copy of the proposal's own definition.
     fn lead_by(&self, own: Canon, best: BestVotes) -> VolatileState
         ensures { result ≡ record {
-          proposing = Proposing.Accepting (record self.now { own = own; responders = 0 });
+          proposing = Proposing.Running (record self.now { own = own; responders = 0 }) Phase.Accepting;
           leadership = Some (leadership_from self.now best);
         } }
     {
@@ -242,7 +242,7 @@ impl Proposal {
             best,
         };
         VolatileState {
-            proposing: Proposing::Accepting(proposal),
+            proposing: Proposing::Running(proposal, Phase::Accepting),
             leadership: Some(leadership),
         }
     }
@@ -301,7 +301,7 @@ impl Proposal {
         ensures next { IfOk result (λ next. next ≡ voted_by n self.now canon.now responders) }
     {
         if !responders.is_majority(n) {
-            return Ok(Next::quiet(alloc, Change::Voted(responders)));
+            return Ok(Next::quiet(alloc, Change::CountsVote(responders)));
         }
         let next = self.publishes(alloc, canon)?;
         Ok(next)
@@ -329,11 +329,7 @@ impl Proposal {
     pub fn ended(&self, canon: &Canon) -> Proposing
         ensures { result ≡ ended_with self.now canon.now }
     {
-        if self.own == *canon {
-            Proposing::Won(self.slot)
-        } else {
-            Proposing::Overtaken(self.slot)
-        }
+        Proposing::Ended(self.slot, self.own == *canon)
     }
 
     /// A Nack arrived: the highest reported round is kept for the next attempt. Doesn't allocate.

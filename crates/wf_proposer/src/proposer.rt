@@ -8,7 +8,7 @@ use crate::next::Next;
 use crate::proposal::{Proposal, ignore};
 use crate::proposal_state::ProposalState;
 use crate::step_rejection::StepRejection;
-use crate::volatile::{Leadership, Proposing, VolatileState};
+use crate::volatile::{Leadership, Phase, Proposing, VolatileState};
 use std::alloc::Global;
 use std::marker::Model;
 use wf_ballot::{Ballot, NodeId, ROUNDS, Seq, Slot};
@@ -94,10 +94,9 @@ impl Proposer {
     {
         match &self.volatile.proposing {
             Proposing::Idle => ProposalState::None,
-            Proposing::Preparing(_, _) => ProposalState::Running,
-            Proposing::Accepting(_) => ProposalState::Running,
-            Proposing::Won(slot) => ProposalState::Published(*slot),
-            Proposing::Overtaken(slot) => ProposalState::Overtaken(*slot),
+            Proposing::Running(_, _) => ProposalState::Running,
+            Proposing::Ended(slot, true) => ProposalState::Published(*slot),
+            Proposing::Ended(slot, false) => ProposalState::Overtaken(*slot),
         }
     }
 
@@ -119,13 +118,11 @@ impl Proposer {
             Returns self.now.volatile (propose_transition self.now stored own) result) }
     {
         match &self.volatile.proposing {
-            Proposing::Preparing(_, _) | Proposing::Accepting(_) => {
+            Proposing::Running(_, _) => {
                 drop(own);
                 Err(StepRejection::Busy)
             }
-            Proposing::Idle => self.begin(alloc, tried, published, own),
-            Proposing::Won(_) => self.begin(alloc, tried, published, own),
-            Proposing::Overtaken(_) => self.begin(alloc, tried, published, own),
+            _ => self.begin(alloc, tried, published, own),
         }
     }
 
@@ -178,11 +175,8 @@ impl Proposer {
             Returns self.now.volatile (retry_transition self.now stored) result) }
     {
         match &self.volatile.proposing {
-            Proposing::Preparing(proposal, _) => proposal.again(alloc, self.node, tried),
-            Proposing::Accepting(proposal) => proposal.again(alloc, self.node, tried),
-            Proposing::Idle => Err(StepRejection::Nothing),
-            Proposing::Won(_) => Err(StepRejection::Nothing),
-            Proposing::Overtaken(_) => Err(StepRejection::Nothing),
+            Proposing::Running(proposal, _) => proposal.again(alloc, self.node, tried),
+            _ => Err(StepRejection::Nothing),
         }
     }
 
@@ -195,10 +189,8 @@ impl Proposer {
             IsWhyNot (start_step_rejection self.now stored) result) }
     {
         match &self.volatile.proposing {
-            Proposing::Preparing(_, _) | Proposing::Accepting(_) => Some(StepRejection::Busy),
-            Proposing::Idle => self.begin_step_rejection(tried, published),
-            Proposing::Won(_) => self.begin_step_rejection(tried, published),
-            Proposing::Overtaken(_) => self.begin_step_rejection(tried, published),
+            Proposing::Running(_, _) => Some(StepRejection::Busy),
+            _ => self.begin_step_rejection(tried, published),
         }
     }
 
@@ -220,11 +212,8 @@ impl Proposer {
         ensures { ForTried tried (λ stored. IsWhyNot (retry_step_rejection self.now stored) result) }
     {
         match &self.volatile.proposing {
-            Proposing::Preparing(proposal, _) => rounds_step_rejection(tried.max(proposal.seen)),
-            Proposing::Accepting(proposal) => rounds_step_rejection(tried.max(proposal.seen)),
-            Proposing::Idle => Some(StepRejection::Nothing),
-            Proposing::Won(_) => Some(StepRejection::Nothing),
-            Proposing::Overtaken(_) => Some(StepRejection::Nothing),
+            Proposing::Running(proposal, _) => rounds_step_rejection(tried.max(proposal.seen)),
+            _ => Some(StepRejection::Nothing),
         }
     }
 
@@ -244,13 +233,13 @@ impl Proposer {
             (promise_transition self.now.nodes self.now.volatile from ballot report) result }
     {
         match &self.volatile.proposing {
-            Proposing::Preparing(proposal, best) => {
-                proposal.on_promise(alloc, self.nodes, best, from, ballot, report)
-            }
-            Proposing::Idle => ignore(alloc, report),
-            Proposing::Accepting(_) => ignore(alloc, report),
-            Proposing::Won(_) => ignore(alloc, report),
-            Proposing::Overtaken(_) => ignore(alloc, report),
+            Proposing::Running(proposal, phase) => match phase {
+                Phase::Preparing(best) => {
+                    proposal.on_promise(alloc, self.nodes, best, from, ballot, report)
+                }
+                Phase::Accepting => ignore(alloc, report),
+            },
+            _ => ignore(alloc, report),
         }
     }
 
@@ -270,14 +259,14 @@ impl Proposer {
             (accepted_transition self.now.nodes self.now.volatile from slot ballot) result }
     {
         match &self.volatile.proposing {
-            Proposing::Accepting(proposal) => {
-                let leadership = &self.volatile.leadership;
-                proposal.on_accepted(alloc, self.nodes, leadership, from, slot, ballot)
-            }
-            Proposing::Idle => Ok(Next::quiet(alloc, Change::Nothing)),
-            Proposing::Preparing(_, _) => Ok(Next::quiet(alloc, Change::Nothing)),
-            Proposing::Won(_) => Ok(Next::quiet(alloc, Change::Nothing)),
-            Proposing::Overtaken(_) => Ok(Next::quiet(alloc, Change::Nothing)),
+            Proposing::Running(proposal, phase) => match phase {
+                Phase::Preparing(_) => Ok(Next::quiet(alloc, Change::Nothing)),
+                Phase::Accepting => {
+                    let leadership = &self.volatile.leadership;
+                    proposal.on_accepted(alloc, self.nodes, leadership, from, slot, ballot)
+                }
+            },
+            _ => Ok(Next::quiet(alloc, Change::Nothing)),
         }
     }
 
@@ -288,11 +277,8 @@ impl Proposer {
             table.on_nack (volatile_of self.now) slot ballot promised }
     {
         match &self.volatile.proposing {
-            Proposing::Preparing(proposal, _) => proposal.on_nack(alloc, slot, ballot, promised),
-            Proposing::Accepting(proposal) => proposal.on_nack(alloc, slot, ballot, promised),
-            Proposing::Idle => Next::quiet(alloc, Change::Nothing),
-            Proposing::Won(_) => Next::quiet(alloc, Change::Nothing),
-            Proposing::Overtaken(_) => Next::quiet(alloc, Change::Nothing),
+            Proposing::Running(proposal, _) => proposal.on_nack(alloc, slot, ballot, promised),
+            _ => Next::quiet(alloc, Change::Nothing),
         }
     }
 
@@ -319,22 +305,11 @@ impl Proposer {
         ensures node { self.new.node ≡ self.old.node }
         ensures nodes { self.new.nodes ≡ self.old.nodes }
     {
-        match &self.volatile.proposing {
-            Proposing::Preparing(proposal, _) => {
-                if proposal.is_for(slot) {
-                    let ended = proposal.ended(canon);
-                    self.volatile.proposes(ended);
-                }
-            }
-            Proposing::Accepting(proposal) => {
-                if proposal.is_for(slot) {
-                    let ended = proposal.ended(canon);
-                    self.volatile.proposes(ended);
-                }
-            }
-            Proposing::Idle => {}
-            Proposing::Won(_) => {}
-            Proposing::Overtaken(_) => {}
+        if let Proposing::Running(proposal, _) = &self.volatile.proposing
+            && proposal.is_for(slot)
+        {
+            let ended = proposal.ended(canon);
+            self.volatile.proposes(ended);
         }
     }
 }

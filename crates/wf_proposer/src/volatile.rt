@@ -27,14 +27,19 @@ pub struct VolatileState {
 pub enum Proposing {
     /// No proposal yet.
     Idle,
-    /// This one is running, and asks for promises; these are the best votes reported so far.
-    Preparing(Proposal, BestVotes),
-    /// This one is running, and asks for votes; the best votes reported are those of the leadership.
-    Accepting(Proposal),
-    /// The last one ended: its own definition is the one published at the slot.
-    Won(Slot),
-    /// The last one ended: another's definition is published at the slot.
-    Overtaken(Slot),
+    /// This one is running, in this phase.
+    Running(Proposal, Phase),
+    /// The last one ended: a definition is published at its slot, and this is whether it is its own.
+    Ended(Slot, bool),
+}
+
+/// A running proposal first asks for promises, then for votes.
+#[derive(Drop)]
+pub enum Phase {
+    /// It asks for promises; these are the best votes reported so far.
+    Preparing(BestVotes),
+    /// It asks for votes; the best votes reported are those of the leadership.
+    Accepting,
 }
 
 /// A majority promised the ballot at `base` and all later slots, so no promises need to be asked for at the first few of them.
@@ -60,8 +65,10 @@ impl VolatileState {
             Change::Nothing => {}
             Change::Becomes(next) => self.becomes(next),
             Change::Proposes(next) => self.proposes(next),
-            Change::Promised(responders, report) => self.proposing.promised(responders, report),
-            Change::Voted(responders) => self.proposing.voted(responders),
+            Change::CountsPromise(responders, report) => self
+                .proposing
+                .promised(responders, report),
+            Change::CountsVote(responders) => self.proposing.voted(responders),
             Change::Sees(round) => self.proposing.see(round),
         }
     }
@@ -90,38 +97,30 @@ impl Proposing {
         ensures { self.new ≡ with_promise responders report.votes self.old }
     {
         match self {
-            Proposing::Preparing(proposal, best) => {
-                proposal.responders = responders;
-                best.improve(report);
-            }
-            Proposing::Idle => drop(report),
-            Proposing::Accepting(_) => drop(report),
-            Proposing::Won(_) => drop(report),
-            Proposing::Overtaken(_) => drop(report),
+            Proposing::Running(proposal, phase) => match phase {
+                Phase::Preparing(best) => {
+                    proposal.responders = responders;
+                    best.improve(report);
+                }
+                Phase::Accepting => drop(report),
+            },
+            _ => drop(report),
         }
     }
 
     fn voted(&mut self, responders: Responders)
         ensures { self.new ≡ with_vote responders self.old }
     {
-        match self {
-            Proposing::Accepting(proposal) => proposal.responders = responders,
-            Proposing::Idle => {}
-            Proposing::Preparing(_, _) => {}
-            Proposing::Won(_) => {}
-            Proposing::Overtaken(_) => {}
+        if let Proposing::Running(proposal, Phase::Accepting) = self {
+            proposal.responders = responders;
         }
     }
 
     fn see(&mut self, round: u32)
         ensures { self.new ≡ with_seen round self.old }
     {
-        match self {
-            Proposing::Preparing(proposal, _) => proposal.seen = round,
-            Proposing::Accepting(proposal) => proposal.seen = round,
-            Proposing::Idle => {}
-            Proposing::Won(_) => {}
-            Proposing::Overtaken(_) => {}
+        if let Proposing::Running(proposal, _) = self {
+            proposal.seen = round;
         }
     }
 }
@@ -159,7 +158,7 @@ impl Leadership {
             Ok(canon) => {
                 let proposal = Proposal::new(slot, self.ballot, own);
                 let message = Message::Accept(slot, self.ballot, canon);
-                let change = Change::Proposes(Proposing::Accepting(proposal));
+                let change = Change::Proposes(Proposing::Running(proposal, Phase::Accepting));
                 Next::only_sends(alloc, None, message, change)
             }
             Err(fault) => {

@@ -3,10 +3,10 @@ use Rattle.std.proofs.Common.{◌≡◌, ◌∙◌, ℕ, List, ◌++◌, length,
 use Rattle.wf_ballot.specs.Sequence.{seq_bytes}
 use Rattle.wf_def.specs.Definition.{Definition}
 use Rattle.wf_reader.proofs.Parts.{drop_front, joined, length_of_sequence, take_front}
-use Rattle.wf_reader.specs.Answer.{Answer}
+use Rattle.wf_reader.specs.ReaderAnswer.{ReaderAnswer}
 use Rattle.wf_reader.specs.Reply.{answer_fields, texts_bytes}
 
-pub fields_parts : (b r p d t : List ℕ) → p ≡ take 2 b → r ≡ drop 2 b → d ≡ take 32 r → t ≡ drop 32 r → (a : Answer) → length a.digest ≡ 32 → b ≡ answer_fields a →
+pub fields_parts : (b r p d t : List ℕ) → p ≡ take 2 b → r ≡ drop 2 b → d ≡ take 32 r → t ≡ drop 32 r → (a : ReaderAnswer) → length a.digest ≡ 32 → b ≡ answer_fields a →
     (p ≡ seq_bytes a.published) × (d ≡ a.digest) × (t ≡ texts_bytes a.definitions)
 unfolding answer_fields
 fields_parts b r p d t ep er ed et a digest e =
@@ -16,7 +16,7 @@ fields_parts b r p d t ep er ed et a digest e =
       et ∙ drop_front 32 r a.digest _ digest behind,
     )
 
-pub fields_whole : (b r p d t : List ℕ) → p ≡ take 2 b → r ≡ drop 2 b → d ≡ take 32 r → t ≡ drop 32 r → (a : Answer) → p ≡ seq_bytes a.published → a.digest ≡ d → t ≡ texts_bytes a.definitions → b ≡ answer_fields a
+pub fields_whole : (b r p d t : List ℕ) → p ≡ take 2 b → r ≡ drop 2 b → d ≡ take 32 r → t ≡ drop 32 r → (a : ReaderAnswer) → p ≡ seq_bytes a.published → a.digest ≡ d → t ≡ texts_bytes a.definitions → b ≡ answer_fields a
 unfolding answer_fields
 fields_whole b r p d t ep er ed et a published digest texts =
     joined 2 b p r ep er ∙ ap (λ (x : List ℕ). p ++ x) (joined 32 r d t ed et)
@@ -24,9 +24,9 @@ fields_whole b r p d t ep er ed et a published digest texts =
     ∙ ap (λ (x : List ℕ). seq_bytes a.published ++ (x ++ t)) (sym digest)
     ∙ ap (λ (x : List ℕ). seq_bytes a.published ++ (a.digest ++ x)) texts
 
-pub same_answer : (a b : Answer) → a.distance ≡ b.distance → a.published ≡ b.published → a.digest ≡ b.digest → a.definitions ≡ b.definitions → a ≡ b
+pub same_answer : (a b : ReaderAnswer) → a.distance ≡ b.distance → a.published ≡ b.published → a.digest ≡ b.digest → a.definitions ≡ b.definitions → a ≡ b
 same_answer a b distance published digest definitions =
-    let made : ℕ → ℕ → List ℕ → List Definition → Answer = λ n p g l. record { distance = n; published = p; digest = g; definitions = l } in
+    let made : ℕ → ℕ → List ℕ → List Definition → ReaderAnswer = λ n p g l. record { distance = n; published = p; digest = g; definitions = l } in
     ap (λ (n : ℕ). made n a.published a.digest a.definitions) distance
     ∙ ap (λ (p : ℕ). made b.distance p a.digest a.definitions) published
     ∙ ap (λ (g : List ℕ). made b.distance b.published g a.definitions) digest

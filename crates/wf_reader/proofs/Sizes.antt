@@ -9,7 +9,7 @@ use Rattle.wf_def.specs.Definition.{Definition}
 use Rattle.wf_frame.specs.Report.{text_bytes}
 use Rattle.wf_model.specs.Table.{most_reports}
 use Rattle.wf_reader.proofs.Parts.{drop_front, joined, length_of_sequence, take_front}
-use Rattle.wf_reader.specs.Answer.{Answer}
+use Rattle.wf_reader.specs.ReaderAnswer.{ReaderAnswer}
 use Rattle.wf_reader.specs.Reply.{AreTexts, IsReply, answer_fields, body_bytes, cause_sequence, most_body_bytes, most_reply_bytes, reply_bytes, texts_bytes}
 use Rattle.wf_reader.specs.declared.reply.Reply.{Reply}
 use Rattle.wf_reader.specs.declared.reply.Reply.TheVariants as replies
@@ -36,7 +36,7 @@ texts_within [] texts = omega arith
 texts_within (d ∷ definitions) texts =
     omega (arith, length-append (text_bytes (canon d)) (texts_bytes definitions), length_of_text (canon d), texts.0.short, texts_within definitions texts.1)
 
-pub length_of_fields : (a : Answer) → length a.digest ≡ 32 → length (answer_fields a) ≡ 34 + length (texts_bytes a.definitions)
+pub length_of_fields : (a : ReaderAnswer) → length a.digest ≡ 32 → length (answer_fields a) ≡ 34 + length (texts_bytes a.definitions)
 unfolding answer_fields
 length_of_fields a digest =
     omega (arith, length-append (seq_bytes a.published) (a.digest ++ texts_bytes a.definitions), length_of_sequence a.published, length-append a.digest (texts_bytes a.definitions), digest)

@@ -2,7 +2,7 @@
 use Rattle.std.proofs.Common.{◌≡◌, ◌≢◌, ◌∙◌, ℕ, ◌+◌, ◌-◌, ◌≤◌, ◌<◌, List, [], ◌∷◌, ◌++◌, length, refl, sym, ap, subst, arith, length-append, append_assoc, append-nil}
 use Rattle.std.specs.Int.{w32, to_be_bytes}
 use Rattle.std.specs.Prelude.{◌^◌, Result, Ok, Err, MatchResult}
-use Rattle.wf_canon.specs.StepRejection.{IsWhyRejected}
+use Rattle.wf_canon.specs.CanonFault.{IsWhyRejected}
 use Rattle.wf_codec.specs.Message.{HasText}
 use Rattle.wf_def.specs.Definition.{Definition}
 use Rattle.wf_frame.specs.Report.{text_bytes}

@@ -3,7 +3,7 @@ use Rattle.std.specs.Prelude.{◌≡◌, ◌≢◌, ℕ, ◌<◌, ◌≤◌, Lis
 use Rattle.wf_def.specs.Definition.{Definition}
 use Rattle.wf_digest.specs.Digest.{digest_at}
 use Rattle.wf_model.specs.Table.{most_reports}
-use Rattle.wf_reader.specs.Answer.{Answer, most_distance}
+use Rattle.wf_reader.specs.ReaderAnswer.{ReaderAnswer, most_distance}
 use Rattle.wf_reader.specs.declared.answerer.Answerer.{Answerer}
 use Rattle.wf_reader.specs.declared.question.Question.{Question}
 use Rattle.wf_reader.specs.declared.rejection.QuestionRejection.{QuestionRejection}
@@ -25,7 +25,7 @@ pub record IsReceived (own : Answerer) (q : Question) : Type 0 where
   pub farm : q.farm ≡ own.farm
   pub near : own.distance ≤ most_distance
 
-pub record IsAnswerTo (own : Answerer) (history : List Definition) (q : Question) (a : Answer) : Type 0 where
+pub record IsAnswerTo (own : Answerer) (history : List Definition) (q : Question) (a : ReaderAnswer) : Type 0 where
   pub received : IsReceived own q
   pub agree : ¬ Differ history q
   pub distance : a.distance ≡ own.distance

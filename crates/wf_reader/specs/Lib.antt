@@ -1,4 +1,4 @@
-pub mod Answer
+pub mod ReaderAnswer
 pub mod Answerer
 pub mod Question
 pub mod ReplyReader

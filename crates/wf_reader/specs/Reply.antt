@@ -6,7 +6,7 @@ use Rattle.wf_codec.specs.Message.{HasText}
 use Rattle.wf_def.specs.Definition.{Definition}
 use Rattle.wf_frame.specs.Report.{text_bytes}
 use Rattle.wf_model.specs.Table.{most_reports}
-use Rattle.wf_reader.specs.Answer.{Answer, most_distance}
+use Rattle.wf_reader.specs.ReaderAnswer.{ReaderAnswer, most_distance}
 use Rattle.wf_reader.specs.declared.rejection.QuestionRejection.{QuestionRejection}
 use Rattle.wf_reader.specs.declared.rejection.QuestionRejection.TheVariants as causes
 use Rattle.wf_reader.specs.declared.reply.Reply.{Reply}
@@ -19,7 +19,7 @@ AreTexts [] = Unit {0}
 AreTexts (d ∷ definitions) = HasText d × AreTexts definitions
 
 -- an answer: its distance, its published sequence, a digest of 32 bytes, and at most eight definitions
-pub record IsAnswer (a : Answer) : Type 0 where
+pub record IsAnswer (a : ReaderAnswer) : Type 0 where
   pub distance : a.distance ≤ most_distance
   pub published : IsSequence a.published
   pub digest : length a.digest ≡ 32
@@ -42,10 +42,10 @@ texts_bytes [] = []
 texts_bytes (d ∷ definitions) = text_bytes (canon d) ++ texts_bytes definitions
 
 -- an answer: a 1, its distance (1 byte), its published sequence (2), the digest (32) and the texts
-unfoldable pub answer_fields : Answer → List ℕ
+unfoldable pub answer_fields : ReaderAnswer → List ℕ
 answer_fields a = seq_bytes a.published ++ (a.digest ++ texts_bytes a.definitions)
 
-abbrev pub answer_bytes : Answer → List ℕ
+abbrev pub answer_bytes : ReaderAnswer → List ℕ
 answer_bytes a = (1 ∷ a.distance ∷ []) ++ answer_fields a
 
 -- a rejection: a 2, its cause, and a sequence

@@ -10,19 +10,19 @@ pub const MOST_DISTANCE: u8 = 4;
 /// An answer: how far from a voter it comes, what the answerer has published, and the definitions at the sequences after the reader's
 /// last one, eight at most.
 #[derive(Drop)]
-pub struct Answer {
+pub struct ReaderAnswer {
     distance: u8,
     published: Seq,
     digest: [u8; 32],
     definitions: Vec<Canon>,
 }
 
-impl Model for Answer {
+impl Model for ReaderAnswer {
     ghost use Rattle.std.specs.Prelude.{◌≤◌, length};
     ghost use Rattle.wf_model.specs.Table.{most_reports};
-    ghost use Rattle.wf_reader.specs.Answer.{Answer, most_distance};
+    ghost use Rattle.wf_reader.specs.ReaderAnswer.{ReaderAnswer, most_distance};
 
-    ghost Value = { Answer };
+    ghost Value = { ReaderAnswer };
 
     ghost view = { λ a. record {
       distance = a.distance;
@@ -34,19 +34,24 @@ impl Model for Answer {
     ghost invariant = { λ a. (a.distance ≤ most_distance) × (length a.definitions.items ≤ most_reports) };
 }
 
-impl Answer {
+impl ReaderAnswer {
     ghost use Rattle.std.specs.Prelude.{◌≡◌, ◌≤◌, length};
     ghost use Rattle.wf_ballot.specs.Sequence.{IsSequence};
     ghost use Rattle.wf_model.specs.Table.{most_reports};
-    ghost use Rattle.wf_reader.specs.Answer.{most_distance};
+    ghost use Rattle.wf_reader.specs.ReaderAnswer.{most_distance};
 
     /// The answer of these parts.
-    pub fn new(distance: u8, published: Seq, digest: [u8; 32], definitions: Vec<Canon>) -> Answer
+    pub fn new(
+        distance: u8,
+        published: Seq,
+        digest: [u8; 32],
+        definitions: Vec<Canon>,
+    ) -> ReaderAnswer
         requires near { distance ≤ most_distance }
         requires few { length definitions.items ≤ most_reports }
         ensures { result ≡ record { distance = distance; published = published; digest = digest; definitions = definitions.items } }
     {
-        Answer {
+        ReaderAnswer {
             distance,
             published,
             digest,
@@ -90,7 +95,7 @@ impl Answer {
     pub fn into_definitions(self) -> Vec<Canon>
         ensures { result.items ≡ self.definitions }
     {
-        let Answer { definitions, .. } = self;
+        let ReaderAnswer { definitions, .. } = self;
         definitions
     }
 }

@@ -6,7 +6,7 @@ ghost use Rattle.wf_model.specs.DurableState.{definition_at};
 ghost use Rattle.wf_model.specs.Table.{most_reports};
 ghost use Rattle.wf_reader.specs.Answerer.{Differ, IsReplyTo, next_reported};
 
-use crate::answer::{Answer, MOST_DISTANCE};
+use crate::answer::{MOST_DISTANCE, ReaderAnswer};
 use crate::question::Question;
 use crate::rejection::QuestionRejection;
 use crate::reply::Reply;
@@ -52,7 +52,7 @@ pub fn reply_to(
         return Err(AllocError);
     };
     let definitions = definitions_after(alloc, history, question.published)?;
-    Ok(Reply::Answer(Answer::new(own.distance, published, digest, definitions)))
+    Ok(Reply::Answer(ReaderAnswer::new(own.distance, published, digest, definitions)))
 }
 
 /// Whether the digests differ at the reader's last published sequence.

@@ -1,7 +1,7 @@
 //! What is said at a readers' port: a replica's questions, and the replies of whoever has the farm's history.
 //!
 //! A [`Question`] says which farm a reader is of, its last published sequence, and the digest of its history up to that. The
-//! [`Reply`] is an [`Answer`], with the definitions at the next sequences, eight at most, or a [`QuestionRejection`]. Each question has one reply, and one
+//! [`Reply`] is an [`ReaderAnswer`], with the definitions at the next sequences, eight at most, or a [`QuestionRejection`]. Each question has one reply, and one
 //! question is asked at a time.
 //!
 //! Promises: each question and each reply has exactly one encoding, and nothing else is decoded as it (`specs/Question.antt`,
@@ -22,7 +22,7 @@ mod reply;
 mod reply_decoder;
 mod reply_encoder;
 
-pub use answer::{Answer, MOST_DISTANCE};
+pub use answer::{MOST_DISTANCE, ReaderAnswer};
 pub use answerer::{Answerer, reply_to};
 pub use fault::{QuestionFault, ReplyFault};
 pub use question::{QUESTION_BYTES, Question, READER_VERSION};

@@ -1,4 +1,4 @@
-use crate::answer::Answer;
+use crate::answer::ReaderAnswer;
 use crate::rejection::QuestionRejection;
 
 /// The most bytes of a reply: the longest eight definitions, each behind its length, and 40 more.
@@ -8,7 +8,7 @@ pub const MOST_REPLY_BYTES: usize = 524_360;
 #[derive(Drop)]
 pub enum Reply {
     /// What is published next.
-    Answer(Answer),
+    Answer(ReaderAnswer),
     /// The question isn't answered, for this cause.
     Rejected(QuestionRejection),
 }

@@ -6,14 +6,14 @@ ghost use Rattle.wf_codec.specs.Message.{HasText};
 ghost use Rattle.wf_def.specs.Definition.{Definition};
 ghost use Rattle.wf_frame.specs.Report.{text_bytes};
 ghost use Rattle.wf_model.specs.Table.{most_reports};
-ghost use Rattle.wf_reader.specs.Answer.{Answer as AnswerValue};
+ghost use Rattle.wf_reader.specs.ReaderAnswer.{ReaderAnswer as AnswerValue};
 ghost use Rattle.wf_reader.specs.ReplyReader.{IsReadAs, ReadsTexts};
 ghost use Rattle.wf_reader.specs.Reply.{AreTexts, IsAnswer, IsRejection, IsReply, answer_fields, body_bytes, cause_byte, cause_sequence, most_reply_bytes, reply_bytes, texts_bytes};
 ghost use Rattle.wf_reader.specs.declared.rejection.QuestionRejection.{QuestionRejection as RejectionValue};
 ghost use Rattle.wf_reader.specs.declared.reply.Reply.{Reply as ReplyValue};
 ghost use Rattle.wf_spelling.specs.Canon.{canon, most_canon_bytes};
 
-use crate::answer::{Answer, MOST_DISTANCE};
+use crate::answer::{MOST_DISTANCE, ReaderAnswer};
 use crate::fault::ReplyFault;
 use crate::question_bytes::array;
 use crate::rejection::QuestionRejection;
@@ -103,7 +103,7 @@ fn decode_body(alloc: Global, body: &[u8]) -> Result<Reply, ReplyFault>
 }
 
 /// The answer with this distance and these bytes after it.
-fn answer_of(alloc: Global, distance: u8, bytes: &[u8]) -> Result<Answer, ReplyFault>
+fn answer_of(alloc: Global, distance: u8, bytes: &[u8]) -> Result<ReaderAnswer, ReplyFault>
     ensures answer { IfOk result IsAnswer }
     ensures distance { IfOk result (λ a. a.distance ≡ distance) }
     ensures bytes { IfOk result (λ a. bytes.now ≡ answer_fields a) }
@@ -121,7 +121,7 @@ fn answer_of(alloc: Global, distance: u8, bytes: &[u8]) -> Result<Answer, ReplyF
         return Err(ReplyFault::Malformed);
     };
     match read_texts(alloc, texts) {
-        Ok(definitions) => Ok(Answer::new(distance, published, array(digest), definitions)),
+        Ok(definitions) => Ok(ReaderAnswer::new(distance, published, array(digest), definitions)),
         Err(fault) => Err(fault),
     }
 }

@@ -5,7 +5,7 @@ ghost use Rattle.wf_reader.specs.Reply.{AreTexts, IsAnswer, IsRejection, IsReply
 ghost use Rattle.wf_frame.specs.Report.{text_bytes};
 ghost use Rattle.wf_spelling.specs.Canon.{canon, most_canon_bytes};
 
-use crate::answer::Answer;
+use crate::answer::ReaderAnswer;
 use crate::rejection::QuestionRejection;
 use crate::reply::Reply;
 use std::alloc::AllocError;
@@ -41,7 +41,7 @@ fn body_length(reply: &Reply) -> usize
 
 /// The number of bytes of an answer.
 #[tactic(auto, using(crate::proofs::Sizes::length_of_fields))]
-fn answer_length(answer: &Answer) -> usize
+fn answer_length(answer: &ReaderAnswer) -> usize
     ensures value { result ≡ length (answer_bytes answer.now) }
     ensures most { result ≤ most_body_bytes }
     ensures is_answer { IsAnswer answer.now }
@@ -102,7 +102,7 @@ fn put_body(out: &mut Vec<u8>, reply: &Reply)
 
 /// Appends an answer, for which there is room.
 #[tactic(auto, unfolding(crate::specs::Reply::answer_fields))]
-fn put_answer(out: &mut Vec<u8>, answer: &Answer)
+fn put_answer(out: &mut Vec<u8>, answer: &ReaderAnswer)
     requires { vec_len out.old + length (answer_bytes answer.now) ≤ vec_capacity out.old }
     ensures { out.new.items ≡ out.old.items ++ answer_bytes answer.now }
 {

@@ -9,8 +9,8 @@ use Rattle.wf_reader.specs.declared.question.Question.{Question}
 use Rattle.wf_reader.specs.declared.rejection.QuestionRejection.TheVariants.{OtherVersion}
 use Rattle.wf_reader.specs.declared.reply.Reply.{Reply}
 use Rattle.wf_reader.specs.declared.reply.Reply.TheVariants.{Rejected}
-use Rattle.wf_readers_port.specs.declared.answered.QuestionOutcome.{QuestionOutcome}
-use Rattle.wf_readers_port.specs.declared.answered.QuestionOutcome.TheVariants as answered
+use Rattle.wf_readers_port.specs.declared.replies.QuestionOutcome.{QuestionOutcome}
+use Rattle.wf_readers_port.specs.declared.replies.QuestionOutcome.TheVariants as answered
 
 -- where a reply was written
 abbrev pub IfReplied : QuestionOutcome → Type 0 → Type 0

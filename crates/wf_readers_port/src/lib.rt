@@ -12,12 +12,9 @@
 //! **Doesn't.** What sockets do has no model.
 #![tactic(auto)]
 
-mod answered;
 mod event;
 mod port;
-mod published;
 mod reader;
 mod replies;
 
-pub use port::ReadersPort;
-pub use published::PortView;
+pub use port::{PortView, ReadersPort};

@@ -1,13 +1,22 @@
 //! The readers' port.
 
 use crate::event::ReaderEvent;
-use crate::published::PortView;
 use crate::reader::{Reader, ReaderTurn};
 use mio::net::{TcpListener, TcpStream};
 use std::alloc::{AllocError, Global};
 use std::time::Clock;
-use wf_reader::QuestionRejection;
+use wf_digest::Digests;
+use wf_learner::History;
+use wf_reader::{Answerer, QuestionRejection};
 use wf_visitors::{Context, register, register_again};
+
+/// What the port is given of the process: who it is, its history and the digests of that, to be read only.
+#[derive(Drop)]
+pub struct PortView<'a> {
+    pub own: &'a Answerer,
+    pub history: &'a History,
+    pub digests: &'a Digests,
+}
 
 /// The most connections accepted in one turn.
 const MOST_ACCEPTED: usize = 64;

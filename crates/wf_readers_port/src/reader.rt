@@ -1,8 +1,7 @@
 //! A reader's connection.
 
-use crate::answered::QuestionOutcome;
-use crate::published::PortView;
-use crate::replies::answer;
+use crate::port::PortView;
+use crate::replies::{QuestionOutcome, answer};
 use mio::net::TcpStream;
 use std::alloc::Global;
 use wf_client::response_buffer::Outgoing;

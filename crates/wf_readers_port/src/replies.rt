@@ -6,12 +6,24 @@ ghost use Rattle.wf_reader.specs.declared.rejection.QuestionRejection.TheVariant
 ghost use Rattle.wf_reader.specs.declared.reply.Reply.TheVariants as replies;
 ghost use Rattle.wf_readers_port.specs.QuestionReplies.{IfReplied, Replies, RepliesTo};
 
-use crate::answered::QuestionOutcome;
-use crate::published::PortView;
+use crate::port::PortView;
 use std::alloc::Global;
 use wf_reader::{
     Question, QuestionFault, QuestionRejection, Reply, decode_question, encode_reply, reply_to,
 };
+
+/// What came of the bytes of a question.
+#[derive(Clone, Copy, PartialEq, Eq)]
+pub(crate) enum QuestionOutcome {
+    /// The question isn't whole.
+    Short,
+    /// The reply was written; if it is a rejection, the connection is to end.
+    Replied(Option<QuestionRejection>),
+    /// It isn't a question.
+    Malformed,
+    /// An allocation failed.
+    Memory,
+}
 
 /// Replies to the question that bytes begin with. What is written is the reply that the question has by the history, if the digests are
 /// the history's.

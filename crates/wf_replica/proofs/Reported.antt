@@ -17,6 +17,8 @@ use Rattle.wf_tape.specs.declared.tape.Tape.{Ghosts as Tape}
 use Rattle.wf_replica.specs.Growth.{begins_itself, begins_on}
 use Rattle.wf_replica.specs.Theorems.{AnswersReport, AreReported, BeginningsAreServed, LearnedAgree, LearnedAnswer, LearnedAreServed, NeverGoesBack}
 use Rattle.wf_replica.specs.LearnedList.{learned, numbered}
+use Rattle.wf_wms.specs.CachedPictures.{AllCached, CacheValue}
+use Rattle.wf_wms.proofs.CachedPicturesTheorem.{growth_keeps}
 
 nil_take : (k : ℕ) → take {A = Definition} k [] ≡ []
 nil_take zero = refl
@@ -143,3 +145,9 @@ learned_agree tapes agree = λ n careers items farm received other reports also 
 pub learned_answer : {T : Type 0} (tapes : Tape T) → ServedAnswer tapes → LearnedAnswer tapes
 learned_answer tapes alike = λ n careers items farm received other reports also k l s query answer another long longer is is_other.
     alike n careers items farm (learned [] (take k received)) (learned [] (take l other)) (learned_are_served n careers received reports k) (learned_are_served n careers other also l) s query answer another long longer is is_other
+
+-- Cached pictures outlast what a replica hears.
+pub still_cached : (old new : List Definition) (m : Message Definition) (cache : CacheValue) → new ≡ after_learning old m → AllCached old cache → AllCached new cache
+still_cached old new m cache is cached =
+    let grown = receives_on old m in
+    subst (λ (list : List Definition). AllCached list cache) (grown.1 ∙ sym is) (growth_keeps old grown.0 cache cached)

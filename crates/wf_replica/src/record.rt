@@ -13,7 +13,7 @@ use wf_canon::Canon;
 const HEADER: &[u8] = &[2, 4];
 
 /// The bytes on a tape of the record that a definition is published. The only error is allocation failure.
-#[tactic(auto, unfolding(wf_journal::specs::Encoding::body, wf_journal::specs::Encoding::text_spelling, wf_ballot::specs::Frame::frame))]
+#[tactic(auto, unfolding(wf_frame::specs::Row::row_bytes, wf_journal::specs::Encoding::text_spelling, wf_ballot::specs::Field::frame))]
 pub(crate) fn record_bytes(
     alloc: Global,
     slot: Slot,

@@ -26,7 +26,6 @@ use wf_http::http_error::HttpError;
 use wf_learner::History;
 use wf_proposer::ProposalState;
 use wf_wms::cache::Cache;
-use wf_wms::theorem::cached_pictures_outlast_growth;
 
 /// The published maps of a replica, with the pictures of them that are cached. Model: the history.
 #[derive(Drop)]
@@ -78,14 +77,12 @@ impl Shelf {
     }
 
     /// Learns what the message says, as [`Replica::receive`] does.
-    #[tactic(auto, using(crate::proofs::Growth::still_cached))]
+    #[tactic(auto, using(crate::proofs::Reported::still_cached))]
     pub(crate) fn receive(&mut self, message: Message) -> Result<(), AllocError>
         ensures received { OnOk result (self.new.definitions ≡ after_learning self.old.definitions (view message)) }
         ensures err { OnErr result (self.new ≡ self.old) }
         ensures memory { OnErr result (IsNews self.old.definitions (view message)) }
     {
-        // Theorem of the map service: cached pictures are also those of a history that has grown.
-        cached_pictures_outlast_growth();
         self.replica.receive(message)
     }
 

@@ -2,8 +2,8 @@
 use Rattle.std.proofs.Common.{◌≡◌, ◌∙◌, ℕ, List, [], ap, refl, subst}
 use Rattle.std.specs.Prelude.{Option, Some, None, Result, Ok, Err, IfErr, length, option_map, take}
 use Rattle.std.proofs.Math.Seq.{take-length}
-use Rattle.wf_address.specs.Address.{IsNoAddress, words_of}
-use Rattle.wf_address.specs.List.{IsListFault}
+use Rattle.wf_address.specs.Address.{IsNoAddress, words_of, IsListFault}
+use Rattle.wf_address.specs.declared.address_option.AddressOption.TheVariants as options
 use Rattle.wf_address.specs.declared.list.ListFault.{ListFault}
 use Rattle.wf_address.specs.declared.list.ListFault.TheVariants as lists
 use Rattle.wf_career.specs.Career.{Career}
@@ -19,7 +19,6 @@ use Rattle.wf_replica.specs.declared.follower.Follower.{Follower}
 use Rattle.wf_replica_command.specs.Done.{HasServed, IsDone, IsEnd}
 use Rattle.wf_replica_command.specs.Fault.{IsFromSystem, IsReplicaFault, fault_of}
 use Rattle.wf_replica_command.specs.ReplicaHub.{HasAnswered, HasLived, HasStayed, IsOfFarm}
-use Rattle.wf_replica_command.specs.declared.fault.AddressOption.TheVariants as options
 use Rattle.wf_replica_command.specs.declared.fault.ReplicaFault.{ReplicaFault}
 use Rattle.wf_replica_command.specs.declared.fault.ReplicaFault.TheVariants as faults
 use Rattle.wf_replica_command.specs.declared.hub.ReplicaHub.{ReplicaHub}
@@ -57,7 +56,7 @@ system_fault line faults.OtherFarm is = tt
 system_fault line (faults.Unread kind) is = tt
 system_fault line (faults.Unwritten kind) is = tt
 system_fault line faults.Poll is = tt
-system_fault line (faults.Taken option) is = tt
+system_fault line (faults.Taken option) is = is
 system_fault line faults.Memory is = tt
 system_fault line (faults.Ended why) is = absurd is
 
@@ -100,7 +99,7 @@ module _ {T : Type 0} (tapes : Tape T) where
   ended_so line (Err (faults.Unread kind)) is = tt
   ended_so line (Err (faults.Unwritten kind)) is = tt
   ended_so line (Err faults.Poll) is = tt
-  ended_so line (Err (faults.Taken option)) is = tt
+  ended_so line (Err (faults.Taken option)) is = is
   ended_so line (Err faults.Memory) is = tt
 
   pub never_begun : (fault : ReplicaFault) → IsFromSystem fault → IsEnd tapes (Err fault)

@@ -1,12 +1,12 @@
 -- The exit status of an error, and what causes it.
-use Rattle.std.specs.Prelude.{◌≡◌, ◌<◌, ℕ, ⊤, List, Option, Some, length, option_map}
+use Rattle.std.specs.Prelude.{◌≡◌, ◌<◌, ℕ, ⊤, List, Option, Some, None, length, option_map}
 use Rattle.wf_address.specs.Address.{IsFirstBad, IsNoAddress, words_of}
+use Rattle.wf_address.specs.declared.address_option.AddressOption.{AddressOption}
+use Rattle.wf_address.specs.declared.address_option.AddressOption.TheVariants as options
 use Rattle.wf_address.specs.declared.list.ListFault.{ListFault}
 use Rattle.wf_address.specs.declared.list.ListFault.TheVariants as lists
 use Rattle.wf_folder.specs.Name.{IsNameText}
 use Rattle.wf_line.specs.declared.replica_line.ReplicaLine.{ReplicaLine}
-use Rattle.wf_replica_command.specs.declared.fault.AddressOption.{AddressOption}
-use Rattle.wf_replica_command.specs.declared.fault.AddressOption.TheVariants as options
 use Rattle.wf_replica_command.specs.declared.fault.ReplicaFault.{ReplicaFault}
 use Rattle.wf_replica_command.specs.declared.fault.ReplicaFault.TheVariants as faults
 
@@ -24,9 +24,15 @@ fault_of (lists.Bad index) = faults.BadPeer index
 fault_of (lists.Count count) = faults.PeerCount count
 fault_of lists.Memory = faults.Memory
 
+-- a replica has this option: it has no peers that come to it
+abbrev pub IsReplicaOption : AddressOption → Type 0
+IsReplicaOption options.Listen = ⊥
+IsReplicaOption option = ⊤
+
 -- the value of an option, if it is given
 abbrev pub value_of : ReplicaLine → AddressOption → Option (List ℕ)
 value_of line options.Http = Some line.http.now
+value_of line options.Listen = None
 value_of line options.Readers = option_map (λ word. word.now) line.readers
 value_of line options.Admin = option_map (λ word. word.now) line.admin
 
@@ -42,6 +48,7 @@ IsFromSystem (faults.BadPeer index) = ⊥
 IsFromSystem (faults.PeerCount count) = ⊥
 IsFromSystem (faults.BadAddress option) = ⊥
 IsFromSystem faults.Name = ⊥
+IsFromSystem (faults.Taken option) = IsReplicaOption option
 IsFromSystem (faults.Ended why) = ⊥
 IsFromSystem fault = ⊤
 

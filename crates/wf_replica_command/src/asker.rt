@@ -10,7 +10,7 @@ use std::time::Clock;
 use wf_ballot::Seq;
 use wf_canon::Canon;
 use wf_folder::FarmName;
-use wf_reader::{Answer, Answerer, MOST_DISTANCE, QuestionRejection, Reply};
+use wf_reader::{Answerer, MOST_DISTANCE, QuestionRejection, ReaderAnswer, Reply};
 use wf_replica::{Asking, Follower};
 use wf_tape::Tape;
 use wf_visitors::Context;
@@ -133,7 +133,7 @@ impl Asker {
         &mut self,
         context: &Context<'_, '_, R>,
         follower: &mut Follower<T>,
-        answer: &Answer,
+        answer: &ReaderAnswer,
     )
         ensures { GoesOn follower.old follower.new }
     {

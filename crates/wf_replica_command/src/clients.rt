@@ -12,7 +12,7 @@ use crate::renderer::Renderer;
 use http_server::Log as Past;
 use std::net::Net;
 use std::time::Clock;
-use wf_operator::Pictures;
+use wf_operator::PictureCounts;
 use wf_replica::Follower;
 use wf_tape::Tape;
 use wf_visitors::{Context, Visitors};
@@ -44,7 +44,7 @@ impl<T: Tape + Drop> ReplicaClients<T> {
             visitors,
             renderer: Renderer {
                 follower,
-                pictures: Pictures::default(),
+                pictures: PictureCounts::default(),
             },
             asked: Past::new(),
         }

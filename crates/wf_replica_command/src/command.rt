@@ -72,7 +72,7 @@ fn start<'a, R: Files<File = File> + Clock + Eprint + Net + AllocGlobal>(
             return Err(fault);
         }
     };
-    match claimed(rt, &log, line, &plan.farm, tape.as_str()) {
+    match claim_folder(rt, &log, line, &plan.farm, tape.as_str()) {
         Ok(follower) => serve(rt, &log, plan, tape, follower, turns),
         Err(fault) => {
             drop(plan);
@@ -83,7 +83,7 @@ fn start<'a, R: Files<File = File> + Clock + Eprint + Net + AllocGlobal>(
 }
 
 /// The replica of a folder, which is made one if it is empty, with what its tape has.
-fn claimed<'a, R: Files<File = File> + Clock + Eprint + AllocGlobal>(
+fn claim_folder<'a, R: Files<File = File> + Clock + Eprint + AllocGlobal>(
     rt: &'a R,
     log: &Log<'_, R>,
     line: &ReplicaLine<'_>,

@@ -8,7 +8,7 @@ use wf_ballot::Seq;
 use wf_digest::Digests;
 use wf_learner::History;
 use wf_operator::metrics::{counter, gauge, seconds};
-use wf_operator::{Health, Operated, Pictures};
+use wf_operator::{Health, Operated, PictureCounts};
 use wf_visitors::Counts;
 
 /// What a replica tells its operator.
@@ -19,7 +19,7 @@ pub(crate) struct ReplicaFacts<'a, R> {
     pub(crate) digests: &'a Digests,
     pub(crate) asker: &'a Asker,
     pub(crate) requests: &'a Counts,
-    pub(crate) pictures: Pictures,
+    pub(crate) pictures: PictureCounts,
     pub(crate) unkept: u64,
     pub(crate) tape: &'a str,
     pub(crate) has_tape: bool,
@@ -63,7 +63,7 @@ impl<'a, R: Files> Operated for ReplicaFacts<'a, R> {
         seconds(
             text,
             "wfarm_drawing_seconds_total",
-            self.requests.spent("/wms", 200),
+            self.requests.duration("/wms", 200),
         )?;
         match fs::metadata(self.rt, self.tape) {
             Ok(metadata) => gauge(text, "wfarm_tape_bytes", metadata.len()),

@@ -3,30 +3,10 @@ ghost use Rattle.std.specs.Prelude.{◌≡◌, ◌≤◌};
 ghost use Rattle.wf_replica_command.specs.Fault.{fault_status};
 
 use std::alloc::AllocError;
-use std::{fmt, io};
+use std::io;
 use thiserror::Error;
+use wf_address::AddressOption;
 use wf_reader::QuestionRejection;
-
-/// An option whose value is an address.
-#[derive(Clone, Copy, Debug)]
-pub enum AddressOption {
-    /// `--http`
-    Http,
-    /// `--readers`
-    Readers,
-    /// `--admin`
-    Admin,
-}
-
-impl fmt::Display for AddressOption {
-    fn fmt<W: fmt::Write>(&self, f: &mut fmt::Formatter<W>) -> fmt::Result {
-        f.write_str(match self {
-            AddressOption::Http => "--http",
-            AddressOption::Readers => "--readers",
-            AddressOption::Admin => "--admin",
-        })
-    }
-}
 
 /// Why the command ends with an error. Its text is the line on standard error.
 #[derive(Clone, Copy, Debug, Error)]

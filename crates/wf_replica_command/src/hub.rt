@@ -197,7 +197,7 @@ impl<T: Tape + Drop> ReplicaHub<T> {
             tape.as_str(),
             behind,
         );
-        is_busy
+        is_busy || clients.visitors.is_busy()
     }
 }
 

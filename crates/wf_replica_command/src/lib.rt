@@ -33,4 +33,5 @@ mod source;
 mod token;
 
 pub use command::run;
-pub use fault::{AddressOption, ReplicaFault};
+pub use fault::ReplicaFault;
+pub use wf_address::AddressOption;

@@ -1,15 +1,16 @@
 //! The addresses of a replica, and what comes there.
 ghost use Rattle.std.specs.Prelude.{◌≡◌, [], IfErr, IfOk};
-ghost use Rattle.wf_replica_command.specs.Fault.{IsFromSystem};
+ghost use Rattle.wf_replica_command.specs.Fault.{IsFromSystem, IsReplicaOption};
 ghost use Rattle.wf_visitors.specs.Visitors.{responses_of};
 
-use crate::fault::{AddressOption, ReplicaFault};
+use crate::fault::ReplicaFault;
 use crate::plan::ReplicaPlan;
 use crate::token::{ASKER, CLIENT, READER, ReplicaSocket};
 use mio::net::TcpListener;
 use mio::{Events, Poll, Registry};
 use std::alloc::Global;
 use std::net::{Net, SocketAddr};
+use wf_address::AddressOption;
 use wf_readers_port::ReadersPort;
 use wf_visitors::{Visitors, listen};
 
@@ -52,6 +53,7 @@ fn listen_at<R: Net>(
     socket: ReplicaSocket,
     option: AddressOption,
 ) -> Result<TcpListener, ReplicaFault>
+    requires { IsReplicaOption option }
     ensures { IfErr result IsFromSystem }
 {
     match listen(rt, registry, address, socket.token()) {
@@ -68,6 +70,7 @@ fn listen_if<R: Net>(
     socket: ReplicaSocket,
     option: AddressOption,
 ) -> Result<Option<TcpListener>, ReplicaFault>
+    requires { IsReplicaOption option }
     ensures { IfErr result IsFromSystem }
 {
     match address {

@@ -2,10 +2,10 @@
 ghost use Rattle.std.specs.Prelude.{◌≡◌, IfErr};
 ghost use Rattle.wf_replica_command.specs.Fault.{IsReplicaFault, fault_of};
 
-use crate::fault::{AddressOption, ReplicaFault};
+use crate::fault::ReplicaFault;
 use std::alloc::Global;
 use std::net::SocketAddr;
-use wf_address::{ListFault, address, address_if_any, addresses};
+use wf_address::{AddressOption, ListFault, address, address_if_any, addresses};
 use wf_folder::FarmName;
 use wf_line::replica_line::ReplicaLine;
 

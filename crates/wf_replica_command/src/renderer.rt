@@ -7,7 +7,7 @@ use std::alloc::Global;
 use wf_client::partial_request::Incoming;
 use wf_client::response_buffer::Outgoing;
 use wf_edge::outcome::Outcome;
-use wf_operator::Pictures;
+use wf_operator::PictureCounts;
 use wf_replica::Follower;
 use wf_tape::Tape;
 use wf_visitors::{Server, ServerReply};
@@ -16,7 +16,7 @@ use wf_visitors::{Server, ServerReply};
 #[derive(Drop)]
 pub struct Renderer<T: Tape> {
     pub(crate) follower: Follower<T>,
-    pub(crate) pictures: Pictures,
+    pub(crate) pictures: PictureCounts,
 }
 
 impl<T: Tape + Drop> Server for Renderer<T> {

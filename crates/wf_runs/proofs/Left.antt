@@ -1,7 +1,7 @@
 -- What the next session reads: what a run left, or what openings that were cut off made of it; at first, an empty tape.
 use Rattle.std.proofs.Common.{◌≡◌, ℕ, ◌<◌, List, [], length, Some, refl, sym, ap, subst, ◌∙◌, inl, inr, arith, length-append}
 use Rattle.std.proofs.lemmas.Option.{same_Some}
-use Rattle.wf_ballot.specs.Frame.{frame}
+use Rattle.wf_ballot.specs.Field.{frame}
 use Rattle.wf_career.specs.Run.{Input, Run, last, End, Between, Within, Failed, HasLeft, IsOpenedFrom, StandForEither}
 use Rattle.wf_def.specs.Definition.{Definition}
 use Rattle.wf_journal.specs.Records.{AreReadOneWay, BeginsWithNone}

@@ -10,5 +10,5 @@ mod Proposer
 mod Worlds
 mod Core
 mod Growth
-mod Theorems
-mod Earlier
+pub mod Theorems
+pub mod Earlier

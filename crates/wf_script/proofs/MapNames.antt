@@ -7,10 +7,8 @@ use Rattle.std.specs.Str.{bytes_eq}
 use Rattle.std.proofs.lemmas.Option.{slice_get-map}
 use Rattle.wf_def.specs.Definition.{Definition}
 use Rattle.wf_def.specs.Equality.{definition_eq}
-use Rattle.wf_script.specs.MapNames.{name}
+use Rattle.wf_script.specs.Script.{name, definition, place_with}
 use Rattle.wf_script.specs.Orders.{place_of}
-use Rattle.wf_script.specs.Script.{definition}
-use Rattle.wf_script.specs.Script.{place_with}
 use Rattle.wf_script.specs.declared.maps.Named as maps
 
 module _ {X Y : Type 0} (view : X → Y) (test : Y → Bool) where

@@ -6,6 +6,5 @@ pub mod Orders
 pub mod Script
 pub mod Text
 pub mod Drafts
-pub mod MapNames
 pub mod Fault
 pub mod ReadContract

@@ -1,7 +1,7 @@
 -- What a line of a script does or asks, in numbers and lists.
 use Rattle.std.specs.Prelude.{ℕ, List}
 use Rattle.wf_model.specs.declared.action.Action.{Action}
-use Rattle.wf_model.specs.declared.kept.Kept.{Kept}
+use Rattle.wf_model.specs.declared.action.Kept.{Kept}
 use Rattle.wf_script.specs.declared.order.FarmQuestion as question
 use Rattle.wf_script.specs.declared.order.Order as code
 use Rattle.wf_script.specs.declared.order.Order.TheVariants as order

@@ -5,8 +5,8 @@ use Rattle.std.specs.Option.{ok_or}
 use Rattle.std.specs.Str.{bytes_eq}
 use Rattle.wf_model.specs.declared.action.Action.{Action}
 use Rattle.wf_model.specs.declared.action.Action.TheVariants as action
-use Rattle.wf_model.specs.declared.kept.Kept.{Kept}
-use Rattle.wf_model.specs.declared.kept.Kept.TheVariants as kept
+use Rattle.wf_model.specs.declared.action.Kept.{Kept}
+use Rattle.wf_model.specs.declared.action.Kept.TheVariants as kept
 use Rattle.wf_script.specs.Order.{Order}
 use Rattle.wf_script.specs.Order as order
 use Rattle.wf_script.specs.ReadContract.{◌>>=◌}

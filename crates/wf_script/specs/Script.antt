@@ -1,5 +1,5 @@
 -- A script as contracts see it.
-use Rattle.std.specs.Prelude.{◌≤◌, ℕ, List, codes, length, slice_get, Option, Some, None}
+use Rattle.std.specs.Prelude.{◌≤◌, ℕ, List, codes, length, slice_get, Option, Some, None, string_bytes}
 use Rattle.std.specs.List.{position}
 use Rattle.std.specs.Option.{option_and_then}
 use Rattle.wf_ballot.specs.Node.{most_nodes}
@@ -52,3 +52,7 @@ or_unknown (Some name) = name
 abbrev pub name_of : Script → Option Definition → List ℕ
 name_of script None = codes "?"
 name_of script (Some d) = or_unknown (option_and_then (slice_get script.names) (place_with script.maps d))
+
+-- the name of a map
+abbrev pub name : maps.Named → List ℕ
+name named = string_bytes named.name

@@ -9,12 +9,11 @@ use Rattle.wf_spelling.specs.Canon.{canon, most_canon_bytes}
 use Rattle.wf_def.specs.Definition.{Definition}
 use Rattle.wf_mapfile.specs.Meaning.{meaning}
 use Rattle.wf_script.specs.Lines.{Lines, examined, lines, most_maps, over_limit}
-use Rattle.wf_script.specs.MapNames.{name}
+use Rattle.wf_script.specs.Script.{name, Numbered, Script, definition, numbered}
 use Rattle.wf_script.specs.Order as order
 use Rattle.wf_script.specs.Order.{Order}
 use Rattle.wf_script.specs.Orders.{order_of, place_of}
 use Rattle.wf_script.specs.ReadContract.{◌>>=◌, at_line}
-use Rattle.wf_script.specs.Script.{Numbered, Script, definition, numbered}
 use Rattle.wf_script.specs.Verb.{verb_of}
 use Rattle.wf_script.specs.Words.{a_number, a_text, ends_map, is_skipped, no_word, words}
 use Rattle.wf_script.specs.declared.fault.ScriptFault.{ScriptFault}

@@ -4,9 +4,8 @@ ghost use Rattle.std.specs.Prelude.{◌≡◌, ◌≤◌, ◌+◌, [], length, m
 ghost use Rattle.wf_script.specs.Drafts.{Closes};
 ghost use Rattle.wf_script.specs.Fault.{IsAtLine};
 ghost use Rattle.wf_script.specs.Lines.{total};
-ghost use Rattle.wf_script.specs.MapNames.{name};
+ghost use Rattle.wf_script.specs.Script.{name, numbered};
 ghost use Rattle.wf_script.specs.Order.{view};
-ghost use Rattle.wf_script.specs.Script.{numbered};
 ghost use Rattle.std.specs.List.{list_all};
 ghost use Rattle.wf_script.specs.ReadContract.{Gives, GoesOn, Reports};
 ghost use Rattle.wf_script.specs.Text.{a_new_name, added, closed, is_question, line_on, map_on, may_follow, nothing_meant, on_from, state, with_order};

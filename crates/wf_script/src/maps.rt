@@ -6,11 +6,10 @@ ghost use Rattle.std.specs.Option.{option_and_then};
 ghost use Rattle.std.specs.Prelude.{◌≡◌, ◌<◌, ◌≤◌, ◌↔◌, length, IsTrue, option_copied, option_map, slice_get};
 ghost use Rattle.wf_script.specs.Lines.{most_maps};
 ghost use Rattle.wf_script.specs.ReadContract.{Gives};
-ghost use Rattle.wf_script.specs.MapNames.{name as name_of};
+ghost use Rattle.wf_script.specs.Script.{name as name_of, definition};
 ghost use Rattle.wf_script.specs.Text.{is_name, map_of};
 ghost use Rattle.std.specs.Str.{bytes_eq};
 ghost use Rattle.wf_def.specs.Equality.{definition_eq};
-ghost use Rattle.wf_script.specs.Script.{definition};
 
 use crate::fault::Wrong;
 use std::alloc::{AllocError, Global};

@@ -1,7 +1,7 @@
 //! Orders: what a line of a script does or asks.
 
 ghost use Rattle.std.specs.Prelude.{◌≡◌, [], OnOk, map};
-ghost use Rattle.wf_script.specs.MapNames.{name};
+ghost use Rattle.wf_script.specs.Script.{name};
 ghost use Rattle.wf_script.specs.Order.{view};
 ghost use Rattle.wf_script.specs.Orders.{a_kept, a_map, a_step, cut_order, definition_order, deliver_order, equal_order, fuse_order, get_order, numbers, order_by, order_of, proposal_order, pump_order, restart_order, some_numbers, step_by, step_order, stop_order, torn_order};
 ghost use Rattle.wf_script.specs.ReadContract.{Gives};

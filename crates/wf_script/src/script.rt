@@ -43,8 +43,7 @@ impl Drop for Script {
 impl Model for Script {
     ghost use Rattle.std.specs.Prelude.{map};
     ghost use Rattle.std.specs.Coded.{codes};
-    ghost use Rattle.wf_script.specs.MapNames.{name};
-    ghost use Rattle.wf_script.specs.Script.{Script, IsScript, definition, numbered};
+    ghost use Rattle.wf_script.specs.Script.{name, Script, IsScript, definition, numbered};
 
     ghost Value = { Script };
 
@@ -67,8 +66,7 @@ impl Model for Script {
 
 impl Script {
     ghost use Rattle.std.specs.Prelude.{Some};
-    ghost use Rattle.wf_script.specs.Script.{numbered};
-    ghost use Rattle.wf_script.specs.Script.{name_of};
+    ghost use Rattle.wf_script.specs.Script.{numbered, name_of};
 
     /// Reads a script. The limits of bytes and lines are checked first (S3), then the lines in order, a map at the line
     /// where it begins; on one line S2 comes before S3 before S4. A script without a line that isn't skipped is S2 at line 1.

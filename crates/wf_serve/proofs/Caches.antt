@@ -7,7 +7,8 @@ use Rattle.wf_edge.specs.Growth.{cached_on}
 use Rattle.wf_delivery.specs.Delivery.{EachGrows}
 use Rattle.wf_delivery.specs.IndexTheorems.{get_set_same, get_set_other}
 use Rattle.wf_node.specs.Node.{Node}
-use Rattle.wf_wms.specs.CachedPictures.{AllCached, CacheValue, GrowthKeepsAll}
+use Rattle.wf_wms.specs.CachedPictures.{AllCached, CacheValue}
+use Rattle.wf_wms.proofs.CachedPicturesTheorem.{growth_keeps}
 use Rattle.wf_serve.specs.CacheSet.{AreEmpty, AreCached, HaveRoom, IsCachedAt, KeepRoom}
 
 -- the element at an index of a list
@@ -17,24 +18,24 @@ there_is (x ∷ xs) zero within = (x, refl)
 there_is (x ∷ xs) (suc i) within = there_is xs i (omega arith)
 
 -- if the nodes' lists have grown
-pub cached_grown : {T : Type 0} → GrowthKeepsAll → (nodes after : List (Node T)) (caches : List CacheValue) → length after ≡ length nodes → EachGrows nodes after →
+pub cached_grown : {T : Type 0} (nodes after : List (Node T)) (caches : List CacheValue) → length after ≡ length nodes → EachGrows nodes after →
     AreCached nodes caches → AreCached after caches
 unfolding EachGrows
-cached_grown theorem nodes after caches long grows are = record {
+cached_grown nodes after caches long grows are = record {
   as_many = are.as_many ∙ sym long;
   cached = λ i node cache at there.
       let within = slice_get_within after i node at in
       let old = there_is nodes i (omega (arith, within, long)) in
       let new = grows i old.0 old.1 in
       let it = same_Some new.0 node (sym new.1 ∙ at) in
-      subst (λ n. AllCached n.parts.history cache) it (cached_on theorem old.0.parts.history new.0.parts.history cache new.2 (are.cached i old.0 cache old.1 there));
+      subst (λ n. AllCached n.parts.history cache) it (cached_on growth_keeps old.0.parts.history new.0.parts.history cache new.2 (are.cached i old.0 cache old.1 there));
 }
 
 -- if the nodes' lists have grown, and one cache has changed, and is its node's still
-pub cached_with : {T : Type 0} → GrowthKeepsAll → (nodes after : List (Node T)) (caches : List CacheValue) (node_index : ℕ) (cache next : CacheValue) → length after ≡ length nodes → EachGrows nodes after →
+pub cached_with : {T : Type 0} (nodes after : List (Node T)) (caches : List CacheValue) (node_index : ℕ) (cache next : CacheValue) → length after ≡ length nodes → EachGrows nodes after →
     slice_get caches node_index ≡ Some cache → IsCachedAt after node_index next → AreCached nodes caches → AreCached after (slice_set caches node_index next)
-cached_with theorem nodes after caches node_index cache next long grows there own are =
-    let grown = cached_grown theorem nodes after caches long grows are in
+cached_with nodes after caches node_index cache next long grows there own are =
+    let grown = cached_grown nodes after caches long grows are in
     record {
       as_many = length-set caches node_index next ∙ grown.as_many;
       cached = λ i node cached at cache_at. elim (cases_eq i node_index) [

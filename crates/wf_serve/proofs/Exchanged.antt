@@ -22,7 +22,8 @@ use Rattle.wf_serve.specs.ConnectionEffect.{AreArrived, IsAsked, IsAskedAndArriv
 use Rattle.wf_serve.specs.NodeRequest.{IsAnsweredAt}
 use Rattle.wf_stream.specs.declared.stream.Sink.{Ghosts as Sink}
 use Rattle.wf_tape.specs.declared.tape.Tape.{Ghosts as Tape}
-use Rattle.wf_wms.specs.CachedPictures.{AllCached, CacheValue, GrowthKeepsAll}
+use Rattle.wf_wms.specs.CachedPictures.{AllCached, CacheValue}
+use Rattle.wf_wms.proofs.CachedPicturesTheorem.{growth_keeps}
 
 module _ {T C : Type 0} (tapes : Tape T) (asks : C → Node T → Vec Message Global → Node T → C → Type 0) (node_index : ℕ) (client next : C) (nodes after : List (Node T)) (pumped : Pumped)
     (exchange : IsExchange tapes asks node_index client nodes pumped next after) where
@@ -94,10 +95,10 @@ nothing_arrived tapes nodes nodes_after outputs silent same = record {
 }
 
 -- The pictures of the node at an index are still of its maps when these have grown.
-pub cached_at_on : {T : Type 0} → GrowthKeepsAll → (nodes after : List (Node T)) (node_index : ℕ) (cache : CacheValue) (before : Node T) → slice_get nodes node_index ≡ Some before →
+pub cached_at_on : {T : Type 0} (nodes after : List (Node T)) (node_index : ℕ) (cache : CacheValue) (before : Node T) → slice_get nodes node_index ≡ Some before →
     EachGrows nodes after → IsCachedAt nodes node_index cache → IsCachedAt after node_index cache
 unfolding EachGrows
-cached_at_on theorem nodes after node_index cache before was grows cached = λ node at.
+cached_at_on nodes after node_index cache before was grows cached = λ node at.
     let new = grows node_index before was in
     subst (λ n. AllCached n.parts.history cache) (same_Some new.0 node (sym new.1 ∙ at))
-    (cached_on theorem before.parts.history new.0.parts.history cache new.2 (cached before was))
+    (cached_on growth_keeps before.parts.history new.0.parts.history cache new.2 (cached before was))

@@ -7,7 +7,7 @@ use Rattle.wf_model.specs.Table.{Retry}
 use Rattle.wf_catch_up.specs.CatchUp.{CatchUpIsReachable, LevelRests}
 use Rattle.wf_delivery.specs.Delivery.{EachGrows, KeepTurn, StandInTurn}
 use Rattle.wf_delivery.specs.DeliveryTheorems.{keeps_turn_itself, keeps_turn_twice}
-use Rattle.wf_delivery.specs.Reachability.{AreFresh, NothingIsOutput, StepIsReachable}
+use Rattle.wf_delivery.specs.Reachability.{AreFresh}
 use Rattle.wf_publication.specs.Publication.{AllPublish, PublishedOnAll}
 use Rattle.wf_node.specs.Growth.{IsGrown}
 use Rattle.wf_node.specs.Node.{Node}
@@ -41,15 +41,15 @@ module _ {T : Type 0} (first after : List (Node T)) (keeps : KeepTurn first afte
 
 -- ---- connections
 
-module _ {T : Type 0} (tapes : Tape T) (catches : CatchUpIsReachable tapes) (reaches : StepIsReachable tapes) (quiet : NothingIsOutput tapes) where
+module _ {T : Type 0} (tapes : Tape T) (catches : CatchUpIsReachable tapes) where
   retry_keeps : (node_index : ℕ) (arrived after : List (Node T)) → StandInTurn arrived → IsRetried tapes node_index arrived after → KeepTurn arrived after
-  retry_keeps node_index arrived after turns (inl anew) = asked_turn tapes reaches node_index Retry tt arrived after turns anew.anew
+  retry_keeps node_index arrived after turns (inl anew) = asked_turn tapes node_index Retry tt arrived after turns anew.anew
   retry_keeps node_index arrived after turns (inr rests) = subst (KeepTurn arrived) (sym rests.1) (keeps_turn_itself arrived)
 
   answer_keeps : (node_index : ℕ) (nodes after : List (Node T)) → StandInTurn nodes → IsAnswered tapes node_index nodes after → KeepTurn nodes after
   answer_keeps node_index nodes after turns answered =
       let c = answered.connection in
-      let reachable = moved_reaches tapes reaches nodes node_index c.request.before c.request.after c.request.changed.was turns c.outputs quiet c.request.moves in
+      let reachable = moved_reaches tapes nodes node_index c.request.before c.request.after c.request.changed.was turns c.outputs c.request.moves in
       let served : KeepTurn nodes c.served = subst (KeepTurn nodes) (sym c.request.changed.is) reachable.turn in
       let arrived : KeepTurn nodes c.arrived = keeps_turn_twice nodes c.served c.arrived served c.receiving.delivered.turn in
       let retried : KeepTurn nodes c.retried = keeps_turn_twice nodes c.arrived c.retried arrived (retry_keeps node_index c.arrived c.retried (arrived.in_turn turns) c.retry) in
@@ -89,8 +89,8 @@ module _ {T : Type 0} (tapes : Tape T) (catches : CatchUpIsReachable tapes) (rea
         record { request = done.request; received = done.received; map = done.map; is_map = done.is_map; published = still_published first after keeps done.map done.published }
     if_accepted (inr same) = tt
 
-pub first_is_published : {T : Type 0} (tapes : Tape T) → CatchUpIsReachable tapes → LevelRests tapes → StepIsReachable tapes → NothingIsOutput tapes → PublishedOnAll tapes → FirstIsPublished tapes
-first_is_published tapes catches rests reaches quiet theorem = λ later nodes nodes_after long turns fresh come.
-    let found = first_of tapes catches reaches quiet (length nodes) later nodes nodes_after turns come in
+pub first_is_published : {T : Type 0} (tapes : Tape T) → CatchUpIsReachable tapes → LevelRests tapes → PublishedOnAll tapes → FirstIsPublished tapes
+first_is_published tapes catches rests theorem = λ later nodes nodes_after long turns fresh come.
+    let found = first_of tapes catches (length nodes) later nodes nodes_after turns come in
     let answer = subst (λ n. MayBeAnswered tapes (0 % n) nodes found.first) long found.answer in
-    (found.first, answer, if_accepted tapes catches reaches quiet rests theorem nodes found.first nodes_after long turns fresh found.keeps answer)
+    (found.first, answer, if_accepted tapes catches rests theorem nodes found.first nodes_after long turns fresh found.keeps answer)

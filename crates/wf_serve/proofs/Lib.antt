@@ -13,3 +13,4 @@ mod Published
 mod Responded
 mod Serves
 mod Shortened
+mod NodeResponse

@@ -2,8 +2,8 @@
 use Rattle.std.proofs.Common.{◌≡◌, ◌⊎◌, ℕ, zero, suc, List, [], ◌∷◌, ◌++◌, length, slice_get, Some, refl, sym, ap, subst, ◌∙◌, inl, inr}
 use Rattle.std.proofs.lemmas.Option.{none-some, same_Some}
 use Rattle.wf_delivery.specs.Delivery.{StandAmong, StandInTurn}
-use Rattle.wf_farm.specs.declared.host.NodeHost.{NodeHost}
-use Rattle.wf_farm.specs.declared.host.NodeHost.TheVariants.{Running}
+use Rattle.wf_farm.specs.declared.cluster.NodeHost.{NodeHost}
+use Rattle.wf_farm.specs.declared.cluster.NodeHost.TheVariants.{Running}
 use Rattle.wf_farm.specs.Nodes.{nodes_from, nodes_of}
 use Rattle.wf_farm.specs.NodesTheorems.{length-nodes, long_from, none_run, one_more_node, one_more_runs}
 use Rattle.wf_serve.specs.OpenedNodes.{AreOpened, WasRead, WereRead}

@@ -17,7 +17,7 @@ use Rattle.wf_http.specs.declared.fault.RequestFault.{RequestFault}
 use Rattle.wf_node.specs.Node.{Node}
 use Rattle.wf_serve.specs.ConnectionEffect.{EndsWriting, IsServedAndArrived}
 use Rattle.wf_serve.specs.NodeRequest.{IsAnsweredAt, IsReadAt, IsRejected, IsReply, IsResponse, no_deliveries}
-use Rattle.wf_serve.specs.declared.outcome.ConnectionOutcome.{ConnectionOutcome}
+use Rattle.wf_serve.specs.declared.connection_effect.ConnectionOutcome.{ConnectionOutcome}
 use Rattle.wf_serve.proofs.Ended.{ends}
 use Rattle.wf_serve.proofs.Exchanged.{nothing_arrived}
 use Rattle.wf_stream.specs.declared.stream.Sink.{Ghosts as Sink}

@@ -4,8 +4,8 @@ use Rattle.std.proofs.lemmas.Option.{none-some}
 use Rattle.wf_farm.specs.Farm.{running_in}
 use Rattle.wf_farm.specs.Nodes.{AllRun, nodes_of}
 use Rattle.wf_farm.specs.NodesTheorems.{nodes_get, runs_at}
-use Rattle.wf_farm.specs.declared.host.NodeHost.{NodeHost}
-use Rattle.wf_farm.specs.declared.host.NodeHost.TheVariants.{Running}
+use Rattle.wf_farm.specs.declared.cluster.NodeHost.{NodeHost}
+use Rattle.wf_farm.specs.declared.cluster.NodeHost.TheVariants.{Running}
 use Rattle.wf_node.specs.Node.{Node}
 
 module _ {T : Type 0} (hosts : List (NodeHost T)) (node_index : ℕ) (all : AllRun hosts) (within : node_index < length hosts) where

@@ -40,18 +40,12 @@ module _ {M F : Type 0} (inside : Tape M) (outside : Tape F) (service : Service)
     files = λ is. record { nodes = nodes; nodes_after = after; as_many = many; read = read; have = have };
   }
 
-  pub served_in_memory : (nodes : List (Node M)) (result : Result (Unit {0}) ServeFault) → service.state ≡ None → length nodes ≡ service.nodes → AreFresh nodes → AreReachable AnyPart nodes →
-      OnOk result ((after : List (Node M)) × HaveServed inside service.requests service.cache nodes after) → OnOk result (HasServed inside outside service)
-  served_in_memory nodes (Ok done) none many fresh reached have = in_memory nodes have.0 none many fresh reached have.1
-  served_in_memory nodes (Err why) none many fresh reached have = tt
+  pub served_in_memory : (nodes after : List (Node M)) (result : Result (Unit {0}) ServeFault) → service.state ≡ None → length nodes ≡ service.nodes → AreFresh nodes → AreReachable AnyPart nodes →
+      OnOk result (HaveServed inside service.requests service.cache nodes after) → OnOk result (HasServed inside outside service)
+  served_in_memory nodes after (Ok done) none many fresh reached have = in_memory nodes after none many fresh reached have
+  served_in_memory nodes after (Err why) none many fresh reached have = tt
 
-  pub served_in_files : (nodes : List (Node F)) (result : Result (Unit {0}) ServeFault) → IsSome service.state → length nodes ≡ service.nodes → WereRead nodes →
-      OnOk result ((after : List (Node F)) × HaveServed outside service.requests service.cache nodes after) → OnOk result (HasServed inside outside service)
-  served_in_files nodes (Ok done) some many read have = in_files nodes have.0 some many read have.1
-  served_in_files nodes (Err why) some many read have = tt
-
--- the nodes that were served, whoever holds them
-pub some_served : {T : Type 0} (tapes : Tape T) (requests room : ℕ) (nodes after : List (Node T)) (result : Result (Unit {0}) ServeFault) → OnOk result (HaveServed tapes requests room nodes after) →
-    OnOk result ((other : List (Node T)) × HaveServed tapes requests room nodes other)
-some_served tapes requests room nodes after (Ok done) have = (after, have)
-some_served tapes requests room nodes after (Err why) have = tt
+  pub served_in_files : (nodes after : List (Node F)) (result : Result (Unit {0}) ServeFault) → IsSome service.state → length nodes ≡ service.nodes → WereRead nodes →
+      OnOk result (HaveServed outside service.requests service.cache nodes after) → OnOk result (HasServed inside outside service)
+  served_in_files nodes after (Ok done) some many read have = in_files nodes after some many read have
+  served_in_files nodes after (Err why) some many read have = tt

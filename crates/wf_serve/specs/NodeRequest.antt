@@ -12,7 +12,7 @@ use Rattle.wf_delivery.specs.declared.delivery.Pumped.{Pumped}
 use Rattle.wf_http.specs.declared.fault.RequestFault.{RequestFault}
 use Rattle.wf_node.specs.Node.{Node}
 use Rattle.wf_serve.specs.ConnectionEffect.{AreArrived, IsChangedAt}
-use Rattle.wf_serve.specs.declared.outcome.ConnectionOutcome.{ConnectionOutcome}
+use Rattle.wf_serve.specs.declared.connection_effect.ConnectionOutcome.{ConnectionOutcome}
 use Rattle.wf_stream.specs.declared.stream.Sink.{Ghosts as Sink}
 use Rattle.wf_tape.specs.declared.tape.Tape.{Ghosts as Tape}
 

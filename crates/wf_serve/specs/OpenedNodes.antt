@@ -1,6 +1,6 @@
 -- The nodes of a farm while they are opened, one after the other, and the bytes that are read of their tapes.
 use Rattle.std.specs.Prelude.{◌≡◌, ℕ, false, List, slice_get, Some}
-use Rattle.wf_farm.specs.declared.host.NodeHost.{NodeHost}
+use Rattle.wf_farm.specs.declared.cluster.NodeHost.{NodeHost}
 use Rattle.wf_delivery.specs.Delivery.{StandAmong}
 use Rattle.wf_farm.specs.Nodes.{AllRun, nodes_from}
 use Rattle.wf_model.specs.VolatileState.{at_start}

@@ -12,7 +12,7 @@ use Rattle.wf_delivery.specs.Delivery.{NoneHalted}
 use Rattle.wf_edge.specs.Request.{Request, BeginsWith}
 use Rattle.wf_node.specs.Node.{Node}
 use Rattle.wf_serve.specs.ConnectionEffect.{HaveCaughtUp, IsConnection}
-use Rattle.wf_serve.specs.declared.outcome.ConnectionOutcome.{ConnectionOutcome}
+use Rattle.wf_serve.specs.declared.connection_effect.ConnectionOutcome.{ConnectionOutcome}
 use Rattle.wf_tape.specs.declared.tape.Tape.{Ghosts as Tape}
 
 -- the status of the response to an accepted map (RFC 9110, 15.3.3)

@@ -3,7 +3,7 @@ ghost use Rattle.std.specs.Prelude.{◌≡◌, ◌≢◌, ◌<◌, false, true};
 ghost use Rattle.wf_edge.specs.Receipt.{CountsReceiving};
 ghost use Rattle.wf_edge.specs.Page.{proposal_state_at};
 ghost use Rattle.wf_edge.specs.Completion.{CountsCompleting};
-ghost use Rattle.wf_edge.specs.RequestEffect.{IsPublish, IsReading};
+ghost use Rattle.wf_edge.specs.RequestEffect.{IsPublish};
 ghost use Rattle.wf_farm.specs.Farm.{size};
 ghost use Rattle.wf_delivery.specs.Reachability.{AreReachableFrom};
 ghost use Rattle.wf_farm.specs.Nodes.{AllRun, nodes_in};
@@ -11,15 +11,14 @@ ghost use Rattle.wf_serve.specs.Agreement.{AgreeStill, HaveGoneOn};
 ghost use Rattle.wf_serve.specs.CacheSet.{AreCached, IsCachedAt, KeepRoom};
 ghost use Rattle.wf_serve.specs.Publication.{AcceptedMeansPublished};
 ghost use Rattle.wf_serve.specs.ConnectionEffect.{EndsWriting, HaveCaughtUp, IsAskedAndArrived, IsConnection, IsRetried, RestsAt, ProposesAt};
-ghost use Rattle.wf_serve.specs.NodeRequest.{IsAnsweredAt, IsReadAt, IsReply, IsResponse, no_deliveries};
+ghost use Rattle.wf_serve.specs.NodeRequest.{IsAnsweredAt, IsResponse, no_deliveries};
 ghost use Rattle.wf_model.specs.Table.{Retry};
 
 use crate::node_request::{Publishing, Restart};
-use crate::outcome::ConnectionOutcome;
 use crate::publication::an_accepted_map_is_published;
 use std::alloc::Global;
 use wf_codec::Message;
-use wf_delivery::{Pumped, reachability_goes_on, reachable_stays};
+use wf_delivery::Pumped;
 use wf_edge::answer::{answer_get, status_of};
 use wf_edge::completion::write_error;
 use wf_edge::outcome::Outcome;
@@ -33,7 +32,15 @@ use wf_proposer::ProposalState;
 use wf_stream::{Sink, Source};
 use wf_tape::Tape;
 use wf_wms::cache::Cache;
-use wf_wms::theorem::cached_pictures_outlast_growth;
+
+/// What came of a connection.
+#[derive(Clone, Copy, PartialEq, Eq)]
+pub struct ConnectionOutcome {
+    /// The outcome of its request.
+    pub request: Outcome,
+    /// The deliveries of the messages that the node sent for the request, and of those sent in reply; none unless it was a publish.
+    pub deliveries: Pumped,
+}
 
 /// Lets each node that is behind catch up: it asks one that has published the most, as long as that brings it on. Where no allocation
 /// fails, all nodes that run have published equally many maps afterwards; if none is behind, nothing happens.
@@ -74,8 +81,6 @@ pub fn serve_connection<S: Source, K: Sink, T: Tape>(
     ensures cached { AreCached (nodes_in farm.new) caches.new }
     ensures room { KeepRoom caches.old caches.new }
 {
-    cached_pictures_outlast_growth();
-    reachability_goes_on::<T>();
     an_accepted_map_is_published::<T>();
     farm.nodes_agree();
     // The messages of a request that isn't a publish.
@@ -87,8 +92,9 @@ pub fn serve_connection<S: Source, K: Sink, T: Tape>(
         farm,
         &mut caches[node_index],
         node_index,
-        arrived,
+        &arrived,
     );
+    drop(arrived);
     drop(none);
     retry(alloc, farm, node_index);
     catch_up(alloc, farm);
@@ -100,101 +106,49 @@ pub fn serve_connection<S: Source, K: Sink, T: Tape>(
 pub(crate) fn agree_still<T: Tape>(farm: &Farm<T>)
     ensures { AgreeStill T.Tape (nodes_in farm.now) }
 {
-    reachable_stays::<T>();
     farm.nodes_agree();
     equal_requests_have_equal_responses::<T>();
 }
 
 /// Lets the node at an index answer the request that was heard, with its cache; if there is none, writes its rejection, and nothing if
-/// the input was empty or a read failed. Only a publish changes the node, and its messages are delivered.
+/// the input was empty or a read failed. A request that only reads is answered from what the node has published, and sends nothing; a
+/// publish changes the node, and its messages are delivered.
 fn respond<K: Sink, T: Tape>(
     alloc: Global,
     sink: &mut K,
     farm: &mut Farm<T>,
     cache: &mut Cache,
     node_index: usize,
-    arrived: Result<Request, RequestFault>,
+    arrived: &Result<Request, RequestFault>,
 ) -> ConnectionOutcome
     requires within { node_index < size farm.old }
     requires running { AllRun farm.old.hosts }
     requires cached { IsCachedAt (nodes_in farm.old) node_index cache.old }
-    ensures responds { IsResponse T.Tape K.Sink node_index arrived sink.old sink.new
+    ensures responds { IsResponse T.Tape K.Sink node_index arrived.now sink.old sink.new
         (nodes_in farm.old) result (nodes_in farm.new) }
     ensures reachable { AreReachableFrom T.Tape (nodes_in farm.old) (nodes_in farm.new) }
     ensures running { AllRun farm.new.hosts }
     ensures cached { IsCachedAt (nodes_in farm.new) node_index cache.new }
     ensures room { cache.new.cap ≡ cache.old.cap }
 {
-    cached_pictures_outlast_growth();
-    reachability_goes_on::<T>();
-    match arrived {
-        Ok(request) => {
-            let outcome = reply(alloc, sink, farm, cache, node_index, &request);
-            drop(request);
-            outcome
-        }
-        Err(fault) => undelivered(write_error(sink, fault)),
-    }
-}
-
-/// Lets the node at an index answer a request, with its cache. Only a publish changes the node, and its messages are delivered.
-fn reply<K: Sink, T: Tape>(
-    alloc: Global,
-    sink: &mut K,
-    farm: &mut Farm<T>,
-    cache: &mut Cache,
-    node_index: usize,
-    request: &Request,
-) -> ConnectionOutcome
-    requires within { node_index < size farm.old }
-    requires running { AllRun farm.old.hosts }
-    requires cached { IsCachedAt (nodes_in farm.old) node_index cache.old }
-    ensures replies { IsReply T.Tape K.Sink node_index request.now sink.old sink.new
-        (nodes_in farm.old) result (nodes_in farm.new) }
-    ensures reachable { AreReachableFrom T.Tape (nodes_in farm.old) (nodes_in farm.new) }
-    ensures running { AllRun farm.new.hosts }
-    ensures cached { IsCachedAt (nodes_in farm.new) node_index cache.new }
-    ensures room { cache.new.cap ≡ cache.old.cap }
-{
-    cached_pictures_outlast_growth();
-    reachability_goes_on::<T>();
+    let request = match arrived {
+        Ok(request) => request,
+        Err(fault) => return outcome_without_publish(write_error(sink, *fault)),
+    };
     match request.asked() {
         RequestedResource::Wms | RequestedResource::Status => {
-            undelivered(read_at(alloc, sink, farm, cache, node_index, request))
+            let Some(node) = farm.node(node_index) else {
+                unreachable!();
+            };
+            let status = status_of(node);
+            outcome_without_publish(answer_get(alloc, sink, node.history(), status, cache, request))
         }
         RequestedResource::Publish(_) => publish_at(alloc, sink, farm, node_index, request),
     }
 }
 
-/// Answers a request that isn't a publish from the node at an index, with its cache. It sends nothing.
-fn read_at<K: Sink, T: Tape>(
-    alloc: Global,
-    sink: &mut K,
-    farm: &Farm<T>,
-    cache: &mut Cache,
-    node_index: usize,
-    request: &Request,
-) -> Outcome
-    requires within { node_index < size farm.now }
-    requires running { AllRun farm.now.hosts }
-    requires cached { IsCachedAt (nodes_in farm.now) node_index cache.old }
-    requires reads { IsReading request.now.asked }
-    ensures read { IsReadAt T.Tape K.Sink node_index request.now sink.old sink.new
-        (nodes_in farm.now) result }
-    ensures cached { IsCachedAt (nodes_in farm.now) node_index cache.new }
-    ensures room { cache.new.cap ≡ cache.old.cap }
-{
-    match farm.node(node_index) {
-        Some(node) => {
-            let status = status_of(node);
-            answer_get(alloc, sink, node.history(), status, cache, request)
-        }
-        None => unreachable!(),
-    }
-}
-
 /// The outcome of a connection over which no publish came.
-fn undelivered(request: Outcome) -> ConnectionOutcome
+fn outcome_without_publish(request: Outcome) -> ConnectionOutcome
     ensures request { result.request ≡ request }
     ensures quiet { result.deliveries ≡ no_deliveries }
 {
@@ -269,7 +223,6 @@ fn retry<T: Tape>(alloc: Global, farm: &mut Farm<T>, node_index: usize)
     ensures reachable { AreReachableFrom T.Tape (nodes_in farm.old) (nodes_in farm.new) }
     ensures running { AllRun farm.new.hosts }
 {
-    reachability_goes_on::<T>();
     if proposes(farm, node_index) {
         restart(alloc, farm, node_index);
     }

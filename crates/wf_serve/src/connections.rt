@@ -9,15 +9,14 @@ ghost use Rattle.wf_serve.specs.Connections.{HaveCome, MayBeAnswered};
 
 use crate::connection_effect::{agree_still, serve_connection};
 use crate::linger_close::part;
-use crate::log::Log;
 use crate::timed_reader::TimedReader;
 use crate::timed_writer::TimedWriter;
 use crate::watch::Watch;
 use std::net::{TcpListener, TcpStream};
 use std::time::{Clock, Duration};
-use wf_delivery::reachability_goes_on;
 use wf_farm::Farm;
 use wf_tape::Tape;
+use wf_visitors::Log;
 use wf_wms::cache::Cache;
 
 /// The time limit for a client to send its request, and then to receive the response, in seconds.
@@ -49,7 +48,6 @@ pub fn serve_connections<R: Clock + Eprint + AllocGlobal, T: Tape>(
     ensures cached { AreCached (nodes_in farm.new) caches.new }
     ensures room { KeepRoom caches.old caches.new }
 {
-    reachability_goes_on::<T>();
     let count = farm.size();
     let mut watch = Watch::new(rt.alloc(), log, farm);
     for connection in 0..requests {
@@ -93,7 +91,6 @@ fn serve_next<R: Clock + Eprint + AllocGlobal, T: Tape>(
     ensures cached { AreCached (nodes_in farm.new) caches.new }
     ensures room { KeepRoom caches.old caches.new }
 {
-    reachability_goes_on::<T>();
     let Ok((stream, _)) = listener.accept() else {
         return;
     };

@@ -2,27 +2,7 @@
 
 use std::fmt;
 use wf_folder::Beginning;
-
-/// How much an event matters.
-#[derive(Clone, Copy, PartialEq, Eq)]
-pub enum Level {
-    /// Nothing to do.
-    Info,
-    /// A request wasn't fulfilled.
-    Warn,
-    /// The farm doesn't start, or a node has stopped.
-    Error,
-}
-
-impl fmt::Display for Level {
-    fn fmt<W: fmt::Write>(&self, f: &mut fmt::Formatter<W>) -> fmt::Result {
-        f.write_str(match self {
-            Level::Info => "info",
-            Level::Warn => "warn",
-            Level::Error => "error",
-        })
-    }
-}
+use wf_visitors::{Level, LogEntry};
 
 /// An event. Nodes are named by their numbers.
 #[derive(Clone, Copy)]
@@ -131,9 +111,8 @@ pub enum Cause {
     Memory,
 }
 
-impl ServeEvent<'_> {
-    /// How much the event matters.
-    pub fn level(&self) -> Level {
+impl LogEntry for ServeEvent<'_> {
+    fn level(&self) -> Level {
         match self {
             ServeEvent::Fault(_) | ServeEvent::Halted { .. } => Level::Error,
             ServeEvent::Rejected { .. } | ServeEvent::Overtaken { .. } => Level::Warn,

@@ -62,11 +62,9 @@ mod fault;
 mod folder_lock;
 mod limited;
 mod linger_close;
-mod log;
 mod node_request;
 mod node_start;
 mod noted;
-mod outcome;
 mod port;
 mod port_listener;
 mod publication;
@@ -77,12 +75,10 @@ mod watch;
 
 pub use check::{check_tapes, examine, first_difference};
 pub use compaction::open_shortened;
-pub use connection_effect::{catch_up, serve_connection};
+pub use connection_effect::{ConnectionOutcome, catch_up, serve_connection};
 pub use connections::serve_connections;
-pub use event::{Cause, Level, ServeEvent, StartFault};
+pub use event::{Cause, ServeEvent, StartFault};
 pub use fault::ServeFault;
-pub use log::Log;
-pub use outcome::ConnectionOutcome;
 pub use port::listen;
 pub use port_listener::{serve, serve_nodes};
 pub use publication::{
@@ -90,3 +86,4 @@ pub use publication::{
 };
 pub use survey::{Survey, inspect};
 pub use wf_service::Service;
+pub use wf_visitors::{Level, Log};

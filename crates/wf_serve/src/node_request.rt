@@ -7,7 +7,6 @@ ghost use Rattle.wf_serve.specs.ConnectionEffect.{IsAsked};
 
 use std::alloc::Global;
 use wf_codec::Message;
-use wf_delivery::{a_step_is_reachable, reachability_goes_on};
 use wf_edge::outcome::Outcome;
 use wf_edge::request::Request;
 use wf_edge::serve::{Served, publish_request};
@@ -37,8 +36,6 @@ impl<'a, 'b, K: Sink, T: Tape> NodeClient<T> for Publishing<'a, 'b, K> {
         before outputs after new.outcome };
 
     fn ask(&mut self, alloc: Global, node: &mut Node<T>) -> Vec<Message> {
-        a_step_is_reachable::<T>();
-        reachability_goes_on::<T>();
         let Served { outcome, messages } = publish_request(alloc, self.sink, node, self.request);
         self.outcome = outcome;
         messages
@@ -55,7 +52,6 @@ impl<T: Tape> NodeClient<T> for Restart {
     ghost asks = { λ _ before outputs after _. IsAsked T.Tape Retry before outputs after };
 
     fn ask(&mut self, alloc: Global, node: &mut Node<T>) -> Vec<Message> {
-        a_step_is_reachable::<T>();
         outputs(alloc, node, Input::Retry)
     }
 }

@@ -11,7 +11,6 @@ use crate::compaction::{bytes_at, open_shortened};
 use crate::event::{Cause, ServeEvent};
 use crate::farm_file::{new_file, write_file};
 use crate::folder_lock::hold;
-use crate::log::Log;
 use crate::survey::{Survey, inspect, tape_path};
 use std::fs::File;
 use std::rt::Files;
@@ -21,6 +20,7 @@ use wf_farm::{Farm, NodeHost};
 use wf_folder::{Beginning, FarmFile, Start, admit};
 use wf_node::Node;
 use wf_tape::{FileTape, Tape};
+use wf_visitors::Log;
 
 /// A farm on its tapes in a folder, and the handle by which that is locked.
 pub(crate) type Opened<'a, R> = (Farm<FileTape<&'a R>>, File);
@@ -131,11 +131,14 @@ fn open_new<'a, R: Files + Eprint + Clock + AllocGlobal>(
     let file = new_file(rt, n, beginning)?;
     write_folder(log, folder, &file);
     let farm = in_files(rt, log, n, folder)?;
-    cached(farm, write_file(rt, folder, &file))
+    farm_if_written(farm, write_file(rt, folder, &file))
 }
 
 /// The farm, if the file of its folder was written.
-fn cached<T: Tape + Drop>(farm: Farm<T>, written: Result<(), Cause>) -> Result<Farm<T>, Cause>
+fn farm_if_written<T: Tape + Drop>(
+    farm: Farm<T>,
+    written: Result<(), Cause>,
+) -> Result<Farm<T>, Cause>
     ensures { IfOk result (λ same. same ≡ farm) }
 {
     match written {

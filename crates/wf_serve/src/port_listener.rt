@@ -1,7 +1,6 @@
 //! Opens the nodes, lets them catch up, prints their port, and serves the connections.
-ghost use Rattle.std.specs.Prelude.{◌≡◌, List, Err, IfOk, OnOk};
+ghost use Rattle.std.specs.Prelude.{◌≡◌, Err, IfOk, OnOk};
 ghost use Rattle.wf_farm.specs.Nodes.{AllRun, nodes_in};
-ghost use Rattle.wf_node.specs.Node.{Node};
 ghost use Rattle.wf_serve.specs.Agreement.{HaveGoneOn};
 ghost use Rattle.wf_serve.specs.CacheSet.{AreCached, HaveRoom};
 ghost use Rattle.wf_serve.specs.Connections.{IsServing};
@@ -15,7 +14,6 @@ use crate::connection_effect::{agree_still, catch_up};
 use crate::connections::serve_connections;
 use crate::event::{Cause, ServeEvent, StartFault};
 use crate::fault::ServeFault;
-use crate::log::Log;
 use crate::node_start::open_folder;
 use crate::port::{listen, print_port};
 use crate::watch::write_caught_up;
@@ -23,11 +21,11 @@ use std::fs::File;
 use std::net::{Net, TcpListener, TcpStream};
 use std::rt::Files;
 use std::time::Clock;
-use wf_delivery::{fresh_nodes_are_reachable, reachability_goes_on};
 use wf_farm::Farm;
 use wf_service::Service;
 use wf_stream::Sink;
 use wf_tape::{FileTape, MemoryTape, Tape};
+use wf_visitors::Log;
 use wf_wms::cache::Cache;
 
 /// Serves nodes at a port of 127.0.0.1, to the service's number of connections, one after the other: connection c, counted from
@@ -57,7 +55,6 @@ pub fn serve<
     ensures served { OnOk result (HasServed ⟦<MemoryTape as Tape>⟧ ⟦<FileTape<&'a R> as Tape>⟧
         service.entry) }
 {
-    fresh_nodes_are_reachable::<MemoryTape>();
     let log = Log::new(rt, service.log);
     let Ok(listener) = listen(rt, service.port) else {
         return fault(&log, Cause::Port(service.port), None);
@@ -65,12 +62,13 @@ pub fn serve<
     write_port(&log, &listener);
     match service.state {
         None => match Farm::new(rt.alloc(), service.nodes) {
-            Ok(farm) => serve_opened(rt, &log, &listener, service, farm, sink),
+            Ok(mut farm) => serve_nodes(rt, &log, &listener, service, &mut farm, sink),
             Err(_) => fault(&log, Cause::Memory, None),
         },
         Some(folder) => match open_folder(rt, &log, service.nodes, folder) {
-            Ok((farm, held)) => {
-                let outcome = serve_opened(rt, &log, &listener, service, farm, sink);
+            Ok((mut farm, held)) => {
+                let outcome = serve_nodes(rt, &log, &listener, service, &mut farm, sink);
+                close(farm);
                 drop(held);
                 outcome
             }
@@ -79,24 +77,9 @@ pub fn serve<
     }
 }
 
-/// Serves open nodes, and closes them.
-fn serve_opened<R: Clock + Eprint + AllocGlobal, K: Sink, T: Tape + Drop>(
-    rt: &R,
-    log: &Log<'_, R>,
-    listener: &TcpListener,
-    service: Service<'_>,
-    mut farm: Farm<T>,
-    sink: &mut K,
-) -> Result<(), ServeFault>
-    requires service { IsService service }
-    requires running { AllRun farm.hosts }
-    ensures reports { PrintsPort K.Sink service.entry.port sink.old sink.new result }
-    ensures served { OnOk result ((after : List (Node T)) × HaveServed T.Tape
-        service.entry.requests service.entry.cache (nodes_in farm) after) }
-{
-    let outcome = serve_nodes(rt, log, listener, service, &mut farm, sink);
+/// Closes the nodes' tapes.
+fn close<T: Tape + Drop>(farm: Farm<T>) {
     drop(farm);
-    outcome
 }
 
 /// Writes to the log why nodes don't start, and returns that they don't.
@@ -146,7 +129,6 @@ pub fn serve_nodes<R: Clock + Eprint + AllocGlobal, K: Sink, T: Tape>(
         (nodes_in farm.old) (nodes_in farm.new)) }
     ensures headline { HaveGoneOn T.Tape (nodes_in farm.old) (nodes_in farm.new) }
 {
-    reachability_goes_on::<T>();
     farm.nodes_agree();
     catch_up(rt.alloc(), farm);
     write_caught_up(log, farm);

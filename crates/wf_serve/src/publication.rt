@@ -3,7 +3,6 @@ ghost use Rattle.wf_serve.specs.First.{FirstIsPublished};
 ghost use Rattle.wf_serve.specs.Publication.{AcceptedIsPublished, CaughtUpAreNew};
 
 use wf_catch_up::a_catch_up_is_reachable;
-use wf_delivery::{a_step_is_reachable, reachability_goes_on};
 use wf_farm::a_proposal_is_published;
 use wf_tape::Tape;
 
@@ -33,7 +32,5 @@ pub fn the_first_map_is_published<T: Tape>()
     ensures { FirstIsPublished T.Tape }
 {
     a_catch_up_is_reachable::<T>();
-    a_step_is_reachable::<T>();
-    reachability_goes_on::<T>();
     a_proposal_is_published::<T>();
 }

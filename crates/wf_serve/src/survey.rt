@@ -107,7 +107,7 @@ fn read_found<R: Files + AllocGlobal>(rt: &R, path: &str) -> Result<FoundFile, C
     drop(source);
     match read {
         Ok(bytes) => {
-            let found = found_of(&bytes);
+            let found = classify_file(&bytes);
             drop(bytes);
             Ok(found)
         }
@@ -119,7 +119,7 @@ fn read_found<R: Files + AllocGlobal>(rt: &R, path: &str) -> Result<FoundFile, C
 }
 
 /// What a file with these bytes says.
-fn found_of(bytes: &[u8]) -> FoundFile {
+fn classify_file(bytes: &[u8]) -> FoundFile {
     match FarmFile::read(bytes) {
         Ok(file) => FoundFile::File(file),
         Err(fault) => FoundFile::Bad(fault),

@@ -1,7 +1,6 @@
 //! What becomes of proposals and tapes, for the log.
 
 use crate::event::ServeEvent;
-use crate::log::Log;
 use std::alloc::Global;
 use std::time::Clock;
 use wf_edge::outcome::Outcome;
@@ -9,6 +8,7 @@ use wf_farm::Farm;
 use wf_node::{Node, NodeFault};
 use wf_proposer::ProposalState;
 use wf_tape::Tape;
+use wf_visitors::Log;
 
 /// How a request to publish begins.
 const PUBLISH: &[u8] = b"POST /publish";
@@ -40,7 +40,7 @@ impl<'a, 'b, R: Clock + Eprint> Watch<'a, 'b, R> {
         if log.is_on() {
             for number in 0..farm.size() {
                 if let Some(node) = farm.node(number) {
-                    let _ = seen.push(seen_of(node));
+                    let _ = seen.push(observe(node));
                 }
             }
         }
@@ -88,7 +88,7 @@ pub(crate) fn write_caught_up<R: Clock + Eprint, T: Tape>(log: &Log<'_, R>, farm
 fn look_at<R: Clock + Eprint, T: Tape>(log: &Log<'_, R>, seen: &mut [Seen], farm: &Farm<T>) {
     for number in 0..seen.len() {
         if let Some(node) = farm.node(number) {
-            let now = seen_of(node);
+            let now = observe(node);
             write_change(log, number, &seen[number], &now);
             seen[number] = now;
         }
@@ -96,7 +96,7 @@ fn look_at<R: Clock + Eprint, T: Tape>(log: &Log<'_, R>, seen: &mut [Seen], farm
 }
 
 /// What is seen of a node.
-fn seen_of<T: Tape>(node: &Node<T>) -> Seen {
+fn observe<T: Tape>(node: &Node<T>) -> Seen {
     let is_halted = matches!(node.proposal_step_rejection(), Some(NodeFault::Halted));
     let (published, overtaken) = match node.proposal() {
         ProposalState::Published(slot) => (slot.number(), 0),

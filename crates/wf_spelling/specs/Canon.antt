@@ -1,6 +1,6 @@
 -- The canonical text of a map definition: one item a line, each line ended by LF, single spaces, keywords and choices in
 -- capitals, every default filled in. An optional value has a line only if it is present.
-use Rattle.std.specs.Prelude.{◌≡◌, ℕ, ℤ, ◌≤◌, length, Bool, true, false, List, [], ◌∷◌, ◌++◌, map, Option, Some, None, codes}
+use Rattle.std.specs.Prelude.{◌≡◌, ℕ, ℤ, ◌≤◌, length, Bool, true, false, List, [], ◌∷◌, ◌++◌, map, Option, Some, None, codes, ◌<◌}
 use Rattle.std.specs.List.{flat_map}
 use Rattle.std.specs.Fmt.{decimal}
 use Rattle.wf_def.specs.Definition.{Definition, LayerDefinition, ClassDefinition, ExpressionDefinition, StyleDefinition, LabelDefinition, FeatureDefinition}
@@ -21,6 +21,8 @@ use Rattle.wf_token.specs.Token.{Token, Word, Quoted, Braced}
 use Rattle.wf_text.specs.NumberText.{number_text}
 unfoldable pub use Rattle.wf_token.specs.Spelling.{line}
 pub use Rattle.wf_token.specs.Spelling.{quote_for, quoted, braced, spelled, text_of}
+use Rattle.wf_spelling.specs.declared.fault.CanonFault.{CanonFault}
+use Rattle.wf_spelling.specs.declared.fault.CanonFault.TheVariants.{TooBig, NotCanonical, Memory}
 
 -- ---- words
 
@@ -214,3 +216,9 @@ pub record IsCanon (text : List ℕ) (d : Definition) : Type 0 where
   pub spelled : text ≡ canon d
   pub within : IsWithinLimits d
   pub short : length text ≤ most_canon_bytes
+
+-- why a definition has no canonical text: it is over the limit, or it isn't and allocation failed
+abbrev pub IsCauseOf : CanonFault → Definition → Type 0
+IsCauseOf TooBig d = most_canon_bytes < length (canon d)
+IsCauseOf NotCanonical d = ⊥
+IsCauseOf Memory d = length (canon d) ≤ most_canon_bytes

@@ -2,8 +2,7 @@
 
 ghost use Rattle.std.specs.Prelude.{◌≡◌, ◌≤◌, length, IfOk, IfErr, OnOk};
 ghost use Rattle.wf_def.specs.Limits.{IsWithinLimits};
-ghost use Rattle.wf_spelling.specs.Canon.{canon, most_canon_bytes};
-ghost use Rattle.wf_spelling.specs.StepRejection.{IsCauseOf};
+ghost use Rattle.wf_spelling.specs.Canon.{canon, most_canon_bytes, IsCauseOf};
 
 use crate::draft::Draft;
 use crate::fault::CanonFault;

@@ -5,7 +5,7 @@ use Rattle.std.proofs.lemmas.List.{take-append-drop}
 use Rattle.std.proofs.lemmas.Result.{on_ok_weaker}
 use Rattle.wf_tape.specs.declared.fault.TapeFault.{TapeFault}
 use Rattle.wf_tape.specs.declared.fault.TapeFault.TheVariants.{Device, Memory}
-use Rattle.wf_tape.specs.declared.fuse.Fuse.{Fuse}
+use Rattle.wf_tape.specs.declared.memory.Fuse.{Fuse}
 use Rattle.wf_tape.specs.Fuse.{count_down, burn}
 use Rattle.wf_tape.specs.Tape.{Call, Read, Append, Sync, Replace, error_of, IsOnlyImage, IsUnchanged, LeavesNoOther, IsExtended, LeavesOldOr, LeavesOldOrCut, LeavesOldOrNew, Elapses, HasRisen, HasCause, IsNotMemory, last_count}
 use Rattle.wf_tape.specs.MemoryTape.{TapeValue, IsImageOf, IsLeftSince, state_of, moment_of, NeverFails, counted, risen, failed_once, appended, replaced, settled, done, cut_short, IsLeft, IsCalled}

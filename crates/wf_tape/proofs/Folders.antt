@@ -3,7 +3,7 @@ use Rattle.std.proofs.Common.{◌≡◌, ◌⊎◌, ℕ, Bool, true, false, List
 use Rattle.std.proofs.lemmas.List.{append-nil}
 use Rattle.wf_disk.specs.declared.fault.DiskFault.{DiskFault}
 use Rattle.wf_disk.specs.declared.fault.DiskFault.TheVariants.{Device, Memory}
-use Rattle.wf_disk.specs.declared.name.Name.TheVariants.{Own, Second}
+use Rattle.wf_disk.specs.declared.folder.Name.TheVariants.{Own, Second}
 use Rattle.wf_disk.specs.Folder.{File, Folder, bytes_of, bytes_in, empty_file, whole, IsLeftOf, IsLeftOfOne, MayLeave, IsSynced}
 use Rattle.wf_disk.specs.FolderTheorems.{content_is_left, whole_is_left, no_file_is_left}
 use Rattle.wf_disk.specs.Call.{Open, Make, Append, Sync, Rename, SyncNames, Read, done, extended, synced, doubted, opened_over, IsThere, IsLeft, error_of}

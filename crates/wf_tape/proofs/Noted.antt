@@ -2,9 +2,9 @@
 use Rattle.std.proofs.Common.{◌≡◌, ℕ, ◌<◌, List, [], ◌∷◌, ◌++◌, length, take, reverse, nat_lt, Bool, true, false, Option, Vec, if◌then◌else◌, refl, sym, ap, subst, ◌∙◌, arith, inl, inr, le_refl}
 use Rattle.std.proofs.lemmas.List.{reverse-append, take_all, take_at}
 use Rattle.std.proofs.lemmas.Bool.Decides.{nat_tests}
-use Rattle.wf_tape.specs.declared.earlier.Earlier.{Earlier}
-use Rattle.wf_tape.specs.declared.earlier.Earlier.TheVariants.{Front, Replaced}
-use Rattle.wf_tape.specs.declared.fuse.Fuse.{Fuse}
+use Rattle.wf_tape.specs.declared.memory.Earlier.{Earlier}
+use Rattle.wf_tape.specs.declared.memory.Earlier.TheVariants.{Front, Replaced}
+use Rattle.wf_tape.specs.declared.memory.Fuse.{Fuse}
 use Rattle.wf_tape.specs.Tape.{LeavesNoOther, LeavesOldOr, LeavesOldOrNew, Elapses}
 use Rattle.wf_tape.specs.MemoryTape.{State, TapeValue, IsImageOf, WasLeft, state_of, moment_of, IsLeftSince, states_before, appended, replaced, settled}
 use Rattle.wf_tape.specs.MemoryMoments.{none_later}

@@ -1,6 +1,6 @@
 -- The failure that a tape in memory will have, counted down by its calls.
 use Rattle.std.specs.Prelude.{ℕ, zero, suc, Option, Some, None}
-use Rattle.wf_tape.specs.declared.fuse.Fuse.{Fuse}
+use Rattle.wf_tape.specs.declared.memory.Fuse.{Fuse}
 
 -- The call with this number from now, counted from 1, fails and keeps so much. There is no call 0.
 unfoldable pub fuse_at : ℕ → ℕ → Option Fuse

@@ -1,10 +1,10 @@
 -- A tape in memory: its bytes, of which the first are synced, its earlier states since it was made or crashed, and its failures.
 use Rattle.std.specs.Prelude.{◌≡◌, ◌⊎◌, ◌≤◌, ℕ, ◌+◌, zero, suc, nat_lt, nat_eq, List, [], ◌∷◌, ◌++◌, length, take, Option, Some, None, if◌then◌else◌}
-use Rattle.wf_tape.specs.declared.earlier.Earlier.{Earlier}
-use Rattle.wf_tape.specs.declared.earlier.Earlier.TheVariants.{Front, Replaced}
+use Rattle.wf_tape.specs.declared.memory.Earlier.{Earlier}
+use Rattle.wf_tape.specs.declared.memory.Earlier.TheVariants.{Front, Replaced}
 use Rattle.wf_tape.specs.declared.fault.TapeFault.{TapeFault}
 use Rattle.wf_tape.specs.declared.fault.TapeFault.TheVariants.{Device, Memory}
-use Rattle.wf_tape.specs.declared.fuse.Fuse.{Fuse}
+use Rattle.wf_tape.specs.declared.memory.Fuse.{Fuse}
 use Rattle.wf_tape.specs.Fuse.{fuse_at, count_down, burn}
 use Rattle.wf_tape.specs.Tape.{IsBeginning, Call, Read, Append, Sync, Replace, last_count}
 

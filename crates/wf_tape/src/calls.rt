@@ -2,7 +2,7 @@
 
 ghost use Rattle.std.specs.Prelude.{◌≡◌, ◌⊎◌, true, [], Some, OnOk, OnErr, IsErrOf};
 ghost use Rattle.wf_disk.specs.declared.fault.DiskFault.TheVariants.{Memory};
-ghost use Rattle.wf_disk.specs.declared.name.Name.TheVariants.{Own};
+ghost use Rattle.wf_disk.specs.declared.folder.Name.TheVariants.{Own};
 ghost use Rattle.wf_disk.specs.Moments.{LeavesNoOther, LeavesOldOr};
 ghost use Rattle.wf_disk.specs.Folder.{whole, IsLeftOf, MayLeave, IsSynced};
 ghost use Rattle.wf_disk.specs.Call.{Rename, Sync, SyncNames, done, IsThere, IsCounted, IsNotMemory};

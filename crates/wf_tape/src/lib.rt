@@ -15,9 +15,7 @@
 
 mod calls;
 mod disk_tape;
-mod earlier;
 mod fault;
-mod fuse;
 mod memory;
 mod tape;
 mod theorem;

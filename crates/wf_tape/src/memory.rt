@@ -3,13 +3,30 @@ ghost use Rattle.wf_tape.specs.Fuse.{fuse_at, count_down, burn, burn_at};
 ghost use Rattle.wf_tape.specs.MemoryTape.{IsCalled, risen, with_fuse, counted, failed_once, appended, replaced, settled};
 ghost use Rattle.wf_tape.specs.Tape.{Read, Append, Sync, Replace, error_of};
 
-use crate::earlier::Earlier;
 use crate::fault::TapeFault;
-use crate::fuse::Fuse;
 use crate::tape::Tape;
 use std::alloc::Global;
 use std::marker::Model;
 use std::mem;
+
+/// An earlier state of a tape in memory, as what it takes to go back to it from the one after it: what the content was, and how
+/// many bytes of it were synced.
+#[derive(Drop)]
+pub enum Earlier {
+    /// So many first bytes of the content after it; the number of them that were synced.
+    Front(usize, usize),
+    /// These bytes, which were replaced; the number of them that were synced.
+    Replaced(Vec<u8>, usize),
+}
+
+/// A failure that a tape in memory will have: that of the call after so many that it lets pass.
+#[derive(Clone, Copy)]
+pub struct Fuse {
+    /// The number of calls before the one that fails.
+    pub before: usize,
+    /// How many bytes an append that fails keeps of the new ones; whether a replacement that fails has the new content.
+    pub kept: usize,
+}
 
 /// A tape in memory. It is durable, and its device fails only where a failure was set (`set_fuse`). It keeps notes on its changes
 /// since it was made or crashed, so that what a crash at each earlier moment could have left is known.

@@ -27,7 +27,7 @@ impl Model for Member {
 
 impl Member {
     /// The node that `NODE of NODES` names, where the farm has it.
-    pub fn named(words: &mut CaseWords<'_>) -> Result<Member, Unanswered> {
+    pub fn parse(words: &mut CaseWords<'_>) -> Result<Member, Unanswered> {
         let node = node(words)?;
         if words.word() != "of" {
             return Err(Unanswered::BadWords);

@@ -73,7 +73,7 @@ fn calls_of(script: &str) -> &str {
 }
 
 /// The name and the text of a map, given without the line after it.
-fn named(map: &str) -> Option<(&str, &str)> {
+fn split_name(map: &str) -> Option<(&str, &str)> {
     map.strip_prefix("map ")?.split_once('\n')
 }
 
@@ -92,7 +92,7 @@ impl<'a> CallMaps<'a> {
     /// The text of the map of a name.
     pub fn text_of(self, name: &str) -> Option<&'a str> {
         for map in self.script.split(END) {
-            if let Some((known, text)) = named(map) {
+            if let Some((known, text)) = split_name(map) {
                 if known == name {
                     return Some(text);
                 }
@@ -104,7 +104,7 @@ impl<'a> CallMaps<'a> {
     /// The name of the map that has this text.
     pub fn name_of(self, text: &[u8]) -> Option<&'a str> {
         for map in self.script.split(END) {
-            if let Some((name, known)) = named(map) {
+            if let Some((name, known)) = split_name(map) {
                 if known.as_bytes() == text {
                     return Some(name);
                 }

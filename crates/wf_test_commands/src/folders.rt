@@ -61,7 +61,7 @@ fn tapes_of(text: &str) -> [Presence; 64] {
 }
 
 /// What is found as the file: `none`, the text of one, spelled as the number of its nodes, or `bad`.
-fn found_of(word: &str) -> FoundFile {
+fn read_case_file(word: &str) -> FoundFile {
     match word {
         "none" => FoundFile::Nothing,
         _ => match word.parse::<u8>() {
@@ -104,7 +104,7 @@ pub(crate) fn admitted(mut asked: CaseInput<'_>, answer: &mut Transcript) -> Ans
         return Err(Unanswered::BadWords);
     }
     write_start(
-        admit(nodes, found_of(file), tapes_of(tapes).as_slice()),
+        admit(nodes, read_case_file(file), tapes_of(tapes).as_slice()),
         answer,
     );
     Ok(())

@@ -2,8 +2,7 @@
 use crate::recorder::Recorder;
 use clap::Error;
 use std::alloc::Global;
-use wf_commands::program::{rejection_status, run_words};
-use wf_commands::program_end::Ending;
+use wf_commands::program::{Ending, rejection_status, run_words};
 use wf_farm::Carrier;
 use wf_line::arguments::line;
 use wf_line::line::{Line, Service};

@@ -14,7 +14,7 @@ struct TwoRight {
     instead: Option<Message>,
 }
 
-fn copied(message: &Message) -> Result<Message, CarrierFault> {
+fn copy_message(message: &Message) -> Result<Message, CarrierFault> {
     match message.copy() {
         Ok(copy) => Ok(copy),
         Err(_) => Err(CarrierFault::Memory),
@@ -25,10 +25,10 @@ impl Carrier for TwoRight {
     fn carry(&mut self, _alloc: Global, message: &Message) -> Result<Message, CarrierFault> {
         self.calls = self.calls.saturating_add(1);
         if self.calls <= 2 {
-            return copied(message);
+            return copy_message(message);
         }
         match &self.instead {
-            Some(other) => copied(other),
+            Some(other) => copy_message(other),
             None => Err(CarrierFault::Lost),
         }
     }
@@ -47,7 +47,7 @@ impl Carrier for TwoRight {
 type DeliveryOutcome<T> = (Result<T, FarmFault>, u16, usize);
 
 /// A farm of one node, which has proposed a map.
-fn proposed(rt: &impl Abort, alloc: Global) -> Farm {
+fn farm_with_proposal(rt: &impl Abort, alloc: Global) -> Farm {
     let mut farm = match Farm::new(alloc, 1) {
         Ok(farm) => farm,
         Err(_) => Farm::new(alloc, 1).expect(rt, "a farm"),
@@ -83,12 +83,12 @@ fn published(farm: &Farm) -> u16 {
 }
 
 /// Four messages are delivered by this carrier.
-fn delivered<C: Carrier>(
+fn deliver_four<C: Carrier>(
     rt: &impl Abort,
     alloc: Global,
     carrier: &mut C,
 ) -> DeliveryOutcome<usize> {
-    let mut farm = proposed(rt, alloc);
+    let mut farm = farm_with_proposal(rt, alloc);
     let result = deliver(alloc, &mut farm, carrier, 4);
     let outcome = (result, published(&farm), farm.sent_count());
     drop(farm);
@@ -97,7 +97,7 @@ fn delivered<C: Carrier>(
 
 /// The messages are pumped by this carrier.
 fn pumped<C: Carrier>(rt: &impl Abort, alloc: Global, carrier: &mut C) -> DeliveryOutcome<bool> {
-    let mut farm = proposed(rt, alloc);
+    let mut farm = farm_with_proposal(rt, alloc);
     let result = farm.pump_by(alloc, carrier, &[]);
     let outcome = (result, published(&farm), farm.sent_count());
     drop(farm);
@@ -123,8 +123,8 @@ fn bringing_the_first(rt: &impl Abort) -> TwoRight {
 fn a_message_that_is_not_carried_is_not_delivered(rt: HostRuntime) {
     let third: DeliveryOutcome<usize> = (Err(FarmFault::Carried(0)), 0, 3);
     assert!(rt;
-        delivered(&rt, rt.alloc(), &mut failing()) == third
-            || delivered(&rt, rt.alloc(), &mut failing()) == third
+        deliver_four(&rt, rt.alloc(), &mut failing()) == third
+            || deliver_four(&rt, rt.alloc(), &mut failing()) == third
     );
 }
 
@@ -132,8 +132,8 @@ fn a_message_that_is_not_carried_is_not_delivered(rt: HostRuntime) {
 fn another_message_is_not_delivered(rt: HostRuntime) {
     let third: DeliveryOutcome<usize> = (Err(FarmFault::Carried(0)), 0, 3);
     assert!(rt;
-        delivered(&rt, rt.alloc(), &mut bringing_the_first(&rt)) == third
-            || delivered(&rt, rt.alloc(), &mut bringing_the_first(&rt)) == third
+        deliver_four(&rt, rt.alloc(), &mut bringing_the_first(&rt)) == third
+            || deliver_four(&rt, rt.alloc(), &mut bringing_the_first(&rt)) == third
     );
 }
 
@@ -150,7 +150,7 @@ fn a_pump_ends_at_a_message_that_is_not_carried(rt: HostRuntime) {
 fn copies_are_delivered(rt: HostRuntime) {
     let all: DeliveryOutcome<usize> = (Ok(4), 1, 5);
     assert!(rt;
-        delivered(&rt, rt.alloc(), &mut Copies) == all
-            || delivered(&rt, rt.alloc(), &mut Copies) == all
+        deliver_four(&rt, rt.alloc(), &mut Copies) == all
+            || deliver_four(&rt, rt.alloc(), &mut Copies) == all
     );
 }

@@ -42,7 +42,11 @@ fn is_missed(rt: &impl Abort, alloc: Global, farm: &mut Farm, count: u16) -> boo
 }
 
 /// What the nodes have published once node 2 has missed so many maps, and what after they caught up. None if an allocation fails.
-fn caught_up(rt: &impl Abort, alloc: Global, count: u16) -> Option<(LastPublished, LastPublished)> {
+fn catch_up_counts(
+    rt: &impl Abort,
+    alloc: Global,
+    count: u16,
+) -> Option<(LastPublished, LastPublished)> {
     let Ok(mut farm) = Farm::new(alloc, 3) else {
         return None;
     };
@@ -62,7 +66,7 @@ fn caught_up(rt: &impl Abort, alloc: Global, count: u16) -> Option<(LastPublishe
 fn is_level(rt: &impl Abort, alloc: Global, count: u16) -> bool {
     let all = Some(count);
     let expected = Some(([all, all, Some(0)], [all, all, all]));
-    caught_up(rt, alloc, count) == expected || caught_up(rt, alloc, count) == expected
+    catch_up_counts(rt, alloc, count) == expected || catch_up_counts(rt, alloc, count) == expected
 }
 
 #[test]

@@ -39,7 +39,7 @@ fn serve(rt: &impl Abort, alloc: Global, stream: &TcpStream) -> Outcome {
 }
 
 /// A client that has written its request, and the stream that the server accepts.
-fn connected(rt: &HostRuntime) -> io::Result<(TcpStream, TcpStream)> {
+fn connect_pair(rt: &HostRuntime) -> io::Result<(TcpStream, TcpStream)> {
     let listener = TcpListener::bind(rt, SocketAddr::from((Ipv4Addr::LOCALHOST, 0)))?;
     let mut client = TcpStream::connect(rt, listener.local_addr()?)?;
     client.write_all(REQUEST)?;
@@ -56,7 +56,7 @@ fn answer(alloc: Global, mut client: TcpStream) -> io::Result<Vec<u8>> {
 
 #[test]
 fn a_request_over_a_connection_is_answered(rt: HostRuntime) {
-    let (client, server) = connected(&rt).expect(&rt, "a connection to itself");
+    let (client, server) = connect_pair(&rt).expect(&rt, "a connection to itself");
     let outcome = serve(&rt, rt.alloc(), &server);
     drop(server);
     let answer = answer(rt.alloc(), client).expect(&rt, "an answer");
@@ -66,7 +66,7 @@ fn a_request_over_a_connection_is_answered(rt: HostRuntime) {
 }
 
 /// The outcome of a request, and the number of messages sent. The response is written without allocating.
-fn asked(alloc: Global, node: &mut Node<MemoryTape>, request: &[u8]) -> (Outcome, usize) {
+fn ask(alloc: Global, node: &mut Node<MemoryTape>, request: &[u8]) -> (Outcome, usize) {
     let mut reader = Bytes::new(request, 4_096, None);
     let served = serve_one(alloc, &mut reader, &mut Stream::new(io::sink()), node);
     let reported = (served.outcome, served.messages.len());
@@ -75,27 +75,27 @@ fn asked(alloc: Global, node: &mut Node<MemoryTape>, request: &[u8]) -> (Outcome
 }
 
 /// The outcome of a request, which is repeated once if an allocation fails, since that sends nothing; and the number of messages.
-fn asked_again(
+fn ask_with_retry(
     rt: &impl Abort,
     alloc: Global,
     node: &mut Node<MemoryTape>,
     request: &[u8],
 ) -> (Outcome, usize) {
-    let reported = asked(alloc, node, request);
+    let reported = ask(alloc, node, request);
     if reported.0 != Outcome::Sent(503, 104) {
         return reported;
     }
     assert!(rt; reported.1 == 0);
-    asked(alloc, node, request)
+    ask(alloc, node, request)
 }
 
 #[test]
 fn a_request_that_finds_no_memory_leaves_the_node_as_it_was(rt: HostRuntime) {
     let alloc = rt.alloc();
     let mut node = new_node(&rt, alloc);
-    assert!(&rt; asked_again(&rt, alloc, &mut node, REQUEST) == (Outcome::Sent(200, 117), 0));
-    assert!(&rt; asked_again(&rt, alloc, &mut node, PUBLISH) == (Outcome::Sent(202, 105), 1));
-    assert!(&rt; asked_again(&rt, alloc, &mut node, PUBLISH) == (Outcome::Sent(409, 92), 0));
+    assert!(&rt; ask_with_retry(&rt, alloc, &mut node, REQUEST) == (Outcome::Sent(200, 117), 0));
+    assert!(&rt; ask_with_retry(&rt, alloc, &mut node, PUBLISH) == (Outcome::Sent(202, 105), 1));
+    assert!(&rt; ask_with_retry(&rt, alloc, &mut node, PUBLISH) == (Outcome::Sent(409, 92), 0));
     drop(node);
 }
 

@@ -121,7 +121,7 @@ fn receive_alone(alloc: Global, node: Node<MemoryTape>, messages: Vec<Message>) 
 }
 
 /// The result where there is a message more than a list of deliveries may be long.
-fn stopped_early(alloc: Global) -> Option<Pumped> {
+fn pump_to_limit(alloc: Global) -> Option<Pumped> {
     let alone = node(alloc, 0, 1)?;
     Some(receive_alone(alloc, alone, requests(alloc)))
 }
@@ -134,5 +134,5 @@ fn deliveries_stop_at_100000_and_are_reported(rt: HostRuntime) {
         stopped: true,
     });
     // If an allocation failed, everything is repeated once.
-    assert!(rt; stopped_early(rt.alloc()) == expected || stopped_early(rt.alloc()) == expected);
+    assert!(rt; pump_to_limit(rt.alloc()) == expected || pump_to_limit(rt.alloc()) == expected);
 }

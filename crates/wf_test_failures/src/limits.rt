@@ -56,7 +56,7 @@ fn sent(rt: &HostRuntime, port: u16, request: &[u8], rest: &[u8]) -> io::Result<
 }
 
 /// Appends the responses to both clients, and returns how often the clock was read; None if the connections aren't served.
-fn answered(rt: &HostRuntime, case: Case<'_>, answers: &mut Vec<u8>) -> Option<usize> {
+fn respond_to_both(rt: &HostRuntime, case: Case<'_>, answers: &mut Vec<u8>) -> Option<usize> {
     let listener = listen(rt, 0).ok()?;
     let Ok(address) = listener.local_addr() else {
         drop(listener);
@@ -82,7 +82,7 @@ fn answered(rt: &HostRuntime, case: Case<'_>, answers: &mut Vec<u8>) -> Option<u
 /// Whether that comes of them.
 fn is_met(rt: &HostRuntime, case: Case<'_>) -> bool {
     let mut answers = Vec::new(rt.alloc());
-    let count = answered(rt, case, &mut answers);
+    let count = respond_to_both(rt, case, &mut answers);
     let is_met = count == Some(case.count) && answers.strip_prefix(case.first) == Some(case.second);
     drop(answers);
     is_met

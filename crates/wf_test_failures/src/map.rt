@@ -150,7 +150,7 @@ fn add(
 }
 
 /// Adds a layer, once more if an allocation failed: the map is unchanged then.
-fn added(
+fn add_with_retry(
     rt: &impl Abort,
     alloc: Global,
     map: &mut MapDef,
@@ -173,9 +173,9 @@ fn empty_map(rt: &impl Abort, alloc: Global) -> MapDef {
 #[test]
 fn a_name_comes_once(rt: HostRuntime) {
     let mut map = empty_map(&rt, rt.alloc());
-    let first = added(&rt, rt.alloc(), &mut map, b"roads", b"All roads");
+    let first = add_with_retry(&rt, rt.alloc(), &mut map, b"roads", b"All roads");
     assert_eq!(rt; first, Ok(()));
-    let again = added(&rt, rt.alloc(), &mut map, b"roads", b"More roads");
+    let again = add_with_retry(&rt, rt.alloc(), &mut map, b"roads", b"More roads");
     assert_eq!(rt; again, Err(LayerFault::Repeated));
     assert_eq!(rt; map.layer_count(), 1);
     let (name, layer) = map.layer(0);

@@ -43,7 +43,7 @@ fn propose(rt: &impl Abort, alloc: Global, node: &mut Node<MemoryTape>) -> Vec<M
 }
 
 /// A message as an input.
-fn delivered(rt: &impl Abort, message: &Message) -> Input {
+fn delivery_of(rt: &impl Abort, message: &Message) -> Input {
     match message.copy() {
         Ok(copy) => Input::Deliver(copy),
         Err(_) => Input::Deliver(message.copy().expect(rt, "memory")),
@@ -57,10 +57,10 @@ fn answers(
     node: &mut Node<MemoryTape>,
     message: &Message,
 ) -> Vec<Message> {
-    match node.step(alloc, delivered(rt, message)) {
+    match node.step(alloc, delivery_of(rt, message)) {
         Ok(messages) => messages,
         Err(_) => node
-            .step(alloc, delivered(rt, message))
+            .step(alloc, delivery_of(rt, message))
             .expect(rt, "messages"),
     }
 }
@@ -81,7 +81,7 @@ fn answers_to_first(
 }
 
 /// The tape of a node that proposed the map `a` and received its own messages until the map was published.
-fn proposed(rt: &impl Abort, alloc: Global) -> MemoryTape {
+fn tape_with_map(rt: &impl Abort, alloc: Global) -> MemoryTape {
     let mut node = first_node(rt, alloc, MemoryTape::new(Vec::new(alloc)), 1);
     let prepare = propose(rt, alloc, &mut node);
     let promise = answers_to_first(rt, alloc, &mut node, prepare);
@@ -95,12 +95,12 @@ fn proposed(rt: &impl Abort, alloc: Global) -> MemoryTape {
 
 #[test]
 fn each_record_of_a_proposal_is_stored_once(rt: HostRuntime) {
-    assert!(rt; is_of_proposal(proposed(&rt, rt.alloc())));
+    assert!(rt; is_of_proposal(tape_with_map(&rt, rt.alloc())));
 }
 
 #[test]
 fn a_node_opens_on_its_tape_and_leaves_it(rt: HostRuntime) {
-    let node = first_node(&rt, rt.alloc(), proposed(&rt, rt.alloc()), 1);
+    let node = first_node(&rt, rt.alloc(), tape_with_map(&rt, rt.alloc()), 1);
     assert_eq!(rt; node.published().number(), 1);
     assert!(rt; is_of_proposal(node.close()));
 }

@@ -222,7 +222,7 @@ fn nodes_start_on_tapes_of_128_kilobytes_and_shorten_them(rt: HostRuntime) {
 }
 
 /// Why nodes in a folder aren't served at this port, None if they are, and whether the port is printed.
-fn started(rt: &HostRuntime, port: u16, folder: &str) -> (Option<ServeFault>, bool) {
+fn start_serving(rt: &HostRuntime, port: u16, folder: &str) -> (Option<ServeFault>, bool) {
     let mut sink = Output::new(rt.alloc(), 64);
     let outcome = serve(rt, three_nodes(port, 0, Some(folder)), &mut sink);
     let reported = is_line(rt.alloc(), sink.bytes(), port);
@@ -240,17 +240,17 @@ fn a_start_where_port_or_folder_is_taken_changes_no_tape(rt: HostRuntime) {
     let listener = listen(&rt, 0).expect(&rt, "a port");
     let address = listener.local_addr().expect(&rt, "its address");
     assert!(&rt; address.ip() == IpAddr::V4(Ipv4Addr::LOCALHOST));
-    assert!(&rt; started(&rt, address.port(), "taken") == (Some(ServeFault::Start), false));
+    assert!(&rt; start_serving(&rt, address.port(), "taken") == (Some(ServeFault::Start), false));
     drop(listener);
     let folder = fs::open(&rt, "taken").expect(&rt, "the folder");
     assert!(&rt; folder.try_lock().is_ok());
-    assert!(&rt; started(&rt, address.port(), "taken") == (Some(ServeFault::Start), false));
+    assert!(&rt; start_serving(&rt, address.port(), "taken") == (Some(ServeFault::Start), false));
     drop(folder);
     assert!(&rt; holds(&rt, "taken/node-0.tape", TORN));
     let served = (None, true);
     assert!(&rt;
-        started(&rt, address.port(), "taken") == served
-            || started(&rt, address.port(), "taken") == served
+        start_serving(&rt, address.port(), "taken") == served
+            || start_serving(&rt, address.port(), "taken") == served
     );
     assert!(&rt; holds(&rt, "taken/node-0.tape", b""));
 }
@@ -261,11 +261,11 @@ fn a_start_on_a_folder_that_is_not_the_farms_changes_no_file(rt: HostRuntime) {
     let rejected = (Some(ServeFault::Start), false);
     new_folder(&rt, "other");
     fs::write(&rt, "other/node-0.tape", TORN).expect(&rt, "a file");
-    assert!(&rt; started(&rt, 0, "other") == rejected);
+    assert!(&rt; start_serving(&rt, 0, "other") == rejected);
     fs::write(&rt, "other/node-1.tape", b"").expect(&rt, "a file");
     fs::write(&rt, "other/node-2.tape", b"").expect(&rt, "a file");
     fs::write(&rt, "other/farm", FILE_OF_TWO).expect(&rt, "a file");
-    assert!(&rt; started(&rt, 0, "other") == rejected);
+    assert!(&rt; start_serving(&rt, 0, "other") == rejected);
     assert!(&rt; holds(&rt, "other/node-0.tape", TORN));
     assert!(&rt; holds(&rt, "other/farm", FILE_OF_TWO));
 }

@@ -145,7 +145,7 @@ impl HistorySession<'_> {
     }
 
     fn chosen(&self, slot: Slot, answer: &mut Transcript) {
-        match self.history.chosen(slot) {
+        match self.history.chosen_message(slot) {
             Ok(message) => {
                 record_sent(message.as_slice(), self.maps, answer);
                 drop(message);

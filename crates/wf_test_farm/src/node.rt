@@ -53,7 +53,7 @@ pub(crate) struct NodeSession<'a> {
 
 /// Appends what the node answers to each call.
 pub(crate) fn ask(mut asked: CaseInput<'_>, answer: &mut Transcript) -> Answered {
-    let member = Member::named(&mut asked.words)?;
+    let member = Member::parse(&mut asked.words)?;
     let script = read_script(asked.input)?;
     match begin(asked.alloc, member) {
         Ok(node) => take_calls(asked.alloc, member, node, script, answer),

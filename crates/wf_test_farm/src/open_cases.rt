@@ -31,7 +31,7 @@ pub(crate) fn begin(alloc: Global, member: Member) -> Result<Node<MemoryTape>, U
 /// Appends what the node has published that opens on a tape of these bytes, or the error; and how many bytes
 /// are on the tape then.
 pub(crate) fn ask(mut asked: CaseInput<'_>, answer: &mut Transcript) -> Answered {
-    let member = Member::named(&mut asked.words)?;
+    let member = Member::parse(&mut asked.words)?;
     let tape = tape_of(asked.alloc, asked.input)?;
     match open(asked.alloc, member, tape) {
         Ok(node) => write_opened(node, answer),

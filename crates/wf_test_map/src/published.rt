@@ -35,7 +35,7 @@ pub(crate) fn serve_published(
 
 /// The node of the words, on an empty tape.
 pub(crate) fn open(asked: &mut CaseInput<'_>) -> Result<Node<MemoryTape>, Unanswered> {
-    let member = Member::named(&mut asked.words)?;
+    let member = Member::parse(&mut asked.words)?;
     let tape = MemoryTape::new(Vec::new(asked.alloc));
     match Node::open(asked.alloc, tape, member.node(), member.nodes()) {
         Ok(node) => Ok(node),

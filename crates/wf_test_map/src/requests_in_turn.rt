@@ -17,7 +17,7 @@ pub(crate) fn serve<T: Tape + Drop>(
     tape: T,
     answer: &mut Transcript,
 ) -> Answered {
-    match (Member::named(&mut asked.words), Exchange::read(asked.words)) {
+    match (Member::parse(&mut asked.words), Exchange::read(asked.words)) {
         (Ok(member), Ok(way)) => serve_by(asked, member, tape, way, answer),
         _ => {
             drop(tape);

@@ -1,6 +1,6 @@
 //! Cells of the grid of tiles.
 use crate::section::{Section, read_box};
-use wf_paint::cell::GridCell;
+use wf_geometry::GridCell;
 use wf_test_table::{Answered, CaseInput, CaseWords, Transcript};
 
 /// Appends level, column and row of the cell of the extent's grid whose tile `BOX, W by H` is; none where no cell fits.

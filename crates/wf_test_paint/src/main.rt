@@ -4,7 +4,7 @@
 //! Standard input is a table of cases (`wf_test_table` defines its format). The program compares each answer with the expected one
 //! and writes each difference, with the counts on the last line. [`questions`] lists the questions.
 //!
-//! It has no contract of its own: its answers are those of `wf_paint`, `wf_label` and `wf_picture`, put into words.
+//! It has no contract of its own: its answers are those of `wf_geometry`, `wf_paint`, `wf_label` and `wf_picture`, put into words.
 #![tactic(auto)]
 
 mod cell;

@@ -6,11 +6,10 @@ use crate::section::read_map;
 use crate::window::Window;
 use std::alloc::Global;
 use wf_def::map::MapDef;
+use wf_geometry::View;
 use wf_label::draw::draw_labels;
 use wf_label::placement::place;
-use wf_paint::painter::paint;
-use wf_paint::pixmap::Pixmap;
-use wf_paint::view::View;
+use wf_paint::{Pixmap, paint};
 use wf_test_table::{Answered, CaseInput, Transcript, Unanswered};
 
 /// Appends the picture of `BOX, W by H, BACKGROUND[, LAYER ..]`: a letter a pixel, the top row first.

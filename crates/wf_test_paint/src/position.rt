@@ -1,8 +1,6 @@
 //! Where a view shows a point.
 use crate::section::{Section, read_map, read_point};
-use wf_paint::corner::Corner;
-use wf_paint::position::Position;
-use wf_paint::view::View;
+use wf_geometry::{Corner, Position, View};
 use wf_test_table::{Answered, CaseInput, Transcript, Unanswered};
 
 /// Appends where the view of `BOX, W by H, X Y` shows the point; for a tile also where it is cut out.

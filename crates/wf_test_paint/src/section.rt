@@ -1,6 +1,6 @@
 //! Which part of a map is requested, and in which size.
 ghost use Rattle.std.specs.Prelude.{◌≤◌, ◌<◌, ◌+ℤ◌, ◌≤ℤ◌, pos, length, All, IsTrue};
-ghost use Rattle.wf_paint.specs.Limit.{least_cell, most_pixels};
+ghost use Rattle.wf_geometry.specs.Limit.{least_cell, most_pixels};
 
 use std::alloc::Global;
 use wf_def::color::Color;
@@ -8,12 +8,11 @@ use wf_def::extent::Extent;
 use wf_def::map::MapDef;
 use wf_def::micro::Micro;
 use wf_def::point::Point;
+use wf_geometry::View;
 use wf_mapfile::fault::MapFault;
 use wf_mapfile::read;
-use wf_paint::view::View;
 use wf_picture::picture::draw;
-use wf_picture::request::PictureRequest;
-use wf_picture::size::Size;
+use wf_picture::request::{PictureRequest, Size};
 use wf_test_table::{CaseInput, CaseWords, Unanswered};
 
 /// A box and a size in pixels.

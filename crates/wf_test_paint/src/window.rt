@@ -2,7 +2,7 @@
 use crate::letter::letter_of;
 use crate::section::read_other_side;
 use wf_def::color::Color;
-use wf_paint::pixmap::Pixmap;
+use wf_paint::Pixmap;
 use wf_test_table::{Answered, CaseWords, Transcript, Unanswered};
 
 /// Some columns and rows of a picture from a first one on, counted from the left and from the bottom.

@@ -11,7 +11,7 @@ use wf_test_table::{Answered, CaseInput, CaseWords, Transcript, Unanswered};
 
 /// `canonical_number`: the canonical text of a number of millionths, after what is written already.
 pub(crate) fn number(asked: CaseInput<'_>, answer: &mut Transcript) -> Answered {
-    let millionths = CaseWords::of(asked.input)?.signed()?;
+    let millionths = CaseWords::of(asked.input)?.signed_number()?;
     let Some(number) = Micro::from_millionths(millionths) else {
         return Err(Unanswered::BadWords);
     };
@@ -94,7 +94,7 @@ fn extent_of_4_degrees() -> Option<Extent> {
 }
 
 // The map `a`, from 0 0 to 4 4 degrees, with a title.
-fn titled(alloc: Global, title: &[u8]) -> Result<MapDef, Unanswered> {
+fn map_with_title(alloc: Global, title: &[u8]) -> Result<MapDef, Unanswered> {
     match two_texts(alloc, b"a", title) {
         Ok((name, title)) => named_and_titled(alloc, name, title),
         Err(unanswered) => Err(unanswered),
@@ -174,7 +174,7 @@ fn print_titled(alloc: Global, map: MapDef, answer: &mut Transcript) {
 
 /// `title`: how the canonical text of map `a` with this title spells it, and the title that this text means.
 pub(crate) fn title(asked: CaseInput<'_>, answer: &mut Transcript) -> Answered {
-    match titled(asked.alloc, asked.input) {
+    match map_with_title(asked.alloc, asked.input) {
         Ok(map) => print_titled(asked.alloc, map, answer),
         Err(unanswered) => return Err(unanswered),
     }

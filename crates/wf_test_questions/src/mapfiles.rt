@@ -48,7 +48,7 @@ impl Reported<'_> {
         }
     }
 
-    // The same of the map that an input means in a wrapping; or the error.
+    // Prints the map that an input means in a wrapping, or the error.
     fn print_read(self, asked: CaseInput<'_>, wrapping: Wrapping, answer: &mut Transcript) {
         match wrapping.read(asked.alloc, asked.input) {
             Ok(map) => self.print(map, answer),

@@ -23,7 +23,7 @@ pub(crate) fn number(asked: CaseInput<'_>, answer: &mut Transcript) -> Answered 
 
 /// `millionths`: the number of that many millionths, in millionths, where it is within the limits.
 pub(crate) fn millionths(asked: CaseInput<'_>, answer: &mut Transcript) -> Answered {
-    let millionths = CaseWords::of(asked.input)?.signed()?;
+    let millionths = CaseWords::of(asked.input)?.signed_number()?;
     match Micro::from_millionths(millionths) {
         Some(number) => print_number(number, answer),
         None => answer.line("none"),
@@ -90,7 +90,7 @@ pub(crate) fn write_sides(extent: Extent, answer: &mut Transcript) {
 }
 
 fn micro(words: &mut CaseWords<'_>) -> Result<Micro, Unanswered> {
-    match Micro::from_millionths(words.signed()?) {
+    match Micro::from_millionths(words.signed_number()?) {
         Some(number) => Ok(number),
         None => Err(Unanswered::BadWords),
     }

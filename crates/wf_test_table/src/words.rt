@@ -79,7 +79,7 @@ impl<'a> CaseWords<'a> {
     }
 
     /// The next word, a number that may be negative.
-    pub fn signed(&mut self) -> Result<i64, Unanswered> {
+    pub fn signed_number(&mut self) -> Result<i64, Unanswered> {
         match self.word().parse::<i64>() {
             Ok(number) => Ok(number),
             Err(_) => Err(Unanswered::BadWords),

@@ -21,12 +21,12 @@ spelled_room spelled value d i n most bound digit inside room =
     (here, omega arith)
 
 -- one more factor of ten, under a limit
-pub raised-more : (value i most : ℕ) → min (min (value * 10 ^ i) most * 10) most ≡ min (value * 10 ^ (i + 1)) most
-raised-more value i most = rw pow_more (omega arith)
+pub capped_product-more : (value i most : ℕ) → min (min (value * 10 ^ i) most * 10) most ≡ min (value * 10 ^ (i + 1)) most
+capped_product-more value i most = rw pow_more (omega arith)
 
 -- one more division by ten
-pub lowered-more : (value i : ℕ) → value / 10 ^ i / 10 ≡ value / 10 ^ (i + 1)
-lowered-more value i = rw pow_more (div-div-eq-div-mul value (10 ^ i) 10)
+pub capped_quotient-more : (value i : ℕ) → value / 10 ^ i / 10 ≡ value / 10 ^ (i + 1)
+capped_quotient-more value i = rw pow_more (div-div-eq-div-mul value (10 ^ i) 10)
 
 -- the digits after the point fit together with those before it
 pub fraction_room : (spelled whole fraction : ℕ) → spelled + 23 ≤ (0 + 23) * 10 ^ whole → whole ≤ 9 → fraction ≤ 25 → (spelled + 23) * 10 ^ fraction ≤ 2 ^ 128

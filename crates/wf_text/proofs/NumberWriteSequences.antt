@@ -2,7 +2,7 @@
 use Rattle.std.proofs.Common.{◌≡◌, ℕ, ◌+◌, ◌≤◌, List, [], ◌++◌, length, sym, ap, ◌∙◌, subst, append_assoc, arith}
 use Rattle.std.proofs.lemmas.List.{append-nil, length-append}
 use Rattle.wf_text.specs.Limit.{most_number_bytes}
-use Rattle.wf_text.specs.NumberDraft.{IsDraftOf, Writes}
+use Rattle.wf_text.specs.NumberText.{IsDraftOf, Writes}
 
 -- bytes that are appended if there is room are appended if the text is short enough
 pub pushed : {before bytes after : List ℕ} → (length before + length bytes ≤ most_number_bytes → after ≡ before ++ bytes) → Writes before bytes after

@@ -1,11 +1,8 @@
 pub mod Booleans
 pub mod Limit
-pub mod Micro
 pub mod Number
 pub mod NumberForm
 pub mod NumberText
 pub mod NumberTextTheorems
-pub mod NumberDraft
 pub mod Text
 pub mod ValueList
-pub mod Whole

@@ -2,7 +2,7 @@
 --
 -- The form: an optional sign, digits, and optionally a point and digits, with at least one digit in all; then optionally `e` or
 -- `E`, an optional sign and one to three digits, a power of ten. `5.` and `.5` are numbers.
-use Rattle.std.specs.Prelude.{ℕ, ◌+◌, ◌-◌, ◌*◌, ◌/◌, ◌^◌, ◌==◌, ◌&&◌, ◌||◌, Bool, false, nat_lt, nat_le, List, [], ◌∷◌, ◌++◌, length, drop, take_while, fold, Option, Some, None, option_map, Result, Ok, Err, ℤ, pos, negsuc, ◌+ℤ◌, ◌-ℤ◌, neg_ℤ, if◌then◌else◌}
+use Rattle.std.specs.Prelude.{ℕ, ◌+◌, ◌-◌, ◌*◌, ◌/◌, ◌^◌, ◌==◌, ◌&&◌, ◌||◌, Bool, false, nat_lt, nat_le, List, [], ◌∷◌, ◌++◌, length, drop, take_while, fold, Option, Some, None, option_map, Result, Ok, Err, ℤ, pos, negsuc, ◌+ℤ◌, ◌-ℤ◌, neg_ℤ, if◌then◌else◌, nat_abs, ◌≤◌, ◌%◌}
 use Rattle.std.specs.Char.{is_ascii_digit}
 use Rattle.std.specs.List.{list_all, prefix_len}
 use Rattle.wf_text.specs.declared.fault.NumberFault.{NumberFault}
@@ -83,13 +83,13 @@ numeral text = let behind_sign = after_sign text in let behind_whole = after_dig
     numeral_from (is_negative text) (leading_digits behind_sign) (fraction_digits behind_whole) (power_of (after_fraction behind_whole))
 
 -- the value times a power of ten; what lies below 1 is dropped
-unfoldable pub scaled : ℕ → ℤ → ℕ
-scaled value (pos n) = value * 10 ^ n
-scaled value (negsuc n) = value / 10 ^ (n + 1)
+unfoldable pub scale : ℕ → ℤ → ℕ
+scale value (pos n) = value * 10 ^ n
+scale value (negsuc n) = value / 10 ^ (n + 1)
 
 -- the magnitude in millionths; what lies below a millionth is dropped
 abbrev pub magnitude : Numeral → ℕ
-magnitude n = scaled (spelled_onto 0 (n.whole ++ n.fraction)) (pos 6 +ℤ n.power -ℤ pos (length n.fraction))
+magnitude n = scale (spelled_onto 0 (n.whole ++ n.fraction)) (pos 6 +ℤ n.power -ℤ pos (length n.fraction))
 
 abbrev pub has_too_many_digits : Numeral → Bool
 has_too_many_digits n = nat_lt most_whole_digits (length n.whole) || nat_lt most_fraction_digits (length n.fraction)
@@ -105,3 +105,13 @@ number text = number_of (numeral text) where
   number_of : Option Numeral → Result ℤ NumberFault
   number_of None = Err BadNumber
   number_of (Some n) = in_range n
+
+-- the number of millionths is a coordinate: its magnitude is within the limit
+abbrev pub IsMicro : ℤ → Type 0
+IsMicro millionths = nat_abs millionths ≤ most_millionths
+
+-- the number of units in that many millionths, if it is an integer in the range
+unfoldable pub whole_between : ℕ → ℕ → ℤ → Option ℕ
+whole_between least most (pos m) = if (m % 1_000_000 == 0) && nat_le least (m / 1_000_000) && nat_le (m / 1_000_000) most
+    then Some (m / 1_000_000) else None
+whole_between least most (negsuc m) = None

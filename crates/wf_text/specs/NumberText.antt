@@ -1,7 +1,8 @@
 -- The text of a number of millionths: `-` if it is negative, the integer part without leading zeros but with at least one digit,
 -- and a fraction, without trailing zeros, only if it isn't zero.
-use Rattle.std.specs.Prelude.{ℕ, zero, suc, ℤ, pos, negsuc, ◌+◌, ◌/◌, ◌%◌, ◌^◌, List, [], ◌∷◌, ◌++◌, ◌==◌, if◌then◌else◌}
+use Rattle.std.specs.Prelude.{ℕ, zero, suc, ℤ, pos, negsuc, ◌+◌, ◌/◌, ◌%◌, ◌^◌, List, [], ◌∷◌, ◌++◌, ◌==◌, if◌then◌else◌, ◌≡◌, ◌≤◌, length}
 use Rattle.std.specs.Fmt.{decimal}
+use Rattle.wf_text.specs.Limit.{most_number_bytes}
 
 -- the digits of parts of 10 ^ places, up to the last that isn't 0
 unfoldable pub fraction_digits : ℕ → ℕ → List ℕ
@@ -19,3 +20,11 @@ magnitude_text millionths = decimal (millionths / 1000000) ++ fraction_text (mil
 unfoldable pub number_text : ℤ → List ℕ
 number_text (pos millionths) = magnitude_text millionths
 number_text (negsuc below) = 45 ∷ magnitude_text (suc below)
+
+-- what was written so far is this text, if the text is within the longest length
+pub record IsDraftOf (draft text : List ℕ) : Type 0 where
+  pub whole : length text ≤ most_number_bytes → draft ≡ text
+
+-- these bytes were appended to what was written before
+pub record Writes (before bytes after : List ℕ) : Type 0 where
+  pub behind : (text : List ℕ) → IsDraftOf before text → IsDraftOf after (text ++ bytes)

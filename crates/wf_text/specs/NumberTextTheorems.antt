@@ -12,10 +12,9 @@ use Rattle.std.proofs.lemmas.Nat.{mod_below, div_below, div-add-mod'}
 use Rattle.std.proofs.lemmas.Fmt.{digits_decimal, digits_value-decimal, decimal_nonempty, length-decimal-le}
 use Rattle.std.proofs.lemmas.Str.Parse.{IsNumeralModel, IsDigitsTest, FoldsDigits, numerals_by_fold}
 use Rattle.std.proofs.Math.Nat.{one-le-pow, pow-suc}
-use Rattle.wf_text.specs.Number.{Numeral, is_negative, after_sign, leading_digits, after_digits, spelled_onto, with_sign, power_of, numeral_from, numeral, scaled, magnitude, in_range, number}
+use Rattle.wf_text.specs.Number.{Numeral, is_negative, after_sign, leading_digits, after_digits, spelled_onto, with_sign, power_of, numeral_from, numeral, scale, magnitude, in_range, number, IsMicro}
 use Rattle.wf_text.specs.Number as reading
 use Rattle.wf_text.specs.NumberForm.{AreDigits}
-use Rattle.wf_text.specs.Micro.{IsMicro}
 use Rattle.wf_text.specs.NumberText.{fraction_digits, fraction_text, magnitude_text, number_text}
 use Rattle.wf_text.specs.Booleans.{and_left, and_right, not_true}
 
@@ -165,7 +164,7 @@ places_left (suc (suc (suc (suc (suc (suc (suc k))))))) le = absurd (omega arith
 
 digits_in_range : (negative : Bool) (ds fs : List ℕ) (n : ℕ) → length ds ≤ 9 → length fs ≤ 6 → n ≤ 100000000000000 → spelled_onto 0 (ds ++ fs) * 10 ^ (6 - length fs) ≡ n
     → in_range (numeral_with negative ds fs) ≡ Ok (with_sign negative n)
-unfolding in_range scaled
+unfolding in_range scale
 digits_in_range negative ds fs n whole short most value =
     let few : ltb 9 (length ds) ≡ false = grind (arith, nat_tests) in
     let few_behind : ltb 25 (length fs) ≡ false = grind (arith, nat_tests) in

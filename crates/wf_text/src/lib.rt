@@ -18,7 +18,6 @@ pub mod micro;
 mod number;
 pub mod number_form;
 pub mod number_text;
-pub mod number_theorem;
 pub mod text;
 pub mod value_list;
 pub mod whole;

@@ -1,7 +1,6 @@
 //! Coordinates in millionths.
 ghost use Rattle.std.specs.Prelude.{◌≡◌, ◌≤◌, ◌↔◌, IsSome, IfSome, nat_abs};
-ghost use Rattle.wf_text.specs.Micro.{IsMicro};
-ghost use Rattle.wf_text.specs.Number.{number};
+ghost use Rattle.wf_text.specs.Number.{IsMicro, number};
 
 use crate::fault::NumberFault;
 use crate::limits::MOST_MILLIONTHS;
@@ -16,7 +15,7 @@ pub struct Micro {
 
 impl Model for Micro {
     ghost use Rattle.std.specs.Prelude.{ℤ};
-    ghost use Rattle.wf_text.specs.Micro.{IsMicro};
+    ghost use Rattle.wf_text.specs.Number.{IsMicro};
 
     ghost Value = { ℤ };
 

@@ -2,8 +2,7 @@
 ghost use Rattle.std.specs.Prelude.{◌≡◌, ◌+◌, ◌*◌, ◌/◌, ◌^◌, ◌<◌, ◌≤◌, ◌==◌, ◌++◌, ◌+ℤ◌, ◌-ℤ◌, pos, min, length, IfOk};
 ghost use Rattle.std.specs.Char.{is_ascii_digit};
 ghost use Rattle.std.specs.List.{prefix_len};
-ghost use Rattle.wf_text.specs.Micro.{IsMicro};
-ghost use Rattle.wf_text.specs.Number.{Numeral as NumeralValue, is_negative, after_sign, leading_digits, after_digits, fraction_digits, after_fraction, spelled_onto, is_sign, is_power_digits, is_power_mark, signed_power, power_of, numeral_from, numeral, scaled, with_sign, has_too_many_digits, magnitude, in_range};
+ghost use Rattle.wf_text.specs.Number.{IsMicro, Numeral as NumeralValue, is_negative, after_sign, leading_digits, after_digits, fraction_digits, after_fraction, spelled_onto, is_sign, is_power_digits, is_power_mark, signed_power, power_of, numeral_from, numeral, scale, with_sign, has_too_many_digits, magnitude, in_range};
 ghost use Rattle.wf_text.specs.Limit.{most_fraction_digits, most_millionths, most_power_digits, most_whole_digits};
 
 use crate::digits::are_digits;
@@ -190,36 +189,36 @@ fn small_value(digits: &[u8]) -> i16
 }
 
 /// The value times 10 ^ `times`, or the first number over the limit if that is less.
-fn raised(value: u128, times: u32) -> u64
+fn capped_product(value: u128, times: u32) -> u64
     ensures { result ≡ min (value * 10 ^ times) (most_millionths + 1) }
 {
-    let mut raised = value.min(u128::from(MOST_MILLIONTHS) + 1) as u64;
+    let mut capped_product = value.min(u128::from(MOST_MILLIONTHS) + 1) as u64;
     for _done in 0..times {
-        raised = (raised * 10).min(MOST_MILLIONTHS + 1);
+        capped_product = (capped_product * 10).min(MOST_MILLIONTHS + 1);
     }
-    raised
+    capped_product
 }
 
 /// The value divided by 10 ^ `times`, or the first number over the limit if that is less.
-fn lowered(value: u128, times: u32) -> u64
+fn capped_quotient(value: u128, times: u32) -> u64
     ensures { result ≡ min (value / 10 ^ times) (most_millionths + 1) }
 {
-    let mut lowered = value;
+    let mut capped_quotient = value;
     for _done in 0..times {
-        lowered /= 10;
+        capped_quotient /= 10;
     }
-    lowered.min(u128::from(MOST_MILLIONTHS) + 1) as u64
+    capped_quotient.min(u128::from(MOST_MILLIONTHS) + 1) as u64
 }
 
 /// The value times a power of ten, or the first number over the limit if that is less.
-#[tactic(auto, unfolding(crate::specs::Number::scaled))]
-fn scaled(value: u128, power: i32) -> u64
-    ensures { result ≡ min (scaled value power) (most_millionths + 1) }
+#[tactic(auto, unfolding(crate::specs::Number::scale))]
+fn scale(value: u128, power: i32) -> u64
+    ensures { result ≡ min (scale value power) (most_millionths + 1) }
 {
     if power >= 0 {
-        raised(value, power.unsigned_abs())
+        capped_product(value, power.unsigned_abs())
     } else {
-        lowered(value, power.unsigned_abs())
+        capped_quotient(value, power.unsigned_abs())
     }
 }
 
@@ -237,7 +236,7 @@ impl<'a> Numeral<'a> {
         ensures { result ≡ min (magnitude self.now) (most_millionths + 1) }
     {
         let digits = all_digits(self.whole, self.fraction);
-        scaled(digits, places(self.power, self.fraction))
+        scale(digits, places(self.power, self.fraction))
     }
 
     /// The number in millionths, unless it has too many digits or is too great.

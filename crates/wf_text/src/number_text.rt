@@ -3,8 +3,7 @@
 ghost use Rattle.std.specs.Prelude.{◌≡◌, ◌+◌, ◌<◌, ◌≤◌, ◌∷◌, ◌++◌, length, OnOk, OnErr};
 ghost use Rattle.std.specs.Fmt.{decimal};
 ghost use Rattle.wf_text.specs.Limit.{most_number_bytes};
-ghost use Rattle.wf_text.specs.NumberDraft.{Writes};
-ghost use Rattle.wf_text.specs.NumberText.{fraction_digits, fraction_text, magnitude_text, number_text};
+ghost use Rattle.wf_text.specs.NumberText.{Writes, fraction_digits, fraction_text, magnitude_text, number_text};
 
 use crate::limits::MOST_NUMBER_BYTES;
 use crate::micro::Micro;

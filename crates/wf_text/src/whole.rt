@@ -1,6 +1,6 @@
 //! Integers in a range.
 ghost use Rattle.std.specs.Prelude.{◌≡◌, ◌↔◌, ◌≤◌, IsSome, IfSome};
-ghost use Rattle.wf_text.specs.Whole.{whole_between};
+ghost use Rattle.wf_text.specs.Number.{whole_between};
 
 use crate::micro::Micro;
 use std::marker::Model;
@@ -37,7 +37,7 @@ impl<const LEAST: u8, const MOST: u8> Whole<LEAST, MOST> {
     }
 
     /// The coordinate's number of units, if it is an integer in the range.
-    #[tactic(auto, unfolding(crate::specs::Whole::whole_between))]
+    #[tactic(auto, unfolding(crate::specs::Number::whole_between))]
     pub fn from_micro(number: Micro) -> Option<Self>
         ensures { result ≡ whole_between LEAST MOST number }
     {

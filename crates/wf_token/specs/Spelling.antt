@@ -4,7 +4,7 @@ use Rattle.std.specs.Char.{is_ascii_digit}
 use Rattle.std.specs.Fmt.{decimal}
 use Rattle.std.specs.List.{flat_map, list_all, list_any}
 use Rattle.std.specs.Str.{is_utf8}
-use Rattle.wf_text.specs.Micro.{IsMicro}
+use Rattle.wf_text.specs.Number.{IsMicro}
 use Rattle.wf_text.specs.NumberText.{number_text}
 use Rattle.wf_text.specs.Text.{is_text}
 use Rattle.wf_text.specs.ValueList.{is_value_list}

@@ -8,7 +8,7 @@ use Rattle.std.proofs.lemmas.Bool.Decides.{nat_tests}
 use Rattle.std.proofs.lemmas.Fmt.{decimal_nonempty}
 use Rattle.std.proofs.lemmas.List.{append-nil}
 use Rattle.std.proofs.lemmas.List.Folds.{list_all-append}
-use Rattle.wf_text.specs.Micro.{IsMicro}
+use Rattle.wf_text.specs.Number.{IsMicro}
 use Rattle.wf_text.specs.NumberForm.{AreDigits}
 use Rattle.wf_token.specs.Token.{is_plain, is_slash, is_quote, is_hash}
 use Rattle.wf_text.specs.NumberText.{fraction_digits, fraction_text, magnitude_text, number_text}

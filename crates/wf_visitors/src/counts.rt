@@ -10,7 +10,7 @@ struct Count {
     status: u16,
     number: u64,
     // the time that the answers took, in microseconds
-    spent: u64,
+    duration: u64,
 }
 
 /// How many requests were answered, by path and status.
@@ -29,12 +29,12 @@ impl Counts {
 
     /// Counts a request to this path that was answered with this status after so many microseconds of work. It isn't counted if an
     /// allocation fails.
-    pub(crate) fn add(&mut self, path: &str, status: u16, spent: u64) {
+    pub(crate) fn add(&mut self, path: &str, status: u16, duration: u64) {
         let path = known_path(path);
         for count in &mut self.counts {
             if count.path == path && count.status == status {
                 count.number = count.number.saturating_add(1);
-                count.spent = count.spent.saturating_add(spent);
+                count.duration = count.duration.saturating_add(duration);
                 return;
             }
         }
@@ -42,15 +42,15 @@ impl Counts {
             path,
             status,
             number: 1,
-            spent,
+            duration,
         });
     }
 
     /// The time that the answers of this path with this status took, in microseconds.
-    pub fn spent(&self, path: &str, status: u16) -> u64 {
+    pub fn duration(&self, path: &str, status: u16) -> u64 {
         for count in &self.counts {
             if count.path == path && count.status == status {
-                return count.spent;
+                return count.duration;
             }
         }
         0

@@ -11,8 +11,8 @@ use crate::event::Visit;
 use crate::request_line::request_line;
 use crate::server::{Server, ServerReply};
 use crate::slots::{free_slots, put_in, take_out};
-use crate::socket::{end_writing, register, register_again};
-use crate::turn::{ClientTurn, drop_rest, give, receive};
+use crate::socket::ClientConnection;
+use crate::turn::{ClientTurn, PIECE_BYTES, drop_rest, give, receive};
 use crate::visitors::Visitors;
 use http_server::Log as Past;
 use mio::net::{TcpListener, TcpStream};
@@ -30,13 +30,16 @@ const MOST_ACCEPTED: usize = 64;
 /// The least status of a rejection.
 const LEAST_REJECTION: u16 = 400;
 
-/// That many free sockets.
-fn free_sockets(alloc: Global, count: usize) -> Result<Vec<Option<TcpStream>>, AllocError> {
-    let mut sockets = Vec::new(alloc);
+/// That many connections, none of which is there.
+fn no_connections(
+    alloc: Global,
+    count: usize,
+) -> Result<Vec<Option<ClientConnection>>, AllocError> {
+    let mut connections = Vec::new(alloc);
     for _ in 0..count {
-        sockets.push(None)?;
+        connections.push(None)?;
     }
-    Ok(sockets)
+    Ok(connections)
 }
 
 impl Visitors {
@@ -49,15 +52,17 @@ impl Visitors {
     ) -> Result<Self, AllocError>
         ensures { IfOk result (λ visitors. responses_of visitors ≡ []) }
     {
-        let sockets = free_sockets(alloc, count)?;
+        let connections = no_connections(alloc, count)?;
         let slots = free_slots(alloc, count)?;
+        let piece = vec![in alloc; 0u8; PIECE_BYTES]?;
         let responses = Past::new();
         Ok(Visitors {
             listener,
-            sockets,
+            connections,
             slots,
             first,
             next: 0,
+            piece,
             counts: Counts::new(alloc),
             responses,
         })
@@ -73,7 +78,7 @@ impl Visitors {
 
     /// The number of slots.
     pub fn count(&self) -> usize {
-        self.slots.len().min(self.sockets.len())
+        self.slots.len().min(self.connections.len())
     }
 
     /// The number of slots that are taken.
@@ -122,53 +127,53 @@ impl Visitors {
         }
     }
 
-    /// Puts a newcomer into a slot, in the place of the client there.
+    /// Puts a newcomer into a slot, in the place of the client there, and reads what has come of its request.
     #[tactic(auto, using(crate::proofs::Answered::may_respond_new))]
     fn admit<R: Clock + Eprint + AllocGlobal>(
         &mut self,
         context: &Context<'_, '_, R>,
-        mut stream: TcpStream,
+        stream: TcpStream,
         index: usize,
     )
         ensures { responses_of self.new ≡ responses_of self.old }
     {
-        if let Some((socket, client)) = self.take(index) {
-            drop(socket);
+        if let Some((connection, client)) = self.take(index) {
+            drop(connection);
             context.log.write(&Visit::Unanswered {
                 millis: context.time.saturating_sub(client.since()),
             });
             drop(client);
         }
-        if register(context.registry, &mut stream, self.token(index)).is_ok() {
-            self.put(index, stream, Client::new(context.alloc(), context.time));
-        }
+        let client = Client::new(context.alloc(), context.time);
+        self.put(index, ClientConnection::new(stream), client);
+        self.turn(context, index);
     }
 
-    /// The token of the socket in a slot.
+    /// The token of the connection in a slot.
     fn token(&self, index: usize) -> usize {
         self.first.saturating_add(index)
     }
 
-    /// Takes the client and its socket out of a slot.
-    fn take(&mut self, index: usize) -> Option<(TcpStream, Client)>
+    /// Takes the client and its connection out of a slot.
+    fn take(&mut self, index: usize) -> Option<(ClientConnection, Client)>
         ensures responses { responses_of self.new ≡ responses_of self.old }
         ensures may { IfSome result (λ found. MayRespond (responses_of self.old) found.1) }
     {
-        let stream = take_socket(&mut self.sockets, index);
+        let connection = take_connection(&mut self.connections, index);
         let client = take_out(&mut self.slots, index);
-        match (stream, client) {
-            (Some(stream), Some(client)) => Some((stream, client)),
+        match (connection, client) {
+            (Some(connection), Some(client)) => Some((connection, client)),
             _ => None,
         }
     }
 
-    /// Puts a client and its socket into a slot.
-    fn put(&mut self, index: usize, stream: TcpStream, client: Client)
+    /// Puts a client and its connection into a slot.
+    fn put(&mut self, index: usize, connection: ClientConnection, client: Client)
         requires { MayRespond (responses_of self.old) client }
         ensures { responses_of self.new ≡ responses_of self.old }
     {
-        if let Some(socket) = self.sockets.get_mut(index) {
-            *socket = Some(stream);
+        if let Some(free) = self.connections.get_mut(index) {
+            *free = Some(connection);
         }
         put_in(&mut self.slots, index, client);
     }
@@ -177,12 +182,18 @@ impl Visitors {
     pub fn turn<R: AllocGlobal>(&mut self, context: &Context<'_, '_, R>, index: usize)
         ensures { responses_of self.new ≡ responses_of self.old }
     {
-        let Some((mut stream, mut client)) = self.take(index) else {
+        let Some((mut connection, mut client)) = self.take(index) else {
             return;
         };
         let token = self.token(index);
-        match go_on(context, &mut stream, &mut client, token) {
-            ClientTurn::Here => self.put_back(context, stream, client, index),
+        match go_on(
+            context,
+            &mut connection,
+            &mut client,
+            self.piece.as_mut_slice(),
+            token,
+        ) {
+            ClientTurn::Here => self.put_back(context, connection, client, index),
             ClientTurn::Gone => {}
         }
     }
@@ -191,7 +202,7 @@ impl Visitors {
     fn put_back<R: AllocGlobal>(
         &mut self,
         context: &Context<'_, '_, R>,
-        stream: TcpStream,
+        connection: ClientConnection,
         client: Client,
         index: usize,
     )
@@ -201,21 +212,41 @@ impl Visitors {
         match client.phase() {
             Phase::Taking => {
                 if client.outgoing.is_taken() {
-                    self.part(context, stream, client, index);
+                    self.part(context, connection, client, index);
                 } else {
-                    self.put(index, stream, client);
+                    self.keep(context, connection, client, index);
                 }
             }
-            Phase::Asking | Phase::Lingering => self.put(index, stream, client),
+            Phase::Asking | Phase::Lingering => self.keep(context, connection, client, index),
         }
     }
 
-    /// Lets a client part that has taken its answer. One whose request was rejected may still send; any other is closed.
+    /// Puts a client back into its slot. Unless its request is to be answered, an event of it is waited for; where the system doesn't
+    /// let it be registered, it is closed.
+    fn keep<R>(
+        &mut self,
+        context: &Context<'_, '_, R>,
+        mut connection: ClientConnection,
+        client: Client,
+        index: usize,
+    )
+        requires { MayRespond (responses_of self.old) client }
+        ensures { responses_of self.new ≡ responses_of self.old }
+    {
+        if waits(&client) || connection.register(context.registry, self.token(index)) {
+            self.put(index, connection, client);
+        }
+    }
+
+    /// Lets a client part that has taken its answer. A connection that is closed over unread bytes, or before more bytes come, is
+    /// reset, which can cost the client the end of its answer (RFC 9112, section 9.6). A request that was fulfilled was read whole, and
+    /// nothing more is due from its client: it is closed at once, after what came meanwhile is read. One that was rejected may still
+    /// be on its way: the writing direction is ended, and what comes is dropped until the client closes or its time is over.
     #[tactic(auto, using(crate::proofs::Answered::may_respond_parted))]
     fn part<R: AllocGlobal>(
         &mut self,
         context: &Context<'_, '_, R>,
-        stream: TcpStream,
+        mut connection: ClientConnection,
         mut client: Client,
         index: usize,
     )
@@ -223,14 +254,18 @@ impl Visitors {
         requires takes { client.phase ≡ Phase.Taking }
         ensures { responses_of self.new ≡ responses_of self.old }
     {
-        let mut stream = end_writing(stream);
         let is_rejection = client.incoming.len() != 0;
+        if is_rejection {
+            connection.end_writing();
+        }
         part(context, &mut client);
-        if drop_rest(&mut stream) == ClientTurn::Gone || !is_rejection {
+        if drop_rest(&mut connection.stream, self.piece.as_mut_slice()) == ClientTurn::Gone
+            || !is_rejection
+        {
             drop(client);
             return;
         }
-        self.put(index, stream, client);
+        self.keep(context, connection, client, index);
     }
 
     /// The next slot whose request is to be answered now, in turn; None if there is none, or the budget is used up.
@@ -250,11 +285,24 @@ impl Visitors {
         self.waiting().is_some()
     }
 
+    /// Whether a request waits for its answer, and the budget allows one.
+    pub fn is_busy(&self) -> bool {
+        self.has_room() && self.waits()
+    }
+
     /// The first slot from the next one on whose request is to be answered.
     fn waiting(&self) -> Option<usize> {
         let count = self.count();
-        for offset in 0..count {
-            let index = self.next.saturating_add(offset) % count;
+        let next = self.next.min(count);
+        match self.waiting_within(next, count) {
+            Some(index) => Some(index),
+            None => self.waiting_within(0, next),
+        }
+    }
+
+    /// The first slot from one on, before another, whose request is to be answered.
+    fn waiting_within(&self, first: usize, end: usize) -> Option<usize> {
+        for index in first..end {
             if self.is_to_be_served(index) {
                 return Some(index);
             }
@@ -265,7 +313,7 @@ impl Visitors {
     /// Whether the request in a slot is to be read now.
     fn is_to_be_served(&self, index: usize) -> bool {
         match self.slots.get(index) {
-            Some(Some(client)) => client.is_asking() && client.incoming.may_be_whole(),
+            Some(Some(client)) => waits(client),
             _ => false,
         }
     }
@@ -292,9 +340,10 @@ impl Visitors {
 }
 
 impl Visitors {
-    /// Lets a server answer the request in a slot, if it is whole. Returns whether a response was given.
+    /// Lets a server answer the request in a slot, if it is whole; the next [`turn`](Visitors::turn) of the client writes what it takes
+    /// of the response. Returns whether a response was given.
     #[tactic(auto, using(crate::proofs::Answered::asks_yet))]
-    fn answer<R: Clock + Eprint + AllocGlobal, S: Server>(
+    pub fn answer<R: Clock + Eprint + AllocGlobal, S: Server>(
         &mut self,
         context: &Context<'_, '_, R>,
         server: &mut S,
@@ -302,19 +351,18 @@ impl Visitors {
     ) -> bool
         ensures { AnswersOne S.Server server.old (responses_of self.old) result server.new (responses_of self.new) }
     {
-        let Some((mut stream, mut client)) = self.take(index) else {
+        let Some((connection, mut client)) = self.take(index) else {
             return false;
         };
         if !client.is_asking() {
-            self.put(index, stream, client);
+            self.put(index, connection, client);
             return false;
         }
         let begun = micros(context.rt);
         match respond(context.alloc(), server, &mut client) {
             ServerReply::Lacks(count) => {
                 client.incoming.lack(count);
-                register_again(context.registry, &mut stream, self.token(index));
-                self.put(index, stream, client);
+                self.put(index, connection, client);
                 false
             }
             ServerReply::Nothing => false,
@@ -330,7 +378,7 @@ impl Visitors {
                     },
                 );
                 settle(context, &mut client, status);
-                self.put(index, stream, client);
+                self.put(index, connection, client);
                 true
             }
         }
@@ -346,8 +394,8 @@ impl Visitors {
             begun,
         } = sent;
         let line = request_line(client.incoming.bytes());
-        let spent = micros(context.rt).saturating_sub(begun);
-        self.counts.add(line.path, status, spent);
+        let duration = micros(context.rt).saturating_sub(begun);
+        self.counts.add(line.path, status, duration);
         if context.log.is_on() {
             context.log.write(&Visit::Answered {
                 method: line.method,
@@ -376,10 +424,10 @@ impl Visitors {
         if self.has_time(index, time) {
             return;
         }
-        if let Some((stream, mut client)) = self.take(index) {
+        if let Some((connection, mut client)) = self.take(index) {
             if client.is_asking() {
                 client.incoming.close();
-                self.put(index, stream, client);
+                self.put(index, connection, client);
             }
         }
     }
@@ -401,20 +449,29 @@ struct Sent {
     begun: u64,
 }
 
-/// Takes the socket out of a slot.
-fn take_socket(sockets: &mut Vec<Option<TcpStream>>, index: usize) -> Option<TcpStream> {
-    match sockets.get_mut(index) {
-        Some(socket) => socket.take(),
+/// Takes the connection out of a slot.
+fn take_connection(
+    connections: &mut Vec<Option<ClientConnection>>,
+    index: usize,
+) -> Option<ClientConnection> {
+    match connections.get_mut(index) {
+        Some(connection) => connection.take(),
         None => None,
     }
+}
+
+/// Whether the request of a client waits for its answer.
+fn waits(client: &Client) -> bool {
+    client.is_asking() && client.incoming.may_be_whole()
 }
 
 /// Lets the connection of a client go on in its phase.
 #[tactic(auto, using(crate::proofs::Answered::may_respond_still))]
 fn go_on<R>(
     context: &Context<'_, '_, R>,
-    stream: &mut TcpStream,
+    connection: &mut ClientConnection,
     client: &mut Client,
+    piece: &mut [u8],
     token: usize,
 ) -> ClientTurn
     ensures { (responses : List (ClientValue × ℕ)) → MayRespond responses client.old → MayRespond responses client.new }
@@ -424,11 +481,11 @@ fn go_on<R>(
             if client.incoming.may_be_whole() {
                 ClientTurn::Here
             } else {
-                receive(context.registry, stream, client, token)
+                receive(context.registry, connection, client, piece, token)
             }
         }
-        Phase::Taking => give(stream, client),
-        Phase::Lingering => drop_rest(stream),
+        Phase::Taking => give(&mut connection.stream, client),
+        Phase::Lingering => drop_rest(&mut connection.stream, piece),
     }
 }
 

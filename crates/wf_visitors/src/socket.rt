@@ -6,7 +6,6 @@ use mio::{Interest, Registry, Token};
 use std::io;
 use std::io::{ErrorKind, Read, Write};
 use std::net::Shutdown;
-use std::os::fd::OwnedFd;
 
 /// What came of a read or a write.
 #[derive(Clone, Copy, Debug, PartialEq, Eq)]
@@ -65,9 +64,40 @@ pub fn register_again(registry: &Registry, stream: &mut TcpStream, token: usize)
     );
 }
 
-/// Ends the writing direction of a connection.
-pub(crate) fn end_writing(stream: TcpStream) -> TcpStream {
-    let stream = std::net::TcpStream::from(OwnedFd::from(stream));
-    let _ = stream.shutdown(Shutdown::Write);
-    TcpStream::from_std(stream)
+/// The connection of a client. It is registered once an event of it is waited for, which a short request never needs.
+#[derive(Drop)]
+pub(crate) struct ClientConnection {
+    pub(crate) stream: TcpStream,
+    is_registered: bool,
+}
+
+impl ClientConnection {
+    /// A connection that was accepted now.
+    pub(crate) fn new(stream: TcpStream) -> Self {
+        ClientConnection {
+            stream,
+            is_registered: false,
+        }
+    }
+
+    /// Registers it, unless it is registered. Returns whether it is now.
+    pub(crate) fn register(&mut self, registry: &Registry, token: usize) -> bool {
+        if !self.is_registered {
+            self.is_registered = register(registry, &mut self.stream, token).is_ok();
+        }
+        self.is_registered
+    }
+
+    /// Registers it, again if it is registered, so that its next event comes although not all was read. Returns whether it is now.
+    pub(crate) fn register_again(&mut self, registry: &Registry, token: usize) -> bool {
+        if self.is_registered {
+            register_again(registry, &mut self.stream, token);
+        }
+        self.register(registry, token)
+    }
+
+    /// Ends its writing direction.
+    pub(crate) fn end_writing(&mut self) {
+        let _ = self.stream.shutdown(Shutdown::Write);
+    }
 }

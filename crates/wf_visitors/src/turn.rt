@@ -2,13 +2,13 @@
 ghost use Rattle.std.specs.Prelude.{◌≡◌};
 ghost use Rattle.wf_visitors.specs.Turn.{IsGiving, IsReceiving};
 
-use crate::socket::{Done, read, register_again, write};
+use crate::socket::{ClientConnection, Done, read, write};
 use mio::Registry;
 use mio::net::TcpStream;
 use wf_client::client::Client;
 
 /// The most bytes of a piece.
-const PIECE_BYTES: usize = 8_192;
+pub(crate) const PIECE_BYTES: usize = 8_192;
 
 /// The most pieces that one client's turn reads.
 const MOST_PIECES: usize = 16;
@@ -26,20 +26,24 @@ pub(crate) enum ClientTurn {
 #[tactic(auto, using(crate::proofs::Answered::receiving_twice))]
 pub(crate) fn receive(
     registry: &Registry,
-    stream: &mut TcpStream,
+    connection: &mut ClientConnection,
     client: &mut Client,
+    piece: &mut [u8],
     token: usize,
 ) -> ClientTurn
     ensures { IsReceiving client.old client.new }
 {
     for _ in 0..MOST_PIECES {
-        match receive_piece(stream, client) {
+        match receive_piece(&mut connection.stream, client, piece) {
             Moved::More => {}
             Moved::Done(left) => return left,
         }
     }
-    register_again(registry, stream, token);
-    ClientTurn::Here
+    if connection.register_again(registry, token) {
+        ClientTurn::Here
+    } else {
+        ClientTurn::Gone
+    }
 }
 
 /// Whether more may be read or written.
@@ -49,18 +53,22 @@ enum Moved {
     Done(ClientTurn),
 }
 
-/// Reads a piece of a request.
-fn receive_piece(stream: &mut TcpStream, client: &mut Client) -> Moved
+/// Reads a piece of a request. No more is read where all that has come was, and may be the whole request: if it isn't, its client's
+/// next turn reads on.
+fn receive_piece(stream: &mut TcpStream, client: &mut Client, piece: &mut [u8]) -> Moved
     ensures { IsReceiving client.old client.new }
 {
-    let mut piece = [0u8; PIECE_BYTES];
-    match read(stream, &mut piece) {
+    match read(stream, piece) {
         Done::Bytes(count) => {
-            let count = count.min(PIECE_BYTES);
+            let count = count.min(piece.len());
             if client.incoming.take_in(&piece[..count]).is_err() {
                 return Moved::Done(ClientTurn::Gone);
             }
-            Moved::More
+            if count < piece.len() && client.incoming.may_be_whole() {
+                Moved::Done(ClientTurn::Here)
+            } else {
+                Moved::More
+            }
         }
         Done::Blocked => Moved::Done(ClientTurn::Here),
         Done::Closed => {
@@ -104,10 +112,9 @@ fn give_piece(stream: &mut TcpStream, client: &mut Client) -> Moved
 }
 
 /// Drops what a client still sends.
-pub(crate) fn drop_rest(stream: &mut TcpStream) -> ClientTurn {
-    let mut piece = [0u8; PIECE_BYTES];
+pub(crate) fn drop_rest(stream: &mut TcpStream, piece: &mut [u8]) -> ClientTurn {
     for _ in 0..MOST_PIECES {
-        match read(stream, &mut piece) {
+        match read(stream, piece) {
             Done::Bytes(_) => {}
             Done::Blocked => return ClientTurn::Here,
             Done::Closed | Done::Failed => return ClientTurn::Gone,

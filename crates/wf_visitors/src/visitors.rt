@@ -1,21 +1,24 @@
 ghost use Rattle.wf_visitors.specs.Responses.{AreResponses};
 
 use crate::counts::Counts;
+use crate::socket::ClientConnection;
 use http_server::Log as Past;
-use mio::net::{TcpListener, TcpStream};
+use mio::net::TcpListener;
 use wf_client::client::Client;
 
-/// Clients with their sockets: that of slot i at index i. A clause sees a log that only proofs read: each client that was answered, as it
+/// Clients with their connections: that of slot i at index i. A clause sees a log that only proofs read: each client that was answered, as it
 /// was then, with what had come of its request and with the whole response.
 #[derive(Drop)]
 pub struct Visitors {
     pub(crate) listener: Option<TcpListener>,
-    pub(crate) sockets: Vec<Option<TcpStream>>,
+    pub(crate) connections: Vec<Option<ClientConnection>>,
     pub(crate) slots: Vec<Option<Client>>,
     // the token of slot 0
     pub(crate) first: usize,
     // the slot that is served first
     pub(crate) next: usize,
+    // what is read comes through it
+    pub(crate) piece: Vec<u8>,
     pub(crate) counts: Counts,
     pub(crate) responses: Past<Client, usize>,
     ghost answered: { ∥ AreResponses responses.items slots.items ∥₁ },

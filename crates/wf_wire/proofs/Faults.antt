@@ -3,14 +3,16 @@ use Rattle.std.proofs.Common.{◌≡◌, ℕ, Bool, true, false, cond, ltb, List
 use Rattle.std.proofs.lemmas.Bool.{ltb-false, lt-ltb, le-ltb}
 use Rattle.std.proofs.lemmas.List.{take-append-le}
 use Rattle.std.specs.Int.{w32, from_be_bytes}
-use Rattle.wf_codec.specs.declared.kind.MessageKind.{MessageKind}
-use Rattle.wf_codec.specs.declared.kind.MessageKind.TheVariants as kinds
+use Rattle.wf_frame.specs.Layout.{Layout}
+use Rattle.wf_frame.specs.Row.{layout_of}
+use Rattle.wf_frame.specs.Frame.{LacksBody}
 use Rattle.wf_codec.specs.declared.fault.DecodeFault.{DecodeFault}
 use Rattle.wf_codec.specs.declared.fault.DecodeFault.TheVariants as decoder
-use Rattle.wf_codec.specs.MessageKind.{most_body_bytes, kind_byte, kind_of_byte}
-use Rattle.wf_codec.specs.Fault.{kind_in, length_in, behind_header, body_in, check_version, check_kind, check_longest, check_length, check_whole, check_fields, first_failing, first_fault, texts_of_kind, texts_in, HasFault, IsNoText}
+use Rattle.wf_codec.specs.KindTable.{kinds, most_body_bytes}
+use Rattle.wf_codec.specs.Fault.{layout_in, length_in, behind_header, body_in, check_version, check_kind, check_longest, check_length, check_whole, check_fields, first_failing, first_fault, texts_of_kind, texts_in, HasFault, IsNoText}
 use Rattle.wf_codec.specs.Message.{HasOneOf}
-use Rattle.wf_codec.specs.Theorem.{IsLongestBody, IsUnfinished, LacksBody, IsRejection, BeginsWithNone}
+use Rattle.wf_codec.specs.Theorem.{IsUnfinished, IsRejection, BeginsWithNone}
+use Rattle.wf_wire.proofs.Headers.{body_within}
 use Rattle.wf_wire.specs.declared.fault.InboxFault.{InboxFault}
 use Rattle.wf_wire.specs.declared.fault.InboxFault.TheVariants as inbox
 use Rattle.wf_wire.specs.InboxFault.{decode_fault}
@@ -34,9 +36,9 @@ two_same None q checks others o wants e not_short = one_same q checks others o w
 two_same (Some x) q checks others o wants e not_short = e
 
 -- the header isn't whole
-header_lacks : (kind : Option MessageKind) (fields : Option DecodeFault) → first_failing (None ∷ check_length kind None ∷ short ∷ fields ∷ []) ≡ short
+header_lacks : (layout : Option Layout) (fields : Option DecodeFault) → first_failing (None ∷ check_length layout None ∷ short ∷ fields ∷ []) ≡ short
 header_lacks None fields = refl
-header_lacks (Some kind) fields = refl
+header_lacks (Some layout) fields = refl
 
 last_same : (few few_on : Bool) (fields fields_on o : Option DecodeFault) → (few ≡ false → few_on ≡ false) → (few ≡ false → fields_on ≡ fields) →
     first_failing (cond few short None ∷ fields ∷ []) ≡ o → (o ≡ short → ⊥) → first_failing (cond few_on short None ∷ fields_on ∷ []) ≡ o
@@ -61,18 +63,18 @@ same_body n bytes more few = take-append-le n bytes more (ltb-false (length byte
 
 -- Whatever follows, the first failing check is the same, or still none, unless it was that more bytes are needed.
 first_on : (bytes more : List ℕ) (o : Option DecodeFault) → first_fault bytes ≡ o → (o ≡ short → ⊥) → first_fault (bytes ++ more) ≡ o
-unfolding first_fault kind_in length_in
+unfolding first_fault layout_in length_in
 first_on [] more o e not_short = absurd (not_short (sym e))
 first_on (v ∷ []) more o e not_short = one_same (check_version (v ∷ [])) _ _ o refl e not_short
-first_on (v ∷ k ∷ []) more o e not_short = two_same (check_version (v ∷ [])) (check_kind (v ∷ k ∷ [])) _ _ o (header_lacks (kind_of_byte k) _) e not_short
-first_on (v ∷ k ∷ a ∷ []) more o e not_short = two_same (check_version (v ∷ [])) (check_kind (v ∷ k ∷ [])) _ _ o (header_lacks (kind_of_byte k) _) e not_short
-first_on (v ∷ k ∷ a ∷ b ∷ []) more o e not_short = two_same (check_version (v ∷ [])) (check_kind (v ∷ k ∷ [])) _ _ o (header_lacks (kind_of_byte k) _) e not_short
-first_on (v ∷ k ∷ a ∷ b ∷ c ∷ []) more o e not_short = two_same (check_version (v ∷ [])) (check_kind (v ∷ k ∷ [])) _ _ o (header_lacks (kind_of_byte k) _) e not_short
+first_on (v ∷ k ∷ []) more o e not_short = two_same (check_version (v ∷ [])) (check_kind (v ∷ k ∷ [])) _ _ o (header_lacks (layout_of kinds k) _) e not_short
+first_on (v ∷ k ∷ a ∷ []) more o e not_short = two_same (check_version (v ∷ [])) (check_kind (v ∷ k ∷ [])) _ _ o (header_lacks (layout_of kinds k) _) e not_short
+first_on (v ∷ k ∷ a ∷ b ∷ []) more o e not_short = two_same (check_version (v ∷ [])) (check_kind (v ∷ k ∷ [])) _ _ o (header_lacks (layout_of kinds k) _) e not_short
+first_on (v ∷ k ∷ a ∷ b ∷ c ∷ []) more o e not_short = two_same (check_version (v ∷ [])) (check_kind (v ∷ k ∷ [])) _ _ o (header_lacks (layout_of kinds k) _) e not_short
 first_on (v ∷ k ∷ a ∷ b ∷ c ∷ d ∷ bytes) more o e not_short =
     let n : ℕ = from_be_bytes w32 (a ∷ b ∷ c ∷ d ∷ []) in
-    four_same (check_version (v ∷ [])) (check_kind (v ∷ k ∷ [])) (check_longest (Some n)) (check_length (kind_of_byte k) (Some n)) (ltb (length bytes) n) (ltb (length (bytes ++ more)) n)
-    (check_fields (kind_of_byte k) (take n bytes)) (check_fields (kind_of_byte k) (take n (bytes ++ more))) o
-    (whole_stays n bytes more) (λ few. ap (check_fields (kind_of_byte k)) (same_body n bytes more few)) e not_short
+    four_same (check_version (v ∷ [])) (check_kind (v ∷ k ∷ [])) (check_longest (Some n)) (check_length (layout_of kinds k) (Some n)) (ltb (length bytes) n) (ltb (length (bytes ++ more)) n)
+    (check_fields (layout_of kinds k) (take n bytes)) (check_fields (layout_of kinds k) (take n (bytes ++ more))) o
+    (whole_stays n bytes more) (λ few. ap (check_fields (layout_of kinds k)) (same_body n bytes more few)) e not_short
 
 -- ---- the texts of more bytes
 
@@ -95,17 +97,17 @@ two_fail (Some x) q checks wants e = absurd cc
 
 -- if no check fails, the texts are the same, whatever follows
 texts_on : (bytes more : List ℕ) → first_fault bytes ≡ None → texts_in (bytes ++ more) ≡ texts_in bytes
-unfolding first_fault kind_in length_in
+unfolding first_fault layout_in length_in
 texts_on [] more e = absurd cc
 texts_on (v ∷ []) more e = absurd (one_fails (check_version (v ∷ [])) _ refl e)
-texts_on (v ∷ k ∷ []) more e = absurd (two_fail (check_version (v ∷ [])) (check_kind (v ∷ k ∷ [])) _ (header_lacks (kind_of_byte k) _) e)
-texts_on (v ∷ k ∷ a ∷ []) more e = absurd (two_fail (check_version (v ∷ [])) (check_kind (v ∷ k ∷ [])) _ (header_lacks (kind_of_byte k) _) e)
-texts_on (v ∷ k ∷ a ∷ b ∷ []) more e = absurd (two_fail (check_version (v ∷ [])) (check_kind (v ∷ k ∷ [])) _ (header_lacks (kind_of_byte k) _) e)
-texts_on (v ∷ k ∷ a ∷ b ∷ c ∷ []) more e = absurd (two_fail (check_version (v ∷ [])) (check_kind (v ∷ k ∷ [])) _ (header_lacks (kind_of_byte k) _) e)
+texts_on (v ∷ k ∷ []) more e = absurd (two_fail (check_version (v ∷ [])) (check_kind (v ∷ k ∷ [])) _ (header_lacks (layout_of kinds k) _) e)
+texts_on (v ∷ k ∷ a ∷ []) more e = absurd (two_fail (check_version (v ∷ [])) (check_kind (v ∷ k ∷ [])) _ (header_lacks (layout_of kinds k) _) e)
+texts_on (v ∷ k ∷ a ∷ b ∷ []) more e = absurd (two_fail (check_version (v ∷ [])) (check_kind (v ∷ k ∷ [])) _ (header_lacks (layout_of kinds k) _) e)
+texts_on (v ∷ k ∷ a ∷ b ∷ c ∷ []) more e = absurd (two_fail (check_version (v ∷ [])) (check_kind (v ∷ k ∷ [])) _ (header_lacks (layout_of kinds k) _) e)
 texts_on (v ∷ k ∷ a ∷ b ∷ c ∷ d ∷ bytes) more e =
     let n : ℕ = from_be_bytes w32 (a ∷ b ∷ c ∷ d ∷ []) in
-    let few = fifth (check_version (v ∷ [])) (check_kind (v ∷ k ∷ [])) (check_longest (Some n)) (check_length (kind_of_byte k) (Some n)) (ltb (length bytes) n) (check_fields (kind_of_byte k) (take n bytes)) e in
-    ap (texts_of_kind (kind_of_byte k)) (same_body n bytes more few)
+    let few = fifth (check_version (v ∷ [])) (check_kind (v ∷ k ∷ [])) (check_longest (Some n)) (check_length (layout_of kinds k) (Some n)) (ltb (length bytes) n) (check_fields (layout_of kinds k) (take n bytes)) e in
+    ap (texts_of_kind (layout_of kinds k)) (same_body n bytes more few)
 
 -- ---- an error remains
 
@@ -174,38 +176,26 @@ one_error bytes fault other wrong again =
 
 -- ---- part of a message has no error
 
-kind_again : (kind : MessageKind) → kind_of_byte (kind_byte kind) ≡ Some kind
-unfolding kind_of_byte
-kind_again kinds.Prepare = refl
-kind_again kinds.Promise = refl
-kind_again kinds.Accept = refl
-kind_again kinds.Accepted = refl
-kind_again kinds.Nack = refl
-kind_again kinds.Chosen = refl
-kind_again kinds.Ask = refl
-
 -- the checks after that of the kind, of part of a message
-lacks_is_short : (v k : ℕ) (kind : MessageKind) (bytes : List ℕ) → IsLongestBody most_body_bytes → LacksBody kind bytes →
-    first_failing (check_longest (length_in (v ∷ k ∷ bytes)) ∷ check_length (Some kind) (length_in (v ∷ k ∷ bytes)) ∷ check_whole (length_in (v ∷ k ∷ bytes)) (behind_header (v ∷ k ∷ bytes))
-    ∷ check_fields (Some kind) (body_in (v ∷ k ∷ bytes)) ∷ []) ≡ short
+lacks_is_short : (v k : ℕ) (layout : Layout) (bytes : List ℕ) → layout_of kinds k ≡ Some layout → LacksBody layout bytes →
+    first_failing (check_longest (length_in (v ∷ k ∷ bytes)) ∷ check_length (Some layout) (length_in (v ∷ k ∷ bytes)) ∷ check_whole (length_in (v ∷ k ∷ bytes)) (behind_header (v ∷ k ∷ bytes))
+    ∷ check_fields (Some layout) (body_in (v ∷ k ∷ bytes)) ∷ []) ≡ short
 unfolding length_in
-lacks_is_short v k kind [] longest lacks = refl
-lacks_is_short v k kind (a ∷ []) longest lacks = refl
-lacks_is_short v k kind (a ∷ b ∷ []) longest lacks = refl
-lacks_is_short v k kind (a ∷ b ∷ c ∷ []) longest lacks = refl
-lacks_is_short v k kind (a ∷ b ∷ c ∷ d ∷ bytes) longest (inl few) = absurd (omega (arith, few))
-lacks_is_short v k kind (a ∷ b ∷ c ∷ d ∷ bytes) longest (inr lacks) =
+lacks_is_short v k layout [] known lacks = refl
+lacks_is_short v k layout (a ∷ []) known lacks = refl
+lacks_is_short v k layout (a ∷ b ∷ []) known lacks = refl
+lacks_is_short v k layout (a ∷ b ∷ c ∷ []) known lacks = refl
+lacks_is_short v k layout (a ∷ b ∷ c ∷ d ∷ bytes) known (inl few) = absurd (omega (arith, few))
+lacks_is_short v k layout (a ∷ b ∷ c ∷ d ∷ bytes) known (inr lacks) =
     let n : ℕ = from_be_bytes w32 (a ∷ b ∷ c ∷ d ∷ []) in
-    rw (le-ltb most_body_bytes n (longest.within kind n lacks.0), lacks.0, lt-ltb (length bytes) n (omega (arith, lacks.1))) refl
+    rw (le-ltb most_body_bytes n (body_within k layout n known lacks.0), lacks.0, lt-ltb (length bytes) n (omega (arith, lacks.1))) refl
 
-part_is_short : (bytes : List ℕ) → IsLongestBody most_body_bytes → IsUnfinished bytes → first_fault bytes ≡ short
-unfolding first_fault kind_in length_in
-part_is_short [] longest unfinished = refl
-part_is_short (v ∷ []) longest same = rw same refl
-part_is_short (v ∷ k ∷ bytes) longest unfinished =
-    let kind : MessageKind = unfinished.1.0 in
-    let is : kind_of_byte k ≡ Some kind = ap kind_of_byte unfinished.1.1 ∙ kind_again kind in
-    rw (unfinished.0, is) (lacks_is_short v k kind bytes longest unfinished.1.2)
+part_is_short : (bytes : List ℕ) → IsUnfinished bytes → first_fault bytes ≡ short
+unfolding first_fault layout_in length_in
+part_is_short [] unfinished = refl
+part_is_short (v ∷ []) same = rw same refl
+part_is_short (v ∷ k ∷ bytes) unfinished =
+    rw (unfinished.0, unfinished.1.1) (lacks_is_short v k unfinished.1.0 bytes unfinished.1.1 unfinished.1.2)
 
 not_short : (fault : InboxFault) → reported fault ≡ short → ⊥
 unfolding reported
@@ -216,6 +206,6 @@ not_short inbox.BadField e = absurd cc
 not_short inbox.TooLong e = absurd cc
 not_short inbox.Memory e = absurd cc
 
-pub no_error_in_part : (bytes : List ℕ) (fault : InboxFault) → IsLongestBody most_body_bytes → IsUnfinished bytes → IsWrong bytes fault → ⊥
-no_error_in_part bytes fault longest unfinished wrong =
-    not_short fault (sym (is_reported fault bytes wrong.rejection wrong.has_fault) ∙ part_is_short bytes longest unfinished)
+pub no_error_in_part : (bytes : List ℕ) (fault : InboxFault) → IsUnfinished bytes → IsWrong bytes fault → ⊥
+no_error_in_part bytes fault unfinished wrong =
+    not_short fault (sym (is_reported fault bytes wrong.rejection wrong.has_fault) ∙ part_is_short bytes unfinished)

@@ -1,17 +1,20 @@
 -- A header tells how long its message is: part of a message is shorter than that, and stays part of it until it is that long.
-use Rattle.std.proofs.Common.{◌≡◌, ◌⊎◌, ℕ, ◌+◌, ◌<◌, ◌≤◌, List, [], ◌∷◌, ◌++◌, length, take, drop, min, refl, sym, ap, subst, ◌∙◌, append_assoc, length-append, length-drop, arith, inl, inr}
+use Rattle.std.proofs.Common.{◌≡◌, ◌⊎◌, ℕ, ◌+◌, ◌<◌, ◌≤◌, List, [], ◌∷◌, ◌++◌, length, take, drop, min, true, Some, refl, sym, ap, subst, ◌∙◌, append_assoc, length-append, length-drop, arith, inl, inr}
 use Rattle.std.proofs.Math.Seq.{take-append_seam}
 use Rattle.std.proofs.lemmas.List.{append-nil, nil_from_length, take-append-le, take-append-drop, length-take-le}
 use Rattle.std.proofs.lemmas.Nat.{from_be_bytes-to_be_bytes_4}
 use Rattle.std.specs.Int.{w32, from_be_bytes, to_be_bytes}
-use Rattle.wf_ballot.specs.Frame.{frame}
+use Rattle.wf_ballot.specs.Field.{frame}
 use Rattle.wf_def.specs.Definition.{Definition}
 use Rattle.wf_model.specs.Message.{Message}
-use Rattle.wf_codec.specs.declared.kind.MessageKind.{MessageKind}
-use Rattle.wf_codec.specs.MessageKind.{most_body_bytes, kind_byte}
+use Rattle.wf_frame.specs.Layout.{Layout, fits}
+use Rattle.wf_frame.specs.Row.{row_bytes, layout_of}
+use Rattle.wf_frame.specs.Frame.{LacksBody, stated_length}
+use Rattle.wf_codec.specs.KindTable.{kinds, most_body_bytes}
 use Rattle.wf_codec.specs.Message.{texts}
-use Rattle.wf_codec.specs.Encoding.{message_version, header_length, kind_of, body, text_spelling, Spells}
-use Rattle.wf_codec.specs.Theorem.{IsLongestBody, BeginsWithNone, IsUnfinished, LacksBody, stated_length}
+use Rattle.wf_codec.specs.FormatTheorems.{is_format}
+use Rattle.wf_codec.specs.Encoding.{message_version, header_length, text_spelling, Spells}
+use Rattle.wf_codec.specs.Theorem.{BeginsWithNone, IsUnfinished}
 use Rattle.wf_wire.specs.Header.{known_length, IsFilled}
 use Rattle.wf_wire.specs.Stream.{most_message_bytes, IsPart}
 
@@ -39,71 +42,75 @@ known_within (v ∷ k ∷ a ∷ b ∷ []) = omega arith
 known_within (v ∷ k ∷ a ∷ b ∷ c ∷ []) = omega arith
 known_within (v ∷ k ∷ a ∷ b ∷ c ∷ d ∷ bytes) = omega arith
 
-lacks_known : (kind : MessageKind) (a b c d : ℕ) (bytes : List ℕ) → IsLongestBody most_body_bytes → LacksBody kind (a ∷ b ∷ c ∷ d ∷ bytes) →
+-- a body is no longer than the longest
+pub body_within : (kind : ℕ) (layout : Layout) (n : ℕ) → layout_of kinds kind ≡ Some layout → fits layout n ≡ true → n ≤ most_body_bytes
+body_within kind layout n = is_format.within message_version kind layout n
+
+lacks_known : (kind : ℕ) (layout : Layout) (a b c d : ℕ) (bytes : List ℕ) → layout_of kinds kind ≡ Some layout → LacksBody layout (a ∷ b ∷ c ∷ d ∷ bytes) →
     length bytes < min (from_be_bytes w32 (a ∷ b ∷ c ∷ d ∷ [])) most_body_bytes
-lacks_known kind a b c d bytes longest (inl few) = absurd (omega (arith, few))
-lacks_known kind a b c d bytes longest (inr lacks) =
-    omega (arith, lacks.1, longest.within kind (from_be_bytes w32 (a ∷ b ∷ c ∷ d ∷ [])) lacks.0)
+lacks_known kind layout a b c d bytes known (inl few) = absurd (omega (arith, few))
+lacks_known kind layout a b c d bytes known (inr lacks) =
+    omega (arith, lacks.1, body_within kind layout (from_be_bytes w32 (a ∷ b ∷ c ∷ d ∷ [])) known lacks.0)
 
 -- part of a message is shorter
-pub part_is_shorter : (bytes : List ℕ) → IsLongestBody most_body_bytes → IsUnfinished bytes → length bytes < known_length bytes
+pub part_is_shorter : (bytes : List ℕ) → IsUnfinished bytes → length bytes < known_length bytes
 unfolding known_length
-part_is_shorter [] longest unfinished = omega arith
-part_is_shorter (v ∷ []) longest unfinished = omega arith
-part_is_shorter (v ∷ k ∷ []) longest unfinished = omega arith
-part_is_shorter (v ∷ k ∷ a ∷ []) longest unfinished = omega arith
-part_is_shorter (v ∷ k ∷ a ∷ b ∷ []) longest unfinished = omega arith
-part_is_shorter (v ∷ k ∷ a ∷ b ∷ c ∷ []) longest unfinished = omega arith
-part_is_shorter (v ∷ k ∷ a ∷ b ∷ c ∷ d ∷ bytes) longest unfinished = omega (arith, lacks_known unfinished.1.0 a b c d bytes longest unfinished.1.2)
+part_is_shorter [] unfinished = omega arith
+part_is_shorter (v ∷ []) unfinished = omega arith
+part_is_shorter (v ∷ k ∷ []) unfinished = omega arith
+part_is_shorter (v ∷ k ∷ a ∷ []) unfinished = omega arith
+part_is_shorter (v ∷ k ∷ a ∷ b ∷ []) unfinished = omega arith
+part_is_shorter (v ∷ k ∷ a ∷ b ∷ c ∷ []) unfinished = omega arith
+part_is_shorter (v ∷ k ∷ a ∷ b ∷ c ∷ d ∷ bytes) unfinished = omega (arith, lacks_known k unfinished.1.0 a b c d bytes unfinished.1.1 unfinished.1.2)
 
 -- so it is shorter than the longest message
-pub part_within : (bytes : List ℕ) → IsLongestBody most_body_bytes → IsUnfinished bytes → length bytes < most_message_bytes
-part_within bytes longest unfinished = omega (arith, part_is_shorter bytes longest unfinished, known_within bytes)
+pub part_within : (bytes : List ℕ) → IsUnfinished bytes → length bytes < most_message_bytes
+part_within bytes unfinished = omega (arith, part_is_shorter bytes unfinished, known_within bytes)
 
-lacks_on : (kind : MessageKind) (a b c d : ℕ) (bytes more : List ℕ) → IsLongestBody most_body_bytes → LacksBody kind (a ∷ b ∷ c ∷ d ∷ bytes) →
-    length (bytes ++ more) < min (from_be_bytes w32 (a ∷ b ∷ c ∷ d ∷ [])) most_body_bytes → LacksBody kind (a ∷ b ∷ c ∷ d ∷ (bytes ++ more))
-lacks_on kind a b c d bytes more longest (inl few) short = absurd (omega (arith, few))
-lacks_on kind a b c d bytes more longest (inr lacks) short = inr (lacks.0, omega (arith, short))
+lacks_on : (layout : Layout) (a b c d : ℕ) (bytes more : List ℕ) → LacksBody layout (a ∷ b ∷ c ∷ d ∷ bytes) →
+    length (bytes ++ more) < min (from_be_bytes w32 (a ∷ b ∷ c ∷ d ∷ [])) most_body_bytes → LacksBody layout (a ∷ b ∷ c ∷ d ∷ (bytes ++ more))
+lacks_on layout a b c d bytes more (inl few) short = absurd (omega (arith, few))
+lacks_on layout a b c d bytes more (inr lacks) short = inr (lacks.0, omega (arith, short))
 
 -- with more bytes, it stays part of the message while it is shorter
-unfinished_on : (bytes more : List ℕ) → IsLongestBody most_body_bytes → IsUnfinished bytes → header_length ≤ length bytes → length (bytes ++ more) < known_length (bytes ++ more) →
+unfinished_on : (bytes more : List ℕ) → IsUnfinished bytes → header_length ≤ length bytes → length (bytes ++ more) < known_length (bytes ++ more) →
     IsUnfinished (bytes ++ more)
 unfolding known_length
-unfinished_on [] more longest unfinished whole short = absurd (omega (arith, whole))
-unfinished_on (v ∷ []) more longest unfinished whole short = absurd (omega (arith, whole))
-unfinished_on (v ∷ k ∷ []) more longest unfinished whole short = absurd (omega (arith, whole))
-unfinished_on (v ∷ k ∷ a ∷ []) more longest unfinished whole short = absurd (omega (arith, whole))
-unfinished_on (v ∷ k ∷ a ∷ b ∷ []) more longest unfinished whole short = absurd (omega (arith, whole))
-unfinished_on (v ∷ k ∷ a ∷ b ∷ c ∷ []) more longest unfinished whole short = absurd (omega (arith, whole))
-unfinished_on (v ∷ k ∷ a ∷ b ∷ c ∷ d ∷ bytes) more longest unfinished whole short =
-    (unfinished.0, (unfinished.1.0, unfinished.1.1, lacks_on unfinished.1.0 a b c d bytes more longest unfinished.1.2 (omega (arith, short))))
+unfinished_on [] more unfinished whole short = absurd (omega (arith, whole))
+unfinished_on (v ∷ []) more unfinished whole short = absurd (omega (arith, whole))
+unfinished_on (v ∷ k ∷ []) more unfinished whole short = absurd (omega (arith, whole))
+unfinished_on (v ∷ k ∷ a ∷ []) more unfinished whole short = absurd (omega (arith, whole))
+unfinished_on (v ∷ k ∷ a ∷ b ∷ []) more unfinished whole short = absurd (omega (arith, whole))
+unfinished_on (v ∷ k ∷ a ∷ b ∷ c ∷ []) more unfinished whole short = absurd (omega (arith, whole))
+unfinished_on (v ∷ k ∷ a ∷ b ∷ c ∷ d ∷ bytes) more unfinished whole short =
+    (unfinished.0, (unfinished.1.0, unfinished.1.1, lacks_on unfinished.1.0 a b c d bytes more unfinished.1.2 (omega (arith, short))))
 
 -- ---- part of a message begins with none
 
 -- a message's encoding, followed by other bytes: the version, the kind, the length of the body, the body
 spelled_parts : (m : Message Definition) (spelled after bytes : List ℕ) → Spells m spelled → bytes ≡ spelled ++ after →
-    bytes ≡ message_version ∷ kind_byte (kind_of (texts m)) ∷ (to_be_bytes w32 (length (body (texts m))) ++ (body (texts m) ++ after))
+    bytes ≡ message_version ∷ (texts m).byte ∷ (to_be_bytes w32 (length (row_bytes (texts m))) ++ (row_bytes (texts m) ++ after))
 unfolding text_spelling frame
 spelled_parts m spelled after bytes spells e =
     e ∙ ap (λ (t : List ℕ). t ++ after) spells.spelled
-    ∙ ap (λ (t : List ℕ). message_version ∷ kind_byte (kind_of (texts m)) ∷ t) (append_assoc (to_be_bytes w32 (length (body (texts m)))) (body (texts m)) after)
+    ∙ ap (λ (t : List ℕ). message_version ∷ (texts m).byte ∷ t) (append_assoc (to_be_bytes w32 (length (row_bytes (texts m)))) (row_bytes (texts m)) after)
 
 -- bytes that lack their body don't have as many as the length states
-lacks_some : (kind : MessageKind) (n : ℕ) (behind : List ℕ) → IsLongestBody most_body_bytes → n ≤ length behind → LacksBody kind (to_be_bytes w32 n ++ behind) → ⊥
-lacks_some kind n behind longest enough (inl few) = omega (arith, few, length-append (to_be_bytes w32 n) behind)
-lacks_some kind n behind longest enough (inr lacks) =
+lacks_some : (kind : ℕ) (layout : Layout) (n : ℕ) (behind : List ℕ) → layout_of kinds kind ≡ Some layout → n ≤ length behind → LacksBody layout (to_be_bytes w32 n ++ behind) → ⊥
+lacks_some kind layout n behind known enough (inl few) = omega (arith, few, length-append (to_be_bytes w32 n) behind)
+lacks_some kind layout n behind known enough (inr lacks) =
     let front : take 4 (to_be_bytes w32 n ++ behind) ≡ to_be_bytes w32 n = take-append_seam (to_be_bytes w32 n) behind in
-    let most = longest.within kind (stated_length (to_be_bytes w32 n ++ behind)) lacks.0 in
+    let most = body_within kind layout (stated_length (to_be_bytes w32 n ++ behind)) known lacks.0 in
     let long = length-append (to_be_bytes w32 n) behind in
     let again : from_be_bytes w32 (to_be_bytes w32 n) ≡ n = from_be_bytes-to_be_bytes_4 n (omega (arith, lacks.1, most, long, enough)) in
     let stated : stated_length (to_be_bytes w32 n ++ behind) ≡ n = ap (from_be_bytes w32) front ∙ again in
     omega (arith, lacks.1, stated, long, enough)
 
-begins_with_none : (bytes : List ℕ) → IsLongestBody most_body_bytes → IsUnfinished bytes → BeginsWithNone bytes
-begins_with_none bytes longest unfinished m spelled after spells e =
-    let n : ℕ = length (body (texts m)) in
+begins_with_none : (bytes : List ℕ) → IsUnfinished bytes → BeginsWithNone bytes
+begins_with_none bytes unfinished m spelled after spells e =
+    let n : ℕ = length (row_bytes (texts m)) in
     let lacks = subst (λ (t : List ℕ). IsUnfinished t) (spelled_parts m spelled after bytes spells e) unfinished in
-    lacks_some lacks.1.0 n (body (texts m) ++ after) longest (omega (arith, length-append (body (texts m)) after)) lacks.1.2
+    lacks_some (texts m).byte lacks.1.0 n (row_bytes (texts m) ++ after) lacks.1.1 (omega (arith, length-append (row_bytes (texts m)) after)) lacks.1.2
 
 -- ---- bytes moved from a piece behind the rest
 
@@ -152,14 +159,14 @@ all_moved rest piece new left filled short =
     ]
 
 -- Its header was whole before, so it is still part of the message.
-pub part_on : (rest piece new left : List ℕ) → IsLongestBody most_body_bytes → IsPart rest → IsFilled rest piece new left (known_length new) → header_length ≤ length rest →
+pub part_on : (rest piece new left : List ℕ) → IsPart rest → IsFilled rest piece new left (known_length new) → header_length ≤ length rest →
     length new < known_length new → IsPart new
-part_on rest piece new left longest part filled whole short =
+part_on rest piece new left part filled whole short =
     let parts = parts_of rest piece new left (known_length new) filled in
     let more : List ℕ = drop (length rest) new in
-    let still : IsUnfinished (rest ++ more) = unfinished_on rest more longest part.unfinished whole (subst (λ (t : List ℕ). length t < known_length t) parts short) in
+    let still : IsUnfinished (rest ++ more) = unfinished_on rest more part.unfinished whole (subst (λ (t : List ℕ). length t < known_length t) parts short) in
     let unfinished : IsUnfinished new = subst (λ (t : List ℕ). IsUnfinished t) (sym parts) still in
-    record { longest = begins_with_none new longest unfinished; unfinished = unfinished }
+    record { longest = begins_with_none new unfinished; unfinished = unfinished }
 
 -- the first bytes of the piece that are missing, or all
 pub filled_by : (rest piece new : List ℕ) (n wanted : ℕ) → n ≤ length piece → ((n ≡ length piece) ⊎ (wanted ≤ length rest + n)) → new ≡ rest ++ take n piece → IsFilled rest piece new (drop n piece) wanted

@@ -6,9 +6,7 @@ use Rattle.std.proofs.lemmas.Bool.{cases_lt}
 use Rattle.std.specs.Prelude.{OnErr}
 use Rattle.wf_def.specs.Definition.{Definition}
 use Rattle.wf_model.specs.Message.{Message}
-use Rattle.wf_codec.specs.MessageKind.{most_body_bytes}
 use Rattle.wf_codec.specs.Encoding.{header_length}
-use Rattle.wf_codec.specs.Theorem.{IsLongestBody}
 use Rattle.wf_wire.specs.declared.fault.InboxFault.{InboxFault}
 use Rattle.wf_wire.specs.Header.{known_length, IsFilled}
 use Rattle.wf_wire.specs.Stream.{Splits, IsPart, Reads, IsWrong, Breaks}
@@ -21,16 +19,16 @@ reads_part : (stream : List ℕ) (messages : List (Message Definition)) (rest : 
 reads_part stream messages rest none e part = record { splits = subst (λ (ms : List (Message Definition)). Splits stream ms rest) (sym none) e; part = part }
 
 -- the message that begins in the rest isn't whole yet, by its header
-pub still_part : {X : Type 0} (view : X → Message Definition) (rest piece new left : List ℕ) (messages : List X) → IsLongestBody most_body_bytes → IsPart rest →
+pub still_part : {X : Type 0} (view : X → Message Definition) (rest piece new left : List ℕ) (messages : List X) → IsPart rest →
     IsFilled rest piece new left (known_length new) → header_length ≤ length rest → length new < known_length new → messages ≡ [] → Reads (rest ++ piece) (map view messages) new
-still_part view rest piece new left messages longest part filled whole short none =
-    reads_part (rest ++ piece) (map view messages) new (ap (map view) none) (all_moved rest piece new left filled short) (part_on rest piece new left longest part filled whole short)
+still_part view rest piece new left messages part filled whole short none =
+    reads_part (rest ++ piece) (map view messages) new (ap (map view) none) (all_moved rest piece new left filled short) (part_on rest piece new left part filled whole short)
 
 -- or as the decoder says
-pub still_none : {X : Type 0} (view : X → Message Definition) (rest piece new left : List ℕ) (old messages : List X) → IsLongestBody most_body_bytes →
+pub still_none : {X : Type 0} (view : X → Message Definition) (rest piece new left : List ℕ) (old messages : List X) →
     IsFilled rest piece new left (known_length new) → TakesNone new (map view old) (map view messages) → old ≡ [] → Reads (rest ++ piece) (map view messages) new
-still_none view rest piece new left old messages longest filled takes none =
-    let short = part_is_shorter new longest takes.part.unfinished in
+still_none view rest piece new left old messages filled takes none =
+    let short = part_is_shorter new takes.part.unfinished in
     reads_part (rest ++ piece) (map view messages) new (takes.unchanged ∙ ap (map view) none) (all_moved rest piece new left filled short) takes.part
 
 -- The message ends behind the rest, in which it wasn't whole.

@@ -3,42 +3,43 @@ use Rattle.std.proofs.Common.{◌≡◌, ℕ, List, [], ◌∷◌, ◌++◌, ref
 use Rattle.std.proofs.lemmas.List.{append-nil}
 use Rattle.wf_def.specs.Definition.{Definition}
 use Rattle.wf_model.specs.Message.{Message}
-use Rattle.wf_codec.specs.MessageKind.{most_body_bytes}
-use Rattle.wf_codec.specs.Theorem.{NoneBeginsAnother, IsLongestBody, BeginsWithNone}
+use Rattle.wf_canon.proofs.MeaningTheorem.{one_definition}
+use Rattle.wf_codec.proofs.Validated.{none_begins_another}
+use Rattle.wf_codec.specs.Theorem.{BeginsWithNone}
 use Rattle.wf_wire.specs.declared.fault.InboxFault.{InboxFault}
 use Rattle.wf_wire.specs.Stream.{Splits, IsWrong}
 use Rattle.wf_wire.specs.Theorem.{SplitOneWay, BreakOneWay, BreaksOrReads, JoinedReads, JoinedBreaks, StaysBroken}
 use Rattle.wf_wire.proofs.Faults.{wrong_on, one_error, no_error_in_part}
 
 -- Two splits, each followed by bytes that begin with no message, are compared message by message.
-one_way : NoneBeginsAnother → (stream : List ℕ) (xs ys : List (Message Definition)) (rest_x rest_y : List ℕ) → Splits stream xs rest_x → BeginsWithNone rest_x →
+one_way : (stream : List ℕ) (xs ys : List (Message Definition)) (rest_x rest_y : List ℕ) → Splits stream xs rest_x → BeginsWithNone rest_x →
     Splits stream ys rest_y → BeginsWithNone rest_y → (xs ≡ ys) × (rest_x ≡ rest_y)
-one_way none_begins stream [] [] rest_x rest_y x none_x y none_y = (refl, sym x ∙ y)
-one_way none_begins stream [] (r ∷ ys) rest_x rest_y x none_x y none_y = absurd (none_x r y.0 y.1 y.2 (sym x ∙ y.3))
-one_way none_begins stream (q ∷ xs) [] rest_x rest_y x none_x y none_y = absurd (none_y q x.0 x.1 x.2 (sym y ∙ x.3))
-one_way none_begins stream (q ∷ xs) (r ∷ ys) rest_x rest_y x none_x y none_y =
-    let same = none_begins q r x.0 y.0 x.1 y.1 x.2 y.2 (sym x.3 ∙ y.3) in
-    let later = one_way none_begins x.1 xs ys rest_x rest_y x.4 none_x (subst (λ (t : List ℕ). Splits t ys rest_y) (sym same.2) y.4) none_y in
+one_way stream [] [] rest_x rest_y x none_x y none_y = (refl, sym x ∙ y)
+one_way stream [] (r ∷ ys) rest_x rest_y x none_x y none_y = absurd (none_x r y.0 y.1 y.2 (sym x ∙ y.3))
+one_way stream (q ∷ xs) [] rest_x rest_y x none_x y none_y = absurd (none_y q x.0 x.1 x.2 (sym y ∙ x.3))
+one_way stream (q ∷ xs) (r ∷ ys) rest_x rest_y x none_x y none_y =
+    let same = none_begins_another one_definition q r x.0 y.0 x.1 y.1 x.2 y.2 (sym x.3 ∙ y.3) in
+    let later = one_way x.1 xs ys rest_x rest_y x.4 none_x (subst (λ (t : List ℕ). Splits t ys rest_y) (sym same.2) y.4) none_y in
     (ap (λ (m : Message Definition). m ∷ xs) same.0 ∙ ap (λ (ms : List (Message Definition)). r ∷ ms) later.0, later.1)
 
 -- bytes with an error begin with no message
 wrong_is_none : (rest : List ℕ) (fault : InboxFault) → IsWrong rest fault → BeginsWithNone rest
 wrong_is_none rest fault wrong = subst (λ (t : List ℕ). BeginsWithNone t) (append-nil rest) (wrong.never [])
 
-pub split_one_way : NoneBeginsAnother → SplitOneWay
-split_one_way none_begins stream messages others rest other_rest reads again =
-    one_way none_begins stream messages others rest other_rest reads.splits reads.part.longest again.splits again.part.longest
+pub split_one_way : SplitOneWay
+split_one_way stream messages others rest other_rest reads again =
+    one_way stream messages others rest other_rest reads.splits reads.part.longest again.splits again.part.longest
 
-pub break_one_way : NoneBeginsAnother → BreakOneWay
-break_one_way none_begins stream fault other breaks again =
-    let same = one_way none_begins stream breaks.messages again.messages breaks.rest again.rest breaks.splits (wrong_is_none breaks.rest fault breaks.wrong)
+pub break_one_way : BreakOneWay
+break_one_way stream fault other breaks again =
+    let same = one_way stream breaks.messages again.messages breaks.rest again.rest breaks.splits (wrong_is_none breaks.rest fault breaks.wrong)
     again.splits (wrong_is_none again.rest other again.wrong) in
     one_error breaks.rest fault other breaks.wrong (subst (λ (t : List ℕ). IsWrong t other) (sym same.1) again.wrong)
 
-pub breaks_or_reads : NoneBeginsAnother → IsLongestBody most_body_bytes → BreaksOrReads
-breaks_or_reads none_begins longest stream fault messages rest breaks reads =
-    let same = one_way none_begins stream breaks.messages messages breaks.rest rest breaks.splits (wrong_is_none breaks.rest fault breaks.wrong) reads.splits reads.part.longest in
-    no_error_in_part rest fault longest reads.part.unfinished (subst (λ (t : List ℕ). IsWrong t fault) same.1 breaks.wrong)
+pub breaks_or_reads : BreaksOrReads
+breaks_or_reads stream fault messages rest breaks reads =
+    let same = one_way stream breaks.messages messages breaks.rest rest breaks.splits (wrong_is_none breaks.rest fault breaks.wrong) reads.splits reads.part.longest in
+    no_error_in_part rest fault reads.part.unfinished (subst (λ (t : List ℕ). IsWrong t fault) same.1 breaks.wrong)
 
 -- ---- pieces
 

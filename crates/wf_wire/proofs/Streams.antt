@@ -1,10 +1,11 @@
 -- A stream splits into messages one after the other, and in one way.
 use Rattle.std.proofs.Common.{◌≡◌, ℕ, ◌<◌, ◌≤◌, List, [], ◌∷◌, ◌++◌, length, map, take, drop, refl, sym, ap, subst, ◌∙◌, length-append, length-drop, arith}
-use Rattle.std.proofs.lemmas.List.{map-append, take-append-drop}
+use Rattle.std.proofs.lemmas.List.{map-append, nil_from_length, take-append-drop}
 use Rattle.wf_def.specs.Definition.{Definition}
 use Rattle.wf_model.specs.Message.{Message}
 use Rattle.wf_codec.specs.Encoding.{Spells}
-use Rattle.wf_codec.specs.Theorem.{NoneIsEmpty, BeginsWith, BeginsWithNone}
+use Rattle.wf_codec.proofs.Validated.{none_is_empty}
+use Rattle.wf_codec.specs.Theorem.{BeginsWith, BeginsWithNone}
 use Rattle.wf_wire.specs.declared.fault.InboxFault.{InboxFault}
 use Rattle.wf_wire.specs.Stream.{Splits, IsPart, Reads, IsWrong, Breaks}
 use Rattle.wf_wire.specs.WireReader.{TakesOne, TakesNone}
@@ -44,13 +45,17 @@ pub broken_at : (stream rest : List ℕ) (messages : List (Message Definition)) 
 broken_at stream rest messages fault splits wrong = record { messages = messages; rest = rest; splits = splits; wrong = wrong }
 
 -- the empty bytes begin with no message
-none_begins_nothing : NoneIsEmpty → BeginsWithNone []
-none_begins_nothing none_is_empty m spelled after spells e = absurd (omega (arith, none_is_empty m spelled spells, ap length e, length-append spelled after))
+none_begins_nothing : BeginsWithNone []
+none_begins_nothing m spelled after spells e = absurd (omega (arith, none_is_empty m spelled spells, ap length e, length-append spelled after))
 
 -- no bytes are part of a message
-pub nothing_is_part : NoneIsEmpty → IsPart []
-nothing_is_part none_is_empty = record { longest = none_begins_nothing none_is_empty; unfinished = tt }
+pub nothing_is_part : IsPart []
+nothing_is_part = record { longest = none_begins_nothing; unfinished = tt }
 
 -- so empty bytes are
-pub empty_is_part : (bytes : List ℕ) → bytes ≡ [] → NoneIsEmpty → IsPart bytes
-empty_is_part bytes none none_is_empty = subst (λ (t : List ℕ). IsPart t) (sym none) (nothing_is_part none_is_empty)
+pub empty_is_part : (bytes : List ℕ) → bytes ≡ [] → IsPart bytes
+empty_is_part bytes none = subst (λ (t : List ℕ). IsPart t) (sym none) nothing_is_part
+
+-- nothing is left: the stream is read
+pub read_to_end : (stream rest : List ℕ) (messages : List (Message Definition)) → Splits stream messages rest → length rest ≡ 0 → Reads stream messages rest
+read_to_end stream rest messages splits none = record { splits = splits; part = empty_is_part rest (nil_from_length rest none) }

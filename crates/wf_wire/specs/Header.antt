@@ -1,7 +1,7 @@
 -- What a header tells of its message's length. Used only in this crate's contracts.
 use Rattle.std.specs.Prelude.{◌≡◌, ℕ, ◌+◌, ◌≤◌, ◌⊎◌, List, [], ◌∷◌, ◌++◌, length, min}
 use Rattle.std.specs.Int.{w32, from_be_bytes}
-use Rattle.wf_codec.specs.MessageKind.{most_body_bytes}
+use Rattle.wf_codec.specs.KindTable.{most_body_bytes}
 use Rattle.wf_codec.specs.Encoding.{header_length}
 
 -- The number of bytes of the message at the front, as far as its header is there: that of the header, and of a body no longer than

@@ -2,7 +2,7 @@
 use Rattle.std.specs.Prelude.{◌≡◌, ℕ, ◌+◌, List, [], ◌∷◌, ◌++◌}
 use Rattle.wf_def.specs.Definition.{Definition}
 use Rattle.wf_model.specs.Message.{Message}
-use Rattle.wf_codec.specs.MessageKind.{most_body_bytes}
+use Rattle.wf_codec.specs.KindTable.{most_body_bytes}
 use Rattle.wf_codec.specs.Encoding.{header_length, Spells}
 use Rattle.wf_codec.specs.Fault.{HasFault}
 use Rattle.wf_codec.specs.Theorem.{BeginsWithNone, NeverBegins, IsRejection, IsUnfinished}

@@ -7,7 +7,7 @@ use crate::fault::InboxFault;
 use crate::piece_join::take_in;
 use std::alloc::Global;
 use std::marker::Model;
-use wf_codec::{BODY_BYTES, HEADER_BYTES, Message, longest_body, no_spelling_is_empty};
+use wf_codec::{BODY_BYTES, HEADER_BYTES, Message};
 
 /// The length of the longest message, in bytes: an inbox keeps fewer.
 pub const MESSAGE_BYTES: usize = HEADER_BYTES + BODY_BYTES;
@@ -35,8 +35,6 @@ impl Inbox {
     pub fn new(alloc: Global) -> Inbox
         ensures { result ≡ Open [] }
     {
-        // The theorem: an encoding has at least one byte.
-        no_spelling_is_empty();
         Inbox {
             alloc,
             rest: Vec::new(alloc),
@@ -66,8 +64,6 @@ impl Inbox {
         ensures memory { IsErrOf result InboxFault.Memory → self.new ≡ self.old }
         ensures pending { pending_bytes self.new < most_message_bytes }
     {
-        // The theorem: no body is longer than the longest.
-        longest_body();
         if let Some(fault) = self.failed {
             return Err(fault);
         }
@@ -89,8 +85,6 @@ impl Inbox {
         ensures value { result ≡ pending_bytes self.now }
         ensures most { result < most_message_bytes }
     {
-        // The theorem: no body is longer than the longest.
-        longest_body();
         self.rest.len()
     }
 }

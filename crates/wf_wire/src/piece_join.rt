@@ -8,7 +8,7 @@ use crate::fault::InboxFault;
 use crate::header::{complete, known_length};
 use crate::whole_messages::{read_next, read_whole};
 use std::alloc::Global;
-use wf_codec::{HEADER_BYTES, Message, longest_body};
+use wf_codec::{HEADER_BYTES, Message};
 
 /// Appends the messages that the piece completes to the empty list, and keeps what follows them in place of the rest. After
 /// allocation failure the rest is unchanged.
@@ -55,8 +55,6 @@ fn join(
         Breaks (rest.old.items ++ piece.now) fault) }
     ensures front { OnErr result (take (length rest.old.items) rest.new.items ≡ rest.old.items) }
 {
-    // The theorem: no body is longer than the longest.
-    longest_body();
     let before = rest.len();
     complete(rest, piece)?;
     // The header was judged when it became whole.

@@ -2,17 +2,12 @@
 
 ghost use Rattle.wf_wire.specs.Theorem.{SplitOneWay, BreakOneWay, BreaksOrReads, JoinedReads, JoinedBreaks, StaysBroken};
 
-use wf_codec::{longest_body, no_spelling_is_empty, none_begins_another};
-
 /// A stream's bytes determine its messages and the rest, or its error. A theorem about the definitions: the call does nothing.
 pub fn streams_split_one_way()
     ensures one { SplitOneWay }
     ensures one_error { BreakOneWay }
     ensures apart { BreaksOrReads }
-{
-    none_begins_another();
-    longest_body();
-}
+{}
 
 /// Two pieces give what they give when joined: the messages of the one and then of the other, the same rest, the same error. An
 /// error remains, whatever follows. A theorem about the definitions: the call does nothing.

@@ -7,10 +7,10 @@ ghost use Rattle.wf_wire.specs.WireReader.{TakesOne, TakesNone};
 
 use crate::fault::InboxFault;
 use std::alloc::Global;
-use wf_codec::{DecodeFault, Message, decode, no_spelling_is_empty};
+use wf_codec::{DecodeFault, Message, decode};
 
 /// Appends the whole messages that the bytes begin with, and returns what follows them: part of a message at most.
-#[tactic(auto, using(crate::proofs::Streams::splits_one_more, crate::proofs::Streams::left_is_less, crate::proofs::Streams::read_to, crate::proofs::Streams::broken_at, crate::proofs::Streams::nothing_is_part))]
+#[tactic(auto, using(crate::proofs::Streams::splits_one_more, crate::proofs::Streams::left_is_less, crate::proofs::Streams::read_to, crate::proofs::Streams::broken_at, crate::proofs::Streams::read_to_end))]
 pub fn read_whole<'a>(
     alloc: Global,
     messages: &mut Vec<Message>,
@@ -21,8 +21,6 @@ pub fn read_whole<'a>(
     ensures err { (stream : List ℕ) → Splits stream (map view messages.old.items) bytes.now →
         IfErr result (λ fault. fault ≢ InboxFault.Memory → Breaks stream fault) }
 {
-    // The theorem: an encoding has at least one byte.
-    no_spelling_is_empty();
     let mut rest = bytes;
     while !rest.is_empty() {
         match read_next(alloc, messages, rest) {

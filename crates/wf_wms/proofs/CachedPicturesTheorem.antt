@@ -19,25 +19,25 @@ use Rattle.wf_def.specs.Extent.{ExtentValue}
 use Rattle.wf_def.specs.declared.color.Color.{Color}
 use Rattle.wf_learner.specs.History.{map_at}
 use Rattle.wf_model.specs.DurableState.{definition_at}
-use Rattle.wf_paint.specs.Grid.{fits}
-use Rattle.wf_paint.specs.Limit.{most_pixels, tile_pixels}
+use Rattle.wf_geometry.specs.Grid.{fits}
+use Rattle.wf_geometry.specs.Limit.{most_pixels, tile_pixels}
 use Rattle.wf_paint.specs.Pixmap.{PixmapValue, IsPicture}
-use Rattle.wf_paint.specs.Tile.{tile_view}
-use Rattle.wf_paint.specs.View.{ViewValue}
-use Rattle.wf_paint.specs.declared.cell.GridCell.{GridCell}
+use Rattle.wf_geometry.specs.Tile.{tile_view}
+use Rattle.wf_geometry.specs.View.{ViewValue}
+use Rattle.wf_geometry.specs.declared.grid.GridCell.{GridCell}
 use Rattle.wf_picture.specs.Picture.{labelled, IsViewFor, LiesIn}
 use Rattle.wf_picture.specs.Request.{RequestValue}
 use Rattle.wf_picture.specs.Tiles.{ShareAView, SharedViewsHaveOnePicture}
-use Rattle.wf_picture.specs.declared.size.Size.{Size}
+use Rattle.wf_picture.specs.declared.request.Size.{Size}
 use Rattle.wf_wms.specs.Answer.{AnswerValue, picture_answer}
 use Rattle.wf_wms.specs.Plan.{IsAskedOf, IsPictureFor, wanted_in}
 use Rattle.wf_wms.specs.CachedPictures.{AllCached, CacheValue, GrowthKeepsAll, IsAfter, IsCacheAfter, IsCellOf, IsDrawn, IsCached, IsRequestOf, IsTaken, IsTileAt, IsTileOf, IsUnkept, IsUsed, background_of, cache_of, entry_of, others, risen, tile_size}
 use Rattle.wf_wms.specs.Requested.{Wanted, requested}
-use Rattle.wf_wms.specs.contracts.key.KeyPartialEq.TheImpl as keys
+use Rattle.wf_wms.specs.contracts.cache.KeyPartialEq.TheImpl as keys
 use Rattle.wf_wms.specs.declared.asked.QueriedPicture.{QueriedPicture}
 use Rattle.wf_wms.specs.declared.asked.Plan.{Plan}
 use Rattle.wf_wms.specs.declared.asked.Plan.TheVariants.{Ready, Picture}
-use Rattle.wf_wms.specs.declared.key.Key.{Key}
+use Rattle.wf_wms.specs.declared.cache.Key.{Key}
 
 -- ---- a history that grows
 

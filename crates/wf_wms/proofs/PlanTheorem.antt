@@ -15,8 +15,8 @@ use Rattle.wf_wms.specs.declared.asked.QueriedPicture.{QueriedPicture}
 use Rattle.wf_wms.specs.declared.asked.Plan.{Plan}
 use Rattle.wf_wms.specs.declared.asked.Plan.TheVariants.{Ready, Picture}
 use Rattle.wf_wms.specs.declared.exception.Exception.{Exception}
-use Rattle.wf_wms.specs.declared.operation.WmsOperation.{WmsOperation}
-use Rattle.wf_wms.specs.declared.operation.WmsOperation.TheVariants.{Map}
+use Rattle.wf_wms.specs.declared.checks.WmsOperation.{WmsOperation}
+use Rattle.wf_wms.specs.declared.checks.WmsOperation.TheVariants.{Map}
 use Rattle.wf_wms.proofs.HistoryTheorem.{map_there}
 use Rattle.wf_wms.proofs.ServiceTheorem.{map_drawn}
 

@@ -15,8 +15,8 @@ use Rattle.wf_wms.specs.UpdateSequence.{sequence_rule, comparison_of}
 use Rattle.wf_wms.specs.declared.exception.Exception.{Exception}
 use Rattle.wf_wms.specs.declared.exception.Exception.TheVariants as exception
 use Rattle.wf_wms.specs.declared.exception.Parameter.TheVariants as parameters
-use Rattle.wf_wms.specs.declared.operation.WmsOperation.{WmsOperation}
-use Rattle.wf_wms.specs.declared.operation.WmsOperation.TheVariants.{Capabilities, Map}
+use Rattle.wf_wms.specs.declared.checks.WmsOperation.{WmsOperation}
+use Rattle.wf_wms.specs.declared.checks.WmsOperation.TheVariants.{Capabilities, Map}
 use Rattle.wf_wms.specs.declared.comparison.Comparison.{Comparison}
 use Rattle.wf_wms.specs.declared.comparison.Comparison.TheVariants as comparison
 

@@ -11,8 +11,8 @@ use Rattle.wf_picture.specs.Request.{RequestValue}
 use Rattle.wf_wms.specs.MapRequest.{map_request, map_sequence, picture_in}
 use Rattle.wf_wms.specs.Query.{pairs_of, parameter}
 use Rattle.wf_wms.specs.declared.exception.Exception.{Exception}
-use Rattle.wf_wms.specs.declared.operation.WmsOperation.{WmsOperation}
-use Rattle.wf_wms.specs.declared.operation.WmsOperation.TheVariants.{Capabilities, Map}
+use Rattle.wf_wms.specs.declared.checks.WmsOperation.{WmsOperation}
+use Rattle.wf_wms.specs.declared.checks.WmsOperation.TheVariants.{Capabilities, Map}
 use Rattle.wf_wms.proofs.HistoryTheorem.{map_there}
 
 -- what a history gives for a sequence that it has

@@ -14,10 +14,10 @@ use Rattle.wf_wms.specs.declared.comparison.Comparison.TheVariants as comparison
 use Rattle.wf_wms.specs.declared.exception.Parameter.TheVariants.{Request, Service}
 use Rattle.wf_wms.specs.declared.exception.Exception.{Exception}
 use Rattle.wf_wms.specs.declared.exception.Exception.TheVariants as exception
-use Rattle.wf_wms.specs.declared.kind.Kind.{Kind}
-use Rattle.wf_wms.specs.declared.kind.Kind.TheVariants as kind
-use Rattle.wf_wms.specs.declared.operation.WmsOperation.{WmsOperation}
-use Rattle.wf_wms.specs.declared.operation.WmsOperation.TheVariants.{Capabilities, Map}
+use Rattle.wf_wms.specs.declared.answer.Kind.{Kind}
+use Rattle.wf_wms.specs.declared.answer.Kind.TheVariants as kind
+use Rattle.wf_wms.specs.declared.checks.WmsOperation.{WmsOperation}
+use Rattle.wf_wms.specs.declared.checks.WmsOperation.TheVariants.{Capabilities, Map}
 
 -- an answer: its kind, its media type and its bytes
 pub record AnswerValue : Type 0 where

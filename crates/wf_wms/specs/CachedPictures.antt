@@ -7,19 +7,19 @@ use Rattle.lru.specs.LruCache.{LruCache}
 use Rattle.wf_def.specs.Definition.{Definition}
 use Rattle.wf_def.specs.declared.color.Color.{Color}
 use Rattle.wf_learner.specs.History.{map_at}
-use Rattle.wf_paint.specs.Exact.{quotient}
-use Rattle.wf_paint.specs.Grid.{fits}
-use Rattle.wf_paint.specs.Limit.{most_pixels, shared_tiles, tile_pixels}
+use Rattle.wf_geometry.specs.Exact.{quotient}
+use Rattle.wf_geometry.specs.Grid.{fits}
+use Rattle.wf_geometry.specs.Limit.{most_pixels, shared_tiles, tile_pixels}
 use Rattle.wf_paint.specs.Pixmap.{PixmapValue, IsPicture}
-use Rattle.wf_paint.specs.Tile.{tile_view}
-use Rattle.wf_paint.specs.View.{ViewValue}
-use Rattle.wf_paint.specs.declared.cell.GridCell.{GridCell}
+use Rattle.wf_geometry.specs.Tile.{tile_view}
+use Rattle.wf_geometry.specs.View.{ViewValue}
+use Rattle.wf_geometry.specs.declared.grid.GridCell.{GridCell}
 use Rattle.wf_picture.specs.Picture.{labelled, IsImageOf, IsViewFor, LiesIn}
 use Rattle.wf_picture.specs.Request.{RequestValue}
-use Rattle.wf_picture.specs.declared.size.Size.{Size}
+use Rattle.wf_picture.specs.declared.request.Size.{Size}
 use Rattle.wf_wms.specs.MapRequest.{AreLayersOf}
 use Rattle.wf_wms.specs.Requested.{Wanted, requested}
-use Rattle.wf_wms.specs.declared.key.Key.{Key}
+use Rattle.wf_wms.specs.declared.cache.Key.{Key}
 
 -- the size of a tile
 abbrev pub tile_size : Size

@@ -5,7 +5,7 @@ use Rattle.wf_def.specs.Definition.{Definition, LayerDefinition}
 use Rattle.wf_def.specs.Extent.{ExtentValue}
 use Rattle.wf_def.specs.declared.choice.Projection.{Projection}
 use Rattle.wf_def.specs.declared.choice.Projection.TheVariants.{Epsg4326, Epsg3857}
-use Rattle.wf_paint.specs.Limit.{most_pixels}
+use Rattle.wf_geometry.specs.Limit.{most_pixels}
 use Rattle.wf_text.specs.NumberText.{number_text}
 use Rattle.wf_wms.specs.Limit.{most_entries}
 use Rattle.wf_wms.specs.Xml.{escape, line}

@@ -12,15 +12,15 @@ use Rattle.wf_def.specs.Definition.{Definition}
 use Rattle.wf_def.specs.Extent.{ExtentValue}
 use Rattle.wf_def.specs.Limits.{layer_names}
 use Rattle.wf_def.specs.Number.{number}
-use Rattle.wf_paint.specs.Limit.{least_cell, most_pixels}
+use Rattle.wf_geometry.specs.Limit.{least_cell, most_pixels}
 use Rattle.wf_picture.specs.Request.{RequestValue}
-use Rattle.wf_picture.specs.declared.size.Size.{Size}
+use Rattle.wf_picture.specs.declared.request.Size.{Size}
 use Rattle.wf_wms.specs.Background.{background_in}
 use Rattle.wf_text.specs.Number.{number_of_digits}
 use Rattle.wf_wms.specs.Limit.{most_entries}
 use Rattle.wf_wms.specs.Query.{parameter}
-use Rattle.wf_wms.specs.declared.axes.Axes.{Axes}
-use Rattle.wf_wms.specs.declared.axes.Axes.TheVariants.{EastFirst, NorthFirst}
+use Rattle.wf_wms.specs.declared.bounding_box.Axes.{Axes}
+use Rattle.wf_wms.specs.declared.bounding_box.Axes.TheVariants.{EastFirst, NorthFirst}
 use Rattle.wf_wms.specs.declared.exception.Exception.{Exception}
 use Rattle.wf_wms.specs.declared.exception.Exception.TheVariants as exception
 use Rattle.wf_wms.specs.declared.exception.Parameter.{Parameter}

@@ -11,8 +11,8 @@ use Rattle.wf_wms.specs.Query.{pairs_of, parameter}
 use Rattle.wf_wms.specs.declared.exception.Exception.{Exception}
 use Rattle.wf_wms.specs.declared.exception.Exception.TheVariants as exception
 use Rattle.wf_wms.specs.declared.exception.Parameter.TheVariants as parameters
-use Rattle.wf_wms.specs.declared.operation.WmsOperation.{WmsOperation}
-use Rattle.wf_wms.specs.declared.operation.WmsOperation.TheVariants.{Capabilities, Map}
+use Rattle.wf_wms.specs.declared.checks.WmsOperation.{WmsOperation}
+use Rattle.wf_wms.specs.declared.checks.WmsOperation.TheVariants.{Capabilities, Map}
 
 -- a check that passes, or its exception
 abbrev pub passed : Option Exception → Result ⊤ Exception

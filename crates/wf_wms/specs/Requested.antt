@@ -7,8 +7,8 @@ use Rattle.wf_wms.specs.Answer.{operation_of}
 use Rattle.wf_wms.specs.MapRequest.{map_sequence, picture_in}
 use Rattle.wf_wms.specs.Query.{pairs_of, parameter}
 use Rattle.wf_wms.specs.declared.exception.Exception.{Exception}
-use Rattle.wf_wms.specs.declared.operation.WmsOperation.{WmsOperation}
-use Rattle.wf_wms.specs.declared.operation.WmsOperation.TheVariants.{Capabilities, Map}
+use Rattle.wf_wms.specs.declared.checks.WmsOperation.{WmsOperation}
+use Rattle.wf_wms.specs.declared.checks.WmsOperation.TheVariants.{Capabilities, Map}
 
 -- a requested picture: the sequence of the map that it is of, and the request for it
 abbrev pub Wanted : Type 0

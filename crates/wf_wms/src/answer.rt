@@ -4,11 +4,21 @@ ghost use Rattle.wf_wms.specs.Answer.{rejection, metadata, picture_answer};
 
 use crate::capabilities::capabilities;
 use crate::exception::Exception;
-use crate::kind::Kind;
 use crate::report::report;
 use std::alloc::{AllocError, Global};
 use std::marker::Model;
 use wf_def::map::MapDef;
+
+/// The kind of an answer.
+#[derive(Clone, Copy, PartialEq, Eq)]
+pub enum Kind {
+    /// The service metadata.
+    Capabilities,
+    /// A picture of the map.
+    Map,
+    /// A service exception.
+    Exception(Exception),
+}
 
 /// The media type of both XML documents.
 const XML: &str = "text/xml";

@@ -4,12 +4,20 @@ ghost use Rattle.wf_def.specs.Number.{number};
 ghost use Rattle.wf_picture.specs.Request.{IsLargeEnough};
 ghost use Rattle.wf_wms.specs.MapRequest.{box_along, box_in, box_of, coordinate_of, four_of, is_side, large_enough};
 
-use crate::axes::Axes;
 use crate::entries::four_entries;
 use crate::exception::{Exception, Parameter};
 use wf_def::extent::Extent;
 use wf_def::micro::Micro;
-use wf_paint::limits::LEAST_CELL;
+use wf_geometry::LEAST_CELL;
+
+/// The order of a coordinate reference system's axes (OGC 06-042, 6.7.2 and annex B).
+#[derive(Clone, Copy)]
+pub(crate) enum Axes {
+    /// The first axis goes to the east, the second to the north.
+    EastFirst,
+    /// The first axis goes to the north, the second to the east.
+    NorthFirst,
+}
 
 /// The box that BBOX gives along these axes, in the axis order of the map's EXTENT.
 pub(crate) fn bounding_box(axes: Axes, value: Option<&str>) -> Result<Extent, Exception>

@@ -2,26 +2,44 @@
 ghost use Rattle.std.specs.Prelude.{◌≡◌, ◌≤◌, ◌<◌, ◌-◌, ◌∷◌, [], List, None, pos, take, true, false, IfNone, IfOk, IfSome, IsSome, OnErr, OnOk, OnSome};
 ghost use Rattle.lru.specs.LruCache.{lru_cache};
 ghost use Rattle.wf_def.specs.Definition.{Definition};
-ghost use Rattle.wf_paint.specs.Exact.{quotient};
-ghost use Rattle.wf_paint.specs.Limit.{shared_tiles};
+ghost use Rattle.wf_geometry.specs.Exact.{quotient};
+ghost use Rattle.wf_geometry.specs.Limit.{shared_tiles};
 ghost use Rattle.wf_wms.specs.CachedPictures.{most_cached, background_of, cache_of, entry_of, risen, AllCached, IsCellOf, IsCached, IsTaken, IsTileAt, IsTileOf, IsUsed};
 
 use crate::asked::QueriedPicture;
-use crate::key::Key;
 use crate::maps::MapSource;
 use lru::LruCache;
 use std::alloc::{AllocError, Global};
 use std::marker::Model;
 use std::num::NonZeroUsize;
 use wf_def::color::Color;
+use wf_geometry::{GridCell, SHARED_TILES, TILE_PIXELS, View};
 use wf_learner::History;
-use wf_paint::cell::GridCell;
-use wf_paint::limits::{SHARED_TILES, TILE_PIXELS};
-use wf_paint::pixmap::Pixmap;
-use wf_paint::view::View;
+use wf_paint::Pixmap;
 use wf_picture::picture::{cut, labelled};
-use wf_picture::size::Size;
+use wf_picture::request::Size;
 use wf_picture::theorem::tiles_are_crops_of_one_picture;
+
+/// The key of a picture that sixteen tiles are cut out of: its map, layers and background, and its position in the grid.
+#[derive(Drop, PartialEq, Eq, Hash)]
+pub struct Key {
+    /// The update sequence of the map.
+    pub(crate) sequence: u16,
+    /// The layers as requested, by their indices in the map, the lowest in the picture first.
+    pub(crate) layers: Vec<usize>,
+    /// The red of the background.
+    pub(crate) red: u8,
+    /// The green of the background.
+    pub(crate) green: u8,
+    /// The blue of the background.
+    pub(crate) blue: u8,
+    /// The level of the grid.
+    pub(crate) level: u32,
+    /// The index of its four columns at the level, counted from the grid's first.
+    pub(crate) column: i64,
+    /// The index of its four rows at the level, counted from the grid's first.
+    pub(crate) row: i64,
+}
 
 /// The size of a tile.
 const TILE: Size = Size {
@@ -114,12 +132,12 @@ impl Cache {
                 self.touch(&key);
                 Ok(file)
             }
-            None => self.drawn(alloc, history, key, view),
+            None => self.draw_kept(alloc, history, key, view),
         }
     }
 
     /// The file of a tile whose picture isn't kept: it is drawn, and kept unless an allocation fails.
-    fn drawn(
+    fn draw_kept(
         &mut self,
         alloc: Global,
         history: &History,
@@ -237,7 +255,7 @@ impl Key {
 }
 
 /// The index of the group of cells that share a view, on one axis, from that of one of its cells.
-#[tactic(auto, unfolding(wf_paint::specs::Exact::quotient))]
+#[tactic(auto, unfolding(wf_geometry::specs::Exact::quotient))]
 fn group_of(k: i64) -> i64
     ensures { result ≡ quotient k (pos shared_tiles) }
 {

@@ -11,7 +11,7 @@ use wf_def::layer::Layer;
 use wf_def::map::MapDef;
 use wf_def::micro::Micro;
 use wf_def::text::Text;
-use wf_paint::limits::MOST_PIXELS;
+use wf_geometry::MOST_PIXELS;
 use wf_text::number_text::write_number;
 
 #[tactic(auto, unfolding(crate::specs::Capabilities::start_tag))]

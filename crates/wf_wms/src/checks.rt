@@ -6,7 +6,7 @@ ghost use Rattle.wf_wms.specs.Answer.{IsAnswerOf, IsAnswerOn, IsMapAnswer};
 ghost use Rattle.wf_wms.specs.Plan.{IsPlanned, wanted_in};
 ghost use Rattle.wf_wms.specs.MapRequest.{map_sequence, picture_in};
 ghost use Rattle.wf_wms.specs.Requested.{requested, wanted_at, wanted_of};
-ghost use Rattle.wf_wms.specs.declared.operation.WmsOperation.TheVariants.{Map};
+ghost use Rattle.wf_wms.specs.declared.checks.WmsOperation.TheVariants.{Map};
 
 use crate::answer::Answer;
 use crate::asked::{Plan, QueriedPicture};
@@ -14,9 +14,17 @@ use crate::description::{metadata_answer, operation};
 use crate::map_request::map_request;
 use crate::map_sequence::map_sequence;
 use crate::maps::MapSource;
-use crate::operation::WmsOperation;
 use crate::query::Query;
 use std::alloc::{AllocError, Global};
+
+/// The operations of this server (OGC 06-042, 7.1).
+#[derive(Clone, Copy)]
+pub(crate) enum WmsOperation {
+    /// GetCapabilities: the service metadata.
+    Capabilities,
+    /// GetMap: a picture of the map.
+    Map,
+}
 
 /// Checks a query at an update sequence that the maps have: its answer, or the picture that it requests. Returns Ok unless
 /// allocation fails.

@@ -2,7 +2,7 @@
 ghost use Rattle.std.specs.Prelude.{◌≡◌, option_map};
 ghost use Rattle.wf_wms.specs.MapRequest.{axes_in};
 
-use crate::axes::Axes;
+use crate::bounding_box::Axes;
 use crate::exception::{Exception, Parameter};
 use wf_def::choice::Projection;
 

@@ -4,9 +4,9 @@ ghost use Rattle.wf_ballot.specs.Sequence.{last_sequence};
 ghost use Rattle.wf_wms.specs.Answer.{check_service, check_sequence, description, metadata_answer, metadata_fault, operation_of};
 
 use crate::answer::Answer;
+use crate::checks::WmsOperation;
 use crate::comparison::Comparison;
 use crate::exception::{Exception, Parameter};
-use crate::operation::WmsOperation;
 use crate::query::Query;
 use crate::update_sequence::comparison;
 use std::alloc::{AllocError, Global};

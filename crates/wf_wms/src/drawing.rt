@@ -5,16 +5,15 @@ ghost use Rattle.wf_wms.specs.CachedPictures.{AllCached, IsAfter};
 
 use crate::answer::Answer;
 use crate::asked::QueriedPicture;
-use crate::cache::Cache;
-use crate::key::Key;
+use crate::cache::{Cache, Key};
 use crate::maps::MapSource;
 use std::alloc::{AllocError, Global};
+use wf_geometry::GridCell;
 use wf_learner::History;
-use wf_paint::cell::GridCell;
 use wf_picture::picture::{draw, view_of};
 
 /// The answer with the picture, drawn without a cache.
-pub(crate) fn drawn<M: MapSource>(
+pub(crate) fn draw_uncached<M: MapSource>(
     alloc: Global,
     maps: &M,
     asked: QueriedPicture,
@@ -26,8 +25,8 @@ pub(crate) fn drawn<M: MapSource>(
     Ok(Answer::picture(draw(alloc, map, &asked.request)?))
 }
 
-/// The same answer. A tile of the map's grid is cut out of the cache's picture, which is drawn if it isn't kept yet; another picture is
-/// drawn beside the cache. An error leaves the cache unchanged.
+/// Draws with a cache. A tile of the map's grid is cut out of the cache's picture, which is drawn if it isn't kept yet; another
+/// picture is drawn beside the cache. An error leaves the cache unchanged.
 pub(crate) fn draw_by(
     alloc: Global,
     cache: &mut Cache,
@@ -52,6 +51,6 @@ pub(crate) fn draw_by(
             let key = Key::of(asked, cell);
             Ok(Answer::picture(cache.tile(alloc, history, key, &view)?))
         }
-        None => drawn(alloc, history, asked),
+        None => draw_uncached(alloc, history, asked),
     }
 }

@@ -28,7 +28,6 @@
 
 mod answer;
 mod asked;
-mod axes;
 mod background;
 mod bounding_box;
 pub mod cache;
@@ -42,15 +41,12 @@ mod entries;
 mod exception;
 mod format;
 mod history;
-mod key;
-mod kind;
 mod layers;
 pub mod limits;
 mod map_request;
 mod map_sequence;
 mod maps;
 mod only_map;
-mod operation;
 mod query;
 pub mod report;
 pub mod service;
@@ -60,7 +56,6 @@ pub mod theorem;
 mod update_sequence;
 mod xml;
 
-pub use answer::Answer;
+pub use answer::{Answer, Kind};
 pub use description::describe;
 pub use exception::{Exception, Parameter};
-pub use kind::Kind;

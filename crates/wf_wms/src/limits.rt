@@ -1,4 +1,4 @@
-//! The limits of requests. Those of pictures and boxes are `wf_paint`'s.
+//! The limits of requests. Those of pictures and boxes are `wf_geometry`'s.
 ghost use Rattle.std.specs.Prelude.{◌≡◌};
 ghost use Rattle.wf_wms.specs.Limit.{most_entries};
 

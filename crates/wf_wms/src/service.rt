@@ -7,7 +7,7 @@ use crate::answer::Answer;
 use crate::asked::Plan;
 use crate::cache::Cache;
 use crate::checks::plan;
-use crate::drawing::{draw_by, drawn};
+use crate::drawing::{draw_by, draw_uncached};
 use crate::maps::MapSource;
 use crate::only_map::OnlyMap;
 use std::alloc::{AllocError, Global};
@@ -28,7 +28,7 @@ pub fn answer(
     answer_from(alloc, seq, history, query)
 }
 
-/// The same answer, by a cache of pictures of the history's maps. A tile is cut out of its kept picture, which is the most recently
+/// Answers with a cache of pictures of the history's maps, as without it. A tile is cut out of its kept picture, which is the most recently
 /// used then; one that isn't kept is drawn and kept, in place of the least recently used if the cache is full. If an allocation to
 /// keep it fails, the answer is the same. What is no tile leaves the cache as it was. Returns Ok unless allocation fails; an error
 /// leaves the cache unchanged.
@@ -78,6 +78,6 @@ fn answer_from<M: MapSource>(
 {
     match plan(alloc, seq, maps, query)? {
         Plan::Ready(answer) => Ok(answer),
-        Plan::Picture(asked) => drawn(alloc, maps, asked),
+        Plan::Picture(asked) => draw_uncached(alloc, maps, asked),
     }
 }

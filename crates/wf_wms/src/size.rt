@@ -1,13 +1,13 @@
 //! The parameters WIDTH and HEIGHT (OGC 06-042, 7.3.3.8).
 ghost use Rattle.std.specs.Prelude.{◌≡◌, ◌≤◌, IfOk, option_map};
-ghost use Rattle.wf_paint.specs.Limit.{most_pixels};
+ghost use Rattle.wf_geometry.specs.Limit.{most_pixels};
 ghost use Rattle.wf_picture.specs.Request.{IsSize};
 ghost use Rattle.wf_wms.specs.MapRequest.{picture_size, size_in};
 
 use crate::exception::{Exception, Parameter};
 use crate::query::Query;
-use wf_paint::limits::MOST_PIXELS;
-use wf_picture::size::Size;
+use wf_geometry::MOST_PIXELS;
+use wf_picture::request::Size;
 use wf_text::digits::{are_digits, number_of_digits};
 
 /// The size that WIDTH and HEIGHT give.

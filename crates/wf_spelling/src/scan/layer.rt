@@ -6,8 +6,7 @@ ghost use Rattle.wf_def.specs.Limits.{points_of_feature};
 ghost use Rattle.wf_def.specs.Limit.{most_points};
 ghost use Rattle.wf_token.specs.Spelling.{quoted, line, text_of};
 ghost use Rattle.wf_spelling.specs.Canon.{kind_word, with_text, metadata_lines, feature_lines, class_lines, layer_lines};
-ghost use Rattle.wf_spelling.specs.Scan.{Scans};
-ghost use Rattle.wf_spelling.specs.ScanLayer.{IsWhole, layer_heading_lines};
+ghost use Rattle.wf_spelling.specs.Scan.{Scans, IsWhole, layer_heading_lines};
 
 use crate::layer::kind_word;
 use crate::scan::class::scan_class;

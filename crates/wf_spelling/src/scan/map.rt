@@ -6,8 +6,7 @@ ghost use Rattle.wf_def.specs.Limits.{IsWithinLimits, points_of_feature};
 ghost use Rattle.wf_def.specs.Limit.{most_layers};
 ghost use Rattle.wf_token.specs.Spelling.{text_of};
 ghost use Rattle.wf_spelling.specs.Canon.{heading_lines, projection_lines, web_lines, layer_lines, canon};
-ghost use Rattle.wf_spelling.specs.Scan.{Scans};
-ghost use Rattle.wf_spelling.specs.ScanMap.{web_lines_of};
+ghost use Rattle.wf_spelling.specs.Scan.{Scans, web_lines_of};
 
 use crate::scan::cursor::Cursor;
 use crate::scan::layer::scan_layer;

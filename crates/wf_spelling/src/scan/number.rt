@@ -59,14 +59,14 @@ fn scan_fraction_digits(cursor: &mut Cursor<'_>) -> Option<u32>
                 parts += u32::from(digit) * unit;
                 last = digit;
             }
-            None => return ended(parts, last),
+            None => return end_fraction(parts, last),
         }
     }
-    ended(parts, last)
+    end_fraction(parts, last)
 }
 
 /// The millionths of digits of which this is the last, unless it is zero.
-fn ended(parts: u32, last: u8) -> Option<u32>
+fn end_fraction(parts: u32, last: u8) -> Option<u32>
     ensures { IfSome result (λ whole. (whole ≡ parts) × (last ≢ 0)) }
 {
     if last == 0 {

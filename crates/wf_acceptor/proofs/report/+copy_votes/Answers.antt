@@ -1,7 +1,6 @@
 -- The slot's vote is appended, and then those from the next slot on, if there is one.
 use Rattle.std.proofs.Common.{◌≡◌, ℕ, suc, ◌+◌, ◌≤◌, subst, sym, arith}
-use Rattle.wf_ballot.specs.Sequence.{last_sequence}
-use Rattle.wf_ballot.specs.Slot.{IsSlot}
+use Rattle.wf_ballot.specs.Sequence.{last_sequence, IsSlot}
 use Rattle.wf_acceptor.specs.Slots.{by_slot}
 use Rattle.wf_acceptor.proofs.Reported.{nothing_more, one_more, last_more}
 use Rattle.wf_acceptor.proofs.report.+copy_votes.Goals as goal

@@ -1,5 +1,5 @@
 use Rattle.wf_address.specs.Address.{texts}
-use Rattle.wf_address.proofs.Listing.{bad_if_none, text_at}
+use Rattle.wf_address.proofs.AddressList.{bad_if_none, text_at}
 use Rattle.wf_address.proofs.list.address_at.Goals as goal
 
 pub returns-clause-none : goal.returns-clause-none

@@ -5,4 +5,4 @@ pub returns-clause-proposal_state : goal.returns-clause-proposal_state
 returns-clause-proposal_state g c = λ reached. alike_answers c.each_query_has_one_answer.ensures c.args.nodes.now (c.reachable_nodes_agree.ensures reached)
 
 pub returns-clause-map : goal.returns-clause-map
-returns-clause-map g c = λ reached. alike_map_answers c.each_query_has_one_answer.ensures c.args.nodes.now (c.reachable_nodes_agree.ensures reached) c.asked_maps_are_answered_alike.ensures
+returns-clause-map g c = λ reached. alike_map_answers c.each_query_has_one_answer.ensures c.args.nodes.now (c.reachable_nodes_agree.ensures reached)

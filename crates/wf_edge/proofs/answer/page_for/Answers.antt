@@ -1,7 +1,7 @@
 -- What the answer did to the pictures.
 use Rattle.std.proofs.Common.{◌∙◌, refl, sym, subst, ℕ, List}
 use Rattle.std.specs.Prelude.{Ok, Err}
-use Rattle.wf_edge.specs.Caching.{Changes}
+use Rattle.wf_edge.specs.PictureCache.{Changes}
 use Rattle.wf_edge.specs.declared.error_response.ErrorResponse.TheVariants.{Unavailable}
 use Rattle.wf_edge.specs.declared.resource.RequestedResource.{RequestedResource}
 use Rattle.wf_http.specs.Target.{query_of}

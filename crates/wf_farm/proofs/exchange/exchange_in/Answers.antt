@@ -1,5 +1,6 @@
 -- The node is asked, and then its messages are delivered.
 use Rattle.std.proofs.Common.{arith}
+use Rattle.wf_delivery.proofs.OneRun.{deliveries_are_reachable}
 use Rattle.wf_farm.proofs.Common.{nodes_of}
 use Rattle.wf_farm.proofs.Nodes.{changed_entries, entries_twice, in_turn_of}
 use Rattle.wf_farm.proofs.exchange.exchange_in.Goals as goal
@@ -21,7 +22,7 @@ returns-clause-exchange g c = record {
 
 pub returns-clause-reachable : goal.returns-clause-reachable
 returns-clause-reachable g c =
-    c.deliveries_are_reachable.ensures (nodes_of c.args.hosts.now) (nodes_of c.asked-messages.new.hosts) (nodes_of c.deliver_each.new.entries) c.asked-messages.result.items c.deliver_each.result.deliveries
+    deliveries_are_reachable g.T.Tape (nodes_of c.args.hosts.now) (nodes_of c.asked-messages.new.hosts) (nodes_of c.deliver_each.new.entries) c.asked-messages.result.items c.deliver_each.result.deliveries
     c.asked-messages.ensures.only_sends c.deliver_each.ensures.delivered
 
 pub returns-clause-entries : goal.returns-clause-entries

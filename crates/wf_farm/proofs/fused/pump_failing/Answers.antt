@@ -31,7 +31,7 @@ long g c = c.disarm.ensures.members.as_many ∙ c.pump-torn.ensures.members.as_m
 
 pub invariant_of-farm : goal.invariant_of-farm
 invariant_of-farm g c =
-    farm_run c.theorems.ensures.in_turn c.theorems.ensures.shifts c.farm.inside.cluster.hosts.items c.disarm.new.self.hosts.items c.farm.inside.cluster.sent.items c.disarm.new.self.sent.items c.farm.inside.pumped c.pumped.result c.farm.inside.complete (with_torn (deliveries c.deref.result.now c.farm.inside.pumped c.pump-torn.result.progress.whole c.pump-torn.result.progress.some) c.pump-torn.result.torn)
+    farm_run c.farm.inside.cluster.hosts.items c.disarm.new.self.hosts.items c.farm.inside.cluster.sent.items c.disarm.new.self.sent.items c.farm.inside.pumped c.pumped.result c.farm.inside.complete (with_torn (deliveries c.deref.result.now c.farm.inside.pumped c.pump-torn.result.progress.whole c.pump-torn.result.progress.some) c.pump-torn.result.torn)
     c.farm.invariant (long g c) (c.disarm.ensures.members.members (c.pump-torn.ensures.members.members c.arm.ensures.members)) (sturdy g c) (moves g c) (subst (λ k. k ≤ length c.disarm.new.self.sent.items) (sym c.pumped.ensures) (within g c))
 
 pub returns-in-Ok-ended-clause-done : goal.returns-in-Ok-ended-clause-done
@@ -44,7 +44,7 @@ returns-in-Ok-ended-clause-done g c =
 pub returns-in-Ok-ended-clause-grows : goal.returns-in-Ok-ended-clause-grows
 returns-in-Ok-ended-clause-grows g c =
     subst (λ (farm : MemoryFarm). HistoriesGrow farm (record { hosts = c.disarm.new.self.hosts.items; sent = c.disarm.new.self.sent.items; pumped = c.pumped.result; refused = c.farm.inside.refused; complete = c.farm.inside.complete })) c.farm.view_is
-    (farm_grown c.theorems.ensures.agreement c.theorems.ensures.one c.theorems.ensures.in_turn c.theorems.ensures.shifts (record { hosts = c.farm.inside.cluster.hosts.items; sent = c.farm.inside.cluster.sent.items; pumped = c.farm.inside.pumped; refused = c.farm.inside.refused; complete = c.farm.inside.complete }) (record { hosts = c.disarm.new.self.hosts.items; sent = c.disarm.new.self.sent.items; pumped = c.pumped.result; refused = c.farm.inside.refused; complete = c.farm.inside.complete }) (with_torn (deliveries c.deref.result.now c.farm.inside.pumped c.pump-torn.result.progress.whole c.pump-torn.result.progress.some) c.pump-torn.result.torn)
+    (farm_grown (record { hosts = c.farm.inside.cluster.hosts.items; sent = c.farm.inside.cluster.sent.items; pumped = c.farm.inside.pumped; refused = c.farm.inside.refused; complete = c.farm.inside.complete }) (record { hosts = c.disarm.new.self.hosts.items; sent = c.disarm.new.self.sent.items; pumped = c.pumped.result; refused = c.farm.inside.refused; complete = c.farm.inside.complete }) (with_torn (deliveries c.deref.result.now c.farm.inside.pumped c.pump-torn.result.progress.whole c.pump-torn.result.progress.some) c.pump-torn.result.torn)
     (long g c) c.farm.invariant.reached (moves g c))
 
 pub returns-in-Ok-ended-clause-fuse : goal.returns-in-Ok-ended-clause-fuse

@@ -21,7 +21,7 @@ long g c = c.disarm.ensures.members.as_many ∙ c.run.ensures.members.as_many �
 
 pub invariant_of-farm : goal.invariant_of-farm
 invariant_of-farm g c =
-    farm_run c.theorems.ensures.in_turn c.theorems.ensures.shifts c.farm.inside.cluster.hosts.items c.disarm.new.self.hosts.items c.farm.inside.cluster.sent.items c.disarm.new.self.sent.items c.farm.inside.pumped c.farm.inside.pumped c.farm.inside.complete (with_torn (map view c.args.events.now) c.in-Ok.field-0.torn)
+    farm_run c.farm.inside.cluster.hosts.items c.disarm.new.self.hosts.items c.farm.inside.cluster.sent.items c.disarm.new.self.sent.items c.farm.inside.pumped c.farm.inside.pumped c.farm.inside.complete (with_torn (map view c.args.events.now) c.in-Ok.field-0.torn)
     c.farm.invariant (long g c) (c.disarm.ensures.members.members (c.run.ensures.members.members c.arm.ensures.members)) (sturdy g c) (moves g c) (omega (arith, c.farm.invariant.pumped_within, ap (λ (v : Vec Message Global). length v.items) c.arm.ensures.sent, ap (λ (v : Vec Message Global). length v.items) c.disarm.ensures.sent, c.run.ensures.grows))
 
 -- the farm before, and afterwards
@@ -44,7 +44,7 @@ returns-in-Ok-clause-refused g c =
 pub returns-in-Ok-clause-grows : goal.returns-in-Ok-clause-grows
 returns-in-Ok-clause-grows g c =
     subst (λ (farm : MemoryFarm). HistoriesGrow farm (after g c)) c.farm.view_is
-    (farm_grown c.theorems.ensures.agreement c.theorems.ensures.one c.theorems.ensures.in_turn c.theorems.ensures.shifts (before g c) (after g c) (with_torn (map view c.args.events.now) c.in-Ok.field-0.torn) (long g c) c.farm.invariant.reached (moves g c))
+    (farm_grown (before g c) (after g c) (with_torn (map view c.args.events.now) c.in-Ok.field-0.torn) (long g c) c.farm.invariant.reached (moves g c))
 
 pub returns-in-Ok-clause-fuse : goal.returns-in-Ok-clause-fuse
 returns-in-Ok-clause-fuse g c = none_fails c.disarm.new.self.hosts.items (sturdy g c)

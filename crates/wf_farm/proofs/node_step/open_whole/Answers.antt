@@ -3,7 +3,7 @@ use Rattle.wf_farm.proofs.Tried.{no_fuse, not_opened_laid, opened_laid}
 use Rattle.wf_farm.proofs.node_step.open_whole.Goals as goal
 
 pub returns-in-Ok-clause-restarted : goal.returns-in-Ok-clause-restarted
-returns-in-Ok-clause-restarted c = opened_laid c.records_are_read_one_way.ensures.one c.args.tape c.set_fuse.new.self c.in-Ok.node c.set_fuse.ensures (c.in-Ok.ensures.stored tt) c.in-Ok.ensures.volatile
+returns-in-Ok-clause-restarted c = opened_laid c.args.tape c.set_fuse.new.self c.in-Ok.node c.set_fuse.ensures (c.in-Ok.ensures.stored tt) c.in-Ok.ensures.volatile
 
 pub returns-in-Err-clause-err : goal.returns-in-Err-clause-err
 returns-in-Err-clause-err c = not_opened_laid c.args.tape c.set_fuse.new.self c.in-Err.tape c.set_fuse.ensures (c.in-Err.ensures.images_err tt)

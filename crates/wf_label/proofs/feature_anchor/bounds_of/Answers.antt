@@ -1,6 +1,6 @@
 use Rattle.std.proofs.Common.{ap, ◌∙◌, arith}
 use Rattle.std.specs.Int.{int_min, int_max}
-use Rattle.wf_paint.specs.Position.{PositionValue}
+use Rattle.wf_geometry.specs.Position.{PositionValue}
 use Rattle.wf_label.proofs.AnchorLemmas.{bounds_more}
 use Rattle.wf_label.proofs.feature_anchor.bounds_of.Goals as goal
 

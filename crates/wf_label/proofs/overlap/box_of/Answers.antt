@@ -1,6 +1,6 @@
 use Rattle.std.proofs.Common.{◌≡◌, ◌<◌, pos, to_z, of_z, rules}
 use Rattle.std.specs.Int.{w128}
-use Rattle.wf_paint.specs.Exact.{plus}
+use Rattle.wf_geometry.specs.Exact.{plus}
 use Rattle.wf_label.proofs.BitLemmas.{some_scale}
 use Rattle.wf_label.proofs.MeaningLemmas.{chars_some, further, height_some, width_some}
 use Rattle.wf_label.proofs.overlap.box_of.Goals as goal

@@ -22,7 +22,7 @@ pub returns-in-Ok-passed-clause-same : goal.returns-in-Ok-passed-clause-same
 returns-in-Ok-passed-clause-same g c =
     IfOk-weaker c.only_message.result (λ m. ComesOut (view c.args.message.now) (g.S.Source.left c.args.source.now) (g.S.Source.left c.pass_all-passed.new.source) (view m))
     (λ m. IsSentIfLooped (view c.args.message.now) (g.S.Source.left c.args.source.now) (view m))
-    (λ m out. sent_if_looped c.no_spelling_is_empty.ensures c.streams_split_one_way.ensures.one (view c.args.message.now) (view m) (g.S.Source.left c.args.source.now) (g.S.Source.left c.pass_all-passed.new.source)
+    (λ m out. sent_if_looped (view c.args.message.now) (view m) (g.S.Source.left c.args.source.now) (g.S.Source.left c.pass_all-passed.new.source)
     c.in-Ok.ensures.is_message out)
     (returns-in-Ok-passed-clause-arrived g c)
 

@@ -6,9 +6,9 @@ use Rattle.wf_link.proofs.receiver.only_message.Goals as goal
 
 pub returns-then-rest-ne0-clause-other : goal.returns-then-rest-ne0-clause-other
 returns-then-rest-ne0-clause-other c = λ bytes had one.
-    let all = one_received c.streams_split_one_way.ensures.one bytes c.args.arrival had one in
+    let all = one_received bytes c.args.arrival had one in
     grind (arith, all.1, c.pending-rest.ensures.value, c.if-rest-ne0.true)
 
 pub returns-clause-other : goal.returns-clause-other
 returns-clause-other c = λ bytes had.
-    on_err_weaker c.only.result (λ other one. other (one_received c.streams_split_one_way.ensures.one bytes c.args.arrival had one).0) c.only.ensures.other
+    on_err_weaker c.only.result (λ other one. other (one_received bytes c.args.arrival had one).0) c.only.ensures.other

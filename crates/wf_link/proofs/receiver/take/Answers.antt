@@ -10,7 +10,7 @@ use Rattle.wf_link.proofs.receiver.take.Goals as goal
 pub returns-in-Ok-clause-taken : goal.returns-in-Ok-clause-taken
 returns-in-Ok-clause-taken c =
     on_ok_weaker c.keep.result
-    (λ kept. piece_taken c.cuts_do_not_matter.ensures.reads c.args.piece.now c.args.arrival.now (record { inbox = c.feed.new.self; messages = c.keep.new.messages }) (map view c.in-Ok.messages.items) c.in-Ok.ensures.ok kept)
+    (λ kept. piece_taken c.args.piece.now c.args.arrival.now (record { inbox = c.feed.new.self; messages = c.keep.new.messages }) (map view c.in-Ok.messages.items) c.in-Ok.ensures.ok kept)
     c.keep.ensures.kept
 
 pub returns-in-Ok-clause-broken : goal.returns-in-Ok-clause-broken
@@ -19,4 +19,4 @@ returns-in-Ok-clause-broken c = never_lost c.keep.result c.keep.ensures.memory
 pub returns-in-Err-clause-broken : goal.returns-in-Err-clause-broken
 returns-in-Err-clause-broken c = λ lost.
     let same : c.why_unfed.result ≡ faults.Lost = cc in
-    broken_piece c.cuts_do_not_matter.ensures.breaks c.args.piece.now c.args.arrival.now c.in-Err.fault c.feed.new.self (c.in-Err.ensures.broken (c.why_unfed.ensures same))
+    broken_piece c.args.piece.now c.args.arrival.now c.in-Err.fault c.feed.new.self (c.in-Err.ensures.broken (c.why_unfed.ensures same))

@@ -2,4 +2,4 @@ use Rattle.wf_loop.proofs.Continuation.{relinked}
 use Rattle.wf_loop.proofs.acts.close_outbox.Goals as goal
 
 pub returns : goal.returns
-returns g c = relinked g.T.Tape _ _ _ _ c.close_outbox.ensures.linked c.close_outbox.ensures.unlinked
+returns g c = relinked g.T.Tape _ _ _ _ c.close_outbox.ensures.linked c.close_outbox.ensures.no_links

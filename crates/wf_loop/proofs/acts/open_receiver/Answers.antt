@@ -2,4 +2,4 @@ use Rattle.wf_loop.proofs.Continuation.{relinked}
 use Rattle.wf_loop.proofs.acts.open_receiver.Goals as goal
 
 pub returns : goal.returns
-returns g c = relinked g.T.Tape _ _ _ _ c.open_receiver.ensures.linked c.open_receiver.ensures.unlinked
+returns g c = relinked g.T.Tape _ _ _ _ c.open_receiver.ensures.linked c.open_receiver.ensures.no_links

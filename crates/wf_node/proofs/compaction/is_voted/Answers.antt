@@ -15,12 +15,12 @@ pub loop-number-preserved : goal.loop-number-preserved
 loop-number-preserved c = (
   omega arith,
   λ n next. not_voted_next (stored_of c.args.persistent.now).votes c.args.ballot c.loop-number.number c.slot_of.result n c.loop-number.invariant.0 c.loop-number.invariant.1
-      c.slot_of.ensures (sym c.voted_at.ensures ∙ c.if-voted_at.false) next,
+      c.slot_of.ensures (sym c.is_voted_at.ensures ∙ c.if-is_voted_at.false) next,
 )
 
-pub returns-then-voted_at : goal.returns-then-voted_at
-returns-then-voted_at c =
-    sym (voted_within (stored_of c.args.persistent.now).votes c.args.ballot c.slot_of.result last_sequence (sym c.voted_at.ensures ∙ c.if-voted_at.true)
+pub returns-then-is_voted_at : goal.returns-then-is_voted_at
+returns-then-is_voted_at c =
+    sym (voted_within (stored_of c.args.persistent.now).votes c.args.ballot c.slot_of.result last_sequence (sym c.is_voted_at.ensures ∙ c.if-is_voted_at.true)
     (omega (arith, c.slot_of.ensures, c.loop-number.invariant.0)) (omega (arith, c.slot_of.ensures)))
 
 pub returns : goal.returns

@@ -1,10 +1,11 @@
 use Rattle.std.proofs.Common.{pos, FitsSigned, w64, to_z-of_z, rules, arith}
-use Rattle.wf_paint.specs.Operation.{SquareOf}
-use Rattle.wf_paint.specs.Span.{IsSpanOf}
-use Rattle.wf_paint.specs.Square.{is_in_span, is_in_square}
+use Rattle.wf_geometry.specs.Operation.{SquareOf}
+use Rattle.wf_geometry.specs.Span.{IsSpanOf}
+use Rattle.wf_geometry.specs.Square.{is_in_span, is_in_square}
 use Rattle.wf_paint.proofs.ColoredLemmas.{IsShown-from_colored}
 use Rattle.wf_paint.proofs.ShownLemmas.{IsShown-none}
-use Rattle.wf_paint.proofs.SpanLemmas.{rows_start, rows_end, rows_more, square_before, square_after, square_row}
+use Rattle.wf_paint.proofs.RowsLemmas.{rows_start, rows_end, rows_more}
+use Rattle.wf_geometry.proofs.SpanLemmas.{square_before, square_after, square_row}
 use Rattle.wf_paint.proofs.about.draw_about.Goals as goal
 
 pub returns-in_default : goal.returns-in_default

@@ -1,11 +1,11 @@
 use Rattle.std.proofs.Common.{◌≡◌, ◌+◌, List, pos, subst, sym, take, arith}
 use Rattle.std.proofs.lemmas.List.{take_all}
-use Rattle.wf_paint.specs.Coverage.{is_on}
-use Rattle.wf_paint.specs.Operation.{LineOf}
-use Rattle.wf_paint.specs.Position.{centre}
+use Rattle.wf_geometry.specs.Coverage.{is_on}
+use Rattle.wf_geometry.specs.Operation.{LineOf}
+use Rattle.wf_geometry.specs.Position.{centre}
 use Rattle.wf_paint.specs.Shown.{IsColored}
-use Rattle.wf_paint.specs.Strip.{is_in_strip}
-use Rattle.wf_paint.specs.declared.segment.Segment.{Segment}
+use Rattle.wf_geometry.specs.Strip.{is_in_strip}
+use Rattle.wf_geometry.specs.declared.operation.Segment.{Segment}
 use Rattle.wf_paint.proofs.AlongLemmas.{on_any, segments_none, segments_more}
 use Rattle.wf_paint.proofs.ColoredLemmas.{IsColored-after, IsColored-alike, IsShown-from_colored}
 use Rattle.wf_paint.proofs.EdgesLemmas.{line_along_some}

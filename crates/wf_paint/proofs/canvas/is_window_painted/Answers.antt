@@ -7,5 +7,5 @@ returns c = λ is.
     let free = c.args.free.now.items in
     let first : c.word_at-first.result ≡ slice_index free (c.args.start / 64) = c.word_at-first.ensures.value in
     let last : c.word_at-last.result ≡ slice_index free ((c.args.end - 1) / 64) = c.word_at-last.ensures.value in
-    window_painted free c.args.start c.args.end c.joined.result c.requires.order (omega arith)
-    (rw first at c.joined.ensures.first) (rw last at c.joined.ensures.last) (eqb-true _ _ is)
+    window_painted free c.args.start c.args.end c.word_across.result c.requires.order (omega arith)
+    (rw first at c.word_across.ensures.first) (rw last at c.word_across.ensures.last) (eqb-true _ _ is)

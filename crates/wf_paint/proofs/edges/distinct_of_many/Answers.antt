@@ -1,6 +1,6 @@
 use Rattle.std.proofs.Common.{List, subst}
 use Rattle.wf_paint.specs.Edges.{AreAlong}
-use Rattle.wf_paint.specs.declared.segment.Segment.{Segment}
+use Rattle.wf_geometry.specs.declared.operation.Segment.{Segment}
 use Rattle.wf_paint.proofs.EdgesLemmas.{along_same, along_sorted, along_twice}
 use Rattle.wf_paint.proofs.edges.distinct_of_many.Goals as goal
 

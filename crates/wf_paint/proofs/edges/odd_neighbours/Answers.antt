@@ -1,6 +1,6 @@
 use Rattle.std.proofs.Common.{[], List, sym, subst, arith}
 use Rattle.wf_paint.specs.Edges.{AreAround}
-use Rattle.wf_paint.specs.declared.segment.Segment.{Segment}
+use Rattle.wf_geometry.specs.declared.operation.Segment.{Segment}
 use Rattle.wf_paint.proofs.EdgesLemmas.{around_none, around_step, around_all}
 use Rattle.wf_paint.proofs.edges.odd_neighbours.Goals as goal
 

@@ -1,6 +1,6 @@
 use Rattle.std.proofs.Common.{List, subst}
 use Rattle.wf_paint.specs.Edges.{AreAround}
-use Rattle.wf_paint.specs.declared.segment.Segment.{Segment}
+use Rattle.wf_geometry.specs.declared.operation.Segment.{Segment}
 use Rattle.wf_paint.proofs.EdgesLemmas.{around_same, around_sorted, around_twice}
 use Rattle.wf_paint.proofs.edges.odd_of_many.Goals as goal
 

@@ -1,7 +1,7 @@
 use Rattle.std.proofs.Common.{◌≡◌, ◌-◌, ◌++◌, ◌∷◌, [], List, length, Some, sym, subst}
 use Rattle.std.specs.Prelude.{slice_get}
 use Rattle.wf_paint.specs.Edges.{AreAlong}
-use Rattle.wf_paint.specs.declared.segment.Segment.{Segment}
+use Rattle.wf_geometry.specs.declared.operation.Segment.{Segment}
 use Rattle.wf_paint.proofs.EdgesLemmas.{along_again, along_same}
 use Rattle.wf_paint.proofs.edges.push_unlike.Goals as goal
 

@@ -1,6 +1,6 @@
 use Rattle.std.proofs.Common.{[], List, sym, subst, arith}
 use Rattle.wf_paint.specs.Edges.{AreAlong}
-use Rattle.wf_paint.specs.declared.segment.Segment.{Segment}
+use Rattle.wf_geometry.specs.declared.operation.Segment.{Segment}
 use Rattle.wf_paint.proofs.EdgesLemmas.{along_none, along_step, along_all}
 use Rattle.wf_paint.proofs.edges.unlike_neighbours.Goals as goal
 

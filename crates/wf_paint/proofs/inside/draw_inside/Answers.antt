@@ -1,8 +1,8 @@
 use Rattle.std.proofs.Common.{◌≡◌, nat_lt, pos, FitsSigned, w64, to_z-of_z, ◌∙◌, rules, arith}
 use Rattle.std.proofs.lemmas.Bool.{lt-ltb, le-ltb}
-use Rattle.wf_paint.specs.Exact.{is_less}
-use Rattle.wf_paint.specs.Operation.{FillOf}
-use Rattle.wf_paint.specs.Position.{middle, centre}
+use Rattle.wf_geometry.specs.Exact.{is_less}
+use Rattle.wf_geometry.specs.Operation.{FillOf}
+use Rattle.wf_geometry.specs.Position.{middle, centre}
 use Rattle.wf_paint.proofs.ColoredLemmas.{IsShown-from_colored}
 use Rattle.wf_paint.proofs.EdgesLemmas.{inside_of_some}
 use Rattle.wf_paint.proofs.InsideLemmas.{inside_below, inside_above}

@@ -2,7 +2,7 @@ use Rattle.std.proofs.Common.{◌≤ℤ◌, to_z, of_z, w64, sym, arith}
 use Rattle.std.proofs.lemmas.Int.{ints}
 use Rattle.std.proofs.lemmas.List.{take_all}
 use Rattle.std.proofs.lemmas.List.Elements.{All-same}
-use Rattle.wf_paint.specs.declared.segment.Segment.{Segment}
+use Rattle.wf_geometry.specs.declared.operation.Segment.{Segment}
 use Rattle.wf_paint.proofs.InsideLemmas.{ends_below_more}
 use Rattle.wf_paint.proofs.inside.highest.Goals as goal
 

@@ -2,8 +2,8 @@ use Rattle.std.proofs.Common.{◌≡◌, length, slice_get, Some, refl, sym, ap,
 use Rattle.std.proofs.lemmas.Option.{slice_get_read}
 use Rattle.wf_def.specs.Attribute.{class_of}
 use Rattle.wf_def.specs.declared.choice.LayerKind.TheVariants.{Points, Lines, Polygons}
-use Rattle.wf_paint.specs.Operation.{feature_operations, line, polygon}
-use Rattle.wf_paint.proofs.OperationLemmas.{feature_styled}
+use Rattle.wf_geometry.specs.Operation.{feature_operations, line, polygon}
+use Rattle.wf_geometry.proofs.OperationLemmas.{feature_styled}
 use Rattle.wf_paint.proofs.ShownLemmas.{IsShown-none}
 use Rattle.wf_paint.proofs.painter.draw_feature.Goals as goal
 

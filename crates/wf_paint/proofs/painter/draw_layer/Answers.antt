@@ -1,7 +1,7 @@
 use Rattle.std.proofs.Common.{List, drop, subst, arith}
 use Rattle.std.specs.List.{flat_map}
 use Rattle.wf_def.specs.Definition.{FeatureDefinition}
-use Rattle.wf_paint.specs.Operation.{feature_operations, layer_operations}
+use Rattle.wf_geometry.specs.Operation.{feature_operations, layer_operations}
 use Rattle.wf_paint.specs.Shown.{IsShown}
 use Rattle.wf_paint.proofs.ShownLemmas.{IsShown-begin, IsShown-more, IsShown-end, IsShown-stop, IsShown-alike}
 use Rattle.wf_paint.proofs.painter.draw_layer.Goals as goal

@@ -1,6 +1,6 @@
 use Rattle.std.proofs.Common.{◌≡◌, ◌+◌, ◌-◌, get_or, slice_get, drop, refl, arith}
 use Rattle.std.specs.List.{Contains}
-use Rattle.wf_paint.specs.Operation.{entry_operations, operations}
+use Rattle.wf_geometry.specs.Operation.{entry_operations, operations}
 use Rattle.wf_paint.proofs.ShownLemmas.{IsShown-begin, IsShown-more, IsShown-again, IsShown-end}
 use Rattle.wf_paint.proofs.painter.draw_layers.Goals as goal
 

@@ -2,7 +2,7 @@ use Rattle.std.proofs.Common.{◌≡◌, ◌≤◌, ◌<◌, List, drop, length,
 use Rattle.std.specs.List.{flat_map}
 use Rattle.std.proofs.lemmas.List.{drop_all}
 use Rattle.wf_def.specs.Definition.{StyleDefinition}
-use Rattle.wf_paint.specs.Operation.{OperationValue, in_color, LineOf}
+use Rattle.wf_geometry.specs.Operation.{OperationValue, in_color, LineOf}
 use Rattle.wf_paint.specs.Shown.{IsShown}
 use Rattle.wf_paint.specs.Styles.{line_along}
 use Rattle.wf_paint.proofs.ShownLemmas.{operations_more, IsShown-end, IsShown-stop}

@@ -1,7 +1,7 @@
 use Rattle.std.proofs.Common.{drop, arith}
 use Rattle.std.specs.List.{flat_map}
 use Rattle.wf_def.specs.Definition.{StyleDefinition}
-use Rattle.wf_paint.specs.Operation.{squares}
+use Rattle.wf_geometry.specs.Operation.{squares}
 use Rattle.wf_paint.specs.Shown.{IsShown}
 use Rattle.wf_paint.proofs.ShownLemmas.{IsShown-begin, IsShown-more, IsShown-end, IsShown-stop, IsShown-alike}
 use Rattle.wf_paint.proofs.painter.draw_markers.Goals as goal

@@ -1,6 +1,6 @@
 use Rattle.std.proofs.Common.{arith}
-use Rattle.wf_paint.specs.Operation.{in_color, SquareOf, part_squares}
-use Rattle.wf_paint.specs.View.{position_of}
+use Rattle.wf_geometry.specs.Operation.{in_color, SquareOf, part_squares}
+use Rattle.wf_geometry.specs.View.{position_of}
 use Rattle.wf_paint.proofs.ShownLemmas.{IsShown-begin, IsShown-more, IsShown-end}
 use Rattle.wf_paint.proofs.painter.draw_part_squares.Goals as goal
 

@@ -1,7 +1,7 @@
 use Rattle.std.proofs.Common.{drop}
 use Rattle.std.specs.List.{flat_map}
-use Rattle.wf_paint.specs.Operation.{in_color, SquareOf}
-use Rattle.wf_paint.specs.View.{position_of}
+use Rattle.wf_geometry.specs.Operation.{in_color, SquareOf}
+use Rattle.wf_geometry.specs.View.{position_of}
 use Rattle.wf_paint.specs.Shown.{IsShown}
 use Rattle.wf_paint.proofs.painter.draw_part_squares.Given as goal
 

@@ -2,7 +2,7 @@ use Rattle.std.proofs.Common.{◌≡◌, ◌≤◌, ◌<◌, ◌++◌, List, dro
 use Rattle.std.specs.List.{flat_map}
 use Rattle.std.proofs.lemmas.List.{drop_all}
 use Rattle.wf_def.specs.Definition.{StyleDefinition}
-use Rattle.wf_paint.specs.Operation.{OperationValue, in_color, FillOf, LineOf}
+use Rattle.wf_geometry.specs.Operation.{OperationValue, in_color, FillOf, LineOf}
 use Rattle.wf_paint.specs.Styles.{filled_and_outlined}
 use Rattle.wf_paint.specs.Shown.{IsShown}
 use Rattle.wf_paint.proofs.ShownLemmas.{operations_more, IsShown-end, IsShown-stop}

@@ -1,5 +1,5 @@
 use Rattle.std.proofs.Common.{arith}
-use Rattle.wf_paint.specs.Operation.{part_squares, squares}
+use Rattle.wf_geometry.specs.Operation.{part_squares, squares}
 use Rattle.wf_paint.proofs.ShownLemmas.{IsShown-begin, IsShown-more, IsShown-end}
 use Rattle.wf_paint.proofs.painter.draw_squares.Goals as goal
 

@@ -1,6 +1,6 @@
 use Rattle.std.proofs.Common.{drop}
 use Rattle.std.specs.List.{flat_map}
-use Rattle.wf_paint.specs.Operation.{part_squares}
+use Rattle.wf_geometry.specs.Operation.{part_squares}
 use Rattle.wf_paint.specs.Shown.{IsShown}
 use Rattle.wf_paint.proofs.painter.draw_squares.Given as goal
 

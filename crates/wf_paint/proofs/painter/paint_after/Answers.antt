@@ -1,4 +1,4 @@
-use Rattle.wf_paint.specs.Operation.{operations}
+use Rattle.wf_geometry.specs.Operation.{operations}
 use Rattle.wf_paint.specs.Canvas.{IsBlank}
 use Rattle.wf_paint.proofs.ShownLemmas.{IsPicture-shown}
 use Rattle.wf_paint.proofs.painter.paint_after.Goals as goal

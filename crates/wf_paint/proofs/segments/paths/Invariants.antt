@@ -1,6 +1,6 @@
 use Rattle.std.proofs.Common.{take}
 use Rattle.std.specs.List.{flat_map}
-use Rattle.wf_paint.specs.Segments.{path, positions}
+use Rattle.wf_geometry.specs.Segments.{path, positions}
 use Rattle.std.proofs.Common.{◌≡◌}
 use Rattle.wf_paint.proofs.segments.paths.Given as goal
 

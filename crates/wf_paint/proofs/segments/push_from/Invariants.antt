@@ -1,6 +1,6 @@
 use Rattle.std.proofs.Common.{◌≡◌, ◌++◌, List, drop}
-use Rattle.wf_paint.specs.Position.{PositionValue}
-use Rattle.wf_paint.specs.Segments.{path_from, positions}
+use Rattle.wf_geometry.specs.Position.{PositionValue}
+use Rattle.wf_geometry.specs.Segments.{path_from, positions}
 use Rattle.wf_paint.proofs.segments.push_from.Given as goal
 
 abbrev pub invariant-loop-point : goal.invariant-loop-point

@@ -1,5 +1,5 @@
 use Rattle.std.proofs.Common.{[]}
-use Rattle.wf_paint.specs.Segments.{positions}
+use Rattle.wf_geometry.specs.Segments.{positions}
 use Rattle.wf_paint.proofs.SegmentsLemmas.{path_whole}
 use Rattle.wf_paint.proofs.segments.push_way.Goals as goal
 

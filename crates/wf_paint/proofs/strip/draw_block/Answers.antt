@@ -1,6 +1,6 @@
 use Rattle.std.proofs.Common.{◌≡◌, arith}
-use Rattle.wf_paint.specs.Strip.{most_between, IsBetween, StaysBetween}
-use Rattle.wf_paint.proofs.StripLemmas.{between_all, stays_between, strip_hidden, wide_few}
+use Rattle.wf_paint.specs.RowPart.{most_between, IsBetween, StaysBetween}
+use Rattle.wf_paint.proofs.RowEndsLemmas.{between_all, stays_between, strip_hidden, wide_few}
 use Rattle.wf_paint.proofs.strip.draw_block.Goals as goal
 
 pub is_hidden-requires-clause-first : goal.is_hidden-requires-clause-first

@@ -1,9 +1,10 @@
 use Rattle.std.proofs.Common.{pos, arith}
-use Rattle.wf_paint.specs.Exact.{opposite, product}
-use Rattle.wf_paint.specs.Strip.{is_in_strip}
-use Rattle.wf_paint.specs.Limit.{pixel_side}
-use Rattle.wf_paint.proofs.SpanLemmas.{rows_start, rows_end, rows_more}
-use Rattle.wf_paint.proofs.StripLemmas.{low_edge, high_edge, edge_moves, rising_row, strip_row, strip_before, strip_after}
+use Rattle.wf_geometry.specs.Exact.{opposite, product}
+use Rattle.wf_geometry.specs.Strip.{is_in_strip}
+use Rattle.wf_geometry.specs.Limit.{pixel_side}
+use Rattle.wf_paint.proofs.RowsLemmas.{rows_start, rows_end, rows_more}
+use Rattle.wf_paint.proofs.RowEndsLemmas.{low_edge, high_edge, edge_moves, rising_row, strip_row}
+use Rattle.wf_geometry.proofs.StripLemmas.{strip_before, strip_after}
 use Rattle.wf_paint.proofs.strip.draw_cut.Goals as goal
 
 pub loop-row-init : goal.loop-row-init
@@ -14,7 +15,7 @@ loop-row-init c =
           (λ column row wide high before. strip_before strip.levels strip.rows strip.columns column row before),
       (
         low_edge strip.levels strip.rows.from ends c.requires.ends,
-        high_edge strip.levels strip.rows.from ends c.sum-high.result c.requires.ends c.sum-high.ensures.value c.sum-high.ensures.rest c.sum-high.ensures.within,
+        high_edge strip.levels strip.rows.from ends c.quotient_sum-high.result c.requires.ends c.quotient_sum-high.ensures.value c.quotient_sum-high.ensures.rest c.quotient_sum-high.ensures.within,
       ),
     )
 
@@ -34,10 +35,10 @@ loop-row-preserved c =
           c.part-span.ensures.part.from c.part-span.ensures.part.to c.part-span.ensures.part.to_within)))
           c.cover.ensures,
       (
-        edge_moves (opposite levels.margin) levels.origin (product (pos pixel_side) levels.up) step c.loop-row.row c.loop-row.low c.args.ends.change c.sum-low.result
-            edges.0 ends.moves c.sum-low.ensures.value c.sum-low.ensures.rest c.sum-low.ensures.within,
-        edge_moves levels.margin levels.origin (product (pos pixel_side) levels.up) step c.loop-row.row c.loop-row.high c.args.ends.change c.sum-high-in-loop-row.result
-            edges.1 ends.moves c.sum-high-in-loop-row.ensures.value c.sum-high-in-loop-row.ensures.rest c.sum-high-in-loop-row.ensures.within,
+        edge_moves (opposite levels.margin) levels.origin (product (pos pixel_side) levels.up) step c.loop-row.row c.loop-row.low c.args.ends.change c.quotient_sum-low.result
+            edges.0 ends.moves c.quotient_sum-low.ensures.value c.quotient_sum-low.ensures.rest c.quotient_sum-low.ensures.within,
+        edge_moves levels.margin levels.origin (product (pos pixel_side) levels.up) step c.loop-row.row c.loop-row.high c.args.ends.change c.quotient_sum-high-in-loop-row.result
+            edges.1 ends.moves c.quotient_sum-high-in-loop-row.ensures.value c.quotient_sum-high-in-loop-row.ensures.rest c.quotient_sum-high-in-loop-row.ensures.within,
       ),
     )
 

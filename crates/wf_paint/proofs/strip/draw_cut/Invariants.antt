@@ -1,10 +1,10 @@
 use Rattle.std.proofs.Common.{pos}
-use Rattle.wf_paint.specs.Exact.{opposite, product}
+use Rattle.wf_geometry.specs.Exact.{opposite, product}
 use Rattle.wf_paint.specs.Shown.{IsColored}
-use Rattle.wf_paint.specs.Strip.{is_in_strip}
-use Rattle.wf_paint.specs.Limit.{pixel_side}
-use Rattle.wf_paint.proofs.SpanLemmas.{below_row}
-use Rattle.wf_paint.proofs.StripLemmas.{IsEdge}
+use Rattle.wf_geometry.specs.Strip.{is_in_strip}
+use Rattle.wf_geometry.specs.Limit.{pixel_side}
+use Rattle.wf_paint.proofs.RowsLemmas.{below_row}
+use Rattle.wf_paint.proofs.RowEndsLemmas.{IsEdge}
 use Rattle.wf_paint.proofs.strip.draw_cut.Given as goal
 
 abbrev pub invariant-loop-row : goal.invariant-loop-row

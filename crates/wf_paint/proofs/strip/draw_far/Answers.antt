@@ -1,7 +1,8 @@
 use Rattle.std.proofs.Common.{arith}
-use Rattle.wf_paint.specs.Strip.{is_in_strip}
-use Rattle.wf_paint.proofs.SpanLemmas.{rows_start, rows_end, rows_more}
-use Rattle.wf_paint.proofs.StripLemmas.{strip_row, strip_before, strip_after}
+use Rattle.wf_geometry.specs.Strip.{is_in_strip}
+use Rattle.wf_paint.proofs.RowsLemmas.{rows_start, rows_end, rows_more}
+use Rattle.wf_paint.proofs.RowEndsLemmas.{strip_row}
+use Rattle.wf_geometry.proofs.StripLemmas.{strip_before, strip_after}
 use Rattle.wf_paint.proofs.strip.draw_far.Goals as goal
 
 pub loop-row-init : goal.loop-row-init

@@ -1,6 +1,6 @@
 use Rattle.wf_paint.specs.Shown.{IsColored}
-use Rattle.wf_paint.specs.Strip.{is_in_strip}
-use Rattle.wf_paint.proofs.SpanLemmas.{below_row}
+use Rattle.wf_geometry.specs.Strip.{is_in_strip}
+use Rattle.wf_paint.proofs.RowsLemmas.{below_row}
 use Rattle.wf_paint.proofs.strip.draw_far.Given as goal
 
 abbrev pub invariant-loop-row : goal.invariant-loop-row

@@ -1,9 +1,9 @@
 use Rattle.std.proofs.Common.{◌≡◌, ◌+◌, ◌-◌, ◌*◌, ◌/◌, ℕ, pos, refl, subst, arith}
-use Rattle.wf_paint.specs.Exact.{opposite, product}
-use Rattle.wf_paint.specs.Strip.{is_in_strip, AreEnds, IsEnd}
-use Rattle.wf_paint.specs.Limit.{pixel_side}
+use Rattle.wf_geometry.specs.Exact.{opposite, product}
+use Rattle.wf_geometry.specs.Strip.{is_in_strip, AreEnds, IsEnd}
+use Rattle.wf_geometry.specs.Limit.{pixel_side}
 use Rattle.wf_paint.proofs.ColoredLemmas.{IsColored-none}
-use Rattle.wf_paint.proofs.StripLemmas.{strip_joined, strip_none, end_leaps, ends_from}
+use Rattle.wf_paint.proofs.RowEndsLemmas.{strip_joined, strip_none, end_leaps, ends_from}
 use Rattle.wf_paint.proofs.strip.draw_strip.Goals as goal
 
 pub returns-then-is_empty : goal.returns-then-is_empty
@@ -18,14 +18,14 @@ pub draw_cut-requires-clause-order : goal.draw_cut-requires-clause-order
 draw_cut-requires-clause-order c = omega (arith, c.is_empty.ensures.rows c.if-is_empty.false)
 
 pub leap-requires-clause-step : goal.leap-requires-clause-step
-leap-requires-clause-step c = omega (arith, c.in-Some.ensures.begins.rest)
+leap-requires-clause-step c = omega (arith, c.in-Some.ensures.value.begins.rest)
 
 pub loop-index-init : goal.loop-index-init
 loop-index-init c =
     let strip = c.args.strip in
     let levels = c.args.strip.levels in
     let ends = c.in-Some.ends in
-    let are : AreEnds levels strip.rows.from ends = c.in-Some.ensures in
+    let are : AreEnds levels strip.rows.from ends = c.in-Some.ensures.value in
     let first : strip.rows.from ≡ strip.rows.from + 16 * 0 = omega arith in (
       strip_none levels strip.columns strip.rows.from (strip.rows.from + 16 * 0) c.args.color c.args.canvas.now (omega arith),
       ends_from levels strip.rows.from (strip.rows.from + 16 * 0) ends ends.low are
@@ -38,8 +38,8 @@ draw_block-requires c =
     let levels = c.args.strip.levels in
     let row = c.args.strip.rows.from + 16 * c.loop-index.index in
     let ends = c.loop-index.invariant.1 in
-    let next : IsEnd (opposite levels.margin) levels.origin (product (pos pixel_side) levels.up) c.in-Some.ends.step (row + 16) c.sum-next.result =
-    end_leaps levels (opposite levels.margin) row c.in-Some.ends.step c.loop-index.low c.in-Some-leap.leap c.sum-next.result ends.begins c.in-Some-leap.ensures.value c.sum-next.ensures.value c.sum-next.ensures.rest in
+    let next : IsEnd (opposite levels.margin) levels.origin (product (pos pixel_side) levels.up) c.in-Some.ends.step (row + 16) c.quotient_sum-next.result =
+    end_leaps levels (opposite levels.margin) row c.in-Some.ends.step c.loop-index.low c.in-Some-leap.leap c.quotient_sum-next.result ends.begins c.in-Some-leap.ensures.value c.quotient_sum-next.ensures.value c.quotient_sum-next.ensures.rest in
     let high = c.loop-index.invariant.0.height in
     let wide = c.loop-index.invariant.0.width in
     record {
@@ -49,7 +49,7 @@ draw_block-requires c =
       columns = omega arith;
       ends = ends;
       next = next;
-      near = omega (arith, ends.near, c.sum-next.ensures.within);
+      near = omega (arith, ends.near, c.quotient_sum-next.ensures.within);
     }
 
 pub draw_cut-requires-2 : goal.draw_cut-requires-2
@@ -75,13 +75,13 @@ loop-index-preserved c =
     let row = from + 16 * c.loop-index.index in
     let more : from + 16 * (c.loop-index.index + 1) ≡ row + 16 = omega arith in
     let ends = c.loop-index.invariant.1 in
-    let next : IsEnd (opposite levels.margin) levels.origin (product (pos pixel_side) levels.up) c.in-Some.ends.step (row + 16) c.sum-next.result =
-    end_leaps levels (opposite levels.margin) row c.in-Some.ends.step c.loop-index.low c.in-Some-leap.leap c.sum-next.result ends.begins c.in-Some-leap.ensures.value c.sum-next.ensures.value c.sum-next.ensures.rest in
+    let next : IsEnd (opposite levels.margin) levels.origin (product (pos pixel_side) levels.up) c.in-Some.ends.step (row + 16) c.quotient_sum-next.result =
+    end_leaps levels (opposite levels.margin) row c.in-Some.ends.step c.loop-index.low c.in-Some-leap.leap c.quotient_sum-next.result ends.begins c.in-Some-leap.ensures.value c.quotient_sum-next.ensures.value c.quotient_sum-next.ensures.rest in
     rw more (
       strip_joined levels c.args.strip.columns from row (row + 16) c.args.color c.args.canvas.now c.loop-index.canvas c.draw_block.new.canvas (omega arith) (omega arith)
           c.loop-index.invariant.0 c.draw_block.ensures,
-      ends_from levels row (row + 16) (record { low = c.loop-index.low; gap = c.in-Some.ends.gap; change = c.in-Some.ends.change; step = c.in-Some.ends.step }) c.sum-next.result ends next
-          (omega (arith, ends.near, c.sum-next.ensures.within)),
+      ends_from levels row (row + 16) (record { low = c.loop-index.low; gap = c.in-Some.ends.gap; change = c.in-Some.ends.change; step = c.in-Some.ends.step }) c.quotient_sum-next.result ends next
+          (omega (arith, ends.near, c.quotient_sum-next.ensures.within)),
     )
 
 pub returns : goal.returns

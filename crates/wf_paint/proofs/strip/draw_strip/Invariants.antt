@@ -1,6 +1,6 @@
 use Rattle.std.proofs.Common.{◌+◌, ◌*◌}
 use Rattle.wf_paint.specs.Shown.{IsColored}
-use Rattle.wf_paint.specs.Strip.{is_in_strip, AreEnds}
+use Rattle.wf_geometry.specs.Strip.{is_in_strip, AreEnds}
 use Rattle.wf_paint.proofs.strip.draw_strip.Given as goal
 
 -- the rows before this block are painted

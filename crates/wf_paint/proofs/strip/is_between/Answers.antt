@@ -1,6 +1,6 @@
 use Rattle.std.proofs.Common.{arith}
 use Rattle.std.proofs.lemmas.Int.{ints}
-use Rattle.wf_paint.specs.Exact.{plus}
+use Rattle.wf_geometry.specs.Exact.{plus}
 use Rattle.wf_paint.proofs.strip.is_between.Goals as goal
 
 pub returns-then-width-le64 : goal.returns-then-width-le64

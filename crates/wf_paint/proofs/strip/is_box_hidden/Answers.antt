@@ -1,6 +1,6 @@
 use Rattle.std.proofs.Common.{◌≡◌, ◌+◌, pos, nat_abs, arith}
 use Rattle.std.proofs.lemmas.Int.{ints}
-use Rattle.wf_paint.specs.Exact.{plus}
+use Rattle.wf_geometry.specs.Exact.{plus}
 use Rattle.wf_paint.proofs.strip.is_box_hidden.Goals as goal
 
 pub returns : goal.returns

@@ -1,6 +1,6 @@
 use Rattle.std.proofs.Common.{◌+◌, pos, nat_abs, FitsSigned, w64, to_z-of_z, rules, arith}
 use Rattle.std.proofs.lemmas.Int.{ints}
-use Rattle.wf_paint.specs.Exact.{plus}
+use Rattle.wf_geometry.specs.Exact.{plus}
 use Rattle.wf_paint.proofs.strip.is_hidden.Goals as goal
 
 pub returns-then-low-next : goal.returns-then-low-next

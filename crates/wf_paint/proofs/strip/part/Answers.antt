@@ -1,7 +1,7 @@
 use Rattle.std.proofs.Common.{arith}
 use Rattle.std.proofs.lemmas.Int.{ints}
-use Rattle.wf_paint.specs.Exact.{plus}
-use Rattle.wf_paint.proofs.StripLemmas.{part_inside}
+use Rattle.wf_geometry.specs.Exact.{plus}
+use Rattle.wf_paint.proofs.RowEndsLemmas.{part_inside}
 use Rattle.wf_paint.proofs.strip.part.Goals as goal
 
 pub returns-then-lies_in-clause-part : goal.returns-then-lies_in-clause-part

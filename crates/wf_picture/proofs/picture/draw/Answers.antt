@@ -2,11 +2,11 @@ use Rattle.std.proofs.Common.{◌≡◌, ◌∙◌, ℕ, List, ap, sym, subst₂
 use Rattle.wf_def.specs.Definition.{Definition}
 use Rattle.wf_def.specs.declared.color.Color.{Color}
 use Rattle.wf_paint.specs.Pixmap.{PixmapValue, IsPicture}
-use Rattle.wf_paint.specs.View.{ViewValue}
+use Rattle.wf_geometry.specs.View.{ViewValue}
 use Rattle.wf_picture.specs.Image.{image}
 use Rattle.wf_picture.specs.Picture.{labelled}
 use Rattle.wf_picture.specs.Request.{RequestValue}
-use Rattle.wf_picture.specs.declared.size.Size.{Size}
+use Rattle.wf_picture.specs.declared.request.Size.{Size}
 use Rattle.wf_picture.proofs.PictureLemmas.{ok_gives}
 use Rattle.wf_picture.proofs.WholeLemmas.{whole_drawn}
 use Rattle.wf_picture.proofs.picture.draw.Goals as goal

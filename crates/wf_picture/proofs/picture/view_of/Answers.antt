@@ -1,10 +1,10 @@
 use Rattle.std.proofs.Common.{◌≡◌, subst₂}
 use Rattle.wf_def.specs.Extent.{ExtentValue}
-use Rattle.wf_paint.specs.Tile.{IsViewOf}
-use Rattle.wf_paint.specs.View.{ViewValue}
+use Rattle.wf_geometry.specs.Tile.{IsViewOf}
+use Rattle.wf_geometry.specs.View.{ViewValue}
 use Rattle.wf_picture.specs.Picture.{IsViewFor}
 use Rattle.wf_picture.specs.Request.{RequestValue}
-use Rattle.wf_picture.specs.declared.size.Size.{Size}
+use Rattle.wf_picture.specs.declared.request.Size.{Size}
 use Rattle.wf_picture.proofs.ViewLemmas.{columns_within, rows_within}
 use Rattle.wf_picture.proofs.picture.view_of.Goals as goal
 

@@ -2,7 +2,7 @@
 use Rattle.std.proofs.Common.{◌≡◌, ◌∙◌, ◌++◌, List, ap, sym, append-nil, arith}
 use Rattle.std.specs.Prelude.{Option, IsSome, is_some, false}
 use Rattle.std.specs.Option.{option_to_list}
-use Rattle.wf_ballot.specs.Slot.{IsSlot}
+use Rattle.wf_ballot.specs.Sequence.{IsSlot}
 use Rattle.wf_def.specs.Definition.{Definition}
 use Rattle.wf_reader.proofs.Next.{no_definition}
 use Rattle.wf_reader.proofs.answerer.push_at.Goals as goal

@@ -1,6 +1,7 @@
 -- The request, the deliveries, the retry and the catch-up come in turn, each leading the nodes on.
 use Rattle.std.proofs.Common.{◌<◌, ◌∙◌, length, ap, refl, rules, slice_set, subst, sym, arith}
 use Rattle.std.proofs.lemmas.Option.{slice_get_read}
+use Rattle.wf_delivery.proofs.OneRun.{reachable_is_transitive}
 use Rattle.wf_delivery.specs.DeliveryTheorems.{halted_twice, none_before}
 use Rattle.wf_delivery.specs.Reachability.{AreReachableFrom}
 use Rattle.wf_farm.specs.Nodes.{nodes_in}
@@ -14,10 +15,10 @@ use Rattle.wf_serve.proofs.connection_effect.serve_connection.Given as given
 use Rattle.wf_serve.proofs.connection_effect.serve_connection.Goals as goal
 
 retried : (g : given.Over) (c : goal.After-agree_still g) → AreReachableFrom g.T.Tape (nodes_in c.args.farm.now) (nodes_in c.retry.new.farm)
-retried g c = c.reachability_goes_on.ensures.again (nodes_in c.args.farm.now) (nodes_in c.respond-outcome.new.farm) (nodes_in c.retry.new.farm) c.respond-outcome.ensures.reachable c.retry.ensures.reachable
+retried g c = reachable_is_transitive g.T.Tape (nodes_in c.args.farm.now) (nodes_in c.respond-outcome.new.farm) (nodes_in c.retry.new.farm) c.respond-outcome.ensures.reachable c.retry.ensures.reachable
 
 reachable : (g : given.Over) (c : goal.After-agree_still g) → AreReachableFrom g.T.Tape (nodes_in c.args.farm.now) (nodes_in c.catch_up.new.farm)
-reachable g c = c.reachability_goes_on.ensures.again (nodes_in c.args.farm.now) (nodes_in c.retry.new.farm) (nodes_in c.catch_up.new.farm) (retried g c) c.catch_up.ensures.reachable
+reachable g c = reachable_is_transitive g.T.Tape (nodes_in c.args.farm.now) (nodes_in c.retry.new.farm) (nodes_in c.catch_up.new.farm) (retried g c) c.catch_up.ensures.reachable
 
 pub retry-requires-clause-within : goal.retry-requires-clause-within
 retry-requires-clause-within g c =
@@ -94,12 +95,11 @@ pub returns-clause-cached : goal.returns-clause-cached
 returns-clause-cached g c =
     let one = c.respond-outcome in
     let caches = c.args.caches.now in
-    let theorem = c.cached_pictures_outlast_growth.ensures in
     let within : c.args.node_index < length caches = omega (arith, c.requires.within, c.requires.cached.as_many, length-nodes c.args.farm.now.hosts) in
     let there = slice_get_read caches (length caches) c.args.node_index c.index-caches-node_index.result refl within c.index-caches-node_index.is in
-    let served = cached_with theorem (nodes_in c.args.farm.now) (nodes_in one.new.farm) caches c.args.node_index c.index-caches-node_index.result one.new.cache one.ensures.reachable.turn.as_many one.ensures.reachable.turn.lists there one.ensures.cached c.requires.cached in
-    let again = cached_grown theorem (nodes_in one.new.farm) (nodes_in c.retry.new.farm) (slice_set caches c.args.node_index one.new.cache) c.retry.ensures.reachable.turn.as_many c.retry.ensures.reachable.turn.lists served in
-    cached_grown theorem (nodes_in c.retry.new.farm) (nodes_in c.catch_up.new.farm) (slice_set caches c.args.node_index one.new.cache) c.catch_up.ensures.reachable.turn.as_many c.catch_up.ensures.reachable.turn.lists again
+    let served = cached_with (nodes_in c.args.farm.now) (nodes_in one.new.farm) caches c.args.node_index c.index-caches-node_index.result one.new.cache one.ensures.reachable.turn.as_many one.ensures.reachable.turn.lists there one.ensures.cached c.requires.cached in
+    let again = cached_grown (nodes_in one.new.farm) (nodes_in c.retry.new.farm) (slice_set caches c.args.node_index one.new.cache) c.retry.ensures.reachable.turn.as_many c.retry.ensures.reachable.turn.lists served in
+    cached_grown (nodes_in c.retry.new.farm) (nodes_in c.catch_up.new.farm) (slice_set caches c.args.node_index one.new.cache) c.catch_up.ensures.reachable.turn.as_many c.catch_up.ensures.reachable.turn.lists again
 
 pub returns-clause-room : goal.returns-clause-room
 returns-clause-room g c =

@@ -1,5 +1,6 @@
 -- One more connection, by the node whose turn it is.
 use Rattle.std.proofs.Common.{◌≡◌, ◌∙◌, ◌%◌, length, ap, subst, arith}
+use Rattle.wf_delivery.proofs.OneRun.{nothing_is_reachable, reachable_is_transitive}
 use Rattle.wf_farm.specs.Nodes.{nodes_in}
 use Rattle.wf_farm.specs.NodesTheorems.{length-nodes}
 use Rattle.wf_serve.specs.Connections.{HaveCome}
@@ -10,7 +11,7 @@ use Rattle.wf_serve.proofs.connections.serve_connections.Goals as goal
 pub loop-connection-init : goal.loop-connection-init
 loop-connection-init g c = record {
   come = none_came g.T.Tape (length c.args.farm.now.hosts) (nodes_in c.args.farm.now);
-  reachable = c.reachability_goes_on.ensures.still (nodes_in c.args.farm.now);
+  reachable = nothing_is_reachable g.T.Tape (nodes_in c.args.farm.now);
   running = c.requires.running;
   cached = c.requires.cached;
   room = λ room have. have;
@@ -30,7 +31,7 @@ pub loop-connection-preserved : goal.loop-connection-preserved
 loop-connection-preserved g c = record {
   come = one_more_came g.T.Tape (length c.args.farm.now.hosts) c.loop-connection.connection c.turn_of.result (nodes_in c.args.farm.now) (nodes_in c.loop-connection.farm) (nodes_in c.serve_next.new.farm)
       (c.turn_of.ensures.turn ∙ ap (λ n. c.loop-connection.connection % n) c.size-count.ensures.value) c.loop-connection.invariant.come c.serve_next.ensures.answered;
-  reachable = c.reachability_goes_on.ensures.again (nodes_in c.args.farm.now) (nodes_in c.loop-connection.farm) (nodes_in c.serve_next.new.farm) c.loop-connection.invariant.reachable c.serve_next.ensures.reachable;
+  reachable = reachable_is_transitive g.T.Tape (nodes_in c.args.farm.now) (nodes_in c.loop-connection.farm) (nodes_in c.serve_next.new.farm) c.loop-connection.invariant.reachable c.serve_next.ensures.reachable;
   running = c.serve_next.ensures.running;
   cached = c.serve_next.ensures.cached;
   room = λ room have. c.serve_next.ensures.room room (c.loop-connection.invariant.room room have);

@@ -1,5 +1,6 @@
 -- Without a connection nothing happens. The effect of one is that of serving it, whatever was received on it.
 use Rattle.std.proofs.Common.{refl, inl, inr}
+use Rattle.wf_delivery.proofs.OneRun.{nothing_is_reachable}
 use Rattle.wf_farm.specs.Nodes.{nodes_in}
 use Rattle.wf_serve.proofs.connections.serve_next.Goals as goal
 
@@ -7,7 +8,7 @@ pub returns-in_default-clause-answered : goal.returns-in_default-clause-answered
 returns-in_default-clause-answered g c = inr refl
 
 pub returns-in_default-clause-reachable : goal.returns-in_default-clause-reachable
-returns-in_default-clause-reachable g c = c.reachability_goes_on.ensures.still (nodes_in c.args.farm.now)
+returns-in_default-clause-reachable g c = nothing_is_reachable g.T.Tape (nodes_in c.args.farm.now)
 
 pub returns-in_default-clause-room : goal.returns-in_default-clause-room
 returns-in_default-clause-room g c = λ room have. have

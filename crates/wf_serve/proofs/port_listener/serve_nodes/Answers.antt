@@ -1,6 +1,7 @@
 -- The nodes catch up, and then the connections are served, or, if the port wasn't printed, none is.
 use Rattle.std.proofs.Common.{refl, sym, subst}
 use Rattle.std.specs.Prelude.{Ok}
+use Rattle.wf_delivery.proofs.OneRun.{reachable_is_transitive}
 use Rattle.wf_farm.specs.Nodes.{nodes_in}
 use Rattle.wf_farm.specs.NodesTheorems.{length-nodes}
 use Rattle.wf_serve.specs.Agreement.{HaveGoneOn}
@@ -20,7 +21,7 @@ serving g c = record {
 headline : (g : given.Over) (c : goal.After-agree_still g) → HaveGoneOn g.T.Tape (nodes_in c.args.farm.now) (nodes_in c.serve_connections.new.farm)
 headline g c =
     gone_on g.T.Tape (nodes_in c.args.farm.now) (nodes_in c.serve_connections.new.farm) c.agree_still.ensures
-    (c.reachability_goes_on.ensures.again (nodes_in c.args.farm.now) (nodes_in c.catch_up.new.farm) (nodes_in c.serve_connections.new.farm) c.catch_up.ensures.reachable c.serve_connections.ensures.headline.reachable)
+    (reachable_is_transitive g.T.Tape (nodes_in c.args.farm.now) (nodes_in c.catch_up.new.farm) (nodes_in c.serve_connections.new.farm) c.catch_up.ensures.reachable c.serve_connections.ensures.headline.reachable)
 
 pub returns-in-Ok-clause-serving : goal.returns-in-Ok-clause-serving
 returns-in-Ok-clause-serving g c = serving g c

@@ -1,6 +1,5 @@
 use Rattle.std.proofs.Common.{◌<◌, ◌^◌, ℕ, List}
-use Rattle.wf_text.specs.NumberText.{fraction_digits}
-use Rattle.wf_text.specs.NumberDraft.{Writes}
+use Rattle.wf_text.specs.NumberText.{fraction_digits, Writes}
 use Rattle.wf_text.proofs.number_text.push_fraction_digits.Given as goal
 
 -- the digits written so far followed by those of the rest are the whole fraction

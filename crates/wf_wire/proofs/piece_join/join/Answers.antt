@@ -15,7 +15,7 @@ returns-then-len-known_length-clause-ok c =
     let same : known_length c.deref.result.now ≡ known_length c.complete.new.rest.items = ap known_length c.deref.ensures.value in
     let whole : header_length ≤ length c.args.rest.now.items = omega (arith, c.if-before-ge-HEADER_BYTES.true, c.len-before.ensures) in
     let short : length c.complete.new.rest.items < known_length c.complete.new.rest.items = omega (arith, c.if-len-known_length.true, c.len.ensures, c.known_length.ensures, same) in
-    still_part view c.args.rest.now.items c.args.piece.now c.complete.new.rest.items filled.0 c.args.messages.now.items c.longest_body.ensures c.requires.part filled.1 whole short c.requires.empty
+    still_part view c.args.rest.now.items c.args.piece.now c.complete.new.rest.items filled.0 c.args.messages.now.items c.requires.part filled.1 whole short c.requires.empty
 
 pub returns-in_err-read_next-clause-front : goal.returns-in_err-read_next-clause-front
 returns-in_err-read_next-clause-front c =

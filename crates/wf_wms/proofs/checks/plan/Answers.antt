@@ -2,7 +2,7 @@ use Rattle.std.proofs.Common.{◌∙◌, ap, refl}
 use Rattle.std.specs.Prelude.{Ok}
 use Rattle.std.proofs.lemmas.Result.{IfOk-weaker}
 use Rattle.wf_wms.specs.Answer.{IsAnswerOf, IsAnswerOn}
-use Rattle.wf_wms.specs.declared.operation.WmsOperation.TheVariants.{Map}
+use Rattle.wf_wms.specs.declared.checks.WmsOperation.TheVariants.{Map}
 use Rattle.wf_wms.proofs.PlanTheorem.{plan_weaker, map_wanted, none_wanted}
 use Rattle.wf_wms.proofs.ServiceTheorem.{named, answer_rejected, answer_described, answer_drawn}
 use Rattle.wf_wms.proofs.checks.plan.Goals as goal

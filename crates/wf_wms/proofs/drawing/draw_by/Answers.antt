@@ -1,8 +1,8 @@
 use Rattle.std.proofs.Common.{◌≡◌, sym, subst, subst₂, Bool, true, false}
 use Rattle.wf_def.specs.Extent.{ExtentValue}
-use Rattle.wf_paint.specs.Grid.{fits}
-use Rattle.wf_paint.specs.declared.cell.GridCell.{GridCell}
-use Rattle.wf_picture.specs.declared.size.Size.{Size}
+use Rattle.wf_geometry.specs.Grid.{fits}
+use Rattle.wf_geometry.specs.declared.grid.GridCell.{GridCell}
+use Rattle.wf_picture.specs.declared.request.Size.{Size}
 use Rattle.wf_wms.specs.Plan.{IsPictureFor}
 use Rattle.wf_wms.proofs.CachedPicturesTheorem.{none_used, on_ok_anyway, picture_asked, tile_asked, tile_used}
 use Rattle.wf_wms.proofs.drawing.draw_by.Goals as goal
@@ -44,6 +44,6 @@ pub returns-in-None-clause-used : goal.returns-in-None-clause-used
 returns-in-None-clause-used c =
     let map = c.published_map-map.result.now in
     let request = c.args.asked.request in
-    on_ok_anyway c.drawn.result
+    on_ok_anyway c.draw_uncached.result
     (none_used c.args.history.now.definitions c.args.asked map c.args.cache.now c.published_map-map.ensures
     (λ cell. fits_asked c.extent.result map.extent c.bbox.result request.bbox c.size-size.result request.size cell false c.extent.ensures.value c.bbox.ensures.value c.size-size.ensures.value (c.in-None.ensures.none cell)))

@@ -7,7 +7,7 @@ use Rattle.wf_actor.proofs.actor.Actor.serve.Goals as goal
 pub invariant_of-self : goal.invariant_of-self
 invariant_of-self g c = record {
   lived = ∥∥₁_map c.args.self.now.lived (λ life.
-      life_serves g.T.Tape c.a_step_is_answered.ensures c.args.self.now.read_from.items c.args.self.now.began.items c.args.self.now.given.items (logged c.args.self.now.emitted.items) c.args.self.now.node life c.serve-served.result.messages c.serve-served.new.self c.serve-served.ensures.moves
+      life_serves g.T.Tape c.args.self.now.read_from.items c.args.self.now.began.items c.args.self.now.given.items (logged c.args.self.now.emitted.items) c.args.self.now.node life c.serve-served.result.messages c.serve-served.new.self c.serve-served.ensures.moves
       c.args.self.now.began.items c.args.self.now.given.items (logged c.and-self.result.items) refl refl (logged_grows c.args.self.now.emitted.items c.and-self.result.items c.serve-served.result.messages c.and-self.ensures));
 }
 

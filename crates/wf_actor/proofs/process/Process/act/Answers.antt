@@ -5,7 +5,7 @@ use Rattle.wf_career.specs.Run.{given_to}
 use Rattle.wf_codec.specs.Message.{view}
 use Rattle.wf_node.specs.Node.{Node}
 use Rattle.wf_actor.specs.Life.{logged}
-use Rattle.wf_actor.specs.Queue.{queued}
+use Rattle.wf_actor.specs.Backlog.{queued}
 use Rattle.wf_actor.specs.Target.{includes}
 use Rattle.wf_actor.proofs.Receipt.{given_on, arrived_on}
 use Rattle.wf_actor.proofs.Lives.{keeps_numbers}

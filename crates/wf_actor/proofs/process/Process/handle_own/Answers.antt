@@ -3,7 +3,7 @@ use Rattle.std.proofs.Math.Logic.{∥∥₁_map}
 use Rattle.wf_node.specs.Node.{Node}
 use Rattle.wf_actor.specs.Process.{IsReceived}
 use Rattle.wf_actor.specs.declared.actor.Actor.{Actor}
-use Rattle.wf_actor.specs.declared.origin.Origin.TheVariants.{Own}
+use Rattle.wf_actor.specs.declared.actor.Origin.TheVariants.{Own}
 use Rattle.wf_actor.proofs.Receipt.{just_one}
 use Rattle.wf_actor.proofs.process.Process.handle_own.Goals as goal
 

@@ -7,26 +7,26 @@ use Rattle.wf_farm.proofs.farm.Farm+MemoryTape.run.Goals as goal
 
 pub invariant_of-self : goal.invariant_of-self
 invariant_of-self c =
-    farm_moved c.theorems.ensures.in_turn c.theorems.ensures.shifts c.self.inside.cluster.hosts.items c.run.new.self.hosts.items c.self.inside.cluster.sent.items c.run.new.self.sent.items c.self.inside.pumped c.self.inside.pumped c.self.inside.complete (map view c.args.events.now)
+    farm_moved c.self.inside.cluster.hosts.items c.run.new.self.hosts.items c.self.inside.cluster.sent.items c.run.new.self.sent.items c.self.inside.pumped c.self.inside.pumped c.self.inside.complete (map view c.args.events.now)
     c.self.invariant c.run.ensures.members (whole_moves None (map view c.args.events.now) c.in-Ok.field-0.torn c.self.inside.cluster.hosts.items c.run.new.self.hosts.items c.self.inside.cluster.sent.items c.run.new.self.sent.items refl c.in-Ok.ensures.done.fared) (omega (arith, c.self.invariant.pumped_within, c.run.ensures.grows))
 
 pub invariant_of-self-in-Err : goal.invariant_of-self-in-Err
 invariant_of-self-in-Err c =
-    farm_moved c.theorems.ensures.in_turn c.theorems.ensures.shifts c.self.inside.cluster.hosts.items c.run.new.self.hosts.items c.self.inside.cluster.sent.items c.run.new.self.sent.items c.self.inside.pumped c.self.inside.pumped c.self.inside.complete (take c.in-Err.done (map view c.args.events.now))
+    farm_moved c.self.inside.cluster.hosts.items c.run.new.self.hosts.items c.self.inside.cluster.sent.items c.run.new.self.sent.items c.self.inside.pumped c.self.inside.pumped c.self.inside.complete (take c.in-Err.done (map view c.args.events.now))
     c.self.invariant c.run.ensures.members (c.in-Err.ensures.part refl) (omega (arith, c.self.invariant.pumped_within, c.run.ensures.grows))
 
 pub returns-in-Ok-clause-grows : goal.returns-in-Ok-clause-grows
 unfolding HistoriesGrow
 returns-in-Ok-clause-grows c =
     subst (λ (farm : MemoryFarm). (i : ℕ) (old new : DurableState Definition) → HasStored (slice_get farm.hosts i) old → HasStored (slice_get c.run.new.self.hosts.items i) new → IsBeginning old.history new.history) c.self.view_is
-    (grown c.theorems.ensures.agreement c.theorems.ensures.one c.theorems.ensures.in_turn c.theorems.ensures.shifts c.self.inside.cluster.hosts.items c.run.new.self.hosts.items c.self.inside.cluster.sent.items c.run.new.self.sent.items c.self.inside.complete
+    (grown c.self.inside.cluster.hosts.items c.run.new.self.hosts.items c.self.inside.cluster.sent.items c.run.new.self.sent.items c.self.inside.complete
     (map view c.args.events.now) c.run.ensures.members.as_many c.self.invariant.reached (whole_moves None (map view c.args.events.now) c.in-Ok.field-0.torn c.self.inside.cluster.hosts.items c.run.new.self.hosts.items c.self.inside.cluster.sent.items c.run.new.self.sent.items refl c.in-Ok.ensures.done.fared))
 
 pub returns-in-Err-clause-grows : goal.returns-in-Err-clause-grows
 unfolding HistoriesGrow
 returns-in-Err-clause-grows c =
     subst (λ (farm : MemoryFarm). (i : ℕ) (old new : DurableState Definition) → HasStored (slice_get farm.hosts i) old → HasStored (slice_get c.run.new.self.hosts.items i) new → IsBeginning old.history new.history) c.self.view_is
-    (grown c.theorems.ensures.agreement c.theorems.ensures.one c.theorems.ensures.in_turn c.theorems.ensures.shifts c.self.inside.cluster.hosts.items c.run.new.self.hosts.items c.self.inside.cluster.sent.items c.run.new.self.sent.items c.self.inside.complete
+    (grown c.self.inside.cluster.hosts.items c.run.new.self.hosts.items c.self.inside.cluster.sent.items c.run.new.self.sent.items c.self.inside.complete
     (take c.in-Err.done (map view c.args.events.now)) c.run.ensures.members.as_many c.self.invariant.reached (c.in-Err.ensures.part refl))
 
 pub returns-in-Err-clause-may : goal.returns-in-Err-clause-may

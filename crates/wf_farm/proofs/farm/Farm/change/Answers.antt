@@ -3,7 +3,7 @@ use Rattle.std.proofs.Common.{◌≡◌, ◌++◌, ◌∙◌, ℕ, false, List, 
 use Rattle.wf_farm.proofs.Common.{NodeHost, IsFarm, AreReachableFrom, KeepEntries, KeepHosts, StandInTurn, nodes_in, nodes_of}
 use Rattle.wf_farm.proofs.Exchanges.{farm_reachable}
 use Rattle.wf_farm.proofs.Nodes.{in_turn_of}
-use Rattle.wf_farm.proofs.Lent.{lent_back}
+use Rattle.wf_farm.proofs.Entries.{lent_back}
 use Rattle.wf_tape.specs.declared.tape.Tape.{Ghosts as Tape}
 use Rattle.wf_farm.proofs.farm.Farm.change.Goals as goal
 
@@ -27,7 +27,7 @@ invariant_of-self g c =
     subst (λ ps. IsFarm g.T.Tape.durable g.T.Tape.images g.T.Tape.never_fails ps c.replace.new.dest.items 0 false)
     (sym (returned g.T.Tape c.self.inside.cluster.hosts.items c.deref_mut.result.now c.change.new.hosts c.self.inside.cluster.hosts.len c.deref_mut.ensures.value c.deref_mut.ensures.len c.change.ensures.entries))
     (subst (λ ms. IsFarm g.T.Tape.durable g.T.Tape.images g.T.Tape.never_fails c.change.new.hosts ms 0 false) (sym (ap (λ v. v.items) c.replace.ensures.after ∙ c.new.ensures.items))
-    (farm_reachable g.T.Tape c.records_are_read_one_way.ensures.one c.self.inside.cluster.hosts.items c.change.new.hosts c.self.inside.cluster.sent.items c.self.inside.pumped c.self.inside.complete c.self.invariant
+    (farm_reachable g.T.Tape c.self.inside.cluster.hosts.items c.change.new.hosts c.self.inside.cluster.sent.items c.self.inside.pumped c.self.inside.complete c.self.invariant
     (entries g.T.Tape c.self.inside.cluster.hosts.items c.deref_mut.result.now c.change.new.hosts c.self.inside.cluster.hosts.len c.deref_mut.ensures.value c.deref_mut.ensures.len c.change.ensures.entries)
     (subst (λ ps. AreReachableFrom g.T.Tape (nodes_of ps) (nodes_of c.change.new.hosts)) c.deref_mut.ensures.value c.change.ensures.reaches)))
 

@@ -11,7 +11,7 @@ returns-clause-reached g c = λ durable.
     (reached_any g.T.Tape.durable g.T.Tape.images g.T.Tape.never_fails c.self.inside.cluster.hosts.items c.self.inside.cluster.sent.items c.self.inside.complete c.self.invariant.members durable (c.self.invariant.reached durable))
 
 pub returns-clause-agree : goal.returns-clause-agree
-returns-clause-agree g c = agree_reached c.agreement.ensures (nodes_in c.args.self.now)
+returns-clause-agree g c = agree_reached (nodes_in c.args.self.now)
 
 pub returns-clause-in_turn : goal.returns-clause-in_turn
 returns-clause-in_turn g c =

@@ -1,6 +1,6 @@
 -- One more delivery.
 use Rattle.std.proofs.Common.{◌+◌, ◌<◌, None, length, refl, sym, subst, arith}
-use Rattle.wf_farm.specs.declared.progress.End.TheVariants as end_case
+use Rattle.wf_farm.specs.declared.progress.PumpEnd.TheVariants as end_case
 use Rattle.wf_farm.proofs.Common.{KeepMembers, FailsOnly, HasFaredTo, IsArmed}
 use Rattle.wf_farm.proofs.Events.{keep_twice, same_members}
 use Rattle.wf_farm.proofs.TornRuns.{armed_on, armed_watched, failed_stands, pump_begins, pump_goes_on, pump_may, pump_stays}

@@ -18,7 +18,7 @@ moved g c =
 
 pub invariant_of-self : goal.invariant_of-self
 invariant_of-self g c =
-    farm_moved c.theorems.ensures.in_turn c.theorems.ensures.shifts c.self.inside.cluster.hosts.items c.happen-happened.new.self.hosts.items c.self.inside.cluster.sent.items c.happen-happened.new.self.sent.items c.self.inside.pumped c.self.inside.pumped c.self.inside.complete (moved g c).0
+    farm_moved c.self.inside.cluster.hosts.items c.happen-happened.new.self.hosts.items c.self.inside.cluster.sent.items c.happen-happened.new.self.sent.items c.self.inside.pumped c.self.inside.pumped c.self.inside.complete (moved g c).0
     c.self.invariant c.happen-happened.ensures.members (moved g c).1 (omega (arith, c.self.invariant.pumped_within, c.happen-happened.ensures.grows))
 
 pub returns-clause-done : goal.returns-clause-done
@@ -48,5 +48,5 @@ pub returns-clause-grows : goal.returns-clause-grows
 unfolding HistoriesGrow
 returns-clause-grows g c =
     subst (λ (farm : MemoryFarm). (i : ℕ) (old new : DurableState Definition) → HasStored (slice_get farm.hosts i) old → HasStored (slice_get c.happen-happened.new.self.hosts.items i) new → IsBeginning old.history new.history) c.self.view_is
-    (grown c.theorems.ensures.agreement c.theorems.ensures.one c.theorems.ensures.in_turn c.theorems.ensures.shifts c.self.inside.cluster.hosts.items c.happen-happened.new.self.hosts.items c.self.inside.cluster.sent.items c.happen-happened.new.self.sent.items c.self.inside.complete
+    (grown c.self.inside.cluster.hosts.items c.happen-happened.new.self.hosts.items c.self.inside.cluster.sent.items c.happen-happened.new.self.sent.items c.self.inside.complete
     (moved g c).0 c.happen-happened.ensures.members.as_many c.self.invariant.reached (moved g c).1)

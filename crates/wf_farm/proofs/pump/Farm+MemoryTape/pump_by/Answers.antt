@@ -11,7 +11,7 @@ pub returns-in_default-clause-grows : goal.returns-in_default-clause-grows
 unfolding HistoriesGrow
 returns-in_default-clause-grows g c =
     subst (λ (farm : MemoryFarm). (i : ℕ) (old new : DurableState Definition) → HasStored (slice_get farm.hosts i) old → HasStored (slice_get farm.hosts i) new → IsBeginning old.history new.history) c.self.view_is
-    (grown_still c.theorems.ensures.agreement c.theorems.ensures.one c.theorems.ensures.in_turn c.theorems.ensures.shifts c.self.inside.cluster.hosts.items c.self.inside.cluster.sent.items c.self.inside.complete c.self.invariant.reached)
+    (grown_still c.self.inside.cluster.hosts.items c.self.inside.cluster.sent.items c.self.inside.complete c.self.invariant.reached)
 
 -- the farm before and after
 abbrev before : (g : given.Over) (c : goal.After-drop-targets g) → MemoryFarm
@@ -22,7 +22,7 @@ after g c = record { hosts = c.pump-end.new.self.hosts.items; sent = c.pump-end.
 
 pub invariant_of-self : goal.invariant_of-self
 invariant_of-self g c =
-    farm_moved c.theorems.ensures.in_turn c.theorems.ensures.shifts c.self.inside.cluster.hosts.items c.pump-end.new.self.hosts.items c.self.inside.cluster.sent.items c.pump-end.new.self.sent.items c.self.inside.pumped c.pumped-self-inside.result c.self.inside.complete
+    farm_moved c.self.inside.cluster.hosts.items c.pump-end.new.self.hosts.items c.self.inside.cluster.sent.items c.pump-end.new.self.sent.items c.self.inside.pumped c.pumped-self-inside.result c.self.inside.complete
     (deliveries c.deref.result.now c.self.inside.pumped c.pump-end.result.progress.whole c.pump-end.result.progress.some) c.self.invariant c.pump-end.ensures.members (whole_moves None (deliveries c.deref.result.now c.self.inside.pumped c.pump-end.result.progress.whole c.pump-end.result.progress.some) c.pump-end.result.torn c.self.inside.cluster.hosts.items c.pump-end.new.self.hosts.items c.self.inside.cluster.sent.items c.pump-end.new.self.sent.items refl (c.pump-end.ensures.come tt).fared)
     (subst (λ k. k ≤ length c.pump-end.new.self.sent.items) (sym c.pumped-self-inside.ensures) (c.pump-end.ensures.come tt).within)
 
@@ -42,5 +42,5 @@ pub returns-clause-grows : goal.returns-clause-grows
 unfolding HistoriesGrow
 returns-clause-grows g c =
     subst (λ (farm : MemoryFarm). (i : ℕ) (old new : DurableState Definition) → HasStored (slice_get farm.hosts i) old → HasStored (slice_get c.pump-end.new.self.hosts.items i) new → IsBeginning old.history new.history) c.self.view_is
-    (grown c.theorems.ensures.agreement c.theorems.ensures.one c.theorems.ensures.in_turn c.theorems.ensures.shifts c.self.inside.cluster.hosts.items c.pump-end.new.self.hosts.items c.self.inside.cluster.sent.items c.pump-end.new.self.sent.items c.self.inside.complete
+    (grown c.self.inside.cluster.hosts.items c.pump-end.new.self.hosts.items c.self.inside.cluster.sent.items c.pump-end.new.self.sent.items c.self.inside.complete
     (deliveries c.deref.result.now c.self.inside.pumped c.pump-end.result.progress.whole c.pump-end.result.progress.some) c.pump-end.ensures.members.as_many c.self.invariant.reached (whole_moves None (deliveries c.deref.result.now c.self.inside.pumped c.pump-end.result.progress.whole c.pump-end.result.progress.some) c.pump-end.result.torn c.self.inside.cluster.hosts.items c.pump-end.new.self.hosts.items c.self.inside.cluster.sent.items c.pump-end.new.self.sent.items refl (c.pump-end.ensures.come tt).fared))

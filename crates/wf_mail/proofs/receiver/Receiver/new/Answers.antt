@@ -4,7 +4,7 @@ use Rattle.wf_mail.proofs.Received.{new_is_receiver}
 use Rattle.wf_mail.proofs.receiver.Receiver.new.Goals as goal
 
 pub invariant_of-result : goal.invariant_of-result
-invariant_of-result c = new_is_receiver c.no_spelling_is_empty.ensures c.new-2.result.items c.new.result c.new-2.ensures c.new.ensures
+invariant_of-result c = new_is_receiver c.new-2.result.items c.new.result c.new-2.ensures c.new.ensures
 
 pub returns : goal.returns
 returns c = ap (λ l. with_inbox (logged l) c.new.result) c.new-2.ensures ∙ ap (with_inbox []) c.new.ensures

@@ -5,7 +5,7 @@ use Rattle.wf_model.specs.Table.{Propose, Transition, Busy, SequenceFull}
 use Rattle.wf_proposer.specs.Proposer.{transition_of, volatile_of}
 use Rattle.wf_node.specs.declared.fault.NodeFault.TheVariants as fault
 use Rattle.wf_node.specs.Act.{IsOwn}
-use Rattle.wf_node.specs.Memory.{TakesMemory}
+use Rattle.wf_node.specs.Fault.{TakesMemory}
 use Rattle.wf_node.specs.Parts.{stored_of}
 use Rattle.wf_node.proofs.Acts.{act_done, act_proposer_rejects, act_rejected, step_rejection_propose, transition_fits, transition_propose}
 use Rattle.wf_node.proofs.Transitions.{busy, full, has_stored, propose_own, propose_takes}

@@ -6,7 +6,7 @@ use Rattle.wf_def.specs.Equality.{definition_eq}
 use Rattle.wf_model.specs.DurableState.{Published, fits}
 use Rattle.wf_model.specs.Table.{Transition, on_chosen, store}
 use Rattle.wf_proposer.specs.Proposer.{volatile_of}
-use Rattle.wf_node.specs.Memory.{ByEntry}
+use Rattle.wf_node.specs.Fault.{ByEntry}
 use Rattle.wf_node.specs.Parts.{stored_of}
 use Rattle.wf_node.proofs.Replies.{change_as, spared, write_fails}
 use Rattle.wf_node.proofs.Transitions.{chosen_next, ends_at_next, next_fits, publishing}

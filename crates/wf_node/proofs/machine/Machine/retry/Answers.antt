@@ -5,7 +5,7 @@ use Rattle.wf_model.specs.Table.{Retry, Transition}
 use Rattle.wf_proposer.specs.Proposer.{transition_of, volatile_of}
 use Rattle.wf_proposer.specs.StepRejection.{step_rejection_of}
 use Rattle.wf_node.specs.Act.{IsOwn}
-use Rattle.wf_node.specs.Memory.{ByEntry}
+use Rattle.wf_node.specs.Fault.{ByEntry}
 use Rattle.wf_node.specs.Parts.{stored_of}
 use Rattle.wf_node.proofs.Acts.{act_done, act_proposer_rejects, step_rejection_retry, transition_fits, transition_retry}
 use Rattle.wf_node.proofs.Transitions.{retry_own, retry_stores}

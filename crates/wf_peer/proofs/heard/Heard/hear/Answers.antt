@@ -8,4 +8,4 @@ use Rattle.wf_peer.proofs.heard.Heard.hear.Goals as goal
 
 pub returns-clause-falls : goal.returns-clause-falls
 returns-clause-falls c = falls_by_message c.args.self.now c.put.new.self c.args.node c.in-Some.progress (view c.args.message.now) (sym c.in-Some.ensures)
-    (c.put.ensures ∙ ap (λ (q : Progress). slice_set c.args.self.now c.args.node (Some q)) c.advanced_by.ensures)
+    (c.put.ensures ∙ ap (λ (q : Progress). slice_set c.args.self.now c.args.node (Some q)) c.advance_by.ensures)

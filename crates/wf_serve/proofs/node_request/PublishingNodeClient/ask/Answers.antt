@@ -6,7 +6,7 @@ use Rattle.wf_serve.proofs.node_request.PublishingNodeClient.ask.Goals as goal
 pub returns-clause-reaches : goal.returns-clause-reaches
 returns-clause-reaches g c =
     let one = c.publish_request-outcome in
-    moved_reaches_on g.T.Tape c.a_step_is_reachable.ensures c.args.node.now one.new.node one.result.messages c.reachability_goes_on.ensures.quiet
+    moved_reaches_on g.T.Tape c.args.node.now one.new.node one.result.messages
     (served_moves g.T.Tape g.K.Sink c.args.self.now.request.now c.args.self.now.sink.now one.new.sink c.args.node.now one.new.node one.result.messages one.result.outcome one.ensures)
 
 pub returns-clause-sturdy : goal.returns-clause-sturdy

@@ -1,7 +1,7 @@
 use Rattle.std.proofs.Common.{[], ◌∷◌, ◌++◌}
 use Rattle.std.specs.List.{flat_map}
 use Rattle.wf_spelling.specs.Canon.{class_lines, feature_lines, end_line}
-use Rattle.wf_spelling.specs.ScanLayer.{layer_heading_lines}
+use Rattle.wf_spelling.specs.Scan.{layer_heading_lines}
 use Rattle.wf_spelling.proofs.ScanSequences.{both, lines, last_line, if_some}
 use Rattle.wf_spelling.proofs.scan.layer.scan_layer.Goals as goal
 

@@ -1,5 +1,5 @@
 use Rattle.wf_spelling.specs.Canon.{projection_lines}
-use Rattle.wf_spelling.specs.ScanMap.{web_lines_of}
+use Rattle.wf_spelling.specs.Scan.{web_lines_of}
 use Rattle.wf_spelling.proofs.ScanSequences.{both, lines}
 use Rattle.wf_spelling.proofs.scan.map.scan_heading.Goals as goal
 

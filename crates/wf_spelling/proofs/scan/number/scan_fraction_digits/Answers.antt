@@ -13,14 +13,14 @@ loop-places-preserved c =
 
 pub returns-clause-scanned : goal.returns-clause-scanned
 returns-clause-scanned c =
-    if_some c.ended-2.result (λ whole is. rw is.0 (fraction_ends c.loop-places.places c.loop-places.unit c.loop-places.parts c.loop-places.last is.1 c.loop-places.invariant (nothing _))) c.ended-2.ensures
+    if_some c.end_fraction-2.result (λ whole is. rw is.0 (fraction_ends c.loop-places.places c.loop-places.unit c.loop-places.parts c.loop-places.last is.1 c.loop-places.invariant (nothing _))) c.end_fraction-2.ensures
 
 pub returns-clause-most : goal.returns-clause-most
-returns-clause-most c = if_some c.ended-2.result (λ whole is. rw is.0 (fraction_most c.loop-places.places c.loop-places.unit c.loop-places.parts c.loop-places.last c.loop-places.invariant)) c.ended-2.ensures
+returns-clause-most c = if_some c.end_fraction-2.result (λ whole is. rw is.0 (fraction_most c.loop-places.places c.loop-places.unit c.loop-places.parts c.loop-places.last c.loop-places.invariant)) c.end_fraction-2.ensures
 
 pub returns-in-None-clause-scanned : goal.returns-in-None-clause-scanned
 returns-in-None-clause-scanned c =
-    if_some c.ended.result (λ whole is. rw is.0 (fraction_ends c.loop-places.places c.loop-places.unit c.loop-places.parts c.loop-places.last is.1 c.loop-places.invariant c.in-None.ensures.unchanged)) c.ended.ensures
+    if_some c.end_fraction.result (λ whole is. rw is.0 (fraction_ends c.loop-places.places c.loop-places.unit c.loop-places.parts c.loop-places.last is.1 c.loop-places.invariant c.in-None.ensures.unchanged)) c.end_fraction.ensures
 
 pub returns-in-None-clause-most : goal.returns-in-None-clause-most
-returns-in-None-clause-most c = if_some c.ended.result (λ whole is. rw is.0 (fraction_most c.loop-places.places c.loop-places.unit c.loop-places.parts c.loop-places.last c.loop-places.invariant)) c.ended.ensures
+returns-in-None-clause-most c = if_some c.end_fraction.result (λ whole is. rw is.0 (fraction_most c.loop-places.places c.loop-places.unit c.loop-places.parts c.loop-places.last c.loop-places.invariant)) c.end_fraction.ensures

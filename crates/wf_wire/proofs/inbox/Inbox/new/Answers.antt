@@ -3,4 +3,4 @@ use Rattle.wf_wire.proofs.inbox.Inbox.new.Goals as goal
 
 -- no bytes are part of a message
 pub invariant_of-result : goal.invariant_of-result
-invariant_of-result c = empty_is_part c.new.result.items c.new.ensures.items c.no_spelling_is_empty.ensures
+invariant_of-result c = empty_is_part c.new.result.items c.new.ensures.items

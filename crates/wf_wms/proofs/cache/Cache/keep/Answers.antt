@@ -3,7 +3,7 @@ use Rattle.std.specs.Prelude.{None}
 use Rattle.lru.specs.LruCache.{LruCache}
 use Rattle.wf_paint.specs.Pixmap.{PixmapValue}
 use Rattle.wf_wms.specs.CachedPictures.{AllCached, CacheValue, cache_of, entry_of}
-use Rattle.wf_wms.specs.declared.key.Key.{Key}
+use Rattle.wf_wms.specs.declared.cache.Key.{Key}
 use Rattle.wf_wms.proofs.CachedPicturesTheorem.{drawn_first, drawn_unkept, cached_with, put_cached}
 use Rattle.wf_wms.proofs.cache.Cache.keep.Goals as goal
 

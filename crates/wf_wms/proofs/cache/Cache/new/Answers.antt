@@ -2,7 +2,7 @@ use Rattle.std.proofs.Common.{ap}
 use Rattle.lru.specs.LruCache.{LruCache}
 use Rattle.wf_paint.specs.Pixmap.{PixmapValue}
 use Rattle.wf_wms.specs.CachedPictures.{cache_of}
-use Rattle.wf_wms.specs.declared.key.Key.{Key}
+use Rattle.wf_wms.specs.declared.cache.Key.{Key}
 use Rattle.wf_wms.proofs.CachedPicturesTheorem.{none_cached}
 use Rattle.wf_wms.proofs.cache.Cache.new.Goals as goal
 

@@ -1,5 +1,0 @@
-use Rattle.std.proofs.Common.{length}
-use Rattle.wf_codec.proofs.encoder.+votes_length.Given as goal
-
-abbrev pub decreases-votes_length : goal.decreases-votes_length
-decreases-votes_length l = length l.votes.now

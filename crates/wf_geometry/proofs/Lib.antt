@@ -1,0 +1,14 @@
+pub mod QuotientLemmas
+pub mod StepsLemmas
+pub mod OperationLemmas
+pub mod SpanLemmas
+pub mod LevelLemmas
+pub mod LineLemmas
+pub mod StripLemmas
+pub mod BandLemmas
+pub mod ReachLemmas
+pub mod GridLemmas
+pub mod MovedLemmas
+pub mod DrawingLemmas
+pub mod DirectionLemmas
+pub mod FittingLemmas

@@ -1,0 +1,16 @@
+pub mod Limit
+pub mod Exact
+pub mod Near
+pub mod Position
+pub mod Coverage
+pub mod Square
+pub mod View
+pub mod Segments
+pub mod Operation
+pub mod Level
+pub mod Span
+pub mod Strip
+pub mod Grid
+pub mod Tile
+pub mod Drawing
+pub mod Direction

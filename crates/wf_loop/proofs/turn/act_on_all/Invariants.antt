@@ -1,6 +1,0 @@
-use Rattle.std.proofs.Common.{◌≡◌}
-use Rattle.wf_loop.specs.Continuation.{GoesOn}
-use Rattle.wf_loop.proofs.turn.act_on_all.Given as goal
-
-abbrev pub invariant-loop-token : goal.invariant-loop-token
-invariant-loop-token g l = GoesOn g.T.Tape l.fn.process l.process × (l.clients.before.items ≡ l.fn.clients.before.items)

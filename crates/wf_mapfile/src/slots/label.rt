@@ -1,3 +1,0 @@
-//! What the keywords of LABEL fill, re-exported from `wf_class`.
-
-pub use wf_class::slots::label::LabelSlots;

@@ -1,6 +1,0 @@
-use Rattle.std.proofs.Common.{take}
-use Rattle.wf_paint.proofs.InsideLemmas.{IsReaches}
-use Rattle.wf_paint.proofs.inside.find_reaches.Given as goal
-
-abbrev pub invariant-loop-edge : goal.invariant-loop-edge
-invariant-loop-edge l = IsReaches l.row l.width (take l.edge-index l.edges) l.reaches.items

@@ -1,5 +1,0 @@
-use Rattle.wf_paint.proofs.FittingLemmas.{has_view}
-use Rattle.wf_paint.proofs.theorem.each_request_has_a_view.Goals as goal
-
-pub returns : goal.returns
-returns c = has_view

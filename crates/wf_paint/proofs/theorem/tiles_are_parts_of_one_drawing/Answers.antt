@@ -1,5 +1,0 @@
-use Rattle.wf_paint.proofs.DrawingLemmas.{tiles_drawn}
-use Rattle.wf_paint.proofs.theorem.tiles_are_parts_of_one_drawing.Goals as goal
-
-pub returns : goal.returns
-returns c = tiles_drawn
