@@ -1,11 +1,11 @@
 #!/usr/bin/env python3
-"""Feeds an `Inbox` of wf_wire from memory with streams of messages, Prepare (13 bytes) and Chosen with a text of
+"""Feeds an `Inbox` of wf_mail from memory with streams of messages, Prepare (13 bytes) and Chosen with a text of
 32,741 bytes (32,749 in all), in pieces of 1, 100, 4,096 and 65,536 bytes, and prints messages and megabytes a
 second. With valgrind it also counts instructions for half a stream and a whole one, and for the same bytes in
 each size of piece: the cost is proportional to the bytes, whatever the pieces.
 
 Usage: bench/wire.py    builds a program of its own in a copy of the repository under a temporary folder, over
-the libraries that are proved in this one (`rt check` in crates/wf_wire makes them).
+the libraries that are proved in this one (`rt check` in crates/wf_mail makes them).
 Status 1 where Chosen in pieces of 4,096 bytes comes slower than 100 MB a second, or a count isn't proportional.
 """
 import os
@@ -31,7 +31,7 @@ use std::io;
 use std::io::Read;
 use std::process::ExitCode;
 use std::rt::Env;
-use wf_wire::Inbox;
+use wf_mail::Inbox;
 
 /// Feeds the bytes in pieces. The number of messages that came out; None after an error.
 fn feed(inbox: &mut Inbox, bytes: &[u8], size: usize) -> Option<usize> {
@@ -139,7 +139,7 @@ def copy_of_repository(folder):
         if ":" in line and not line.startswith("#"):
             name, uses = line.split(":")
             lines[name.strip()] = uses.split()
-    names = below("wf_wire", lines)
+    names = below("wf_mail", lines)
     for name in names:
         into = os.path.join(folder, "crates", name)
         source = os.path.join(TOP, "crates", name)
@@ -151,7 +151,7 @@ def copy_of_repository(folder):
         for name in lines:
             if name in names:
                 out.write("%s: %s\n" % (name, " ".join(lines[name])))
-        out.write("%s: wf_wire\n" % CRATE)
+        out.write("%s: wf_mail\n" % CRATE)
     shutil.copy(os.path.join(TOP, "HANDLES"), folder)
     crate = os.path.join(folder, "crates", CRATE)
     os.makedirs(os.path.join(crate, "src"))

@@ -8,7 +8,7 @@ use Rattle.std.specs.FinMap.{FinMap}
 use Rattle.wf_ballot.specs.Ballot.{Ballot}
 use Rattle.wf_model.specs.Message.{Vote}
 use Rattle.wf_model.specs.DurableState as model
-use Rattle.wf_model.specs.DurableState.{DurableState, published, put, raised, with_record, nothing_stored}
+use Rattle.wf_model.specs.DurableState.{published, put, raised, with_record, nothing_stored}
 use Rattle.wf_def.specs.Definition.{Definition}
 use Rattle.wf_codec.specs.Message.{view_vote}
 use Rattle.wf_journal.specs.Record.{view}

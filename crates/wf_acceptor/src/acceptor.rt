@@ -312,7 +312,7 @@ impl Acceptor {
     fn raise(&mut self, ballot: Ballot)
         ensures { self.new ≡ unprepared (with_promise self.old.part ballot) }
     {
-        self.promise = raised(self.promise, ballot);
+        self.promise = higher_ballot(self.promise, ballot);
         self.prepared = None;
     }
 
@@ -372,7 +372,7 @@ impl Acceptor {
         if let Some(Record::Accepted(slot, ballot, _)) = &self.prepared {
             let slot = *slot;
             let ballot = *ballot;
-            self.promise = raised(self.promise, ballot);
+            self.promise = higher_ballot(self.promise, ballot);
             if let Some(canon) = take_definition(&mut self.prepared) {
                 put(&mut self.votes, slot, (ballot, canon));
             }
@@ -410,7 +410,7 @@ fn take_definition(prepared: &mut Option<Record>) -> Option<Canon>
 
 // The promise, raised to the ballot if that is above it.
 #[tactic(auto, unfolding(wf_model::specs::DurableState::raised))]
-fn raised(promise: Option<Ballot>, ballot: Ballot) -> Option<Ballot>
+fn higher_ballot(promise: Option<Ballot>, ballot: Ballot) -> Option<Ballot>
     ensures { result ≡ raised promise ballot }
 {
     match promise {

@@ -1,12 +1,11 @@
 -- What waits for a process's own node, and what is in its outboxes, is of what the node returned.
-use Rattle.std.proofs.Common.{◌≡◌, ◌⊎◌, ℕ, ◌≤◌, Bool, true, false, List, [], ◌∷◌, ◌++◌, length, map, take, slice_get, slice_set, Option, Some, None, refl, sym, ap, subst, ◌∙◌, inl, inr, append-nil}
+use Rattle.std.proofs.Common.{◌≡◌, ℕ, ◌≤◌, Bool, true, false, List, [], ◌∷◌, ◌++◌, length, map, take, slice_get, slice_set, Some, refl, sym, ap, subst, ◌∙◌, inl, inr, append-nil}
 use Rattle.std.proofs.lemmas.Bool.{cases_eq}
 use Rattle.std.proofs.lemmas.List.{map-append}
-use Rattle.std.proofs.lemmas.Option.{same_Some, none-some}
 use Rattle.wf_codec.specs.Message.{view}
 use Rattle.wf_codec.specs.declared.message.Message as code
 use Rattle.wf_def.specs.Definition.{Definition}
-use Rattle.wf_delivery.specs.IndexTheorems.{get_set_same, get_set_other, set_there}
+use Rattle.wf_delivery.specs.IndexTheorems.{get_set_same, get_set_other}
 use Rattle.wf_model.specs.Chosen.{IsIn}
 use Rattle.wf_model.specs.Message.{Message}
 use Rattle.wf_actor.specs.Backlog.{most_messages, queued}
@@ -15,7 +14,7 @@ use Rattle.wf_actor.specs.Sent.{put_into, AreAmong, ArePutAmong, AreSent}
 use Rattle.wf_actor.specs.Target.{includes}
 use Rattle.wf_actor.specs.declared.link.Link.{Link}
 use Rattle.wf_actor.specs.declared.target.Target.{Target}
-use Rattle.wf_actor.proofs.Lists.{take_whole, in_left, in_right, in_either, in_take, in_map, in_along, there_too}
+use Rattle.wf_actor.proofs.Lists.{take_whole, in_left, in_right, in_either, in_take, in_along, there_too}
 use Rattle.wf_actor.proofs.Offers.{all_put_if}
 
 -- ---- none

@@ -1,13 +1,12 @@
 -- Processes that show their lives are a farm.
-use Rattle.std.proofs.Common.{◌≡◌, ◌⊎◌, ℕ, ◌<◌, ◌==◌, Bool, true, false, List, [], ◌∷◌, ◌++◌, map, refl, sym, ap, subst, ◌∙◌, inl, inr, append_assoc, append-nil, eq-eqb}
+use Rattle.std.proofs.Common.{◌≡◌, ℕ, ◌<◌, ◌==◌, Bool, true, false, List, [], ◌∷◌, ◌++◌, refl, sym, ap, subst, ◌∙◌, inl, inr, eq-eqb}
 use Rattle.std.specs.Prelude.{if◌then◌else◌}
-use Rattle.wf_career.specs.Career.{Item, IsOneOf, AreInTurn, items_by}
+use Rattle.wf_career.specs.Career.{IsOneOf, AreInTurn, items_by}
 use Rattle.wf_career.specs.Run.{Act, Input, IsRun, given_to}
 use Rattle.wf_codec.specs.declared.message.Message.{Message}
-use Rattle.wf_model.specs.Chosen.{IsIn}
 use Rattle.wf_model.specs.declared.action.Action.TheVariants as action
 use Rattle.wf_tape.specs.declared.tape.Tape.{Ghosts as Tape}
-use Rattle.wf_actor.specs.Farm.{Step, item_of, items, steps_of, steps_by, AreOwn, ArePeersAmong, AreCarried, AreMembers, ProcessesAreFarm, LifeIsPart, PartIsFirst, RunsAreOwn}
+use Rattle.wf_actor.specs.Farm.{Step, items, steps_of, steps_by, AreOwn, ArePeersAmong, AreCarried, AreMembers, ProcessesAreFarm, LifeIsPart, PartIsFirst, RunsAreOwn}
 use Rattle.wf_actor.specs.Life.{AreOwnAmong, AreOwnReceived}
 use Rattle.wf_actor.specs.Sent.{AreAmong}
 use Rattle.wf_actor.specs.declared.actor.Origin.{Origin}

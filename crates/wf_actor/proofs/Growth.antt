@@ -1,5 +1,5 @@
 -- Cached pictures outlast a step of their node.
-use Rattle.std.proofs.Common.{◌≡◌, Bool, true, false, Vec, List, refl, sym, ap, subst}
+use Rattle.std.proofs.Common.{◌≡◌, Bool, true, false, Vec, refl, sym, ap, subst}
 use Rattle.std.specs.Prelude.{Result}
 use Rattle.wf_codec.specs.declared.message.Message.{Message}
 use Rattle.wf_def.specs.Definition.{Definition}

@@ -2,7 +2,7 @@
 use Rattle.std.proofs.Common.{◌≡◌, ℕ, Bool, true, false, List, [], ◌∷◌, ◌++◌, Vec, Result, Ok, Err, IfOk, IfErr, refl, sym, ap, subst, ◌∙◌, append-nil, append_assoc}
 use Rattle.std.specs.declared.alloc.Global.{Global}
 use Rattle.wf_career.specs.RunTheorems.{last_more, done_more, fold_stands, outputs_more}
-use Rattle.wf_career.specs.Run.{Act, Input, Run, IsAct, given_to, last_of, outputs}
+use Rattle.wf_career.specs.Run.{Act, Input, IsAct, given_to, last_of, outputs}
 use Rattle.wf_codec.specs.declared.message.Message.{Message}
 use Rattle.wf_edge.specs.StepResult.{IsAnswer}
 use Rattle.wf_edge.specs.RequestEffect.{HandsOut, MovesOnce, Stays, Proposes}
@@ -19,7 +19,7 @@ use Rattle.wf_node.specs.declared.fault.NodeFault.{NodeFault}
 use Rattle.wf_tape.specs.declared.tape.Tape.{Ghosts as Tape}
 use Rattle.wf_actor.specs.Life.{all_from, delivered, logged, AreOwnAmong, AreOwnReceived, IsLife, IsOpenedFrom}
 use Rattle.wf_actor.specs.declared.actor.Origin.{Origin}
-use Rattle.wf_actor.specs.declared.actor.Origin.TheVariants.{Own, Peer}
+use Rattle.wf_actor.specs.declared.actor.Origin.TheVariants.{Own}
 use Rattle.wf_actor.proofs.Runs.{received_more, delivered_more}
 
 -- the log of one more list

@@ -1,8 +1,8 @@
 -- Messages are offered to one link after the other.
-use Rattle.std.proofs.Common.{◌≡◌, ◌⊎◌, ℕ, zero, suc, ◌+◌, ◌<◌, ◌≤◌, List, [], ◌∷◌, ◌++◌, length, slice_get, slice_set, Option, Some, None, length-set, refl, sym, ap, subst, ◌∙◌, inl, inr, arith}
-use Rattle.std.proofs.lemmas.Option.{none-some, same_Some, slice_get_within}
+use Rattle.std.proofs.Common.{◌≡◌, ◌⊎◌, ℕ, zero, suc, ◌+◌, ◌<◌, ◌≤◌, List, [], length, slice_get, slice_set, Some, length-set, refl, sym, ap, subst, ◌∙◌, inl, inr, arith}
+use Rattle.std.proofs.lemmas.Option.{same_Some, slice_get_within}
 use Rattle.wf_def.specs.Definition.{Definition}
-use Rattle.wf_delivery.specs.IndexTheorems.{get_set_same, get_set_other, set_there}
+use Rattle.wf_delivery.specs.IndexTheorems.{get_set_same, get_set_other}
 use Rattle.wf_model.specs.Message.{Message}
 use Rattle.wf_actor.specs.Link.{AreOfferedIf, ArePosted}
 use Rattle.wf_actor.specs.Target.{includes}

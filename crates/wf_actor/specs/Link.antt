@@ -8,7 +8,7 @@ use Rattle.wf_mail.specs.Outbox.{OutboxState}
 use Rattle.wf_mail.specs.Receiver as mail
 use Rattle.wf_mail.specs.Receiver.{IsReceived, IsClosed}
 use Rattle.wf_model.specs.Message.{Message}
-use Rattle.wf_wire.specs.declared.fault.InboxFault.{InboxFault}
+use Rattle.wf_codec.specs.declared.fault.DecodeFault.{DecodeFault}
 use Rattle.wf_actor.specs.Offer.{IsPutOr}
 use Rattle.wf_actor.specs.Target.{includes}
 use Rattle.wf_actor.specs.declared.link.TheConstants.{OUTBOX_BYTES}
@@ -111,13 +111,13 @@ pub record IsTaken (piece : List ℕ) (messages : Vec code.Message Global) (befo
   pub outgoing : IsSameOutgoing before after
 
 -- The receiver closed with the error, or was closed with it.
-pub record IsBroken (piece : List ℕ) (fault : InboxFault) (before after : Link) : Type 0 where
+pub record IsBroken (piece : List ℕ) (fault : DecodeFault) (before after : Link) : Type 0 where
   pub closes : IsClosed before.receiver piece fault after.receiver
   pub arrived : arrived after ≡ arrived before
   pub outgoing : IsSameOutgoing before after
 
 -- one of these, with the log of what came, which has the messages with the peer that they came from
-abbrev pub TakesIn : ℕ → List ℕ → Link → List (Vec code.Message Global × ℕ) → Result ℕ InboxFault → Link → List (Vec code.Message Global × ℕ) → Type 0
+abbrev pub TakesIn : ℕ → List ℕ → Link → List (Vec code.Message Global × ℕ) → Result ℕ DecodeFault → Link → List (Vec code.Message Global × ℕ) → Type 0
 TakesIn peer piece before came (Ok count) after came_after =
     (messages : Vec code.Message Global) × IsTaken piece messages before after × (count ≡ length messages.items) × (came_after ≡ came ++ (messages, peer) ∷ [])
 TakesIn peer piece before came (Err fault) after came_after = IsBroken piece fault before after × (came_after ≡ came)

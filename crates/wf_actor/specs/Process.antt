@@ -1,5 +1,5 @@
 -- What is done to a process.
-use Rattle.std.specs.Prelude.{◌≡◌, ◌≢◌, ℕ, ◌+◌, ◌<◌, Bool, true, false, not, ◌&&◌, ◌==◌, nat_lt, ⊤, List, [], ◌∷◌, ◌++◌, length, map, take, slice_get, slice_set, Option, Some, None, Result, Ok, Err, Vec}
+use Rattle.std.specs.Prelude.{◌≡◌, ℕ, ◌+◌, Bool, not, ◌&&◌, ◌==◌, nat_lt, ⊤, List, [], ◌∷◌, ◌++◌, length, map, slice_get, slice_set, Option, Some, None, Result, Ok, Err, Vec}
 use Rattle.std.specs.declared.alloc.Global.{Global}
 use Rattle.wf_codec.specs.Message.{view}
 use Rattle.wf_codec.specs.declared.message.Message.{Message}
@@ -14,7 +14,7 @@ use Rattle.wf_node.specs.declared.fault.NodeFault.{NodeFault}
 use Rattle.wf_stream.specs.declared.stream.Sink.{Ghosts as Sink}
 use Rattle.wf_stream.specs.declared.stream.Source.{Ghosts as Source}
 use Rattle.wf_tape.specs.declared.tape.Tape.{Ghosts as Tape}
-use Rattle.wf_wire.specs.declared.fault.InboxFault.{InboxFault}
+use Rattle.wf_codec.specs.declared.fault.DecodeFault.{DecodeFault}
 use Rattle.wf_actor.specs.Life.{all_from, logged}
 use Rattle.wf_actor.specs.Link.{arrived, ArePosted, AreUnlinked, IsPopped, TakesIn}
 use Rattle.wf_actor.specs.Backlog.{queued}
@@ -116,7 +116,7 @@ pub record IsOwnPopped {T : Type 0} {tapes : Tape T} (m : Message) (before after
 
 -- The peer's receiver took the piece, and the messages that it returned wait and are logged, what waited of it before is dropped; or it
 -- closed with the error, or was closed with it.
-pub record IsReception {T : Type 0} {tapes : Tape T} (peer : ℕ) (piece : List ℕ) (before : Process T tapes) (result : Result ℕ InboxFault) (after : Process T tapes) : Type 0 where
+pub record IsReception {T : Type 0} {tapes : Tape T} (peer : ℕ) (piece : List ℕ) (before : Process T tapes) (result : Result ℕ DecodeFault) (after : Process T tapes) : Type 0 where
   pub link : Link
   pub link_after : Link
   pub was : slice_get before.links.items peer ≡ Some link

@@ -7,12 +7,12 @@ use http_server::Log;
 use std::alloc::Global;
 use wf_ballot::NodeId;
 use wf_codec::Message;
-use wf_edge::serve::Served;
+use wf_edge::Served;
 use wf_journal::OpenFault;
 use wf_node::{Input, Node, NodeFault};
 use wf_stream::{Sink, Source};
 use wf_tape::Tape;
-use wf_wms::cache::Cache;
+use wf_wms::Cache;
 
 /// Where an input of a node comes from.
 #[derive(Clone, Copy, Debug, PartialEq, Eq)]
@@ -132,7 +132,7 @@ impl<T: Tape> Actor<T> {
         answer
     }
 
-    /// Serves one request by the node, as [`wf_edge::serve::serve_one_cached`] does. A publish may be a step of the node; its messages are returned.
+    /// Serves one request by the node, as [`wf_edge::serve_one_cached`] does. A publish may be a step of the node; its messages are returned.
     pub(crate) fn serve<S: Source, K: Sink>(
         &mut self,
         alloc: Global,

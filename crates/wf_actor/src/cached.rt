@@ -13,11 +13,11 @@ ghost use Rattle.wf_wms.specs.CachedPictures.{AllCached};
 use std::alloc::Global;
 use std::marker::Model;
 use wf_codec::Message;
-use wf_edge::serve::{Served, serve_one_cached};
+use wf_edge::{Served, serve_one_cached};
 use wf_node::{Input, Node, NodeFault};
 use wf_stream::{Sink, Source};
 use wf_tape::Tape;
-use wf_wms::cache::Cache;
+use wf_wms::Cache;
 
 /// A node with the pictures of its maps that are cached. Model: the node.
 #[derive(Drop)]

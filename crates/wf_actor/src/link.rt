@@ -12,10 +12,9 @@ use std::alloc::{AllocError, Global};
 use std::collections::VecDeque;
 use std::io;
 use wf_ballot::NodeId;
-use wf_codec::Message;
-use wf_mail::{Outbox, Receiver};
+use wf_codec::{DecodeFault, Message};
+use wf_mail::{MESSAGE_BYTES, Outbox, Receiver};
 use wf_stream::Sink;
-use wf_wire::{InboxFault, MESSAGE_BYTES};
 
 /// The most bytes that wait for a peer: a whole answer to an Ask fits, eight of the longest messages.
 pub const OUTBOX_BYTES: usize = 8 * MESSAGE_BYTES;
@@ -81,7 +80,7 @@ impl Link {
         peer: NodeId,
         piece: &[u8],
         came: &mut Log<Vec<Message>, NodeId>,
-    ) -> Result<usize, InboxFault>
+    ) -> Result<usize, DecodeFault>
         ensures { TakesIn peer piece.now self.old came.old.items result self.new came.new.items }
     {
         match self.receiver.receive(piece) {

@@ -14,7 +14,7 @@ use crate::target::Target;
 use std::alloc::{AllocError, Global};
 use wf_ballot::NodeId;
 use wf_codec::Message;
-use wf_wms::cache::Cache;
+use wf_wms::Cache;
 
 /// What a process has beside its node.
 #[derive(Drop)]

@@ -18,7 +18,7 @@ use wf_learner::History;
 use wf_node::{Input, Node, NodeFault};
 use wf_proposer::ProposalState;
 use wf_tape::Tape;
-use wf_wms::cache::Cache;
+use wf_wms::Cache;
 
 /// One node of a farm in a process of its own. A clause sees its actor, its own messages that wait for it, the ends of its
 /// connections by node, and logs that only proofs read: what the receivers returned, with the peer; and the runs that have ended.

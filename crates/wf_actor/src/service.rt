@@ -4,8 +4,7 @@ use crate::parts::send;
 use crate::process::Process;
 use crate::target::Target;
 use std::alloc::Global;
-use wf_edge::outcome::Outcome;
-use wf_edge::serve::Served;
+use wf_edge::{Outcome, Served};
 use wf_stream::{Sink, Source};
 use wf_tape::Tape;
 
@@ -15,7 +14,7 @@ impl<T: Tape> Process<T> {
     ghost use Rattle.wf_edge.specs.Completion.{CountsCompleting};
     ghost use Rattle.wf_edge.specs.Request.{TakesRequest};
 
-    /// Serves one request, as [`wf_edge::serve::serve_one_cached`] does: what reads is answered by the node's history and the pictures
+    /// Serves one request, as [`wf_edge::serve_one_cached`] does: what reads is answered by the node's history and the pictures
     /// that are kept; POST /publish is an act if its checks pass, and its messages go to every node, whether or not the response is
     /// written. Where the reader fails before the request is complete, nothing is written and nothing has changed.
     pub fn serve<S: Source, K: Sink>(

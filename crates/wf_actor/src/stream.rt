@@ -7,11 +7,10 @@ use crate::process::Process;
 use std::alloc::Global;
 use std::io;
 use wf_ballot::NodeId;
-use wf_codec::Message;
+use wf_codec::{DecodeFault, Message};
 use wf_node::NodeFault;
 use wf_stream::Sink;
 use wf_tape::Tape;
-use wf_wire::InboxFault;
 
 impl<T: Tape> Process<T> {
     ghost use Rattle.std.specs.Prelude.{[], ◌∷◌, List, true, false, None, Ok, IfSome};
@@ -59,7 +58,7 @@ impl<T: Tape> Process<T> {
     }
 
     /// How many messages for a peer were dropped since its outbox was opened.
-    pub fn dropped(&self, peer: NodeId) -> u64
+    pub fn drop_count(&self, peer: NodeId) -> u64
         ensures { result ≡ dropped_at self.now peer }
     {
         let index = usize::from(peer.number());
@@ -71,7 +70,7 @@ impl<T: Tape> Process<T> {
     }
 
     /// How many messages were put into outboxes for a peer in this run, to be written to it. It saturates.
-    pub fn posted(&self, peer: NodeId) -> u64
+    pub fn post_count(&self, peer: NodeId) -> u64
         ensures { result ≡ posted_at self.now peer }
     {
         let index = usize::from(peer.number());
@@ -113,7 +112,7 @@ impl<T: Tape> Process<T> {
     /// Takes bytes that came from a peer, and returns how many messages they complete. These have arrived: each is delivered by a call of
     /// [`Process::handle`]. Of those that arrived before and aren't delivered nothing is left. Err: the receiver is closed until
     /// [`Process::open_receiver`], as its connection is to be.
-    pub fn receive(&mut self, peer: NodeId, piece: &[u8]) -> Result<usize, InboxFault>
+    pub fn receive(&mut self, peer: NodeId, piece: &[u8]) -> Result<usize, DecodeFault>
         ensures peer { is_peer self.old peer ≡ true →
             IsReception peer piece.now self.old result self.new }
         ensures other { is_peer self.old peer ≡ false →
@@ -128,7 +127,7 @@ impl<T: Tape> Process<T> {
     }
 
     /// The first message that has arrived from a peer, and isn't delivered yet.
-    pub fn arrived(&self, peer: NodeId) -> Option<&Message>
+    pub fn next_message(&self, peer: NodeId) -> Option<&Message>
         ensures first { IfSome result (λ m. (rest : List code.Message) ×
             (arrived_at self.now peer ≡ m.now ∷ rest)) }
         ensures none { result ≡ None → arrived_at self.now peer ≡ [] }
@@ -146,7 +145,7 @@ impl<T: Tape> Process<T> {
     pub fn handle(&mut self, alloc: Global, peer: NodeId) -> Option<Result<(), NodeFault>>
         ensures { ReceivesFrom T.Tape peer self.old result self.new }
     {
-        if self.arrived(peer).is_none() {
+        if self.next_message(peer).is_none() {
             return None;
         }
         match self.pop_arrived(peer) {

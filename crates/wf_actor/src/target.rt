@@ -6,7 +6,7 @@ ghost use Rattle.wf_actor.specs.Target.{includes, reply_target};
 use wf_ballot::NodeId;
 use wf_codec::Message;
 
-/// Whom messages are for. The model lets any node hear any message; this says who has a use for them.
+/// Whom messages are for. The model lets any node receive any message; this says who has a use for them.
 #[derive(Clone, Copy, Debug, PartialEq, Eq)]
 pub enum Target {
     /// Every node, the sender too.

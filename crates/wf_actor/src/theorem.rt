@@ -4,7 +4,7 @@ ghost use Rattle.wf_actor.specs.Farm.{LifeIsPart, PartIsFirst, ProcessesAreFarm,
 ghost use Rattle.wf_actor.specs.Responses.{ProcessesRespondAlike};
 
 use wf_career::processes_agree;
-use wf_edge::theorem::equal_requests_have_equal_responses;
+use wf_edge::equal_requests_have_equal_responses;
 use wf_tape::Tape;
 
 /// Processes of which each shows its runs, and hears only its own messages and those that connections carry, are a farm of

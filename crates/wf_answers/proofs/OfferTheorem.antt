@@ -87,8 +87,8 @@ all_alike p q alike [] = refl
 all_alike p q alike (x ∷ xs) = ap₂ (λ (a b : Bool). a && b) (alike x) (all_alike p q alike xs)
 
 -- nothing is found where none passes
-no_place : (i n : ℕ) → is_none (cond (nat_lt i n) (Some i) None) ≡ not (nat_lt i n)
-no_place i n = by_test (nat_lt i n) where
+no_index : (i n : ℕ) → is_none (cond (nat_lt i n) (Some i) None) ≡ not (nat_lt i n)
+no_index i n = by_test (nat_lt i n) where
   by_test : (t : Bool) → is_none (cond t (Some i) None) ≡ not t
   by_test true = refl
   by_test false = refl
@@ -109,7 +109,7 @@ whole q (x ∷ xs) = by (q x) (whole q xs) where
   by false rest = ap not (zero_below (length xs))
 
 not_found : {A : Type 0} (p : A → Bool) (xs : List A) → is_none (position p xs) ≡ list_all (λ x. not (p x)) xs
-not_found p xs = no_place (position_or_len p xs) (length xs) ∙ whole (λ x. not (p x)) xs
+not_found p xs = no_index (position_or_len p xs) (length xs) ∙ whole (λ x. not (p x)) xs
 
 one_more : (a b c : Bool) → not b ≡ c → not (not a && b) ≡ (a || c)
 one_more true b c is = refl

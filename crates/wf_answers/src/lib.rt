@@ -10,4 +10,9 @@
 //! It doesn't promise that a document is well formed as a whole.
 #![tactic(auto)]
 
-pub mod theorem;
+mod theorem;
+
+pub use theorem::{
+    escaped_texts_are_read_back, late_answers_do_not_count, only_nodes_answer,
+    requests_within_the_offer_are_taken, what_is_offered_is_taken,
+};

@@ -7,7 +7,7 @@ use crate::fault::MapFault;
 use crate::keyword::is_end;
 use crate::parser::Parser;
 use std::mem::replace;
-use wf_token::token::Token;
+use wf_token::Token;
 
 /// A block while it is read: what its keywords have set so far, within their limits.
 pub trait Slots {
@@ -75,10 +75,10 @@ macro_rules! once {
     };
     ($slot:expr, $byte_offset:expr, $read:expr, $settings:pat => $kept:expr) => {
         if $slot.is_some() {
-            return Err($crate::fault::MapFault::Repeated($byte_offset));
+            return Err($crate::MapFault::Repeated($byte_offset));
         }
         match $read {
-            Ok($settings) => $crate::block::keep(&mut $slot, $kept),
+            Ok($settings) => $crate::keep(&mut $slot, $kept),
             Err(fault) => return Err(fault),
         }
     };

@@ -3,8 +3,7 @@ ghost use Rattle.std.specs.Prelude.{◌≡◌, ◌≤◌, [], IfOk, unwrap_or};
 ghost use Rattle.wf_text.specs.Text.{IsText};
 
 use std::alloc::{AllocError, Global};
-use wf_text::text::Text;
-use wf_text::whole::Whole;
+use wf_text::{Text, Whole};
 
 /// The number, or the least of its range.
 pub fn or_least<const LEAST: u8, const MOST: u8>(

@@ -2,7 +2,7 @@
 use std::alloc::{AllocError, AllocFailed};
 use std::error::Error;
 use std::fmt;
-use wf_token::token::{LexFault, LexFaultKind};
+use wf_token::{LexFault, LexFaultKind};
 
 /// The first error of a mapfile, from the left. Byte offsets count from the front of the file, from 0.
 #[derive(Clone, Copy, PartialEq, Eq)]

@@ -10,12 +10,8 @@ use crate::fault::MapFault;
 use crate::keyword::is_end;
 use std::alloc::Global;
 use std::marker::Model;
-use wf_text::fault::{NumberFault, TextFault};
-use wf_text::micro::Micro;
-use wf_text::text::{Text, check_text};
-use wf_text::value_list::{ValueList, check_list};
-use wf_text::whole::Whole;
-use wf_token::token::{Token, TokenKind};
+use wf_text::{Micro, NumberFault, Text, TextFault, ValueList, Whole, check_list, check_text};
+use wf_token::{Token, TokenKind};
 
 /// The remaining tokens of a file. Model: their values.
 #[derive(Drop)]

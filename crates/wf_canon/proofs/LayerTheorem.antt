@@ -17,8 +17,8 @@ use Rattle.wf_def.specs.declared.choice.LayerKind.TheVariants.{Points, Lines, Po
 use Rattle.wf_token.specs.Token.{Token, Word, Quoted}
 use Rattle.wf_token.specs.Spelling.{is_written, tokens_of}
 use Rattle.wf_block.specs.Grammar.{is_end, word, argument, text, end}
-use Rattle.wf_metadata.specs.Metadata.{pairs, all_differ, value_at, kept as kept_pairs, metadata}
-use Rattle.wf_metadata.specs.declared.slots.Metadata.{Metadata}
+use Rattle.wf_mapfile.specs.Metadata.{pairs, all_differ, value_at, kept as kept_pairs, metadata}
+use Rattle.wf_mapfile.specs.declared.slots.Metadata.{Metadata}
 use Rattle.wf_feature.specs.declared.slots.FeatureSlots.{FeatureSlots}
 use Rattle.wf_mapfile.specs.declared.slots.LayerOnce.{LayerOnce}
 use Rattle.wf_mapfile.specs.declared.slots.LayerSlots.{LayerSlots}

@@ -14,12 +14,12 @@ use Rattle.wf_def.specs.declared.choice.Projection.{Projection}
 use Rattle.wf_def.specs.declared.choice.Projection.TheVariants.{Epsg4326, Epsg3857}
 use Rattle.wf_token.specs.Token.{Token, Word}
 use Rattle.wf_block.specs.Grammar.{word, argument, text, end}
-use Rattle.wf_metadata.specs.Metadata.{pairs, all_differ, value_at, kept as kept_pairs, metadata}
+use Rattle.wf_mapfile.specs.Metadata.{pairs, all_differ, value_at, kept as kept_pairs, metadata}
 use Rattle.wf_token.specs.Spelling.{tokens_of}
-use Rattle.wf_metadata.specs.declared.slots.Metadata as slots
+use Rattle.wf_mapfile.specs.declared.slots.Metadata as slots
 use Rattle.wf_mapfile.specs.declared.slots.MapOnce.{MapOnce}
 use Rattle.wf_mapfile.specs.declared.slots.MapSlots.{MapSlots}
-use Rattle.wf_metadata.specs.Web as webs
+use Rattle.wf_mapfile.specs.Web as webs
 use Rattle.wf_mapfile.specs.Layer as layers
 use Rattle.wf_mapfile.specs.Map as mapfile
 use Rattle.wf_mapfile.specs.Map.{extent, projection, projection_named, definition}

@@ -11,12 +11,9 @@ ghost use Rattle.wf_canon.specs.CanonFault.{IsWhyRejected, reject_again};
 use std::alloc::{AllocError, Global};
 use std::marker::Model;
 use std::rc::Rc;
-use wf_def::map::MapDef;
-use wf_mapfile::fault::MapFault;
-use wf_mapfile::read;
-use wf_spelling::fault::CanonFault;
-use wf_spelling::scan::map::scan;
-use wf_spelling::text::{MOST_CANON_BYTES, text_of};
+use wf_def::MapDef;
+use wf_mapfile::{MapFault, read};
+use wf_spelling::{CanonFault, MOST_CANON_BYTES, scan_text, text_of};
 
 /// What the copies of a canonical text share.
 #[derive(Drop)]
@@ -105,7 +102,7 @@ impl Canon {
         if bytes.len() > MOST_CANON_BYTES {
             return None;
         }
-        match scan(alloc, bytes) {
+        match scan_text(alloc, bytes) {
             Some(def) => of_scanned(alloc, bytes, def),
             None => None,
         }

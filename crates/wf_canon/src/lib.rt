@@ -11,7 +11,7 @@
 //!
 //! Copies of a [`Canon`] share one text and one definition, so whoever needs one takes a copy: it allocates nothing.
 //!
-//! [`Canon::from_bytes`] first tries the quick reader of wf_spelling, `scan`, which accepts canonical texts alone; only where it
+//! [`Canon::from_bytes`] first tries the quick reader of wf_spelling, `scan_text`, which accepts canonical texts alone; only where it
 //! accepts nothing are the bytes read as any mapfile, written again and compared.
 //!
 //! wf_spelling defines the canonical text, and writes and scans it.
@@ -26,7 +26,5 @@ pub use theorem::{
     canonical_text_means_its_map, every_canonical_text_denotes_its_map, limit_of_canonical_texts,
     one_text_one_map,
 };
-pub use wf_spelling::fault::CanonFault;
-pub use wf_spelling::text::MOST_CANON_BYTES;
-pub use wf_text::number_form::number_is_read_again;
-pub use wf_text::number_text::write_number;
+pub use wf_spelling::{CanonFault, MOST_CANON_BYTES};
+pub use wf_text::{number_is_read_again, write_number};

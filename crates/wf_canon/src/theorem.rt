@@ -7,7 +7,7 @@ ghost use Rattle.wf_mapfile.specs.Meaning.{Means};
 ghost use Rattle.wf_spelling.specs.Canon.{canon, most_canon_bytes};
 ghost use Rattle.wf_canon.specs.TextMeaning.{OneTextOneMap, Denotes};
 
-use wf_spelling::text::MOST_CANON_BYTES;
+use wf_spelling::MOST_CANON_BYTES;
 
 /// The canonical text of a map means that map.
 #[tactic(auto, using(crate::proofs::MeaningTheorem::canon_means))]

@@ -171,7 +171,7 @@ module _ {T : Type 0} (tapes : Tape T) (n i : ℕ) (careers : ℕ → Career T) 
       (ap (λ xs. xs ++ record { process = i; takes = input; outputs = [] } ∷ []) (item_own less (Some run) now) ∙ sym (in_ended i ended_now run (Within input) bytes))
   ends run (Failed input) bytes less now left_it cut = subst (IsFarm tapes n (with_career careers i (ended_by run (Failed input) bytes))) (sym (append-nil items)) (ends_quietly run (Failed input) bytes less now left_it refl)
 
--- ---- the laws
+-- ---- the theorems
 
 nothing_own : (T : Type 0) (i : ℕ) → items_of i [] ≡ items_in {T = T} i [] None
 unfolding items_of items_in

@@ -187,8 +187,8 @@ module _ {T : Type 0} (one : AreReadOneWay) (none : IsReadAsNone) (tapes : Tape 
       }
 
       one_history : trace_theorems.OneHistory Definition → HasOneHistory n careers
-      one_history laws =
-          let so = laws definition_eq n are_one.entries nodes are_one.trace in
+      one_history history_theorem =
+          let so = history_theorem definition_eq n are_one.entries nodes are_one.trace in
           record {
             history = so.history;
             each = λ node held. begins_last so.history node held
@@ -216,7 +216,7 @@ pub farm_is_one_run : AreReadOneWay → IsReadAsNone → LivesAreOneTrace Defini
 farm_is_one_run one none merges runs tapes = λ n careers items farm. one_run one none tapes n careers items farm merges runs
 
 pub farm_has_one_history : AreReadOneWay → IsReadAsNone → LivesAreOneTrace Definition → trace_theorems.OneHistory Definition → {T : Type 0} (tapes : Tape T) → OneHistory tapes
-farm_has_one_history one none merges laws tapes = λ n careers items farm. one_history one none tapes n careers items farm merges laws
+farm_has_one_history one none merges history_theorem tapes = λ n careers items farm. one_history one none tapes n careers items farm merges history_theorem
 
 pub farm_has_one_definition : {T : Type 0} (tapes : Tape T) → OneHistory tapes → OneDefinition tapes
 farm_has_one_definition tapes theorem = λ n careers items farm node other held also s c d at there.

@@ -11,14 +11,14 @@ use Rattle.wf_model.specs.Message as model
 use Rattle.wf_model.specs.DurableState.{DurableState}
 use Rattle.wf_model.specs.VolatileState as volatile
 use Rattle.wf_model.specs.Table as table
-use Rattle.wf_model.specs.Table.{Transition, transition, step_rejection, store}
+use Rattle.wf_model.specs.Table.{Transition, transition, store}
 use Rattle.wf_model.specs.World as world
 use Rattle.wf_model.specs.World.{Turn, Before, After, stored_after, kept_part, turn_running, turn_of}
 use Rattle.wf_node.specs.Growth.{IsGrown, grown_itself, transition_grown, same_grown}
 use Rattle.wf_node.specs.Input.{view}
 use Rattle.wf_node.specs.Node.{Node, stored_of, volatile_of}
 use Rattle.wf_node.specs.Step.{transition_of, step_rejection_at, stored_next, IsTransition, IsSameNode}
-use Rattle.wf_delivery.specs.NodeInput.{Answers, Halts, Rejects, Fails, IsLost, Takes}
+use Rattle.wf_delivery.specs.NodeInput.{Halts, Rejects, Fails, Takes}
 use Rattle.wf_delivery.specs.NodeInput as giving
 use Rattle.wf_tape.specs.declared.tape.Tape.{Ghosts as Tape}
 use Rattle.wf_trace.specs.Deed.{Deed, Crashes, Stops, Restarts, IsDone}

@@ -1,5 +1,5 @@
 -- A step of a node is one of the things that a node does with an input.
-use Rattle.std.proofs.Common.{◌≡◌, true, false, ◌++◌, List, Ok, Err, Vec, IfOk, IfErr, OnOk}
+use Rattle.std.proofs.Common.{◌≡◌, true, false, ◌++◌, Ok, Err, Vec, IfOk, IfErr, OnOk}
 use Rattle.std.specs.Prelude.{Result, ◌≢◌, IsSome}
 use Rattle.std.specs.declared.alloc.Global.{Global}
 use Rattle.std.proofs.lemmas.Bool.{both_ways}
@@ -8,7 +8,7 @@ use Rattle.wf_node.specs.Fault.{rejected_by}
 use Rattle.wf_node.specs.Images.{EachStandsFor}
 use Rattle.wf_node.specs.Input.{view}
 use Rattle.wf_node.specs.Node.{Node, stored_of, IsOnTape}
-use Rattle.wf_node.specs.Step.{transition_of, entry_of, stored_next, step_rejection_at, IsTransition, IsSameNode, IsStep, TakesMemory}
+use Rattle.wf_node.specs.Step.{transition_of, entry_of, stored_next, step_rejection_at, IsTransition, IsSameNode, TakesMemory}
 use Rattle.wf_node.specs.TapeWrites.{bytes_of}
 use Rattle.wf_node.specs.declared.fault.NodeFault.{NodeFault}
 use Rattle.wf_node.specs.declared.fault.NodeFault.TheVariants.{Memory, Halted, TapeFailed}

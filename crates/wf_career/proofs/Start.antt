@@ -1,5 +1,5 @@
 -- A node that was opened begins a run.
-use Rattle.std.proofs.Common.{◌≡◌, ◌∙◌, ℕ, false, List, [], Ok, Err, subst}
+use Rattle.std.proofs.Common.{◌≡◌, ◌∙◌, ℕ, false, [], Ok, Err, subst}
 use Rattle.std.specs.Prelude.{Result, IfOk}
 use Rattle.wf_model.specs.VolatileState.{at_start}
 use Rattle.wf_node.specs.Node.{Node, stored_of, volatile_of}

@@ -1,6 +1,5 @@
 -- Three processes are a farm, whatever is delivered, and when one starts again.
-use Rattle.std.proofs.Common.{◌≡◌, ◌≢◌, ◌⊎◌, ℕ, zero, suc, ◌<◌, ◌==◌, Bool, true, false, List, [], ◌∷◌, ◌++◌, length, slice_get, slice_set, Option, Some, None, Ok, Vec, refl, sym, ap, subst, ◌∙◌, inl, inr, append-nil, append_assoc, length-set}
-use Rattle.std.specs.Prelude.{⊤}
+use Rattle.std.proofs.Common.{◌≡◌, ℕ, zero, suc, ◌<◌, Bool, false, List, [], ◌∷◌, ◌++◌, length, slice_get, slice_set, Option, Some, None, Ok, Vec, refl, sym, ap, subst, ◌∙◌, inl, inr, append-nil, append_assoc, length-set}
 use Rattle.std.specs.declared.alloc.Global.{Global}
 use Rattle.std.proofs.lemmas.Bool.{both_ways, cases_eq}
 use Rattle.std.proofs.lemmas.Option.{none-some, same_Some, slice_get_within}
@@ -8,7 +7,7 @@ use Rattle.wf_codec.specs.Message as message
 use Rattle.wf_codec.specs.declared.message.Message.{Message}
 use Rattle.wf_def.specs.Definition.{Definition}
 use Rattle.wf_model.specs.Chosen.{IsIn}
-use Rattle.wf_model.specs.DurableState.{DurableState, nothing_stored}
+use Rattle.wf_model.specs.DurableState.{DurableState}
 use Rattle.wf_model.specs.VolatileState as volatile
 use Rattle.wf_model.specs.VolatileState.{at_start}
 use Rattle.wf_model.specs.Table as table
@@ -17,11 +16,10 @@ use Rattle.wf_journal.specs.Records.{AreReadOneWay, IsReadAsNone}
 use Rattle.wf_node.specs.Images.{StandsFor}
 use Rattle.wf_node.specs.Node.{Node, stored_of, volatile_of}
 use Rattle.wf_node.specs.Step.{IsStep}
-use Rattle.wf_node.specs.declared.fault.NodeFault.{NodeFault}
 use Rattle.wf_delivery.specs.declared.progress.PumpProgress.{PumpProgress}
-use Rattle.wf_delivery.specs.Delivery.{IsHanded, AreHanded, First, Next, AreHandedOut, StandAmong, StandInTurn}
-use Rattle.wf_delivery.specs.Reachability.{IsFresh, AreFresh, outputs_by}
-use Rattle.wf_delivery.specs.Outcome.{is_lost, StepIsAnswered}
+use Rattle.wf_delivery.specs.Delivery.{IsHanded, AreHanded, First, Next, StandAmong, StandInTurn}
+use Rattle.wf_delivery.specs.Reachability.{AreFresh}
+use Rattle.wf_delivery.specs.Outcome.{StepIsAnswered}
 use Rattle.wf_delivery.specs.IndexTheorems.{get_set_same, get_set_other}
 use Rattle.wf_delivery.specs.Delivery.{NoneHalted}
 use Rattle.wf_publication.specs.Publication.{AllPublish, PublishedOnAll, Rests}
@@ -31,7 +29,7 @@ use Rattle.wf_career.specs.RunTheorems.{last_more}
 use Rattle.wf_career.specs.Career.{Ended, Career, AreRuns, Item, items_of, items_by, items_in, IsOneOf, IsFarm}
 use Rattle.wf_career.specs.Theorems.{outputs_in}
 use Rattle.wf_career.specs.Continuation.{with_career, left_by, left}
-use Rattle.wf_career.specs.Processes.{IsNow, AreProcesses, AreOpened, HavePublished, ThreeProcesses}
+use Rattle.wf_career.specs.Processes.{IsNow, AreProcesses, AreOpened, ThreeProcesses}
 use Rattle.wf_career.proofs.Careers.{stand_for_nothing, stand_once}
 use Rattle.wf_career.proofs.Continuation.{own_career, other_career, start_goes_on, step_goes_on, end_goes_on}
 

@@ -8,7 +8,7 @@ use Rattle.wf_model.specs.Table as table
 use Rattle.wf_node.specs.Images.{StandsFor}
 use Rattle.wf_node.specs.Node.{Node, stored_of}
 use Rattle.wf_node.specs.Step.{IsStep}
-use Rattle.wf_delivery.specs.Delivery.{AreHandedOut, StandInTurn}
+use Rattle.wf_delivery.specs.Delivery.{AreHandedOut}
 use Rattle.wf_delivery.specs.Delivery.{NoneHalted}
 use Rattle.wf_publication.specs.Publication.{AllPublish}
 use Rattle.wf_tape.specs.declared.tape.Tape.{Ghosts as Tape}

@@ -9,7 +9,7 @@ use wf_canon::Canon;
 use wf_journal::records_are_read_one_way;
 use wf_tape::Tape;
 use wf_trace::{a_trace_is_a_run, lives_are_one_trace};
-use wf_wms::theorem::{asked_maps_are_answered_alike, each_query_has_one_answer};
+use wf_wms::{asked_maps_are_answered_alike, each_query_has_one_answer};
 
 /// What a process has published at one moment is a beginning of what it has published at each later one, in whichever of its runs.
 pub fn lists_grow<T: Tape>()

@@ -1,7 +1,7 @@
 //! The blocks of a mapfile, and what their keywords take.
 
-use wf_block::keyword::is_name;
-use wf_def::limits::{MOST_BUFFER, MOST_PRIORITY, MOST_SIZE, MOST_WIDTH};
+use wf_block::is_name;
+use wf_def::{MOST_BUFFER, MOST_PRIORITY, MOST_SIZE, MOST_WIDTH};
 
 /// A block of a mapfile. METADATA has one for each block that it stands in.
 #[derive(Clone, Copy, PartialEq, Eq)]

@@ -1,8 +1,8 @@
 //! What may stand at a token.
 
 use crate::block::{Block, Takes};
-use wf_block::keyword::is_end;
-use wf_token::token::{Token, TokenKind};
+use wf_block::is_end;
+use wf_token::{Token, TokenKind};
 
 /// What may stand at a token of a mapfile.
 #[derive(Clone, Copy)]

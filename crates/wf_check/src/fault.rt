@@ -1,7 +1,7 @@
 //! Why a file isn't a map to publish.
 
 use thiserror::Error;
-use wf_block::fault::MapFault;
+use wf_block::MapFault;
 
 /// Why a file isn't a map that a farm publishes. Its text is the error's number, with the byte offset where it has one.
 #[derive(Clone, Copy, Debug, PartialEq, Eq, Error)]

@@ -6,7 +6,7 @@ use crate::fault::CheckFault;
 use crate::limit::Limit;
 use crate::line::NumberedLine;
 use crate::walk::Missing;
-use wf_token::token::Token;
+use wf_token::Token;
 
 /// What isn't closed.
 #[derive(Clone, Copy)]

@@ -13,11 +13,11 @@ use crate::walk::Missing;
 use std::alloc::{AllocError, Global};
 use std::fmt;
 use std::fmt::Write;
-use wf_def::choice::LayerKind;
-use wf_def::limits::MOST_TEXT_BYTES;
+use wf_def::LayerKind;
 use wf_mapfile::MOST_MAPFILE_BYTES;
-use wf_spelling::text::MOST_CANON_BYTES;
-use wf_token::token::{Token, TokenKind};
+use wf_spelling::MOST_CANON_BYTES;
+use wf_text::MOST_TEXT_BYTES;
+use wf_token::{Token, TokenKind};
 
 /// The most bytes of a file that are counted.
 pub const MOST_COUNTED_BYTES: usize = 16_777_216;

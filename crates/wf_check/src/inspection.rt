@@ -9,11 +9,10 @@ use crate::line::NumberedLine;
 use crate::reason::{Reason, reason_of, too_big};
 use crate::size::{TextSize, measure};
 use std::alloc::{AllocError, Global};
-use wf_block::fault::MapFault;
-use wf_def::map::MapDef;
+use wf_block::MapFault;
+use wf_def::MapDef;
 use wf_mapfile::{MOST_MAPFILE_BYTES, read};
-use wf_spelling::fault::CanonFault;
-use wf_spelling::text::text_of;
+use wf_spelling::{CanonFault, text_of};
 
 /// Checks a file: `None` if it is a map whose canonical text is within the limit, so that a farm publishes it; else the first error
 /// from the left, with its line. The only error of the check itself is allocation failure.

@@ -1,6 +1,6 @@
 //! The limits on the number of items.
 
-use wf_def::limits::{MOST_CLASSES, MOST_FEATURES, MOST_LAYERS, MOST_POINTS, MOST_STYLES};
+use wf_def::{MOST_CLASSES, MOST_FEATURES, MOST_LAYERS, MOST_POINTS, MOST_STYLES};
 
 /// What a map may have so many of.
 #[derive(Clone, Copy, PartialEq, Eq)]

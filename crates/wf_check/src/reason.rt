@@ -7,10 +7,9 @@ use crate::limit::Limit;
 use crate::line::line_of;
 use crate::walk::{Item, Walk};
 use std::alloc::{AllocError, Global};
-use wf_block::fault::MapFault;
-use wf_text::limits::MOST_TEXT_BYTES;
-use wf_token::lexer::tokenize;
-use wf_token::token::Token;
+use wf_block::MapFault;
+use wf_text::MOST_TEXT_BYTES;
+use wf_token::{Token, tokenize};
 
 /// An offset, with what was found there and what is allowed there.
 #[derive(Clone, Copy)]

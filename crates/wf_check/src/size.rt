@@ -1,20 +1,12 @@
 //! The length of a canonical text, for one that is too long to be written.
 
 use crate::walk::Item;
-use wf_def::choice::{LabelSize, LayerKind};
-use wf_def::class::Class;
-use wf_def::color::Color;
-use wf_def::expression::Expression;
-use wf_def::extent::Extent;
-use wf_def::feature::{Feature, Part};
-use wf_def::label::Label;
-use wf_def::layer::Layer;
-use wf_def::map::MapDef;
-use wf_def::micro::Micro;
-use wf_def::style::Style;
-use wf_spelling::text::MOST_CANON_BYTES;
-use wf_text::number_text::NumberText;
-use wf_text::text::Text;
+use wf_def::{
+    Class, Color, Expression, Extent, Feature, Label, LabelSize, Layer, LayerKind, MapDef, Micro,
+    Part, Style,
+};
+use wf_spelling::MOST_CANON_BYTES;
+use wf_text::{NumberText, Text};
 
 /// The bytes of a line END, which ends a block.
 const END: usize = 4;

@@ -6,9 +6,9 @@
 use crate::block::{Block, Takes};
 use crate::expected::{Expected, ends_argument, is_end_word};
 use crate::limit::Limit;
-use wf_block::keyword::is_name;
-use wf_def::choice::LayerKind;
-use wf_token::token::Token;
+use wf_block::is_name;
+use wf_def::LayerKind;
+use wf_token::Token;
 
 /// What a block misses at its END.
 #[derive(Clone, Copy)]

@@ -8,16 +8,9 @@ use crate::label::read_label;
 use crate::slots::{ClassOnce, ClassSlots};
 use crate::style::read_style;
 use std::alloc::{AllocError, Global};
-use wf_block::block::{Slots, fill_block};
-use wf_block::default::text_or_empty;
-use wf_block::fault::MapFault;
-use wf_block::keyword::is_name;
-use wf_block::once;
-use wf_block::parser::Parser;
-use wf_def::class::{Class, Styles};
-use wf_def::expression::Expression;
-use wf_token::lexer::is_slash;
-use wf_token::token::{Token, TokenKind};
+use wf_block::{MapFault, Parser, Slots, fill_block, is_name, once, text_or_empty};
+use wf_def::{Class, Expression, Styles};
+use wf_token::{Token, TokenKind, is_slash};
 
 impl Slots for ClassSlots {
     ghost use Rattle.wf_class.specs.declared.slots.ClassSlots.{ClassSlots as Value};

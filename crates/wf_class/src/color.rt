@@ -4,10 +4,9 @@ ghost use Rattle.wf_class.specs.Color.{color, hash_digits, rgb_color};
 ghost use Rattle.wf_block.specs.ReadContract.{Gives};
 ghost use Rattle.wf_token.specs.Token.{token_value};
 
-use wf_block::fault::MapFault;
-use wf_block::parser::Parser;
-use wf_def::color::Color;
-use wf_token::token::{Token, TokenKind};
+use wf_block::{MapFault, Parser};
+use wf_def::Color;
+use wf_token::{Token, TokenKind};
 
 /// Reads a colour (MapServer mapfile reference, COLOR).
 #[tactic(auto, unfolding(crate::specs::Color::color))]

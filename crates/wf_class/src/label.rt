@@ -5,17 +5,9 @@ ghost use Rattle.wf_block.specs.ReadContract.{Gives};
 
 use crate::color::read_color;
 use crate::slots::LabelSlots;
-use wf_block::block::{Slots, fill_block};
-use wf_block::default::or_least;
-use wf_block::fault::MapFault;
-use wf_block::keyword::is_name;
-use wf_block::once;
-use wf_block::parser::Parser;
-use wf_def::choice::{LabelPosition, LabelSize};
-use wf_def::color::Color;
-use wf_def::label::Label;
-use wf_def::limits::{MOST_BUFFER, MOST_PRIORITY};
-use wf_token::token::Token;
+use wf_block::{MapFault, Parser, Slots, fill_block, is_name, once, or_least};
+use wf_def::{Color, Label, LabelPosition, LabelSize, MOST_BUFFER, MOST_PRIORITY};
+use wf_token::Token;
 
 /// The colour of letters without COLOR.
 const BLACK: Color = Color { r: 0, g: 0, b: 0 };

@@ -5,13 +5,16 @@
 //! it, or none (`class` of `specs/Class.antt`, and so on). Each block is defined by the table of its keywords, each of which fills its slot in
 //! `slots`.
 //!
-//! Promises, of [`class::read_class`] and [`color::read_color`]: the value that is returned is what the tokens mean; an error
+//! Promises, of [`read_class`] and [`read_color`]: the value that is returned is what the tokens mean; an error
 //! other than allocation failure is returned only if they mean nothing. Which error, and its byte offset, is tested and not
 //! proved. Not here: how a block is read keyword by keyword (wf_block), and which feature is in a class (wf_def).
 #![tactic(auto)]
 
-pub mod class;
-pub mod color;
+mod class;
+mod color;
 mod label;
-pub mod slots;
+mod slots;
 mod style;
+
+pub use class::read_class;
+pub use color::read_color;

@@ -1,13 +1,9 @@
 //! The slots that the keywords of CLASS, STYLE and LABEL fill. A dropped keyword's slot says only that it came.
 
-use wf_def::choice::{LabelPosition, LabelSize};
-use wf_def::class::Styles;
-use wf_def::color::Color;
-use wf_def::expression::Expression;
-use wf_def::label::Label;
-use wf_def::limits::{MOST_BUFFER, MOST_PRIORITY, MOST_SIZE, MOST_WIDTH};
-use wf_def::text::Text;
-use wf_def::whole::Whole;
+use wf_def::{
+    Color, Expression, Label, LabelPosition, LabelSize, MOST_BUFFER, MOST_PRIORITY, MOST_SIZE,
+    MOST_WIDTH, Styles, Text, Whole,
+};
 
 /// CLASS.
 #[derive(Drop)]

@@ -5,15 +5,9 @@ ghost use Rattle.wf_class.specs.Style.{style, style_of};
 
 use crate::color::read_color;
 use crate::slots::StyleSlots;
-use wf_block::block::{Slots, fill_block};
-use wf_block::default::or_least;
-use wf_block::fault::MapFault;
-use wf_block::keyword::is_name;
-use wf_block::once;
-use wf_block::parser::Parser;
-use wf_def::limits::{MOST_SIZE, MOST_WIDTH};
-use wf_def::style::Style;
-use wf_token::token::Token;
+use wf_block::{MapFault, Parser, Slots, fill_block, is_name, once, or_least};
+use wf_def::{MOST_SIZE, MOST_WIDTH, Style};
+use wf_token::Token;
 
 impl Slots for StyleSlots {
     ghost use Rattle.wf_class.specs.declared.slots.StyleSlots.{StyleSlots as Value};

@@ -2,18 +2,18 @@
 use Rattle.std.specs.Prelude.{◌≡◌, ◌≤◌, ◌+◌, ◌-◌, ◌^◌, ℕ, Bool, List, Option, None, Some, [], ◌∷◌, false, true, length, min}
 use Rattle.wf_client.specs.PartialRequest.{Incoming}
 use Rattle.wf_client.specs.ResponseBuffer.{Outgoing}
-use Rattle.wf_client.specs.declared.client.Phase.{Phase}
-use Rattle.wf_client.specs.declared.client.Phase.TheVariants.{Asking, Taking, Lingering}
+use Rattle.wf_client.specs.declared.client.ClientPhase.{ClientPhase}
+use Rattle.wf_client.specs.declared.client.ClientPhase.TheVariants.{Asking, Taking, Lingering}
 
 -- its phase, since when it is in it, its request and its answer
 pub record Client : Type 0 where
-  pub phase : Phase
+  pub phase : ClientPhase
   pub since : ℕ
   pub incoming : Incoming
   pub outgoing : Outgoing
 
 -- the time of a phase, in milliseconds
-abbrev pub limit_of : Phase → ℕ
+abbrev pub limit_of : ClientPhase → ℕ
 limit_of Asking = 10000
 limit_of Taking = 10000
 limit_of Lingering = 1000
@@ -23,13 +23,13 @@ abbrev pub IsOver : ℕ → Client → Type 0
 IsOver now client = limit_of client.phase ≤ now - client.since
 
 -- the request isn't whole
-abbrev pub is_asking : Phase → Bool
+abbrev pub is_asking : ClientPhase → Bool
 is_asking Asking = true
 is_asking Taking = false
 is_asking Lingering = false
 
 -- a phase began
-abbrev pub Begins : Phase → ℕ → Client → Client → Type 0
+abbrev pub Begins : ClientPhase → ℕ → Client → Client → Type 0
 Begins phase now old new = new ≡ record old { phase = phase; since = now }
 
 -- the bytes of its request and of its answer

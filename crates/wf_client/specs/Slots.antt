@@ -40,7 +40,7 @@ abbrev pub NoneIsWaiting : List (Option Client) → Type 0
 NoneIsWaiting slots = (i since : ℕ) → ¬ WaitsSince slots i since
 
 -- A newcomer's slot is the first free one; if there is none, that of the request that has waited longest.
-abbrev pub IsPlaceOf : List (Option Client) → Option ℕ → Type 0
-IsPlaceOf slots place =
-    MatchOption place (NoneIsFree slots × NoneIsWaiting slots)
+abbrev pub IsSlotIndex : List (Option Client) → Option ℕ → Type 0
+IsSlotIndex slots index =
+    MatchOption index (NoneIsFree slots × NoneIsWaiting slots)
     (λ i. (NoneIsFree slots → IsLongestWaiting slots i) × ((j : ℕ) → IsFree slots j → IsFirstFree slots i))

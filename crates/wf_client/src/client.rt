@@ -10,7 +10,7 @@ use std::marker::Model;
 
 /// What is waited for.
 #[derive(Clone, Copy, PartialEq, Eq)]
-pub enum Phase {
+pub enum ClientPhase {
     /// The request isn't whole.
     Asking,
     /// The answer isn't taken.
@@ -22,7 +22,7 @@ pub enum Phase {
 /// A client: its phase, since when it is in it, its request and its answer.
 #[derive(Drop)]
 pub struct Client {
-    phase: Phase,
+    phase: ClientPhase,
     since: u64,
     pub incoming: Incoming,
     pub outgoing: Outgoing,
@@ -39,13 +39,13 @@ impl Model for Client {
 impl Client {
     /// A client that came now.
     pub fn new(alloc: Global, now: u64) -> Self
-        ensures phase { result.phase ≡ Phase.Asking }
+        ensures phase { result.phase ≡ ClientPhase.Asking }
         ensures since { result.since ≡ now }
         ensures incoming { result.incoming ≡ record { bytes = []; needed = 1; is_closed = false } }
         ensures outgoing { result.outgoing ≡ record { bytes = []; done = 0; failures = 0 } }
     {
         Client {
-            phase: Phase::Asking,
+            phase: ClientPhase::Asking,
             since: now,
             incoming: Incoming::new(alloc),
             outgoing: Outgoing::new(alloc),
@@ -53,7 +53,7 @@ impl Client {
     }
 
     /// Its phase.
-    pub fn phase(&self) -> Phase
+    pub fn phase(&self) -> ClientPhase
         ensures { result ≡ self.now.phase }
     {
         self.phase
@@ -70,11 +70,11 @@ impl Client {
     pub fn is_asking(&self) -> bool
         ensures { result ≡ is_asking self.now.phase }
     {
-        matches!(self.phase, Phase::Asking)
+        matches!(self.phase, ClientPhase::Asking)
     }
 
     /// The next phase begins now.
-    pub fn begin(&mut self, phase: Phase, now: u64)
+    pub fn begin(&mut self, phase: ClientPhase, now: u64)
         ensures { Begins phase now self.old self.new }
     {
         self.phase = phase;
@@ -99,12 +99,12 @@ impl Client {
 }
 
 /// The time of a phase, in milliseconds.
-pub fn limit_of(phase: Phase) -> u64
+pub fn limit_of(phase: ClientPhase) -> u64
     ensures { result ≡ limit_of phase }
 {
     match phase {
-        Phase::Asking => REQUEST_MILLIS,
-        Phase::Taking => ANSWER_MILLIS,
-        Phase::Lingering => LINGER_MILLIS,
+        ClientPhase::Asking => REQUEST_MILLIS,
+        ClientPhase::Taking => ANSWER_MILLIS,
+        ClientPhase::Lingering => LINGER_MILLIS,
     }
 }

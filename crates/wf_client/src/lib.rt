@@ -2,12 +2,12 @@
 //! gives way.
 //!
 //! There are no sockets here, and the time is handed in, in milliseconds of any clock that never goes back.
-//! - [`partial_request::Incoming`] is what has come of a request; [`arrived::Arrived`] reads it, and fails at its end as long as
+//! - [`Incoming`] is what has come of a request; [`Arrived`] reads it, and fails at its end as long as
 //! more may
 //!   come, so a request is whole once reading it doesn't fail.
-//! - [`response_buffer::Outgoing`] is an answer, and how much of it was taken.
-//! - [`client::Client`] is one client with its phase, and when that is over.
-//! - [`slots`] says where a newcomer goes: to a free slot, or to that of the unfinished request that has waited longest.
+//! - [`Outgoing`] is an answer, and how much of it was taken.
+//! - [`Client`] is one client with its phase, and when that is over.
+//! - `slots` says where a newcomer goes: to a free slot, or to that of the unfinished request that has waited longest.
 //!
 //! **Model.** `specs/PartialRequest.antt`, `specs/ResponseBuffer.antt` and `specs/Client.antt`.
 //!
@@ -20,9 +20,16 @@
 //! **Doesn't.** It doesn't say when a client sends or takes bytes, nor what the answer is.
 #![tactic(auto)]
 
-pub mod arrived;
-pub mod client;
-pub mod limits;
-pub mod partial_request;
-pub mod response_buffer;
-pub mod slots;
+mod arrived;
+mod client;
+mod limits;
+mod partial_request;
+mod response_buffer;
+mod slots;
+
+pub use arrived::Arrived;
+pub use client::{Client, ClientPhase};
+pub use limits::BUDGET_BYTES;
+pub use partial_request::Incoming;
+pub use response_buffer::Outgoing;
+pub use slots::{slot_index, weight};

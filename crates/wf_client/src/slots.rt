@@ -1,7 +1,7 @@
 //! The slots of clients, and which client gives way.
 ghost use Rattle.std.specs.Prelude.{◌≡◌, ◌≤◌, ◌<◌, ◌^◌, ◌-◌, IfNone, IfSome, None, length, min};
 ghost use Rattle.wf_client.specs.Client.{weight_at, weight_in};
-ghost use Rattle.wf_client.specs.Slots.{IsBest, IsFirstFree, IsLongestWaiting, IsPlaceOf, NoneIsFree, NoneIsWaiting, waiting_since};
+ghost use Rattle.wf_client.specs.Slots.{IsBest, IsFirstFree, IsLongestWaiting, IsSlotIndex, NoneIsFree, NoneIsWaiting, waiting_since};
 
 use crate::client::Client;
 
@@ -82,8 +82,8 @@ pub fn longest_waiting(slots: &[Option<Client>]) -> Option<usize>
 
 /// The slot for a newcomer: the first free one, else that of the request that has waited longest of those that aren't whole. None:
 /// each client is taking its answer, and the newcomer waits.
-pub fn place(slots: &[Option<Client>]) -> Option<usize>
-    ensures { IsPlaceOf slots.now result }
+pub fn slot_index(slots: &[Option<Client>]) -> Option<usize>
+    ensures { IsSlotIndex slots.now result }
 {
     match first_free(slots) {
         Some(index) => Some(index),

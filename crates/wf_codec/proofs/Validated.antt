@@ -12,7 +12,7 @@ use Rattle.wf_frame.specs.declared.fault.FrameFault.{FrameFault}
 use Rattle.wf_frame.specs.declared.fault.FrameFault.TheVariants as frames
 use Rattle.wf_ballot.specs.Field.{frame}
 use Rattle.wf_frame.specs.Frame.{Found, frame_front}
-use Rattle.wf_frame.specs.FrameTheorems as laws
+use Rattle.wf_frame.specs.FrameTheorems as frame_theorems
 use Rattle.wf_frame.specs.Row.{Row, row_bytes, read_row}
 use Rattle.wf_frame.specs.RowTheorems.{row_stands}
 use Rattle.wf_model.specs.Message.{Message}
@@ -35,7 +35,7 @@ cut_of : (m : Message Definition) (spelled after bytes : List ℕ) → Spells m 
 unfolding text_spelling
 cut_of m spelled after bytes spells e =
     let begins : bytes ≡ frame message_version (texts m).byte (row_bytes (texts m)) ++ after = e ∙ ap (λ (t : List ℕ). t ++ after) spells.spelled in
-    ap (frame_front format) begins ∙ laws.frame_again format is_format message_version (texts m).byte (row_bytes (texts m)) after (body_of_message m spells.is_message)
+    ap (frame_front format) begins ∙ frame_theorems.frame_again format is_format message_version (texts m).byte (row_bytes (texts m)) after (body_of_message m spells.is_message)
 
 -- ---- the theorems
 
@@ -62,7 +62,7 @@ pub none_begins_another : OneTextOneMap → NoneBeginsAnother
 unfolding text_spelling
 none_begins_another one_map m n a b after_a after_b spells_a spells_b e =
     let same_bytes : spelling m ++ after_a ≡ spelling n ++ after_b = sym (ap (λ (t : List ℕ). t ++ after_a) spells_a.spelled) ∙ e ∙ ap (λ (t : List ℕ). t ++ after_b) spells_b.spelled in
-    let same_frame = laws.one_frame format is_format message_version (texts m).byte message_version (texts n).byte (row_bytes (texts m)) (row_bytes (texts n)) after_a after_b
+    let same_frame = frame_theorems.one_frame format is_format message_version (texts m).byte message_version (texts n).byte (row_bytes (texts m)) (row_bytes (texts n)) after_a after_b
     (body_of_message m spells_a.is_message) (body_of_message n spells_b.is_message) same_bytes in
     let same_texts : texts m ≡ texts n =
     some_same (texts m) (texts n) (sym (row_of_message m spells_a.is_message) ∙ ap read_of same_frame ∙ row_of_message n spells_b.is_message) in
@@ -80,7 +80,7 @@ unfolding text_spelling
 begins_by view x bytes (Err fault) is fits validated = absurd cc
 begins_by view x bytes (Ok found) is fits validated =
     let r : Row (List ℕ) = texts (view x.0) in
-    let framed = laws.frame_stands format bytes found.0 found.1 found.2 fits is in
+    let framed = frame_theorems.frame_stands format bytes found.0 found.1 found.2 fits is in
     let own : found.0 ≡ message_version = eqb-true found.0 message_version framed.has_body.is_read in
     let stands = row_stands kinds found.1 framed.has_body.layout found.2 r framed.has_body.has_kind framed.body_bytes framed.has_body.has_length validated.0.0 in
     let spelled : frame found.0 found.1 found.2 ≡ spelling (view x.0) =
@@ -159,14 +159,14 @@ rejected_by : {X : Type 0} (view : X → Message Definition) (e : DecodeFault) (
     IsValidated view (Err e) r → IsRejection e → NeverBegins bytes
 rejected_by {X} view e bytes (Err fault) is fits validated rejection more m spelled after spells same =
     let fault_is : e ≡ decode_fault fault = err_same {X = X × ℕ} e (decode_fault fault) validated in
-    let on = laws.frame_goes_on format bytes more fault is (fault_not_short e fault rejection fault_is) in
+    let on = frame_theorems.frame_goes_on format bytes more fault is (fault_not_short e fault rejection fault_is) in
     let cut = cut_of m spelled after (bytes ++ more) spells same in
     absurd cc
 rejected_by {X} view e bytes (Ok found) is fits validated rejection more m spelled after spells same =
-    let framed = laws.frame_stands format bytes found.0 found.1 found.2 fits is in
+    let framed = frame_theorems.frame_stands format bytes found.0 found.1 found.2 fits is in
     let longer : bytes ++ more ≡ frame found.0 found.1 found.2 ++ (framed.rest ++ more) =
     ap (λ (t : List ℕ). t ++ more) framed.parts ∙ append_assoc (frame found.0 found.1 found.2) framed.rest more in
-    let again = ap (frame_front format) longer ∙ laws.frame_again format is_format found.0 found.1 found.2 (framed.rest ++ more) framed.has_body in
+    let again = ap (frame_front format) longer ∙ frame_theorems.frame_again format is_format found.0 found.1 found.2 (framed.rest ++ more) framed.has_body in
     let cut = cut_of m spelled after (bytes ++ more) spells same in
     let same_frame = ok_same (found.0, found.1, found.2) (message_version, (texts m).byte, row_bytes (texts m)) (sym again ∙ cut) in
     let read = ap read_of same_frame ∙ row_of_message m spells.is_message in
@@ -196,12 +196,12 @@ short_by {X} view result (Ok found) validated short =
 -- if Short is returned, more bytes are needed
 pub short_unfinished : {X : Type 0} (view : X → Message Definition) (result : Result (X × ℕ) DecodeFault) (bytes : List ℕ) → IsValidated view result (frame_front format bytes) → IsErrOf result Short → IsUnfinished bytes
 short_unfinished view result bytes validated short =
-    laws.short_is_unfinished format bytes (short_by view result (frame_front format bytes) validated short)
+    frame_theorems.short_is_unfinished format bytes (short_by view result (frame_front format bytes) validated short)
 
 -- and conversely
 pub unfinished_short : {X : Type 0} (view : X → Message Definition) (result : Result (X × ℕ) DecodeFault) (bytes : List ℕ) → IsValidated view result (frame_front format bytes) → IsUnfinished bytes → IsErrOf result Short
 unfinished_short view result bytes validated unfinished =
-    subst (λ (r : Result Found FrameFault). IsValidated view result r) (laws.unfinished_is_short format is_format bytes unfinished) validated
+    subst (λ (r : Result Found FrameFault). IsValidated view result r) (frame_theorems.unfinished_is_short format is_format bytes unfinished) validated
 
 not_read_short : {X : Type 0} (view : X → Message Definition) (result : Result (X × ℕ) DecodeFault) (m : Message Definition) (k : ℕ) → result ≡ Err Short → IsReadAs view result m k → ⊥
 not_read_short {X} view result m k short is_read =

@@ -1,3 +1,7 @@
+ghost use Rattle.std.specs.Prelude.{◌≡◌};
+ghost use Rattle.wf_codec.specs.declared.fault.DecodeFault.TheVariants.{Memory};
+
+use std::alloc::{AllocError, AllocFailed};
 use thiserror::Error;
 
 /// Why bytes aren't decoded as a message.
@@ -24,4 +28,20 @@ pub enum DecodeFault {
     /// C6: allocation failed.
     #[error("C6: out of memory")]
     Memory,
+}
+
+impl From<AllocError> for DecodeFault {
+    ghost from_gives = { λ _ fault. fault ≡ Memory };
+
+    fn from(_: AllocError) -> Self {
+        DecodeFault::Memory
+    }
+}
+
+impl<T: Drop> From<AllocFailed<T>> for DecodeFault {
+    ghost from_gives = { λ _ fault. fault ≡ Memory };
+
+    fn from(_: AllocFailed<T>) -> Self {
+        DecodeFault::Memory
+    }
 }

@@ -16,8 +16,8 @@ use Rattle.wf_commands.specs.Run.{IsOutcomeOf, most_read}
 use Rattle.wf_commands.specs.ServeRun.{IsServing}
 use Rattle.wf_commands.specs.declared.program.Ending.{Ending}
 use Rattle.wf_commands.specs.declared.fault.RunFault.{RunFault}
-use Rattle.wf_line.specs.declared.line.Line.{Line}
-use Rattle.wf_line.specs.declared.line.Line.TheVariants as lines
+use Rattle.wf_line.specs.declared.command_line.Line.{Line}
+use Rattle.wf_line.specs.declared.command_line.Line.TheVariants as lines
 use Rattle.wf_line.specs.ProcessCommandLine.{AsksProcess, IsProcessRejection, names_process_command, process_program}
 use Rattle.wf_line.specs.declared.node_line.NodeCommand.{NodeCommand}
 use Rattle.wf_line.specs.declared.process_line.ProcessCommand.TheVariants as processes

@@ -25,8 +25,8 @@ use Rattle.wf_listing.specs.Map.{IsTextOf}
 use Rattle.wf_listing.specs.TapeBytes.{most_tape_bytes}
 use Rattle.wf_listing.specs.declared.fault.TapeReadFault.{TapeReadFault}
 use Rattle.wf_listing.specs.declared.fault.TapeReadFault.TheVariants as tapes
-use Rattle.wf_line.specs.declared.line.Line.{Line}
-use Rattle.wf_line.specs.declared.line.Line.TheVariants as lines
+use Rattle.wf_line.specs.declared.command_line.Line.{Line}
+use Rattle.wf_line.specs.declared.command_line.Line.TheVariants as lines
 use Rattle.wf_commands.specs.declared.fault.RunFault.{RunFault}
 use Rattle.wf_commands.specs.declared.fault.RunFault.TheVariants as faults
 

@@ -2,7 +2,7 @@
 use thiserror::Error;
 use wf_canon::CanonFault;
 use wf_listing::TapeReadFault;
-use wf_mapfile::fault::MapFault;
+use wf_mapfile::MapFault;
 use wf_script::ScriptFault;
 
 /// The error of a run. Its text is the line for standard error.

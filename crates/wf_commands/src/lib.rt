@@ -2,16 +2,16 @@
 //! script of a farm of servers, also with its messages crossing a connection, list what a node's tape holds, and serve a farm's
 //! nodes over HTTP; and they run the processes of a farm, nodes and replicas.
 //!
-//! The crate is thin. [`wf_line::arguments::line`] parses the command line's arguments to a [`wf_line::line::Line`];
-//! [`run::run_line`] runs the commands about standard input, over any reader and writer; [`tapes::run_tape`] lists the tape in a file or the tapes in a folder, which a [`tapes::Tapes`] reads, or writes a map on a tape;
-//! a [`server::NodeServer`] serves nodes. [`server::Host`] is both: the machine's files, and its nodes over HTTP.
+//! The crate is thin. [`wf_line::line`] parses the command line's arguments to a [`wf_line::Line`];
+//! [`run_line`] runs the commands about standard input, over any reader and writer; [`run_tape`] lists the tape in a file or the tapes in a folder, which a [`Tapes`] reads, or writes a map on a tape;
+//! a [`NodeServer`] serves nodes. [`Host`] is both: the machine's files, and its nodes over HTTP.
 //! A [`wf_farm::Carrier`] brings the messages of `wire` to their nodes: [`wf_link::Connection`], over a connection of the machine.
-//! [`program::run_words`] is the program over any words, reader, writer, server and carrier, and [`program::program`] connects it
-//! to the process. A [`fault::RunFault`] is the error of a run, an [`program_end::Ending`] what is left to print, with the exit
+//! [`run_words`] is the program over any words, reader, writer, server and carrier, and [`run_process`] connects it
+//! to the process. A [`RunFault`] is the error of a run, an [`Ending`] what is left to print, with the exit
 //! status. Readers and writers are [`wf_stream::Source`] and [`wf_stream::Sink`], which count failed calls; [`wf_stream::Stream`] makes them of
 //! std's.
 //!
-//! [`run::run_line`] promises, about a mapfile:
+//! [`run_line`] promises, about a mapfile:
 //! - after Ok, exactly the output of the command for the one map that the input means is written: of `caps` the answer at that
 //!   sequence to that query, of `draw` the answer to that query of a server that has published only this map, of `canon` the
 //!   canonical text
@@ -32,28 +32,36 @@
 //! Of these: a read error is returned only if a read has failed, a write error iff a write has; and a failed write is the last call
 //! of the writer, so that no text is written once more.
 //!
-//! [`tapes::run_tape`] promises: after Ok exactly the listing of the file's bytes is written (wf_listing defines it), or of a
+//! [`run_tape`] promises: after Ok exactly the listing of the file's bytes is written (wf_listing defines it), or of a
 //! folder those of its tapes, each after its name, and a last line; or the text of the map that the tape has as published. Before a write error
 //! a prefix of it is written, before any other error nothing. A file with known content is listed unless it is too long or an
 //! allocation fails.
 //!
-//! [`program::run_words`] promises that exactly the command of that line was run, or none: for `serve`, that the server was called
+//! [`run_words`] promises that exactly the command of that line was run, or none: for `serve`, that the server was called
 //! with the line's numbers of nodes, connections and pictures, its port and its folder, or none if it has none, and whether it asks
 //! for a log. The error of the
 //! run is the one to be printed, unless a write failed, and the exit status is 0 without an error and 1 with one. What serving
-//! means is the server's; of [`server::Host`] it is `wf_serve`'s contract: if the nodes were served, there were as many as the line
+//! means is the server's; of [`Host`] it is `wf_serve`'s contract: if the nodes were served, there were as many as the line
 //! asks for, new ones if it names no folder, each with a cache for its number of pictures; they served its number of connections, and what
-//! the headline says holds of them. [`program::program`] promises that of the process, and of a command about a process of a farm,
-//! which [`wf_line::process_arguments::process_command`] parses, the contract of [`wf_node_command::run`] or [`wf_replica_command::run`].
+//! the headline says holds of them. [`run_process`] promises that of the process, and of a command about a process of a farm,
+//! which [`wf_line::process_command`] parses, the contract of [`wf_node_command::run`] or [`wf_replica_command::run`].
 //!
 //! No contract says what standard input holds, what happens to the bytes after standard output, what text an error prints, or that
 //! the process hands its own words, input and output on; the stored run of `wfarm` shows these.
 #![tactic(auto)]
 
-pub mod fault;
+mod fault;
 mod folder;
-pub mod map_check;
-pub mod program;
-pub mod run;
-pub mod server;
-pub mod tapes;
+mod map_check;
+mod program;
+mod run;
+mod server;
+mod tapes;
+
+pub use fault::RunFault;
+pub use map_check::run_check;
+pub use program::{Ending, rejection_status, run_process, run_words};
+pub use run::{limits_are_as_defined, run_canon, run_caps, run_line};
+pub use server::{Host, NodeServer};
+pub use tapes::{Tapes, run_tape};
+pub use wf_serve::ServeFault;

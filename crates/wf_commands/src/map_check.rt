@@ -9,7 +9,7 @@ use crate::run::{input, write};
 use std::alloc::{AllocError, Global};
 use wf_canon::CanonFault;
 use wf_check::{CheckFault, Finding, MOST_COUNTED_BYTES, check, report};
-use wf_mapfile::fault::MapFault;
+use wf_mapfile::MapFault;
 use wf_stream::{Sink, Source};
 
 /// The most bytes read of an input that is checked: as many as are counted, plus one.

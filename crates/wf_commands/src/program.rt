@@ -14,7 +14,7 @@ ghost use Rattle.wf_commands.specs.ServeRun.{IsMachineServing, run_outcome};
 
 use crate::fault::RunFault;
 use crate::run::run_line;
-use crate::server::{Host, NodeServer, ServeFault};
+use crate::server::{Host, NodeServer};
 use crate::tapes::{Tapes, run_tape};
 use clap::Error;
 use clap::error::ErrorKind;
@@ -27,14 +27,12 @@ use std::rt::{Env, Files};
 use std::time::Clock;
 use std::{env, io};
 use wf_farm::Carrier;
-use wf_line::arguments::line;
-use wf_line::line::Line;
-use wf_line::process_arguments::{names_process_command, process_command};
-use wf_line::process_line::ProcessCommand;
+use wf_line::{Line, ProcessCommand, line, names_process_command, process_command};
 use wf_link::Connection;
-use wf_mapfile::fault::MapFault;
+use wf_mapfile::MapFault;
 use wf_node_command::CommandFault;
 use wf_replica_command::ReplicaFault;
+use wf_serve::ServeFault;
 use wf_stream::{Sink, Source, Stream};
 use wf_tape::{FileTape, MemoryTape, Tape};
 
@@ -55,7 +53,7 @@ const FAULT: u8 = 1;
 const BAD_COMMAND_LINE: u8 = 2;
 
 // The result of a run of `serve`, by the server's.
-fn served(outcome: Result<(), ServeFault>) -> Result<(), RunFault>
+fn serve_result(outcome: Result<(), ServeFault>) -> Result<(), RunFault>
     ensures { result ≡ run_outcome outcome }
 {
     match outcome {
@@ -166,7 +164,7 @@ pub fn run_words<'a, S: AsStr, I: Source, K: Sink, V: NodeServer + Tapes, C: Car
 {
     match line(alloc, words) {
         Ok(line) => match line {
-            Line::Serve(service) => Ok(end(line, served(server.serve(service, sink)))),
+            Line::Serve(service) => Ok(end(line, serve_result(server.serve(service, sink)))),
             Line::Tape { file, map } => Ok(end(line, run_tape(alloc, file, map, sink, server))),
             Line::Caps { .. }
             | Line::Draw { .. }
@@ -287,7 +285,7 @@ fn run_farm<'a, S: AsStr, R: Files<File = File> + Clock + Print + Eprint + Net +
 /// [`wf_replica_command::run`] with as many turns as there can be. Returns the exit status: 0 for success; 1 for an error, with one
 /// line on standard error, except for a failed write; 2 for a bad command line, with a line or the parser's text there.
 #[tactic(auto, using(crate::proofs::Ended::process_run, crate::proofs::Ended::process_rejected, crate::proofs::Ended::process_unreadable, crate::proofs::Ended::process_of_farm))]
-pub fn program<
+pub fn run_process<
     'a,
     R: Env
         + Input

@@ -18,15 +18,13 @@ use std::alloc::Global;
 use std::io::ErrorKind;
 use wf_ballot::SEQUENCES;
 use wf_canon::Canon;
-use wf_def::map::MapDef;
+use wf_def::MapDef;
 use wf_farm::{Carrier, Copies};
-use wf_line::line::Line;
-use wf_mapfile::MOST_MAPFILE_BYTES;
-use wf_mapfile::fault::MapFault;
+use wf_line::Line;
+use wf_mapfile::{MOST_MAPFILE_BYTES, MapFault};
 use wf_play::PlayFault;
 use wf_stream::{Sink, Source, read_up_to, write_all};
-use wf_wms::describe;
-use wf_wms::service::preview;
+use wf_wms::{describe, preview};
 
 /// The most bytes read of an input: the longest mapfile's length plus one.
 pub const MOST_INPUT_BYTES: usize = MOST_MAPFILE_BYTES + 1;

@@ -11,8 +11,7 @@ use std::fs::File;
 use std::net::{Net, TcpListener, TcpStream};
 use std::rt::Files;
 use std::time::Clock;
-pub use wf_serve::ServeFault;
-use wf_serve::{Service, serve};
+use wf_serve::{ServeFault, Service, serve};
 use wf_stream::Sink;
 use wf_tape::{FileTape, MemoryTape, Tape};
 

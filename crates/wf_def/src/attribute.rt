@@ -7,7 +7,7 @@ use crate::class::Class;
 use crate::expression::Expression;
 use crate::feature::Feature;
 use crate::layer::Layer;
-use wf_text::text::Text;
+use wf_text::Text;
 
 impl Layer {
     /// The feature's value under a name (MapServer mapfile reference, ITEMS): the n-th of the feature's values between
@@ -16,7 +16,7 @@ impl Layer {
     pub fn attribute<'a>(&self, feature: &'a Feature, name: &Text) -> Option<&'a [u8]>
         ensures { option_copied result ≡ attribute self.now.items feature.now.items name.now }
     {
-        attribute(
+        attribute_value(
             self.items().as_bytes(),
             feature.items().as_bytes(),
             name.as_bytes(),
@@ -70,26 +70,26 @@ fn is_among(list: &[u8], value: &[u8]) -> bool
 
 /// The value under a name, of names between commas and values between semicolons.
 #[tactic(auto, unfolding(crate::specs::Attribute::attribute))]
-pub fn attribute<'a>(names: &[u8], values: &'a [u8], name: &[u8]) -> Option<&'a [u8]>
+pub fn attribute_value<'a>(names: &[u8], values: &'a [u8], name: &[u8]) -> Option<&'a [u8]>
     ensures { option_copied result ≡ attribute names.now values.now name.now }
 {
     if name.is_empty() {
         return None;
     }
-    let place = place_of(names, name)?;
-    value_at(values, place)
+    let index = index_of(names, name)?;
+    value_at(values, index)
 }
 
 /// The index at which the name first occurs among names between commas.
-fn place_of(names: &[u8], name: &[u8]) -> Option<usize>
+fn index_of(names: &[u8], name: &[u8]) -> Option<usize>
     ensures { result ≡ position (bytes_eq name.now) (attribute_names names.now) }
 {
     names.split(|b| *b == b',').position(|piece| name == piece)
 }
 
 /// The value at an index, of values between semicolons.
-fn value_at(values: &[u8], place: usize) -> Option<&[u8]>
-    ensures { option_copied result ≡ slice_get (attribute_values values.now) place }
+fn value_at(values: &[u8], index: usize) -> Option<&[u8]>
+    ensures { option_copied result ≡ slice_get (attribute_values values.now) index }
 {
-    values.split(|b| *b == b';').nth(place)
+    values.split(|b| *b == b';').nth(index)
 }

@@ -11,7 +11,7 @@ use crate::style::Style;
 use crate::text::know_text;
 use std::alloc::AllocError;
 use std::marker::Model;
-use wf_text::text::Text;
+use wf_text::Text;
 
 /// The styles of a class, in the order in which they are drawn: at most 8, each drawn over the one before it.
 pub type Styles = Capped<Style, MOST_STYLES>;

@@ -9,7 +9,7 @@ use crate::class::Class;
 use crate::expression::Expression;
 use crate::feature::Feature;
 use crate::layer::Layer;
-use crate::text::{Text, ValueList};
+use wf_text::{Text, ValueList};
 
 impl PartialEq for Expression {
     ghost eq = { expression_eq };

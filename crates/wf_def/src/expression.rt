@@ -1,7 +1,7 @@
 //! Expressions of classes.
 
-use crate::text::{Text, ValueList};
 use std::alloc::AllocError;
+use wf_text::{Text, ValueList};
 
 /// Which value of its attribute puts a feature into a class (MapServer mapfile reference, EXPRESSION).
 #[derive(Drop)]

@@ -4,7 +4,7 @@ ghost use Rattle.wf_def.specs.Extent.{IsExtent};
 
 use crate::micro::know_coordinate;
 use std::marker::Model;
-use wf_text::micro::Micro;
+use wf_text::Micro;
 
 /// A box whose minima are below its maxima (MapServer mapfile reference, EXTENT).
 #[derive(Clone, Copy, PartialEq, Eq)]

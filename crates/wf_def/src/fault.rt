@@ -1,7 +1,6 @@
-//! Why a number, a text or a layer was rejected; the first two are re-exported from `wf_text`.
+//! Why a map rejected a layer.
 
 use thiserror::Error;
-pub use wf_text::fault::{NumberFault, TextFault};
 
 /// Why a map rejected a layer.
 #[derive(Clone, Copy, Debug, PartialEq, Eq, Error)]

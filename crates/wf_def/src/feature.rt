@@ -8,7 +8,7 @@ use crate::point::Point;
 use crate::text::know_text;
 use std::alloc::AllocError;
 use std::marker::Model;
-use wf_text::text::Text;
+use wf_text::Text;
 
 /// A part of a shape: points, in order.
 pub type Part = Members<Point>;

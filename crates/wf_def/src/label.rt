@@ -3,7 +3,7 @@
 use crate::choice::{LabelPosition, LabelSize};
 use crate::color::Color;
 use crate::limits::{MOST_BUFFER, MOST_PRIORITY};
-use wf_text::whole::Whole;
+use wf_text::Whole;
 
 /// How a feature's label is drawn (MapServer mapfile reference, LABEL).
 #[derive(Clone, Copy, PartialEq, Eq)]

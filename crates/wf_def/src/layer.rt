@@ -12,7 +12,7 @@ use crate::members::{Capped, Members};
 use crate::text::{clone_both, know_text};
 use std::alloc::AllocError;
 use std::marker::Model;
-use wf_text::text::Text;
+use wf_text::Text;
 
 /// The classes of a layer, in the order in which they are tried: at most 16.
 pub type Classes = Capped<Class, MOST_CLASSES>;

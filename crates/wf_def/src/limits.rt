@@ -2,10 +2,6 @@
 ghost use Rattle.std.specs.Prelude.{◌≡◌};
 ghost use Rattle.wf_def.specs.Limit.{most_buffer, most_classes, most_features, most_items_bytes, most_layers, most_points, most_priority, most_size, most_styles, most_width};
 
-pub use wf_text::limits::{
-    MOST_FRACTION_DIGITS, MOST_MILLIONTHS, MOST_POWER_DIGITS, MOST_TEXT_BYTES, MOST_WHOLE_DIGITS,
-};
-
 /// The most layers of a map.
 pub const MOST_LAYERS: usize = 64;
 

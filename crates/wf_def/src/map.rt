@@ -14,8 +14,7 @@ use crate::text::{clone_both, know_text};
 use indexmap::IndexMap;
 use std::alloc::{AllocError, Global};
 use std::marker::Model;
-use wf_text::micro::Micro;
-use wf_text::text::Text;
+use wf_text::{Micro, Text};
 
 /// The content of a mapfile, within the limits (MapServer mapfile reference, MAP).
 pub struct MapDef {

@@ -1,7 +1,7 @@
-//! Coordinates in millionths, re-exported from `wf_text`.
+//! What is known of a coordinate.
 ghost use Rattle.wf_text.specs.Number.{IsMicro};
 
-pub use wf_text::micro::Micro;
+use wf_text::Micro;
 
 /// Makes it known to the prover that a coordinate is within its limit.
 pub(crate) fn know_coordinate(coordinate: Micro)

@@ -2,7 +2,7 @@
 
 use crate::members::Limited;
 use crate::micro::know_coordinate;
-use wf_text::micro::Micro;
+use wf_text::Micro;
 
 /// A point in the map's coordinates, in the order of the mapfile: east, then north.
 #[derive(Clone, Copy, PartialEq, Eq)]

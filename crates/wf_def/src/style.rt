@@ -5,7 +5,7 @@ ghost use Rattle.wf_def.specs.Limits.{IsColor};
 use crate::color::Color;
 use crate::limits::{MOST_SIZE, MOST_WIDTH};
 use crate::members::Limited;
-use wf_text::whole::Whole;
+use wf_text::Whole;
 
 /// How a feature is drawn (MapServer mapfile reference, STYLE).
 #[derive(Clone, Copy, PartialEq, Eq)]

@@ -1,10 +1,9 @@
-//! Texts and lists, re-exported from `wf_text`.
+//! Copies of texts, and what is known of one.
 ghost use Rattle.std.specs.Prelude.{◌≡◌, IfOk};
 ghost use Rattle.wf_text.specs.Text.{IsText};
 
 use std::alloc::AllocError;
-pub use wf_text::text::{Text, check_text, is_text_character};
-pub use wf_text::value_list::{ValueList, check_list};
+use wf_text::Text;
 
 /// Makes it known to the prover that a text is within its limits.
 pub(crate) fn know_text(text: &Text)

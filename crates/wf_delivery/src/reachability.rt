@@ -7,7 +7,7 @@ ghost use Rattle.wf_delivery.specs.ReopenedNodes.{ReopenedAreReachable, Reopened
 
 use wf_node::Node;
 use wf_tape::Tape;
-use wf_wms::theorem::each_query_has_one_answer;
+use wf_wms::each_query_has_one_answer;
 
 /// A step Propose, Retry or CatchUp of a node leads the nodes on, whatever it returns, and sends exactly the messages that it
 /// returns. A theorem: the call does nothing.

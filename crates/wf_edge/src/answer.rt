@@ -21,7 +21,7 @@ use http::StatusCode;
 use std::alloc::Global;
 use wf_ballot::Seq;
 use wf_learner::History;
-use wf_mapfile::fault::MapFault;
+use wf_mapfile::MapFault;
 use wf_node::Node;
 use wf_stream::Sink;
 use wf_tape::Tape;
@@ -71,7 +71,7 @@ fn page_for<P: Pictures>(
     ensures cached { P.cached pictures.new history.now.definitions }
     ensures capacity { P.capacity pictures.new ≡ P.capacity pictures.old }
 {
-    match request.asked() {
+    match request.resource() {
         RequestedResource::Wms => match pictures.answer(alloc, history, request.query()) {
             Ok(answer) => Ok(service_page(answer)),
             Err(_) => Err(ErrorResponse::Unavailable),

@@ -5,8 +5,7 @@ ghost use Rattle.wf_edge.specs.Completion.{IsCompleted, IsErrorCompleted, Counts
 use crate::error_report::respond_to_error;
 use crate::error_response::ErrorResponse;
 use crate::outcome::Outcome;
-use wf_http::fault::RequestFault;
-use wf_http::response::Response;
+use wf_http::{RequestFault, Response};
 use wf_stream::Sink;
 
 /// Writes a response: all of it if `Sent`, otherwise a prefix, and no call comes after the failed one. Both report the response's

@@ -4,9 +4,7 @@ ghost use Rattle.wf_edge.specs.ErrorResponse.{text_line, http_error_status, http
 
 use crate::error_response::ErrorResponse;
 use http::StatusCode;
-use wf_http::fault::RequestFault;
-use wf_http::http_error::{Allowed, HttpError};
-use wf_http::response::Response;
+use wf_http::{Allowed, HttpError, RequestFault, Response};
 use wf_node::NodeFault;
 
 /// The media type of a line of text.

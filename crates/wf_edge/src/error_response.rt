@@ -1,6 +1,6 @@
 //! Responses in place of a page.
 
-use wf_http::http_error::HttpError;
+use wf_http::HttpError;
 
 /// A response of one line of plain text, which allocates nothing. Each has its status.
 #[derive(Clone, Copy, PartialEq, Eq)]

@@ -1,16 +1,16 @@
 //! The HTTP server side of a node, over any reader and writer (RFC 9110, RFC 9112).
 //!
 //! Heads, bodies and responses are wf_http's; readers and writers are wf_stream's.
-//! - [`route`] has the resources of a node, `/wms`, `/status` and `/publish`, and the method of each. [`request::Request`] is a
+//! - `route` has the resources of a node, `/wms`, `/status` and `/publish`, and the method of each. [`Request`] is a
 //!   request to one of them.
-//! - [`completion::write_response`] writes a response and returns its [`outcome::Outcome`]. A [`error_response::ErrorResponse`] is
+//! - [`write_response`] writes a response and returns its [`Outcome`]. A [`ErrorResponse`] is
 //! a response of one line;
-//!   [`completion::write_error`] responds if there is no request.
-//! - [`answer::answer_get`] answers a request that isn't a publish. It takes no node, but a history and a [`status::Status`], as
-//!   [`answer::status_of`] returns it of a node; where the pictures come from is a [`pictures::Pictures`].
-//! - [`serve::publish_request`] lets a node propose the map of a publish.
-//! - [`serve::serve_one`] does everything: it reads a request, answers it by a node, and writes the response;
-//!   [`serve::serve_one_cached`] does so with a cache of pictures of the node's maps. A caller for whom only a publish is an
+//!   [`write_error`] responds if there is no request.
+//! - [`answer_get`] answers a request that isn't a publish. It takes no node, but a history and a [`Status`], as
+//!   [`status_of`] returns it of a node; where the pictures come from is a [`Pictures`].
+//! - [`publish_request`] lets a node propose the map of a publish.
+//! - [`serve_one`] does everything: it reads a request, answers it by a node, and writes the response;
+//!   [`serve_one_cached`] does so with a cache of pictures of the node's maps. A caller for whom only a publish is an
 //!   event calls these one by one: `specs/RequestEffectTheorems.antt` and `specs/ResponseEndTheorems.antt` lead from their contracts to that of
 //!   `serve_one`.
 //!
@@ -19,18 +19,18 @@
 //! publish in `specs/Publish.antt`.
 //!
 //! **Promises.**
-//! - [`request::Request::read`]: the request is the one at the front of the input; a rejection is for its head, for the first check
+//! - [`Request::read`]: the request is the one at the front of the input; a rejection is for its head, for the first check
 //!   that fails, or for a truncated body; nothing after it is taken but what came in one piece with the last of its head.
-//! - [`completion::write_error`]: the response for the reason why there is no request is written (`specs/ErrorResponse.antt`), and nothing if the
+//! - [`write_error`]: the response for the reason why there is no request is written (`specs/ErrorResponse.antt`), and nothing if the
 //!   input is empty or a read failed.
-//! - [`serve::serve_one`]: a response to the input is written, or a prefix of it, and the number of bytes written is reported;
+//! - [`serve_one`]: a response to the input is written, or a prefix of it, and the number of bytes written is reported;
 //!   and, even for readers and writers whose bytes aren't known, a failed write is the last call, and the node is unchanged or made
 //!   one step Propose, whose messages are returned whether or not the write succeeds.
-//! - [`answer::answer_get`]: what becomes of the pictures is what the query to the map service does to them; a status and an allocation
+//! - [`answer_get`]: what becomes of the pictures is what the query to the map service does to them; a status and an allocation
 //!   failure leave them unchanged (`specs/PictureCache.antt`).
-//! - [`serve::serve_one_cached`]: as `serve_one`, and the cache's pictures are still those of the node's maps; the cache is unchanged, or
+//! - [`serve_one_cached`]: as `serve_one`, and the cache's pictures are still those of the node's maps; the cache is unchanged, or
 //!   as one query to the map service leaves it.
-//! - [`theorem`]: equal requests to the map service have equal responses, at two nodes too, wherever these answer alike; and which
+//! - `theorem`: equal requests to the map service have equal responses, at two nodes too, wherever these answer alike; and which
 //!   requests may be answered with 503 (`specs/Unavailable.antt`).
 //!
 //! Only a body, an answer of the map service and the step of a publish allocate: a request that its head rejects, a request for
@@ -41,19 +41,34 @@
 //! a message arrives.
 #![tactic(auto)]
 
-pub mod answer;
-pub mod completion;
-pub mod error_report;
-pub mod error_response;
-pub mod outcome;
+mod answer;
+mod completion;
+mod error_report;
+mod error_response;
+mod outcome;
 mod page;
-pub mod pictures;
+mod pictures;
 mod publish;
 mod publish_fault;
-pub mod request;
-pub mod resource;
-pub mod route;
-pub mod serve;
-pub mod status;
+mod request;
+mod resource;
+mod route;
+mod serve;
+mod status;
 mod text_line;
-pub mod theorem;
+mod theorem;
+
+pub use answer::{answer_get, status_of};
+pub use completion::{write_error, write_response};
+pub use error_report::respond_to_error;
+pub use error_response::ErrorResponse;
+pub use outcome::Outcome;
+pub use pictures::Pictures;
+pub use request::Request;
+pub use resource::RequestedResource;
+pub use route::resolve;
+pub use serve::{Served, publish_request, serve_one, serve_one_cached};
+pub use status::Status;
+pub use theorem::{
+    each_query_has_one_page, equal_requests_have_equal_responses, only_these_are_unavailable,
+};

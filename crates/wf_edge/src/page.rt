@@ -8,7 +8,7 @@ use crate::error_report::PLAIN;
 use crate::text_line::TextLine;
 use http::StatusCode;
 use std::marker::Model;
-use wf_http::response::Response;
+use wf_http::Response;
 
 /// The bytes of a page.
 #[derive(Drop)]

@@ -6,9 +6,7 @@ ghost use Rattle.wf_wms.specs.CachedPictures.{AllCached, IsCacheAfter};
 
 use std::alloc::{AllocError, Global};
 use wf_learner::History;
-use wf_wms::Answer;
-use wf_wms::cache::Cache;
-use wf_wms::service::{answer, answer_cached};
+use wf_wms::{Answer, Cache, answer, answer_cached};
 
 /// Where the pictures of a node's maps come from.
 pub trait Pictures {

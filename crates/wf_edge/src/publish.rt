@@ -13,9 +13,8 @@ use crate::publish_fault::PublishFault;
 use std::alloc::Global;
 use wf_canon::{Canon, CanonFault};
 use wf_codec::Message;
-use wf_def::map::MapDef;
-use wf_mapfile::fault::MapFault;
-use wf_mapfile::read;
+use wf_def::MapDef;
+use wf_mapfile::{MapFault, read};
 use wf_node::{Input, Node, NodeFault};
 use wf_tape::Tape;
 

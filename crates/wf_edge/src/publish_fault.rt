@@ -1,6 +1,6 @@
 //! Why a map isn't proposed.
 
-use wf_mapfile::fault::MapFault;
+use wf_mapfile::MapFault;
 use wf_node::NodeFault;
 
 /// Why a map isn't proposed.

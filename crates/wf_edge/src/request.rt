@@ -9,10 +9,7 @@ use crate::resource::RequestedResource;
 use crate::route::resolve;
 use std::alloc::Global;
 use std::marker::Model;
-use wf_http::body::read_body;
-use wf_http::fault::RequestFault;
-use wf_http::front::Front;
-use wf_http::target::query_of;
+use wf_http::{Front, RequestFault, query_of, read_body};
 use wf_stream::Source;
 
 /// A request whose head has passed the checks, with its body.
@@ -69,7 +66,7 @@ impl Request {
     }
 
     /// What is asked for.
-    pub fn asked(&self) -> RequestedResource
+    pub fn resource(&self) -> RequestedResource
         ensures { result ≡ self.now.asked }
     {
         self.asked

@@ -4,12 +4,7 @@ ghost use Rattle.wf_http.specs.Checks.{first_failing};
 ghost use Rattle.wf_edge.specs.Route.{resource_at, method_of, check_path, check_method, head_checks, resolve_at, resolved};
 
 use crate::resource::{RequestedResource, Resource};
-use wf_http::check::{body_length, check_target};
-use wf_http::fields::Fields;
-use wf_http::front::Front;
-use wf_http::http_error::{Allowed, HttpError};
-use wf_http::method::method_name;
-use wf_http::target::path_of;
+use wf_http::{Allowed, Fields, Front, HttpError, body_length, check_target, method_name, path_of};
 
 /// The resource at a path.
 #[tactic(auto, unfolding(crate::specs::Route::resource_at))]

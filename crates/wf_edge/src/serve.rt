@@ -21,7 +21,7 @@ use wf_codec::Message;
 use wf_node::Node;
 use wf_stream::{Sink, Source};
 use wf_tape::Tape;
-use wf_wms::cache::Cache;
+use wf_wms::Cache;
 
 /// The outcome of one request, and the messages that the node sends.
 #[derive(Drop)]
@@ -95,7 +95,7 @@ fn answer_request<K: Sink, T: Tape, P: Pictures>(
     ensures changed { ChangesOnce P.changes node.old.parts.history pictures.old pictures.new }
     ensures capacity { P.capacity pictures.new ≡ P.capacity pictures.old }
 {
-    match request.asked() {
+    match request.resource() {
         RequestedResource::Wms | RequestedResource::Status => {
             let status = status_of(node);
             let outcome = answer_get(alloc, sink, node.history(), status, pictures, request);

@@ -6,8 +6,8 @@ ghost use Rattle.wf_edge.specs.Page.{most_line_bytes, proposal_state_words, stat
 use arrayvec::ArrayVec;
 use itoa::Buffer;
 use wf_ballot::{NodeId, Seq, Slot};
-use wf_http::buffer::append;
-use wf_mapfile::fault::MapFault;
+use wf_http::append;
+use wf_mapfile::MapFault;
 use wf_proposer::ProposalState;
 
 /// The greatest length of a line, in bytes: more than any has.

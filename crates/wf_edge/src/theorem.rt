@@ -4,9 +4,7 @@ ghost use Rattle.wf_edge.specs.Theorem.{EachQueryHasOnePage, EqualRequestsHaveEq
 ghost use Rattle.wf_edge.specs.Unavailable.{OnlyTheseAreUnavailable};
 
 use wf_tape::Tape;
-use wf_wms::theorem::{
-    asked_maps_are_answered_alike, each_query_has_one_answer, texts_are_rejected_alike,
-};
+use wf_wms::{asked_maps_are_answered_alike, each_query_has_one_answer, texts_are_rejected_alike};
 
 /// A query to the map service has exactly one page wherever the map that it asks for is the same: at nodes that have published
 /// equally many maps, and, for a GetMap request for one sequence at both, at nodes that have published more or fewer. A query that

@@ -70,13 +70,13 @@ pub(crate) fn carry_over<C: Carrier>(
     ensures memory { C.faithful → IfErr result (λ fault. fault ≡ faults.Memory) }
 {
     match carrier.carry(alloc, message) {
-        Ok(brought) => checked(brought, message),
+        Ok(brought) => check_same(brought, message),
         Err(fault) => Err(fault),
     }
 }
 
 /// What was brought, if it is the message.
-fn checked(brought: Message, message: &Message) -> Result<Message, CarrierFault>
+fn check_same(brought: Message, message: &Message) -> Result<Message, CarrierFault>
     ensures same { IfOk result (λ checked. checked ≡ message.now) }
     ensures other { IfErr result (λ fault. fault ≡ faults.Lost) }
     ensures all { brought ≡ message.now → IsOk result }

@@ -23,7 +23,7 @@ impl Farm<MemoryTape> {
             return Err(FarmFault::NoNode);
         };
         let history = node.history();
-        match wf_wms::service::answer(alloc, history.published().number(), history, query) {
+        match wf_wms::answer(alloc, history.published().number(), history, query) {
             Ok(answer) => Ok(answer),
             Err(_) => Err(FarmFault::Memory(0)),
         }
@@ -38,6 +38,6 @@ impl Farm<MemoryTape> {
         ensures map { HasOneMapAnswer self.now }
     {
         self.agree();
-        wf_wms::theorem::each_query_has_one_answer();
+        wf_wms::each_query_has_one_answer();
     }
 }

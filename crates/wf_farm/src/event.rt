@@ -1,5 +1,5 @@
 use wf_canon::Canon;
-pub use wf_model::{Action, Kept};
+use wf_model::{Action, Kept};
 
 /// An event of a farm; the first number is the node's. It has no effect if the node doesn't exist, the message of a delivery wasn't
 /// sent, the node is stopped (except for a restart), a running node is restarted, or the node rejects the step.

@@ -10,10 +10,11 @@ ghost use Rattle.wf_farm.specs.declared.carrier.CarrierFault.TheVariants as carr
 
 use crate::carrier::{Carrier, CarrierFault};
 use crate::cluster::Cluster;
-use crate::event::{Event, Kept};
+use crate::event::Event;
 use crate::fate::{CrashWatch, Ran};
 use crate::rejection::Rejection;
 use std::alloc::Global;
+use wf_model::Kept;
 use wf_tape::MemoryTape;
 
 impl Cluster<MemoryTape> {

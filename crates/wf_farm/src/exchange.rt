@@ -120,12 +120,12 @@ fn exchange_in<C: NodeClient<T>, T: Tape>(
     ensures reachable { AreReachableFrom T.Tape (nodes_of hosts.old) (nodes_of hosts.new) }
     ensures entries { KeepEntries T.Tape hosts.old hosts.new }
 {
-    let messages = asked(alloc, hosts, number, client);
+    let messages = ask_node(alloc, hosts, number, client);
     deliver_each(alloc, hosts, messages)
 }
 
 /// Lets the client ask a node that runs, and returns the node's messages.
-fn asked<C: NodeClient<T>, T: Tape>(
+fn ask_node<C: NodeClient<T>, T: Tape>(
     alloc: Global,
     hosts: &mut [NodeHost<T>],
     number: usize,

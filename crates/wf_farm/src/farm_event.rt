@@ -16,7 +16,7 @@ ghost use Rattle.wf_farm.specs.declared.carrier.CarrierFault.TheVariants as carr
 
 use crate::carrier::{Carrier, CarrierFault, carry_over};
 use crate::cluster::{Cluster, NodeHost};
-use crate::event::{Action, Event, Kept};
+use crate::event::Event;
 use crate::fate::{Fate, Happened};
 use crate::fault::rejection_in;
 use crate::rejection::Rejection;
@@ -25,6 +25,7 @@ use wf_ballot::NodeId;
 use wf_canon::Canon;
 use wf_codec::Message;
 use wf_delivery::{MOST_OUTPUTS, send};
+use wf_model::{Action, Kept};
 use wf_node::{Input, Node, NodeFault};
 use wf_tape::{MemoryTape, Tape};
 

@@ -1,6 +1,6 @@
-use crate::event::Kept;
 use crate::rejection::Rejection;
 use wf_codec::Message;
+use wf_model::Kept;
 
 /// What becomes of a step that a node takes, and whose tape may fail.
 #[derive(Drop)]

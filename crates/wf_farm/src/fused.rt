@@ -10,15 +10,16 @@ ghost use Rattle.wf_farm.specs.Fused.{FailsWithin, IsStepOfNode, NoneFails, Pump
 ghost use Rattle.wf_farm.specs.declared.carrier.CarrierFault.TheVariants as carriers;
 
 use crate::carrier::{Carrier, CarrierFault, Copies};
-use crate::event::{Action, Event, Kept};
+use crate::event::Event;
 use crate::farm::Farm;
 use crate::fate::{CrashWatch, Ran};
 use crate::fault::FarmFault;
-use crate::progress::{Pumping, made};
+use crate::progress::{Pumping, check_made};
 use crate::rejection::Rejection;
 use crate::targets::targets_of;
 use std::alloc::{AllocError, Global};
 use std::slice::from_ref;
+use wf_model::{Action, Kept};
 use wf_tape::MemoryTape;
 
 /// The fuse of a node's tape, while it isn't on the tape: it is put there for each run, and what is left of it is taken away after that.
@@ -112,7 +113,7 @@ pub fn deliver_failing<C: Carrier>(
     let ran = run_failing(alloc, carrier, farm, &events, node, fuse);
     drop(events);
     match ran {
-        Ok(fused) => Ok(telling(fused, refused)),
+        Ok(fused) => Ok(with_rejection(fused, refused)),
         Err((_, fault)) => Err(fault),
     }
 }
@@ -128,8 +129,8 @@ fn deliveries_to(alloc: Global, to: usize, messages: &[usize]) -> Result<Vec<Eve
     Ok(events)
 }
 
-/// What a run leaves, where the farm tells this rejection.
-fn telling(fused: Fused, refused: Option<Rejection>) -> Fused
+/// What a run leaves, with this rejection as the one that the farm has.
+fn with_rejection(fused: Fused, refused: Option<Rejection>) -> Fused
     ensures farm { result.farm ≡ record fused.farm { refused = refused } }
     ensures torn { result.torn ≡ fused.torn }
 {
@@ -191,7 +192,7 @@ pub fn pump_failing<C: Carrier>(
         end,
     } = cluster.pump(alloc, carrier, &targets, pumped, watch);
     drop(targets);
-    let ended = made(end);
+    let ended = check_made(end);
     match ended {
         Ok(()) => {
             fuse.call = cluster.fuse(node);

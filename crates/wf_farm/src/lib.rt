@@ -69,7 +69,7 @@ mod targets;
 pub use carrier::{Carrier, CarrierFault, Copies};
 pub use change::FarmClient;
 pub use cluster::NodeHost;
-pub use event::{Action, Event, Kept};
+pub use event::Event;
 pub use exchange::NodeClient;
 pub use farm::Farm;
 pub use fault::FarmFault;
@@ -78,3 +78,4 @@ pub use fused::{
 };
 pub use publication::{a_proposal_is_published, a_pump_delivers_alike};
 pub use rejection::Rejection;
+pub use wf_model::{Action, Kept};

@@ -11,13 +11,13 @@ ghost use Rattle.wf_farm.specs.FallibleStep.{Fares, Goes, IsCutTape, IsFew, IsTo
 ghost use Rattle.wf_farm.specs.declared.cluster.NodeHost.TheVariants.{Running, Stopped};
 
 use crate::cluster::NodeHost;
-use crate::event::Kept;
 use crate::fate::Fate;
 use std::alloc::{AllocError, Global};
 use std::mem::replace;
 use wf_ballot::NodeId;
 use wf_delivery::{Outputs, consume, is_halted};
 use wf_journal::OpenFault;
+use wf_model::Kept;
 use wf_node::{Input, Node};
 use wf_tape::MemoryTape;
 

@@ -3,9 +3,9 @@ ghost use Rattle.wf_farm.specs.PumpProgress.{IsMade, last_end, outcome};
 ghost use Rattle.wf_farm.specs.declared.progress.PumpEnd.TheVariants.{Failed};
 
 use crate::carrier::CarrierFault;
-use crate::event::Kept;
 use crate::fault::{FarmFault, fault_after};
 use wf_delivery::PumpProgress;
+use wf_model::Kept;
 
 /// How a pump ended.
 #[derive(Clone, Copy)]
@@ -27,7 +27,7 @@ pub struct Pumping {
 }
 
 /// The result of a pump that has come so far.
-pub(crate) fn reported(progress: PumpProgress, end: PumpEnd) -> Result<bool, FarmFault>
+pub(crate) fn pump_result(progress: PumpProgress, end: PumpEnd) -> Result<bool, FarmFault>
     ensures { result ≡ outcome progress end }
 {
     match end {
@@ -49,7 +49,7 @@ pub(crate) fn last_end(left: bool) -> PumpEnd
 }
 
 /// Whether each delivery was made; else why one wasn't.
-pub(crate) fn made(end: PumpEnd) -> Result<(), CarrierFault>
+pub(crate) fn check_made(end: PumpEnd) -> Result<(), CarrierFault>
     ensures made { OnOk result (IsMade end) }
     ensures failed { IfErr result (λ fault. end ≡ Failed fault) }
 {

@@ -14,14 +14,15 @@ ghost use Rattle.wf_farm.specs.Pump.{IsPumped, IsPumpedPart};
 
 use crate::carrier::{Carrier, Copies};
 use crate::cluster::Cluster;
-use crate::event::{Action, Event};
+use crate::event::Event;
 use crate::farm::Farm;
 use crate::fate::CrashWatch;
 use crate::fault::{FarmFault, fault_after};
-use crate::progress::{PumpEnd, Pumping, last_end, reported};
+use crate::progress::{PumpEnd, Pumping, last_end, pump_result};
 use crate::targets::targets_of;
 use std::alloc::Global;
 use wf_delivery::{MOST_DELIVERIES, PumpProgress};
+use wf_model::Action;
 use wf_tape::MemoryTape;
 
 impl Farm<MemoryTape> {
@@ -112,7 +113,7 @@ impl Farm<MemoryTape> {
             .cluster
             .pump(alloc, carrier, &targets, self.pumped, watch);
         self.pumped = progress.pumped(self.pumped);
-        reported(progress, end)
+        pump_result(progress, end)
     }
 }
 

@@ -6,15 +6,9 @@ ghost use Rattle.wf_block.specs.ReadContract.{Gives};
 
 use crate::slots::{FeatureOnce, FeatureSlots};
 use std::alloc::Global;
-use wf_block::block::{Slots, fill_block};
-use wf_block::default::text_or_empty;
-use wf_block::fault::MapFault;
-use wf_block::keyword::is_name;
-use wf_block::once;
-use wf_block::parser::Parser;
-use wf_def::feature::{Feature, Part, ShapeParts};
-use wf_def::point::Point;
-use wf_token::token::Token;
+use wf_block::{MapFault, Parser, Slots, fill_block, is_name, once, text_or_empty};
+use wf_def::{Feature, Part, Point, ShapeParts};
+use wf_token::Token;
 
 /// FEATURE while it is read.
 #[derive(Drop)]

@@ -6,11 +6,9 @@ ghost use Rattle.wf_def.specs.Limit.{most_layers};
 
 use std::alloc::{AllocError, Global};
 use std::marker::Model;
-use wf_def::fault::LayerFault;
-use wf_def::layer::{Layer, is_layer_name};
-use wf_def::limits::{MOST_FEATURES, MOST_LAYERS, MOST_POINTS};
-use wf_def::map::MapDef;
-use wf_def::text::Text;
+use wf_def::{
+    Layer, LayerFault, MOST_FEATURES, MOST_LAYERS, MOST_POINTS, MapDef, Text, is_layer_name,
+};
 
 /// The Boolean test of layer names is true iff the text may be a layer's name. A theorem about the definitions: the call does
 /// nothing.

@@ -1,7 +1,6 @@
 //! The slots that the keywords of FEATURE fill.
 
-use wf_def::feature::ShapeParts;
-use wf_def::text::Text;
+use wf_def::{ShapeParts, Text};
 
 /// FEATURE.
 #[derive(Drop)]

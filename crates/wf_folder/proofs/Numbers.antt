@@ -1,11 +1,10 @@
 -- The digits of a number are read as it, and are eight.
-use Rattle.std.proofs.Common.{◌≡◌, ◌∙◌, ℕ, zero, suc, ◌<◌, ◌≤◌, ◌*◌, ◌^◌, List, [], ◌∷◌, length, length-append, ◌++◌, take, drop, sym, ap, subst, refl, arith}
-use Rattle.std.specs.Prelude.{MatchResult, Option, Some, None, IfNone, ◌≢◌, ◌-◌, codes}
-use Rattle.std.specs.Int.{w32, to_be_bytes, from_be_bytes}
-use Rattle.std.proofs.lemmas.Nat.{from_be_bytes-to_be_bytes_4}
+use Rattle.std.proofs.Common.{◌≡◌, ◌∙◌, ℕ, zero, suc, ◌<◌, ◌≤◌, ◌^◌, List, [], ◌∷◌, length, length-append, ◌++◌, take, sym, ap, subst, refl, arith}
+use Rattle.std.specs.Prelude.{MatchResult, Option, Some, None, IfNone, ◌≢◌, ◌-◌}
+use Rattle.std.specs.Int.{w32, to_be_bytes}
 use Rattle.std.proofs.Math.Seq.{take-append_seam}
-use Rattle.hex.specs.Hex.{IsBytes, decode_sized, encode_lower, lower_digits}
-use Rattle.hex.proofs.HexLemmas.{length-encode_with, decode_sized-encode_lower}
+use Rattle.hex.specs.Hex.{IsBytes, decode_sized, encode_lower}
+use Rattle.hex.proofs.HexLemmas.{decode_sized-encode_lower}
 use Rattle.hex.specs.declared.error.FromHexError.{FromHexError}
 use Rattle.wf_folder.specs.Number.{number_digits}
 use Rattle.wf_folder.specs.NumberTheorems.{digits_of_mark, eight}

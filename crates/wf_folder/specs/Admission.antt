@@ -1,5 +1,5 @@
 -- Whether the nodes of a farm may start on what is in a folder: its file `farm`, and its tapes, that of node i at index i.
-use Rattle.std.specs.Prelude.{◌≡◌, ◌≢◌, ◌≤◌, ◌<◌, ◌⊎◌, ℕ, Bool, true, false, List, slice_index_or}
+use Rattle.std.specs.Prelude.{◌≡◌, ◌≢◌, ◌≤◌, ◌<◌, ℕ, Bool, true, false, List, slice_index_or}
 use Rattle.wf_folder.specs.declared.admission.FoundFile.{FoundFile}
 use Rattle.wf_folder.specs.declared.admission.FoundFile.TheVariants as finds
 use Rattle.wf_folder.specs.declared.admission.StartRejection.{StartRejection}

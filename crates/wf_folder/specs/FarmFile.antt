@@ -1,5 +1,5 @@
 -- The file `farm` of a folder, and its text.
-use Rattle.std.specs.Prelude.{◌≡◌, ◌≤◌, ◌+◌, ◌/◌, ◌%◌, ◌++◌, ℕ, List, [], ◌∷◌, codes, length}
+use Rattle.std.specs.Prelude.{◌≡◌, ◌≤◌, ◌+◌, ◌/◌, ◌%◌, ◌++◌, ℕ, List, ◌∷◌, codes, length}
 use Rattle.hex.specs.Hex.{IsBytes, encode_lower}
 use Rattle.wf_folder.specs.declared.farm_file.Beginning.{Beginning}
 use Rattle.wf_folder.specs.declared.farm_file.Beginning.TheVariants.{Empty, Found}

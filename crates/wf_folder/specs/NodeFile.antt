@@ -1,5 +1,5 @@
 -- The file `farm` of a folder that one node of a farm uses, and its text.
-use Rattle.std.specs.Prelude.{◌≡◌, ◌≤◌, ◌<◌, ◌+◌, ◌/◌, ◌%◌, ◌^◌, ◌++◌, ℕ, List, [], ◌∷◌, codes, length}
+use Rattle.std.specs.Prelude.{◌≡◌, ◌≤◌, ◌<◌, ◌+◌, ◌/◌, ◌%◌, ◌++◌, ℕ, List, ◌∷◌, codes, length}
 use Rattle.hex.specs.Hex.{IsBytes}
 use Rattle.wf_folder.specs.FarmFile.{IsNumberOfNodes, first_line, mark_line, nodes_line}
 use Rattle.wf_folder.specs.Name.{IsFarmName, name_text}

@@ -78,7 +78,7 @@ fn admit_file(nodes: u8, file: &NodeFile, tape: Presence) -> Result<NodeFile, No
     if !tape.is_there() {
         return Err(NodeRejection::MissingTape);
     }
-    match file.started() {
+    match file.next_start() {
         Some(file) => Ok(file),
         None => Err(NodeRejection::NoFurtherStart),
     }

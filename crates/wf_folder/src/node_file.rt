@@ -48,7 +48,7 @@ impl NodeFile {
     }
 
     /// The file of the next start. None: there can be no further one.
-    pub fn started(&self) -> Option<NodeFile>
+    pub fn next_start(&self) -> Option<NodeFile>
         requires { IsNodeFile self.now }
         ensures value { SomeIff result (self.now.starts < last_start) (started self.now) }
         ensures file { IfSome result IsNodeFile }

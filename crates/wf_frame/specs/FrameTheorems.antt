@@ -265,18 +265,18 @@ some_same : {A : Type 0} (x y : A) → Some x ≡ Some y → x ≡ y
 some_same x y e = cc
 
 -- the bytes of its body
-abbrev said_by : Payload → List ℕ
-said_by x = body_bytes x.layout x.body
+abbrev payload_body : Payload → List ℕ
+payload_body x = body_bytes x.layout x.body
 
-payload_has : (format : Format) (x : Payload) → IsPayload format x → HasBody format x.version x.byte (said_by x)
+payload_has : (format : Format) (x : Payload) → IsPayload format x → HasBody format x.version x.byte (payload_body x)
 payload_has format x is = record { is_read = is.is_read; layout = x.layout; has_kind = is.has_kind; has_length = body_fits x.layout x.body is.is_body }
 
-payload_again : (format : Format) (x : Payload) → IsPayload format x → read_payload format (x.version, x.byte, said_by x) ≡ Some x
+payload_again : (format : Format) (x : Payload) → IsPayload format x → read_payload format (x.version, x.byte, payload_body x) ≡ Some x
 payload_again format x is =
-    ap (read_as x.version x.byte (said_by x)) is.has_kind
+    ap (read_as x.version x.byte (payload_body x)) is.has_kind
     ∙ body_again x.layout x.body (λ body. record { version = x.version; byte = x.byte; layout = x.layout; body = body }) is.is_body
 
 pub none_begins_another : (format : Format) → IsFormat format → NoneBeginsAnother format
 none_begins_another format is x y after_x after_y is_x is_y e =
-    let same = one_frame format is x.version x.byte y.version y.byte (said_by x) (said_by y) after_x after_y (payload_has format x is_x) (payload_has format y is_y) e in
+    let same = one_frame format is x.version x.byte y.version y.byte (payload_body x) (payload_body y) after_x after_y (payload_has format x is_x) (payload_has format y is_y) e in
     some_same {A = Payload} x y (sym (payload_again format x is_x) ∙ ap (read_payload format) same ∙ payload_again format y is_y)

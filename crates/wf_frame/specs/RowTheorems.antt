@@ -12,24 +12,24 @@ use Rattle.wf_frame.specs.LayoutTheorems.{value_length, fits_most, body_fits, bo
 
 -- ---- what the body of a row says
 
-abbrev end_said : (most : ℕ) (end : RowEnd (List ℕ)) → End (row_ending most end)
-end_said most NoEnd = tt
-end_said most (TextEnd text) = text
-end_said most (VotesEnd s b votes) = record { slot = s; ballot = b; votes = votes }
+abbrev end_parts : (most : ℕ) (end : RowEnd (List ℕ)) → End (row_ending most end)
+end_parts most NoEnd = tt
+end_parts most (TextEnd text) = text
+end_parts most (VotesEnd s b votes) = record { slot = s; ballot = b; votes = votes }
 
-abbrev said : (most : ℕ) (values : List FieldValue) (end : RowEnd (List ℕ)) → Parts (map field_of values) (row_ending most end)
-said most [] end = end_said most end
-said most (v ∷ values) end = (value_of v, said most values end)
+abbrev row_parts : (most : ℕ) (values : List FieldValue) (end : RowEnd (List ℕ)) → Parts (map field_of values) (row_ending most end)
+row_parts most [] end = end_parts most end
+row_parts most (v ∷ values) end = (value_of v, row_parts most values end)
 
-abbrev body_said : (most : ℕ) (r : Row (List ℕ)) → Body (row_layout most r)
-body_said most r = said most r.fields r.ending
+abbrev body_of_row : (most : ℕ) (r : Row (List ℕ)) → Body (row_layout most r)
+body_of_row most r = row_parts most r.fields r.ending
 
 -- its fields are in their ranges
-said_fits : (most : ℕ) (values : List FieldValue) (end : RowEnd (List ℕ)) → most < 2 ^ 32 → AreInRange (IsText most) values end → AreParts (map field_of values) (row_ending most end) (said most values end)
-said_fits most [] NoEnd short p = tt
-said_fits most [] (TextEnd text) short p = p
-said_fits most [] (VotesEnd s b votes) short p = record { slot = p.0; ballot = p.1; count = p.2; votes = p.3; four_bytes = short }
-said_fits most (v ∷ values) end short p = (p.0, said_fits most values end short p.1)
+row_parts_fit : (most : ℕ) (values : List FieldValue) (end : RowEnd (List ℕ)) → most < 2 ^ 32 → AreInRange (IsText most) values end → AreParts (map field_of values) (row_ending most end) (row_parts most values end)
+row_parts_fit most [] NoEnd short p = tt
+row_parts_fit most [] (TextEnd text) short p = p
+row_parts_fit most [] (VotesEnd s b votes) short p = record { slot = p.0; ballot = p.1; count = p.2; votes = p.3; four_bytes = short }
+row_parts_fit most (v ∷ values) end short p = (p.0, row_parts_fit most values end short p.1)
 
 -- ---- the row that is read
 
@@ -39,23 +39,23 @@ same_value (SlotValue slot) = refl
 same_value (RoundValue round) = refl
 same_value (BallotValue ballot) = refl
 
-same_values : (most : ℕ) (values : List FieldValue) (end : RowEnd (List ℕ)) → values_in (map field_of values) (row_ending most end) (said most values end) ≡ values
+same_values : (most : ℕ) (values : List FieldValue) (end : RowEnd (List ℕ)) → values_in (map field_of values) (row_ending most end) (row_parts most values end) ≡ values
 same_values most [] end = refl
 same_values most (v ∷ values) end =
-    let rest : List FieldValue = values_in (map field_of values) (row_ending most end) (said most values end) in
+    let rest : List FieldValue = values_in (map field_of values) (row_ending most end) (row_parts most values end) in
     ap (λ (first : FieldValue). first ∷ rest) (same_value v) ∙ ap (λ (others : List FieldValue). v ∷ others) (same_values most values end)
 
-same_end : (most : ℕ) (values : List FieldValue) (end : RowEnd (List ℕ)) → end_from (row_ending most end) (end_of (map field_of values) (row_ending most end) (said most values end)) ≡ end
+same_end : (most : ℕ) (values : List FieldValue) (end : RowEnd (List ℕ)) → end_from (row_ending most end) (end_of (map field_of values) (row_ending most end) (row_parts most values end)) ≡ end
 same_end most [] NoEnd = refl
 same_end most [] (TextEnd text) = refl
 same_end most [] (VotesEnd s b votes) = refl
 same_end most (v ∷ values) end = same_end most values end
 
 -- what a row says is the row
-row_again : (most : ℕ) (r : Row (List ℕ)) → row_from r.byte (row_layout most r) (body_said most r) ≡ r
+row_again : (most : ℕ) (r : Row (List ℕ)) → row_from r.byte (row_layout most r) (body_of_row most r) ≡ r
 row_again most r =
     let with_fields : List FieldValue → Row (List ℕ) =
-    λ values. record { byte = r.byte; fields = values; ending = end_from (row_ending most r.ending) (end_of (map field_of r.fields) (row_ending most r.ending) (body_said most r)) } in
+    λ values. record { byte = r.byte; fields = values; ending = end_from (row_ending most r.ending) (end_of (map field_of r.fields) (row_ending most r.ending) (body_of_row most r)) } in
     let with_end : RowEnd (List ℕ) → Row (List ℕ) = λ end. record { byte = r.byte; fields = r.fields; ending = end } in
     ap with_fields (same_values most r.fields r.ending) ∙ ap with_end (same_end most r.fields r.ending)
 
@@ -84,8 +84,8 @@ unfolding row_bytes
 read_bytes byte layout body = from_bytes layout.fields layout.ending body
 
 -- a row's body is its layout's bytes of what it says
-said_bytes : (most : ℕ) (r : Row (List ℕ)) → row_bytes r ≡ body_bytes (row_layout most r) (body_said most r)
-said_bytes most r = ap row_bytes (sym (row_again most r)) ∙ read_bytes r.byte (row_layout most r) (body_said most r)
+bytes_of_row_body : (most : ℕ) (r : Row (List ℕ)) → row_bytes r ≡ body_bytes (row_layout most r) (body_of_row most r)
+bytes_of_row_body most r = ap row_bytes (sym (row_again most r)) ∙ read_bytes r.byte (row_layout most r) (body_of_row most r)
 
 -- ---- lengths
 
@@ -101,7 +101,7 @@ row_length r = omega (arith, length-append (fields_bytes r.fields) (row_end_byte
 -- a row's body has a length that its layout allows
 pub row_fits : (most : ℕ) (r : Row (List ℕ)) → most < 2 ^ 32 → IsRowOf (IsText most) r → fits (row_layout most r) (length (row_bytes r)) ≡ true
 row_fits most r short is =
-    ap (λ (bytes : List ℕ). fits (row_layout most r) (length bytes)) (said_bytes most r) ∙ body_fits (row_layout most r) (body_said most r) (said_fits most r.fields r.ending short is)
+    ap (λ (bytes : List ℕ). fits (row_layout most r) (length bytes)) (bytes_of_row_body most r) ∙ body_fits (row_layout most r) (body_of_row most r) (row_parts_fit most r.fields r.ending short is)
 
 -- no kind has a longer body
 abbrev pub AreWithin : ℕ → List (ℕ × Layout) → Type 0
@@ -127,8 +127,8 @@ pub row_read : (kinds : List (ℕ × Layout)) (most : ℕ) (r : Row (List ℕ)) 
 unfolding read_row
 row_read kinds most r short known is =
     ap (option_and_then (λ layout. read_body layout (row_bytes r) (row_from r.byte layout))) known
-    ∙ ap (λ (bytes : List ℕ). read_body (row_layout most r) bytes (row_from r.byte (row_layout most r))) (said_bytes most r)
-    ∙ body_again (row_layout most r) (body_said most r) (row_from r.byte (row_layout most r)) (said_fits most r.fields r.ending short is) ∙ ap Some (row_again most r)
+    ∙ ap (λ (bytes : List ℕ). read_body (row_layout most r) bytes (row_from r.byte (row_layout most r))) (bytes_of_row_body most r)
+    ∙ body_again (row_layout most r) (body_of_row most r) (row_from r.byte (row_layout most r)) (row_parts_fit most r.fields r.ending short is) ∙ ap Some (row_again most r)
 
 -- the row that is read has this byte and this body
 pub row_stands : (kinds : List (ℕ × Layout)) (byte : ℕ) (layout : Layout) (bytes : List ℕ) (r : Row (List ℕ)) → layout_of kinds byte ≡ Some layout → AreBytes bytes → fits layout (length bytes) ≡ true →

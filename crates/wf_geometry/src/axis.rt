@@ -7,7 +7,7 @@ ghost use Rattle.wf_geometry.specs.Exact.{difference, product, quotient};
 ghost use Rattle.wf_geometry.specs.View.{scaled, position, most_scale, most_shift, IsAxis};
 
 use std::marker::Model;
-use wf_def::micro::Micro;
+use wf_def::Micro;
 
 /// How a view maps one axis of the map to pixels: `span` millionths are `scale` sixteenths of a pixel, and the coordinate
 /// `origin` lies `shift` sixteenths before the view's side.
@@ -57,7 +57,7 @@ impl Axis {
         ensures within { IsNear result }
     {
         let distance = distance(self.origin.millionths(), coordinate.millionths());
-        subtract_shift(scaled(distance, self.scale, self.span), self.shift)
+        subtract_shift(scale_distance(distance, self.scale, self.span), self.shift)
     }
 }
 
@@ -74,7 +74,7 @@ pub(crate) fn distance(from: i64, to: i64) -> i64
 
 /// A distance in millionths as sixteenths of a pixel, rounded down.
 #[tactic(auto, using(crate::proofs::QuotientLemmas::stretched), unfolding(crate::specs::View::scaled))]
-fn scaled(distance: i64, scale: u64, span: u64) -> i64
+fn scale_distance(distance: i64, scale: u64, span: u64) -> i64
     requires distance { nat_abs distance ≤ 2 * most_millionths }
     requires least { 1 ≤ span }
     requires most { span ≤ 2 * most_millionths }
@@ -82,12 +82,12 @@ fn scaled(distance: i64, scale: u64, span: u64) -> i64
     ensures value { result ≡ scaled distance scale span }
     ensures within { nat_abs result ≤ 2 * most_scale * most_millionths }
 {
-    divide(stretched(distance, scale), span)
+    divide(stretch(distance, scale), span)
 }
 
 /// The product of a distance and a scale.
 #[tactic(auto, unfolding(crate::specs::Exact::product))]
-fn stretched(distance: i64, scale: u64) -> i128
+fn stretch(distance: i64, scale: u64) -> i128
     ensures value { result ≡ product distance (pos scale) }
     ensures within { nat_abs result ≡ nat_abs distance * scale }
 {

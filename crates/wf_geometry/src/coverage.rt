@@ -158,7 +158,12 @@ fn is_on(width: u8, position: Position, segment: &Segment) -> bool
 {
     let (from, to) = (segment.from, segment.to);
     if is_steep(from, to) {
-        is_on_flat(width, position.turned(), from.turned(), to.turned())
+        is_on_flat(
+            width,
+            position.exchange_axes(),
+            from.exchange_axes(),
+            to.exchange_axes(),
+        )
     } else {
         is_on_flat(width, position, from, to)
     }

@@ -10,7 +10,7 @@ ghost use Rattle.wf_geometry.specs.declared.grid.GridCell.{GridCell as Cell};
 
 use crate::axis::distance;
 use crate::limits::{LEAST_CELL, MOST_LEVEL, TILE_PIXELS};
-use wf_def::extent::Extent;
+use wf_def::Extent;
 
 /// A cell of the tile grid: its level, column and row. Columns and rows count from the extent's lower left corner; those below it
 /// are negative.

@@ -34,7 +34,12 @@ pub fn strip_of(width: u8, segment: &Segment, wide: u32, high: u32) -> Strip
 {
     let (from, to) = (segment.from, segment.to);
     if is_steep(from, to) {
-        upward(width, in_order(from.turned(), to.turned()), wide, high)
+        upward(
+            width,
+            in_order(from.exchange_axes(), to.exchange_axes()),
+            wide,
+            high,
+        )
     } else {
         rightward(width, in_order(from, to), wide, high)
     }
@@ -164,7 +169,7 @@ fn turned_deviations(width: u8, low: Position, high: Position) -> Levels
         level_at result u v ≡ deviation (turned (centre (pos u) (pos v))) low high }
 {
     Levels {
-        origin: deviation(Position::centre(0, 0).turned(), low, high),
+        origin: deviation(Position::centre(0, 0).exchange_axes(), low, high),
         across: run(low, high),
         up: rise(high, low),
         margin: margin(width, low, high),

@@ -1,7 +1,7 @@
 //! Paint operations: a shape in a colour.
 
 use crate::position::Position;
-use wf_def::color::Color;
+use wf_def::Color;
 
 /// The straight line between two positions.
 #[derive(Clone, Copy)]

@@ -52,7 +52,7 @@ impl Position {
     }
 
     /// The position with its axes exchanged.
-    pub(crate) fn turned(self) -> Self
+    pub(crate) fn exchange_axes(self) -> Self
         ensures { result ≡ turned self }
     {
         Position {

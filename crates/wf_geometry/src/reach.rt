@@ -71,7 +71,7 @@ fn reach_of_rising(level: i64, width: u32, low: Position, high: Position) -> u32
     ensures left { (u : ℕ) → u < width →
         is_left_of (record { x = middle (pos u); y = level }) low high ≡ nat_lt u result }
 {
-    steps_below(step(low, high), bound(level, low, high), width)
+    steps_below(step(low, high), upper_bound(level, low, high), width)
 }
 
 /// The change of the compared products from one column to the next.
@@ -82,7 +82,7 @@ fn step(low: Position, high: Position) -> i128
 }
 
 /// How far the first column at this level lies left of the edge, as a difference of the compared products.
-fn bound(level: i64, low: Position, high: Position) -> i128
+fn upper_bound(level: i64, low: Position, high: Position) -> i128
     requires { IsNear level }
     ensures { result ≡ difference (product (difference level low.y) (difference high.x low.x))
         (product (difference (pos half_side) low.x) (difference high.y low.y)) }

@@ -10,9 +10,7 @@ use crate::axis::{Axis, distance};
 use crate::grid::{GridCell, cells_at, width_of};
 use crate::limits::{MOST_PIXELS, PIXEL_SIDE, SHARED_TILES, TILE_PIXELS};
 use crate::view::{Corner, View};
-use wf_def::extent::Extent;
-use wf_def::map::MapDef;
-use wf_def::micro::Micro;
+use wf_def::{Extent, MapDef, Micro};
 
 /// The side of a tile, in sixteenths of a pixel.
 const TILE_SIDE: u64 = PIXEL_SIDE as u64 * TILE_PIXELS as u64;

@@ -6,7 +6,7 @@ ghost use Rattle.wf_geometry.specs.View.{position_of, IsAxis, IsView};
 use crate::axis::Axis;
 use crate::position::Position;
 use std::marker::Model;
-use wf_def::point::Point;
+use wf_def::Point;
 
 /// The lower left pixel of a picture cut out of a view: columns from the left, rows from the bottom.
 #[derive(Clone, Copy, PartialEq, Eq)]

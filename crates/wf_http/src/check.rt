@@ -6,7 +6,7 @@ ghost use Rattle.wf_http.specs.Checks.{most_body_bytes, codings_of, lengths_of, 
 
 use crate::fields::{CONTENT_LENGTH, Fields, TRANSFER_ENCODING};
 use crate::http_error::HttpError;
-use wf_text::digits::number_of_digits;
+use wf_text::number_of_digits;
 
 /// The greatest length of a body, in bytes.
 pub const MOST_BODY_BYTES: usize = 131_072;

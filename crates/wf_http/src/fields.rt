@@ -7,7 +7,7 @@ ghost use Rattle.wf_http.specs.Fields.{is_named, is_digits, is_number, is_zero, 
 use crate::span::bytes_in;
 use httparse::spans::HeaderSpan;
 use std::marker::Model;
-use wf_text::digits::are_digits;
+use wf_text::are_digits;
 
 /// The name of the field with a body's transfer codings (RFC 9112, section 6.1).
 pub const TRANSFER_ENCODING: &[u8] = b"Transfer-Encoding";

@@ -12,7 +12,7 @@ use Rattle.wf_frame.specs.declared.fault.FrameFault.{FrameFault}
 use Rattle.wf_frame.specs.declared.fault.FrameFault.TheVariants as frames
 use Rattle.wf_frame.specs.Frame.{Found, HasBody, frame_front}
 use Rattle.wf_frame.specs.Frame as parts
-use Rattle.wf_frame.specs.FrameTheorems as laws
+use Rattle.wf_frame.specs.FrameTheorems as frame_theorems
 use Rattle.wf_frame.specs.Layout.{Layout, fits}
 use Rattle.wf_frame.specs.Row.{Row, row_bytes, row_layout, layout_of, read_row}
 use Rattle.wf_frame.specs.RowTheorems.{row_stands}
@@ -47,7 +47,7 @@ cut_of : (r : Record Definition) (spelled after bytes : List ℕ) (encodes : Enc
 unfolding text_spelling
 cut_of r spelled after bytes encodes e =
     let begins : bytes ≡ frame (version_byte encodes.version) (texts r).byte (row_bytes (texts r)) ++ after = e ∙ ap (λ (t : List ℕ). t ++ after) encodes.spelled in
-    ap (frame_front format) begins ∙ laws.frame_again format is_format (version_byte encodes.version) (texts r).byte (row_bytes (texts r)) after (body_of_record encodes.version r encodes.is_record encodes.short)
+    ap (frame_front format) begins ∙ frame_theorems.frame_again format is_format (version_byte encodes.version) (texts r).byte (row_bytes (texts r)) after (body_of_record encodes.version r encodes.is_record encodes.short)
 
 abbrev ok : Found → Result Found FrameFault
 ok x = Ok x
@@ -73,7 +73,7 @@ none_begins_another one_map q r a b after_a after_b encodes_a encodes_b e =
     let w : ℕ = version_byte encodes_b.version in
     let same_frames : frame v (texts q).byte bytes_q ++ after_a ≡ frame w (texts r).byte bytes_r ++ after_b =
     sym (ap (λ (t : List ℕ). t ++ after_a) encodes_a.spelled) ∙ e ∙ ap (λ (t : List ℕ). t ++ after_b) encodes_b.spelled in
-    let same = laws.one_frame format is_format v (texts q).byte w (texts r).byte bytes_q bytes_r after_a after_b
+    let same = frame_theorems.one_frame format is_format v (texts q).byte w (texts r).byte bytes_q bytes_r after_a after_b
     (body_of_record encodes_a.version q encodes_a.is_record encodes_a.short) (body_of_record encodes_b.version r encodes_b.is_record encodes_b.short) same_frames in
     let same_texts : texts q ≡ texts r = some_same (texts q) (texts r) (sym (row_of_record q encodes_a.is_record) ∙ ap read_of same ∙ row_of_record r encodes_b.is_record) in
     let same_bytes : a ≡ b = encodes_a.spelled ∙ ap (λ (x : Found). frame x.0 x.1 x.2) same ∙ sym encodes_b.spelled in (
@@ -100,7 +100,7 @@ begins_by : {X : Type 0} (view : X → Record Definition) (x : X × ℕ) (bytes 
 unfolding text_spelling
 begins_by view x bytes (Err fault) is are_bytes validated = absurd cc
 begins_by view x bytes (Ok found) is are_bytes validated =
-    let framed = laws.frame_stands format bytes found.0 found.1 found.2 are_bytes is in
+    let framed = frame_theorems.frame_stands format bytes found.0 found.1 found.2 are_bytes is in
     let of = version_of found.0 found.1 found.2 framed.has_body in
     let most : ℕ = most_text of.version in
     let r : Row (List ℕ) = texts (view x.0) in
@@ -162,11 +162,11 @@ torn_frame [] torn = absurd torn
 torn_frame (byte ∷ bytes) torn = torn
 
 torn_validated : (bytes : List ℕ) → IsTorn bytes → frame_front format bytes ≡ Err frames.Short
-torn_validated bytes torn = laws.unfinished_is_short format is_format bytes (torn_frame bytes torn)
+torn_validated bytes torn = frame_theorems.unfinished_is_short format is_format bytes (torn_frame bytes torn)
 
 -- bytes for which Torn is returned are torn
 pub is_torn : {X : Type 0} (view : X → Record Definition) (result : Result (X × ℕ) RecordFault) (bytes : List ℕ) → IsValidated view result (frame_front format bytes) → IsErrOf result Torn → (bytes ≡ [] → ⊥) → IsTorn bytes
-is_torn view result bytes validated torn some = torn_record bytes some (laws.short_is_unfinished format bytes (torn_by view result (frame_front format bytes) validated torn))
+is_torn view result bytes validated torn some = torn_record bytes some (frame_theorems.short_is_unfinished format bytes (torn_by view result (frame_front format bytes) validated torn))
 
 framed_torn : (bytes : List ℕ) → frame_front format bytes ≡ Err frames.Short → BeginsWithNone bytes
 framed_torn bytes torn r spelled after encodes e = let whole = cut_of r spelled after bytes encodes e in absurd cc

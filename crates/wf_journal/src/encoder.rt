@@ -39,7 +39,7 @@ fn push(out: &mut Vec<u8>, entry: &Record) -> Result<(), AllocError>
     let (kind, text) = entry.put_fields(&mut fields);
     let length = fields.len() + text.len();
     out.reserve(HEADER_BYTES + length)?;
-    put_header(out, Version::written().byte(), kind, length);
+    put_header(out, Version::current().byte(), kind, length);
     put(out, fields.as_slice());
     put(out, text);
     Ok(())

@@ -16,7 +16,7 @@ impl Version {
     ghost use Rattle.wf_journal.specs.Version.{version_byte, version_of_byte, version_written, most_text};
 
     /// The version in which records are written.
-    pub fn written() -> Version
+    pub fn current() -> Version
         ensures { result ≡ version_written }
     {
         Version::Two

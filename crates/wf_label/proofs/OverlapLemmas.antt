@@ -1,9 +1,9 @@
 -- Boxes overlap exactly where they share a pixel: the greater of their left sides with the greater of their bottom sides is one.
-use Rattle.std.proofs.Common.{◌≡◌, Bool, true, false, ◌&&◌, ℤ, refl, arith}
+use Rattle.std.proofs.Common.{◌≡◌, Bool, true, false, ℤ, refl, arith}
 use Rattle.std.proofs.lemmas.Bool.{and_from, and_parts}
 use Rattle.std.proofs.lemmas.Int.{ints}
 use Rattle.wf_geometry.specs.Exact.{is_less}
-use Rattle.wf_label.specs.Overlap.{BoxesOverlapWhereTheyShare, LiesIn, OverlapIsSharing, ShareAPixel}
+use Rattle.wf_label.specs.Overlap.{BoxesOverlapWhereTheyShare, ShareAPixel}
 use Rattle.wf_label.specs.PixelBox.{overlap, spans_overlap}
 use Rattle.wf_label.specs.Taken.{IsSolid}
 use Rattle.wf_label.specs.declared.placed.PixelBox.{PixelBox}

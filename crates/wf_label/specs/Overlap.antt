@@ -1,5 +1,5 @@
 -- What the overlap of two boxes means: a pixel that lies in both.
-use Rattle.std.specs.Prelude.{◌≡◌, Bool, true, ℤ}
+use Rattle.std.specs.Prelude.{◌≡◌, true, ℤ}
 use Rattle.wf_geometry.specs.Exact.{is_less}
 use Rattle.wf_label.specs.PixelBox.{overlap}
 use Rattle.wf_label.specs.Taken.{IsSolid}

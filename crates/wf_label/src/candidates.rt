@@ -13,11 +13,7 @@ use crate::placed::Placed;
 use crate::position::at_anchor;
 use crate::text::text_of;
 use std::alloc::{AllocError, Global};
-use wf_def::feature::Feature;
-use wf_def::label::Label;
-use wf_def::layer::Layer;
-use wf_def::limits::MOST_PRIORITY;
-use wf_def::map::MapDef;
+use wf_def::{Feature, Label, Layer, MOST_PRIORITY, MapDef};
 use wf_geometry::View;
 
 /// A label with its position in a view, and its priority: the higher is placed first.

@@ -4,8 +4,7 @@ ghost use Rattle.std.specs.Int.{int_max, int_min};
 ghost use Rattle.wf_geometry.specs.Near.{IsNear};
 ghost use Rattle.wf_label.specs.Anchor.{IsAnchor, IsBounds, anchor_of, part_anchor, bounds_of, middle_of, middle, pixel_of};
 
-use wf_def::feature::Part;
-use wf_def::point::Point;
+use wf_def::{Part, Point};
 use wf_geometry::{PIXEL_SIDE, Position, View};
 
 /// The box around some positions, in sixteenths of a pixel: the least and the greatest on each axis.

@@ -4,7 +4,7 @@ ghost use Rattle.wf_geometry.specs.Exact.{is_less};
 ghost use Rattle.wf_label.specs.Colored.{IsColored, IsCut, is_in, is_in_row};
 
 use crate::placed::PixelBox;
-use wf_def::color::Color;
+use wf_def::Color;
 use wf_paint::Pixmap;
 
 /// Gives the pixels of the picture that lie in the box the colour.

@@ -20,18 +20,26 @@
 //! that its characters' glyphs set, all of them in its box.
 #![tactic(auto)]
 
-pub mod candidates;
-pub mod draw;
+mod candidates;
+mod draw;
 mod feature_anchor;
 mod fill;
-pub mod glyph;
+mod glyph;
 mod ink;
-pub mod limits;
+mod limits;
 mod overlap;
-pub mod placed;
-pub mod placement;
+mod placed;
+mod placement;
 mod position;
 mod scale;
 mod taken;
 mod text;
-pub mod theorem;
+mod theorem;
+
+pub use draw::draw_labels;
+pub use limits::constants_are_the_limits;
+pub use placement::place;
+pub use theorem::{
+    boxes_overlap_where_they_share, candidates_are_sorted, letters_ink_their_set_bits,
+    there_is_one_placed_set,
+};

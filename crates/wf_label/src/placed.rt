@@ -1,7 +1,6 @@
 //! Labels that have a position in a view.
 
-use wf_def::choice::LabelSize;
-use wf_def::color::Color;
+use wf_def::{Color, LabelSize};
 
 /// A box of pixels: the columns from `left` to before `right`, the rows from `bottom` to before `top`. It may lie outside the
 /// view.

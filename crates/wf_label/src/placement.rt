@@ -12,7 +12,7 @@ use crate::overlap::{box_of, is_whole_in, widen};
 use crate::placed::{PixelBox, Placed};
 use crate::taken::{mark, meets_marked};
 use std::alloc::{AllocError, Global};
-use wf_def::map::MapDef;
+use wf_def::MapDef;
 use wf_geometry::View;
 
 /// The placed labels of the map's layers at these indices, in label order (MapServer mapfile reference, LABEL FORCE, BUFFER):

@@ -10,8 +10,7 @@ ghost use Rattle.wf_label.specs.Placed.{placed_value};
 use crate::feature_anchor::Anchor;
 use crate::placed::Placed;
 use crate::text::{short_width, text_height};
-use wf_def::choice::LabelPosition;
-use wf_def::label::Label;
+use wf_def::{Label, LabelPosition};
 
 /// A text at an anchor.
 pub(crate) fn at_anchor<'a>(label: &Label, text: &'a str, anchor: Anchor) -> Placed<'a>

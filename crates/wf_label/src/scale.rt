@@ -2,7 +2,7 @@
 ghost use Rattle.std.specs.Prelude.{◌≡◌, ◌≤◌};
 ghost use Rattle.wf_label.specs.Placed.{scale_of};
 
-use wf_def::choice::LabelSize;
+use wf_def::LabelSize;
 
 /// How many pixels wide and high a bit of a letter is.
 pub(crate) fn scale_of(size: LabelSize) -> u8

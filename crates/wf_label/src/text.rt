@@ -8,9 +8,7 @@ ghost use Rattle.wf_label.specs.Placed.{scale_of};
 
 use crate::limits::{CELL_HEIGHT, CELL_WIDTH};
 use crate::scale::scale_of;
-use wf_def::choice::LabelSize;
-use wf_def::feature::Feature;
-use wf_def::layer::Layer;
+use wf_def::{Feature, LabelSize, Layer};
 
 /// The text of a feature's label (MapServer mapfile reference, LABELITEM, TEXT): the feature's value under the layer's LABELITEM
 /// where there is one, else the feature's own text.

@@ -5,7 +5,7 @@ use std::marker::Model;
 use wf_ballot::{Seq, Slot};
 use wf_canon::Canon;
 use wf_codec::Message;
-use wf_def::map::MapDef;
+use wf_def::MapDef;
 
 /// The result of learning a chosen definition.
 #[derive(Clone, Copy, Debug, PartialEq, Eq)]

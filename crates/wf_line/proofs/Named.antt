@@ -22,11 +22,11 @@ use Rattle.clap.specs.declared.parser.matches.SubCommand.{SubCommand}
 use Rattle.wf_line.specs.CommandLine.{Asks, IsCacheBy, IsCapsOf, IsDrawOf, IsMapBy, IsRejection, IsServeOf, IsServiceOf, IsTapeOf, program, rejections}
 use Rattle.wf_ballot.specs.Sequence.{last_sequence}
 use Rattle.wf_line.specs.Line.{IsInRange}
-use Rattle.wf_line.specs.declared.line.Line.{Line}
+use Rattle.wf_line.specs.declared.command_line.Line.{Line}
 use Rattle.wf_service.specs.Service.{IsService}
 use Rattle.wf_service.specs.Service.{most_cached}
 use Rattle.wf_service.specs.declared.service.Service.{Service}
-use Rattle.wf_line.specs.declared.line.Line.TheVariants as lines
+use Rattle.wf_line.specs.declared.command_line.Line.TheVariants as lines
 
 -- the parsed argument is in its row
 pub word_in_row : (found : Found) (id : Text) (word : Option Text) → word ≡ first_value found id → first_of id (rows_of found) ≡ word

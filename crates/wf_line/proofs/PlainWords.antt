@@ -17,7 +17,7 @@ use Rattle.clap.specs.declared.builder.value_parser.ValueParser.TheVariants.{Sig
 use Rattle.clap.specs.Walk.{Held, Row, finished, nothing_held, pushed, settled, walk, Rule, Text, Walk, after_step, arg_by_index, first_of, idle, long_or_other, short_or_plain, trailing, to_positional, value, walk_from, walked, word_met}
 use Rattle.wf_line.specs.CommandLine.{caps_shape, draw_shape, tape_shape, PlainCapsIsAsked, PlainDrawIsAsked, PlainCanonIsAsked, PlainRunIsAsked, PlainTapeIsAsked, PlainWireIsAsked, IsMapBy, is_plain, program, PlainCheckIsAsked}
 use Rattle.wf_line.specs.Line.{IsSequence}
-use Rattle.wf_line.specs.declared.line.Line.TheVariants as lines
+use Rattle.wf_line.specs.declared.command_line.Line.TheVariants as lines
 
 -- the state of the walk over positionals
 abbrev at : Held → ℕ → Walk

@@ -16,10 +16,10 @@ use Rattle.clap.specs.declared.builder.value_parser.ValueParser.TheVariants.{Sig
 use Rattle.std.specs.Str.{bytes_eq}
 use Rattle.wf_ballot.specs.Sequence.{last_sequence}
 use Rattle.wf_line.specs.Line.{IsNumber, IsSequence}
-use Rattle.wf_line.specs.declared.line.Line.{Line}
+use Rattle.wf_line.specs.declared.command_line.Line.{Line}
 use Rattle.wf_service.specs.Service.{last_port, most_nodes, most_requests}
 use Rattle.wf_service.specs.declared.service.Service.{Service}
-use Rattle.wf_line.specs.declared.line.Line.TheVariants as lines
+use Rattle.wf_line.specs.declared.command_line.Line.TheVariants as lines
 use Rattle.wf_service.specs.Service.{most_cached}
 
 -- ---- the arguments that the program takes

@@ -2,9 +2,9 @@
 use Rattle.std.specs.Prelude.{◌≡◌, ◌≤◌, ℕ, List, IfSome, ⊤}
 use Rattle.std.specs.Str.Parse.{IsNumeral, digits_value, without_leading_plus}
 use Rattle.wf_ballot.specs.Sequence.{last_sequence}
-use Rattle.wf_line.specs.declared.line.Line.{Line}
+use Rattle.wf_line.specs.declared.command_line.Line.{Line}
 use Rattle.wf_service.specs.Service.{IsService}
-use Rattle.wf_line.specs.declared.line.Line.TheVariants as lines
+use Rattle.wf_line.specs.declared.command_line.Line.TheVariants as lines
 
 -- the numbers of a command line are in range
 abbrev pub IsInRange : Line → Type 0

@@ -6,10 +6,10 @@ ghost use Rattle.clap.specs.Walk.{first_of, rule_of};
 ghost use Rattle.clap.specs.declared.builder.command.Command.TheViews.{out-Command};
 ghost use Rattle.wf_line.specs.CommandLine.{Asks, HasSubcommands, IsCacheOf, IsCapsOf, IsDrawOf, IsNumberOf, IsOfShape, IsRejection, IsServeOf, IsServiceOf, IsTapeOf, IsWhyRejected, PlainCanonIsAsked, PlainCapsIsAsked, PlainDrawIsAsked, PlainRunIsAsked, PlainTapeIsAsked, PlainWireIsAsked, program, caps_shape, draw_shape, canon_shape, run_shape, wire_shape, tape_shape, required_serve_shape, serve_shape, rows_in, is_set, IsMapOf, map_rule, log_rule, sequence_rule, query_rule, file_rule, nodes_rule, port_rule, requests_rule, cache_rule, state_rule, PlainCheckIsAsked, check_shape};
 ghost use Rattle.wf_line.specs.Line.{IsInRange, IsNumber, IsSequence};
-ghost use Rattle.wf_line.specs.declared.line.Line.{Line};
+ghost use Rattle.wf_line.specs.declared.command_line.Line.{Line};
 ghost use Rattle.wf_service.specs.declared.service.Service.{Service};
 
-use crate::line::Line;
+use crate::command_line::Line;
 use clap::error::ErrorKind;
 use clap::{Arg, ArgAction, ArgMatches, Command, Error};
 use std::alloc::{AllocError, Global};

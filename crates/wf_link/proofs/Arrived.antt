@@ -8,10 +8,10 @@ use Rattle.wf_def.specs.Definition.{Definition}
 use Rattle.wf_model.specs.Message.{Message}
 use Rattle.wf_stream.specs.KnownTheorems.{consumes_more, consumes_none}
 use Rattle.wf_stream.specs.Effects.{ReadsPiece}
-use Rattle.wf_wire.specs.Inbox.{InboxState, Open, Failed, IsFed, pending_bytes}
-use Rattle.wf_wire.proofs.Split.{joined_reads}
-use Rattle.wf_wire.proofs.Streams.{nothing_is_part}
-use Rattle.wf_wire.specs.Stream.{Reads, Splits}
+use Rattle.wf_mail.specs.Inbox.{InboxState, Open, Failed, IsFed, pending_bytes}
+use Rattle.wf_mail.proofs.Split.{joined_reads}
+use Rattle.wf_mail.proofs.WholeMessages.{nothing_is_part}
+use Rattle.wf_mail.specs.Stream.{Reads, Splits}
 use Rattle.wf_link.specs.Arrival.{Arrives, HasReceived, HasTaken, HaveArrived, came_out}
 use Rattle.wf_link.specs.declared.receiver.Arrival.{Arrival}
 

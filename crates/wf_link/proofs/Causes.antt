@@ -8,10 +8,10 @@ use Rattle.wf_farm.specs.declared.carrier.CarrierFault.{CarrierFault}
 use Rattle.wf_farm.specs.declared.carrier.CarrierFault.TheVariants as faults
 use Rattle.wf_stream.specs.KnownTheorems.{consumes_more}
 use Rattle.wf_stream.specs.Effects.{ReadsPiece, Rises}
-use Rattle.wf_wire.specs.Inbox.{InboxState, IsBroken, pending_bytes}
-use Rattle.wf_wire.proofs.Split.{joined_breaks, split_one_way}
-use Rattle.wf_wire.specs.Stream.{Breaks}
-use Rattle.wf_wire.specs.declared.fault.InboxFault.{InboxFault}
+use Rattle.wf_mail.specs.Inbox.{InboxState, IsBroken, pending_bytes}
+use Rattle.wf_mail.proofs.Split.{joined_breaks, split_one_way}
+use Rattle.wf_mail.specs.Stream.{Breaks}
+use Rattle.wf_codec.specs.declared.fault.DecodeFault.{DecodeFault}
 use Rattle.wf_link.specs.Arrival.{Arrives, HasReceived, HasTaken, came_out}
 use Rattle.wf_link.specs.Cause.{BeginsNoMessage, BreaksOff, ComesOtherwise, EndsEarly, FailsFor, Fares, HasBroken, IsAny, IsOneMessage, IsUnpassed, IsUnread}
 use Rattle.wf_link.specs.declared.receiver.Arrival.{Arrival}
@@ -56,7 +56,7 @@ on_lost (Err fault) cause is = cause
 
 -- ---- a piece
 
-pub broken_piece : (piece : List ℕ) (before : Arrival) (fault : InboxFault) (after : InboxState) → IsBroken before.inbox piece fault after → HasBroken piece before
+pub broken_piece : (piece : List ℕ) (before : Arrival) (fault : DecodeFault) (after : InboxState) → IsBroken before.inbox piece fault after → HasBroken piece before
 unfolding HasBroken
 broken_piece piece before fault after is = λ earlier had.
     let breaks = subst (λ (s : InboxState). IsBroken s piece fault after) had.keeps is in

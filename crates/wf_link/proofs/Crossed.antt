@@ -8,9 +8,9 @@ use Rattle.wf_codec.specs.Message.{IsMessage}
 use Rattle.wf_def.specs.Definition.{Definition}
 use Rattle.wf_model.specs.Message.{Message}
 use Rattle.wf_stream.specs.KnownTheorems.{appends_more, appends_none}
-use Rattle.wf_wire.proofs.Split.{split_one_way}
-use Rattle.wf_wire.proofs.Streams.{nothing_is_part}
-use Rattle.wf_wire.specs.Stream.{Reads}
+use Rattle.wf_mail.proofs.Split.{split_one_way}
+use Rattle.wf_mail.proofs.WholeMessages.{nothing_is_part}
+use Rattle.wf_mail.specs.Stream.{Reads}
 use Rattle.wf_link.specs.Arrival.{Arrives, HaveArrived}
 use Rattle.wf_link.specs.MessageCrossing.{AppendsPart, ComeOut, IsSentIfLooped, front_of}
 use Rattle.wf_link.specs.declared.receiver.Arrival.{Arrival}

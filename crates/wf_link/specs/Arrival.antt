@@ -4,8 +4,8 @@ use Rattle.std.specs.Io.KnownBytes.{Consumes}
 use Rattle.wf_codec.specs.Message.{view}
 use Rattle.wf_def.specs.Definition.{Definition}
 use Rattle.wf_model.specs.Message.{Message}
-use Rattle.wf_wire.specs.Inbox.{Open}
-use Rattle.wf_wire.specs.Stream.{Reads}
+use Rattle.wf_mail.specs.Inbox.{Open}
+use Rattle.wf_mail.specs.Stream.{Reads}
 use Rattle.wf_link.specs.declared.receiver.Arrival.{Arrival}
 
 -- the messages that came out

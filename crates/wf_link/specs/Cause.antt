@@ -8,8 +8,8 @@ use Rattle.wf_model.specs.Message.{Message}
 use Rattle.wf_stream.specs.Effects.{Rises}
 use Rattle.wf_stream.specs.declared.stream.Sink.{Ghosts as Sink}
 use Rattle.wf_stream.specs.declared.stream.Source.{Ghosts as Source}
-use Rattle.wf_wire.specs.Stream.{Breaks, Reads}
-use Rattle.wf_wire.specs.declared.fault.InboxFault.{InboxFault}
+use Rattle.wf_mail.specs.Stream.{Breaks, Reads}
+use Rattle.wf_codec.specs.declared.fault.DecodeFault.{DecodeFault}
 use Rattle.wf_link.specs.Arrival.{HasReceived}
 use Rattle.wf_link.specs.declared.receiver.Arrival.{Arrival}
 
@@ -34,7 +34,7 @@ BeginsNoMessage bytes = (rest : List ℕ) × Reads bytes [] rest
 
 -- whole messages, followed by an error
 abbrev pub GoesWrong : List ℕ → Type 0
-GoesWrong bytes = (fault : InboxFault) × Breaks bytes fault
+GoesWrong bytes = (fault : DecodeFault) × Breaks bytes fault
 
 -- the reader ended after fewer bytes
 abbrev pub EndsEarly : ℕ → Option (List ℕ) → Option (List ℕ) → Type 0

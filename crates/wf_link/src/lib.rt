@@ -1,7 +1,7 @@
 //! Messages cross a connection, in pieces, and come out of an inbox at its other end.
 //!
 //! [`cross`] writes a message's encoding to a writer in pieces of at most 4,096 bytes, and after each it reads as many bytes from
-//! a reader into an inbox of wf_wire. [`cut_off`] does the same with the first bytes of a message. A [`Connection`] is a carrier of
+//! a reader into an inbox of wf_mail. [`cut_off`] does the same with the first bytes of a message. A [`Connection`] is a carrier of
 //! wf_farm: it lets each message cross a TCP connection of this machine to itself.
 //!
 //! Model: of the writer the bytes written, of the reader the bytes still to be read, if known (wf_stream); of the inbox the

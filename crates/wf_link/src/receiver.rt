@@ -6,15 +6,15 @@ ghost use Rattle.wf_codec.specs.Message.{view};
 ghost use Rattle.wf_farm.specs.declared.carrier.CarrierFault.TheVariants as faults;
 ghost use Rattle.wf_link.specs.Arrival.{Arrives, HasReceived, HasTaken};
 ghost use Rattle.wf_link.specs.Cause.{BeginsNoMessage, Fares, HasBroken, IsOneMessage, IsUnread};
-ghost use Rattle.wf_wire.specs.Stream.{Reads};
+ghost use Rattle.wf_mail.specs.Stream.{Reads};
 
 use std::alloc::Global;
 use std::io;
 use std::io::ErrorKind;
-use wf_codec::Message;
+use wf_codec::{DecodeFault, Message};
 use wf_farm::CarrierFault;
+use wf_mail::Inbox;
 use wf_stream::{Source, read_piece};
-use wf_wire::{Inbox, InboxFault};
 
 /// An inbox, and the messages that came out of it.
 #[derive(Drop)]
@@ -109,11 +109,11 @@ fn take(arrival: &mut Arrival, piece: &[u8]) -> Result<(), CarrierFault>
 }
 
 /// Why an inbox takes no bytes.
-fn why_unfed(fault: InboxFault) -> CarrierFault
-    ensures { result ≡ faults.Lost → fault ≢ InboxFault.Memory }
+fn why_unfed(fault: DecodeFault) -> CarrierFault
+    ensures { result ≡ faults.Lost → fault ≢ DecodeFault.Memory }
 {
     match fault {
-        InboxFault::Memory => CarrierFault::Memory,
+        DecodeFault::Memory => CarrierFault::Memory,
         _ => CarrierFault::Lost,
     }
 }

@@ -1,7 +1,7 @@
 -- The map of the first record that publishes one, from an index on.
-use Rattle.std.proofs.Common.{◌≡◌, ◌∙◌, ◌+◌, ◌<◌, ℕ, suc, List, [], ◌∷◌, length, map, drop, get_or, sym, ap, arith}
+use Rattle.std.proofs.Common.{◌≡◌, ◌∙◌, ◌+◌, ◌<◌, ℕ, suc, List, length, map, drop, get_or, sym, ap, arith}
 use Rattle.std.proofs.Math.Seq.{drop-cons}
-use Rattle.std.specs.Prelude.{Option, Some, None}
+use Rattle.std.specs.Prelude.{Some, None}
 use Rattle.wf_def.specs.Definition.{Definition}
 use Rattle.wf_model.specs.DurableState.{Record}
 use Rattle.wf_listing.specs.Map.{first_or, published_by, published_in}

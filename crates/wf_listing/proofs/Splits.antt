@@ -1,5 +1,5 @@
 -- Records at the front of bytes: their length, and that exactly they stand before bad bytes.
-use Rattle.std.proofs.Common.{◌≡◌, ◌≢◌, ◌∙◌, ◌+◌, ◌<◌, ◌≤◌, ℕ, List, [], ◌∷◌, ◌++◌, Bool, true, false, length, take, drop, refl, sym, ap, subst, append_assoc, length-append, length-drop, arith, inl, inr}
+use Rattle.std.proofs.Common.{◌≡◌, ◌≢◌, ◌∙◌, ◌+◌, ◌<◌, ◌≤◌, ℕ, List, [], ◌∷◌, ◌++◌, true, false, length, take, drop, refl, sym, ap, subst, append_assoc, length-append, length-drop, arith}
 use Rattle.std.proofs.lemmas.List.{nil_from_length, take_at}
 use Rattle.wf_ballot.specs.Field.{frame}
 use Rattle.wf_def.specs.Definition.{Definition}

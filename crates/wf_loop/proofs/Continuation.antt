@@ -15,7 +15,7 @@ use Rattle.wf_edge.specs.declared.outcome.Outcome.{Outcome}
 use Rattle.wf_mail.specs.Mail.{IsBeginning}
 use Rattle.wf_node.specs.declared.fault.NodeFault.{NodeFault}
 use Rattle.wf_tape.specs.declared.tape.Tape.{Ghosts as Tape}
-use Rattle.wf_wire.specs.declared.fault.InboxFault.{InboxFault}
+use Rattle.wf_codec.specs.declared.fault.DecodeFault.{DecodeFault}
 use Rattle.wf_loop.specs.Answer.{IsAnswer, IsResponse}
 use Rattle.wf_loop.specs.Continuation.{GoesOn, IsEarlier, IsLater, IsOfRuns, KeepsEarlier}
 use Rattle.wf_loop.specs.declared.hub.Voter.{Voter}
@@ -107,13 +107,13 @@ module _ {T : Type 0} (tapes : Tape T) where
   acted input origin target before result after is = going_on before after _ is.goes_on is.emitted (grown _ _ _ is.given)
 
   -- a message of its own, or of a peer
-  pub heard_own : {U : Type 0} (before : Process T tapes) (result : Option (Result U NodeFault)) (after : Process T tapes) → ReceivesOwn tapes before result after → GoesOn tapes before after
-  heard_own before None after is = unchanged before after is.1
-  heard_own before (Some result) after is = twice before is.1 after (same_actor before is.1 is.2.rest) (going_on is.1 after _ is.3.goes_on is.3.emitted (grown _ _ _ is.3.given))
+  pub own_received : {U : Type 0} (before : Process T tapes) (result : Option (Result U NodeFault)) (after : Process T tapes) → ReceivesOwn tapes before result after → GoesOn tapes before after
+  own_received before None after is = unchanged before after is.1
+  own_received before (Some result) after is = twice before is.1 after (same_actor before is.1 is.2.rest) (going_on is.1 after _ is.3.goes_on is.3.emitted (grown _ _ _ is.3.given))
 
-  pub heard_from : {U : Type 0} (peer : ℕ) (before : Process T tapes) (result : Option (Result U NodeFault)) (after : Process T tapes) → ReceivesFrom tapes peer before result after → GoesOn tapes before after
-  heard_from peer before None after is = unchanged before after is.1
-  heard_from peer before (Some result) after is = twice before is.1 after (same_actor before is.1 is.2.rest) (going_on is.1 after _ is.3.goes_on is.3.emitted (grown _ _ _ is.3.given))
+  pub received_from : {U : Type 0} (peer : ℕ) (before : Process T tapes) (result : Option (Result U NodeFault)) (after : Process T tapes) → ReceivesFrom tapes peer before result after → GoesOn tapes before after
+  received_from peer before None after is = unchanged before after is.1
+  received_from peer before (Some result) after is = twice before is.1 after (same_actor before is.1 is.2.rest) (going_on is.1 after _ is.3.goes_on is.3.emitted (grown _ _ _ is.3.given))
 
   -- an end of a connection
   pub relinked : (peer : ℕ) (change : Link → Link → Type 0) (before after : Process T tapes)
@@ -125,7 +125,7 @@ module _ {T : Type 0} (tapes : Tape T) where
       → (peer < length before.links.items → IsLinkChanged peer change before after) → (length before.links.items ≤ peer → A × (after ≡ before) × B) → GoesOn tapes before after
   written peer change before after linked no_links = relinked peer change before after linked (λ above. (no_links above).1)
 
-  pub received : {A : Type 0} (peer : ℕ) (piece : List ℕ) (before : Process T tapes) (result : Result ℕ InboxFault) (after : Process T tapes)
+  pub received : {A : Type 0} (peer : ℕ) (piece : List ℕ) (before : Process T tapes) (result : Result ℕ DecodeFault) (after : Process T tapes)
       → (is_peer before peer ≡ true → IsReception peer piece before result after) → (is_peer before peer ≡ false → A × (after ≡ before)) → GoesOn tapes before after
   received peer piece before result after from other =
       by_test (is_peer before peer)

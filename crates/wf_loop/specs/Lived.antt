@@ -10,4 +10,4 @@ use Rattle.wf_tape.specs.declared.tape.Tape.{Ghosts as Tape}
 pub record HasLived {T : Type 0} (tapes : Tape T) (process : Process T tapes) : Type 0 where
   pub life : ∥ IsLife tapes process.actor.read_from.items process.actor.began.items process.actor.given.items (logged process.actor.emitted.items) process.actor.node ∥₁
   pub sent : ∥ AreSent (waiting_in process) process.links.items (logged process.actor.emitted.items) ∥₁
-  pub heard : ∥ AreGivenCome process.came.items process.actor.given.items ∥₁
+  pub received : ∥ AreGivenCome process.came.items process.actor.given.items ∥₁

@@ -43,7 +43,7 @@ pub(crate) fn receive<T: Tape>(
     process.receive(peer, piece).ok()
 }
 
-/// Begins to hear a peer anew: of what came before nothing is left.
+/// Begins to read a peer anew: of what came before nothing is left.
 pub(crate) fn open_receiver<T: Tape>(alloc: Global, process: &mut Process<T>, peer: NodeId)
     ensures { GoesOn T.Tape process.old process.new }
 {

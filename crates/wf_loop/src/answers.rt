@@ -8,12 +8,9 @@ ghost use Rattle.wf_visitors.specs.ServerReply.{nothing};
 use crate::hub::Voter;
 use std::alloc::Global;
 use wf_actor::Process;
-use wf_client::partial_request::Incoming;
-use wf_client::response_buffer::Outgoing;
-use wf_edge::outcome::Outcome;
-use wf_edge::resource::RequestedResource;
-use wf_edge::route::resolve;
-use wf_http::front::{Front, MOST_HEAD_BYTES};
+use wf_client::{Incoming, Outgoing};
+use wf_edge::{Outcome, RequestedResource, resolve};
+use wf_http::{Front, MOST_HEAD_BYTES};
 use wf_tape::Tape;
 use wf_visitors::{Server, ServerReply};
 
@@ -30,13 +27,13 @@ impl<T: Tape> Server for Voter<T> {
     ) -> ServerReply {
         self.process.always_lived();
         self.process.always_received();
-        let taken = self.process.cache().taken();
+        let taken = self.process.cache().cached_tiles();
         match serve(alloc, &mut self.process, incoming, outgoing) {
             Outcome::ReadFailed => ServerReply::Lacks(missing(incoming)),
             Outcome::NoRequest => ServerReply::Nothing,
             Outcome::Sent(status, bytes) | Outcome::WriteFailed(status, bytes) => {
                 self.rejected.note(alloc, status, outgoing.bytes());
-                let is_cached = self.process.cache().taken() != taken;
+                let is_cached = self.process.cache().cached_tiles() != taken;
                 self.pictures.note(outgoing.bytes(), is_cached);
                 ServerReply::Sent { status, bytes }
             }

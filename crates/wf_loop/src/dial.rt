@@ -10,7 +10,7 @@ use std::io::ErrorKind;
 use std::net::{Net, SocketAddr};
 use wf_actor::Process;
 use wf_ballot::NodeId;
-use wf_client::response_buffer::Outgoing;
+use wf_client::Outgoing;
 use wf_peer::{GREETING_BYTES, GreetingFault, GreetingReply, decode_reply};
 use wf_stream::{Sink, Stream};
 use wf_tape::Tape;
@@ -85,7 +85,7 @@ impl Dial {
     }
 
     /// How many bytes of messages were written to the peer, on all its connections.
-    pub(crate) fn written(&self) -> u64 {
+    pub(crate) fn byte_count(&self) -> u64 {
         self.written
     }
 

@@ -9,8 +9,7 @@ use std::fmt::Write;
 use std::fs;
 use std::rt::Files;
 use wf_learner::History;
-use wf_operator::metrics::{counter, gauge, seconds};
-use wf_operator::{Health, Operated, PictureCounts};
+use wf_operator::{Health, Operated, PictureCounts, counter, gauge, seconds};
 use wf_proposer::ProposalState;
 use wf_visitors::Counts;
 
@@ -31,7 +30,7 @@ pub(crate) struct NodeFacts<'a, R> {
     pub(crate) proposal: ProposalState,
     pub(crate) differs: Option<Differing>,
     pub(crate) reader_differs: Option<u16>,
-    pub(crate) heard: u16,
+    pub(crate) latest: u16,
     pub(crate) is_behind: bool,
     pub(crate) clients: usize,
     pub(crate) readers: usize,
@@ -59,7 +58,7 @@ impl<'a, R: Files> Operated for NodeFacts<'a, R> {
 
     fn later(&self) -> Option<u16> {
         if self.is_behind {
-            Some(self.heard)
+            Some(self.latest)
         } else {
             None
         }
@@ -95,7 +94,7 @@ fn push_farm<R>(text: &mut String, facts: &NodeFacts<'_, R>) -> Result<(), Alloc
     let published = facts.history.published().number();
     let differs = facts.differs.is_some() || facts.reader_differs.is_some();
     gauge(text, "wfarm_published_sequence", published as u64)?;
-    gauge(text, "wfarm_heard_sequence", facts.heard as u64)?;
+    gauge(text, "wfarm_heard_sequence", facts.latest as u64)?;
     gauge(text, "wfarm_nodes", nodes as u64)?;
     gauge(text, "wfarm_peers_connected", connected as u64)?;
     gauge(text, "wfarm_majority_connected", is_majority as u64)?;
@@ -130,7 +129,7 @@ fn push_proposal(text: &mut String, proposal: ProposalState) -> Result<(), Alloc
 fn push_peers(text: &mut String, peers: &[PeerState]) -> Result<(), AllocError> {
     push_type(text, "wfarm_messages_in_total")?;
     for (number, peer) in peers.iter().enumerate() {
-        push_of(text, "wfarm_messages_in_total", number, peer.heard)?;
+        push_of(text, "wfarm_messages_in_total", number, peer.received)?;
     }
     push_type(text, "wfarm_messages_out_total")?;
     for (number, peer) in peers.iter().enumerate() {

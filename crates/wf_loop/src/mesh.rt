@@ -4,7 +4,7 @@ ghost use Rattle.wf_loop.specs.Continuation.{GoesOn};
 use crate::acts::{handle, open_receiver, receive};
 use crate::dial::Dial;
 use crate::event::{NodeEvent, PeerEnd};
-use crate::heard::{Came, Inbound};
+use crate::inbound::{Came, Inbound};
 use crate::notes::Notes;
 use crate::plan::NodePlan;
 use crate::steps::Steps;
@@ -18,7 +18,7 @@ use std::time::Clock;
 use wf_actor::Process;
 use wf_ballot::{NodeId, SEQUENCES};
 use wf_learner::History;
-use wf_peer::{Greeting, Heard as HeardOf, PeerRejection, Progress};
+use wf_peer::{Greeting, PeerProgress, PeerRejection, Progress};
 use wf_tape::Tape;
 use wf_timing::CatchUp;
 use wf_visitors::{Context, micros, register, register_again};
@@ -30,7 +30,7 @@ pub(crate) struct PeerState {
     pub(crate) is_connected: bool,
     pub(crate) lost: u64,
     pub(crate) posted: u64,
-    pub(crate) heard: u64,
+    pub(crate) received: u64,
     pub(crate) written: u64,
 }
 
@@ -44,7 +44,7 @@ const MOST_PIECES: u32 = 4;
 const MOST_LACKING: u16 = 8;
 
 /// The most connections from peers at once.
-const HEARD_SLOTS: usize = 128;
+const INBOUND_SLOTS: usize = 128;
 
 /// A peer whose history differs up to a sequence.
 #[derive(Clone, Copy)]
@@ -59,7 +59,7 @@ pub(crate) struct Mesh {
     pub(crate) plan: NodePlan,
     listener: TcpListener,
     pub(crate) dials: Vec<Dial>,
-    heards: Vec<Option<Inbound>>,
+    inbounds: Vec<Option<Inbound>>,
     // where a piece is read to
     piece: Vec<u8>,
     pub(crate) states: Vec<PeerState>,
@@ -90,7 +90,7 @@ fn dials_of(alloc: Global, peers: &[SocketAddr]) -> Result<Vec<Dial>, AllocError
 /// Free slots for the connections from peers.
 fn free_slots(alloc: Global) -> Result<Vec<Option<Inbound>>, AllocError> {
     let mut slots = Vec::new(alloc);
-    for _ in 0..HEARD_SLOTS {
+    for _ in 0..INBOUND_SLOTS {
         slots.push(None)?;
     }
     Ok(slots)
@@ -111,19 +111,19 @@ impl Mesh {
         alloc: Global,
         plan: NodePlan,
         listener: TcpListener,
-        heard: HeardOf,
+        known: PeerProgress,
         time: u64,
     ) -> Result<Self, AllocError> {
         let dials = dials_of(alloc, plan.peers.as_slice())?;
-        let heards = free_slots(alloc)?;
+        let inbounds = free_slots(alloc)?;
         let piece = vec![in alloc; 0; PIECE_BYTES]?;
         let states = unknown_peers(alloc, plan.peers.len())?;
-        let notes = Notes::new(alloc, plan.own, heard)?;
+        let notes = Notes::new(alloc, plan.own, known)?;
         Ok(Mesh {
             plan,
             listener,
             dials,
-            heards,
+            inbounds,
             piece,
             states,
             notes,
@@ -186,7 +186,7 @@ impl Mesh {
     )
         ensures { GoesOn T.Tape process.old process.new }
     {
-        for _ in 0..HEARD_SLOTS {
+        for _ in 0..INBOUND_SLOTS {
             let Ok((stream, address)) = self.listener.accept() else {
                 return;
             };
@@ -212,7 +212,7 @@ impl Mesh {
             });
             return;
         }
-        let Some(index) = first_free(self.heards.as_slice()) else {
+        let Some(index) = first_free(self.inbounds.as_slice()) else {
             context.log.write(&NodeEvent::Dropped {
                 peer: None,
                 why: PeerEnd::NoSlot,
@@ -227,8 +227,8 @@ impl Mesh {
         )
         .is_ok()
         {
-            let heard = Inbound::new(context.alloc(), stream, context.time);
-            self.receive_out(context, process, index, heard);
+            let inbound = Inbound::new(context.alloc(), stream, context.time);
+            self.receive_out(context, process, index, inbound);
         }
     }
 
@@ -242,13 +242,13 @@ impl Mesh {
     )
         ensures { GoesOn T.Tape process.old process.new }
     {
-        let Some(slot) = self.heards.get_mut(index) else {
+        let Some(slot) = self.inbounds.get_mut(index) else {
             return;
         };
-        let Some(heard) = slot.take() else {
+        let Some(inbound) = slot.take() else {
             return;
         };
-        self.receive_out(context, process, index, heard);
+        self.receive_out(context, process, index, inbound);
     }
 
     /// Reads what came on a connection from a peer, and keeps it in its slot unless it has ended.
@@ -257,28 +257,28 @@ impl Mesh {
         context: &Context<'_, '_, R>,
         process: &mut Process<T>,
         index: usize,
-        mut heard: Inbound,
+        mut inbound: Inbound,
     )
         ensures { GoesOn T.Tape process.old process.new }
     {
-        match self.read(context, process, &mut heard) {
+        match self.read(context, process, &mut inbound) {
             None => {
                 if self.is_busy {
                     register_again(
                         context.registry,
-                        heard.stream(),
+                        inbound.stream(),
                         Socket::Inbound(index).token(),
                     );
                 }
-                if let Some(slot) = self.heards.get_mut(index) {
-                    *slot = Some(heard);
+                if let Some(slot) = self.inbounds.get_mut(index) {
+                    *slot = Some(inbound);
                 }
             }
             Some(why) => {
                 // its line is there once the peer sees that it was closed
-                let peer = number_of(heard.from());
+                let peer = number_of(inbound.from());
                 context.log.write(&NodeEvent::Dropped { peer, why });
-                drop(heard);
+                drop(inbound);
             }
         }
     }
@@ -289,12 +289,12 @@ impl Mesh {
         &mut self,
         context: &Context<'_, '_, R>,
         process: &mut Process<T>,
-        heard: &mut Inbound,
+        inbound: &mut Inbound,
     ) -> Option<PeerEnd>
         ensures { GoesOn T.Tape process.old process.new }
     {
         let mut piece = mem::replace(&mut self.piece, Vec::new(context.alloc()));
-        let ended = self.read_pieces(context, process, heard, piece.as_mut_slice());
+        let ended = self.read_pieces(context, process, inbound, piece.as_mut_slice());
         self.piece = piece;
         ended
     }
@@ -305,14 +305,14 @@ impl Mesh {
         &mut self,
         context: &Context<'_, '_, R>,
         process: &mut Process<T>,
-        heard: &mut Inbound,
+        inbound: &mut Inbound,
         piece: &mut [u8],
     ) -> Option<PeerEnd>
         ensures { GoesOn T.Tape process.old process.new }
     {
         for _ in 0..MOST_PIECES {
-            let came = heard.handle(piece, context.time);
-            match self.heed(context, process, heard, came, piece) {
+            let came = inbound.handle(piece, context.time);
+            match self.take_in(context, process, inbound, came, piece) {
                 Ok(()) => {}
                 Err(ended) => return ended,
             }
@@ -323,21 +323,21 @@ impl Mesh {
 
     /// Takes in what came in one piece. Err: nothing more is to be read now, and why the connection has ended if it has.
     #[tactic(auto, using(crate::proofs::Continuation::still))]
-    fn heed<R: Clock + Eprint + AllocGlobal, T: Tape + Drop>(
+    fn take_in<R: Clock + Eprint + AllocGlobal, T: Tape + Drop>(
         &mut self,
         context: &Context<'_, '_, R>,
         process: &mut Process<T>,
-        heard: &mut Inbound,
+        inbound: &mut Inbound,
         came: Came,
         piece: &[u8],
     ) -> Result<(), Option<PeerEnd>>
         ensures { GoesOn T.Tape process.old process.new }
     {
         match came {
-            Came::Nothing => Err(heard.send()),
+            Came::Nothing => Err(inbound.send()),
             Came::Part => Ok(()),
             Came::Greeting(greeting) => {
-                match self.let_in(context, process, heard, &greeting) {
+                match self.let_in(context, process, inbound, &greeting) {
                     Some(why) => Err(Some(why)),
                     None => Ok(()),
                 }
@@ -359,13 +359,13 @@ impl Mesh {
         &mut self,
         context: &Context<'_, '_, R>,
         process: &mut Process<T>,
-        heard: &mut Inbound,
+        inbound: &mut Inbound,
         greeting: &Greeting,
     ) -> Option<PeerEnd>
         ensures { GoesOn T.Tape process.old process.new }
     {
         if let Err(why) = self.admit_peer(process, None, greeting) {
-            heard.reject(context.alloc(), why);
+            inbound.reject(context.alloc(), why);
             return Some(PeerEnd::Rejected(why));
         }
         let peer = greeting.node;
@@ -378,18 +378,18 @@ impl Mesh {
         let number = peer.number() as usize;
         self.catch_up.connect(number, context.time);
         context.log.write(&NodeEvent::Accepted { peer: number });
-        heard.let_in(context.alloc(), peer, &own)
+        inbound.let_in(context.alloc(), peer, &own)
     }
 
     /// Whether a peer is let in that greets so, by all that the node has published. Whether its history differs is noted.
     pub(crate) fn admit_peer<T: Tape + Drop>(
         &mut self,
         process: &Process<T>,
-        place: Option<NodeId>,
+        index: Option<NodeId>,
         greeting: &Greeting,
     ) -> Result<(), PeerRejection> {
         self.notes.extend(process.node().history());
-        let admitted = self.notes.admit(place, greeting);
+        let admitted = self.notes.admit(index, greeting);
         if admitted == Err(PeerRejection::OtherHistory) {
             self.note_difference(greeting.node, greeting.progress.published.number());
         } else if admitted == Ok(()) && self.differs_from(greeting.node) {
@@ -416,7 +416,7 @@ impl Mesh {
 
     /// Closes the connections of a peer, in whose place a newer one comes.
     fn close_older<R: Clock + Eprint>(&mut self, context: &Context<'_, '_, R>, peer: NodeId) {
-        for slot in &mut self.heards {
+        for slot in &mut self.inbounds {
             if is_of(slot, peer) {
                 context.log.write(&NodeEvent::Dropped {
                     peer: Some(peer.number() as usize),
@@ -442,7 +442,7 @@ impl Mesh {
             return Some(PeerEnd::BadMessage);
         };
         if let Some(state) = self.states.get_mut(peer.number() as usize) {
-            state.heard = state.heard.saturating_add(count as u64);
+            state.received = state.received.saturating_add(count as u64);
         }
         for _ in 0..count {
             if !self.notes.admits(process, peer) {
@@ -480,7 +480,7 @@ impl Mesh {
         if published == SEQUENCES {
             return;
         }
-        for slot in &mut self.heards {
+        for slot in &mut self.inbounds {
             if is_silent_at(slot, context.time) {
                 context.log.write(&NodeEvent::Dropped {
                     peer: peer_in(slot),
@@ -496,7 +496,7 @@ impl Mesh {
         for dial in &mut self.dials {
             dial.end(time);
         }
-        for slot in &mut self.heards {
+        for slot in &mut self.inbounds {
             *slot = None;
         }
     }
@@ -506,11 +506,11 @@ impl Mesh {
         for (index, state) in self.states.iter_mut().enumerate() {
             if let Some(dial) = self.dials.get(index) {
                 state.is_connected = dial.is_open();
-                state.written = dial.written();
+                state.written = dial.byte_count();
             }
             if let Some(peer) = id_of(index) {
-                state.lost = process.dropped(peer);
-                state.posted = process.posted(peer);
+                state.lost = process.drop_count(peer);
+                state.posted = process.post_count(peer);
             }
         }
     }
@@ -519,7 +519,7 @@ impl Mesh {
 /// Whether nothing came for too long on the connection in a slot.
 fn is_silent_at(slot: &Option<Inbound>, time: u64) -> bool {
     match slot {
-        Some(heard) => heard.is_silent(time),
+        Some(inbound) => inbound.is_silent(time),
         None => false,
     }
 }
@@ -527,7 +527,7 @@ fn is_silent_at(slot: &Option<Inbound>, time: u64) -> bool {
 /// The number of the peer in a slot, if it is known.
 fn peer_in(slot: &Option<Inbound>) -> Option<usize> {
     match slot {
-        Some(heard) => number_of(heard.from()),
+        Some(inbound) => number_of(inbound.from()),
         None => None,
     }
 }
@@ -535,7 +535,7 @@ fn peer_in(slot: &Option<Inbound>) -> Option<usize> {
 /// Whether a connection is one of this peer.
 fn is_of(slot: &Option<Inbound>, peer: NodeId) -> bool {
     match slot {
-        Some(heard) => heard.from() == Some(peer),
+        Some(inbound) => inbound.from() == Some(peer),
         None => false,
     }
 }

@@ -8,14 +8,14 @@ use wf_actor::Process;
 use wf_ballot::{NodeId, Seq};
 use wf_digest::Digests;
 use wf_learner::History;
-use wf_peer::{Greeting, Heard, Own, PeerRejection, Progress, admit, is_from};
+use wf_peer::{Greeting, Own, PeerProgress, PeerRejection, Progress, admit, is_from};
 use wf_tape::Tape;
 
 /// What was heard of the peers, and the digests of this node's history.
 #[derive(Drop)]
 pub(crate) struct Notes {
     own: Own,
-    heard: Heard,
+    known: PeerProgress,
     digests: Digests,
     // whether more was heard than the file has
     is_new: bool,
@@ -23,10 +23,10 @@ pub(crate) struct Notes {
 
 impl Notes {
     /// What was heard before, and the digest of no history.
-    pub(crate) fn new(alloc: Global, own: Own, heard: Heard) -> Result<Self, AllocError> {
+    pub(crate) fn new(alloc: Global, own: Own, known: PeerProgress) -> Result<Self, AllocError> {
         Ok(Notes {
             own,
-            heard,
+            known,
             digests: Digests::new(alloc)?,
             is_new: false,
         })
@@ -34,21 +34,21 @@ impl Notes {
 
     /// Whether a peer may send the message that has arrived from it; then what it tells of the peer is kept.
     pub(crate) fn admits<T: Tape>(&mut self, process: &Process<T>, peer: NodeId) -> bool {
-        let Some(message) = process.arrived(peer) else {
+        let Some(message) = process.next_message(peer) else {
             return true;
         };
         if !is_from(message, peer) {
             return false;
         }
-        let before = self.heard.of(peer);
-        self.heard.hear(peer, message);
-        self.is_new = self.is_new || self.heard.of(peer) != before;
+        let before = self.known.of(peer);
+        self.known.receive(peer, message);
+        self.is_new = self.is_new || self.known.of(peer) != before;
         true
     }
 
     /// Writes what was heard to the file `heard` of a folder, if more was heard than it has. Where that fails it is tried again later.
     pub(crate) fn save<R: Files + AllocGlobal>(&mut self, rt: &R, folder: &str) {
-        if self.is_new && write_heard(rt, folder, &self.heard).is_ok() {
+        if self.is_new && write_peer_progress(rt, folder, &self.known).is_ok() {
             self.is_new = false;
         }
     }
@@ -92,13 +92,13 @@ impl Notes {
     /// Whether a peer that greets so is let in; then that is kept.
     pub(crate) fn admit(
         &mut self,
-        place: Option<NodeId>,
+        index: Option<NodeId>,
         greeting: &Greeting,
     ) -> Result<(), PeerRejection> {
         let node = greeting.node;
         let digest = self.digests.at(greeting.progress.published);
-        admit(&self.own, place, self.heard.of(node), digest, greeting)?;
-        self.heard.greet(node, greeting.progress);
+        admit(&self.own, index, self.known.of(node), digest, greeting)?;
+        self.known.greet(node, greeting.progress);
         self.is_new = true;
         Ok(())
     }
@@ -108,7 +108,7 @@ impl Notes {
         let mut latest = 0;
         for number in 0..nodes.min(64) {
             if let Some(node) = NodeId::new(number as u8) {
-                if let Some(progress) = self.heard.of(node) {
+                if let Some(progress) = self.known.of(node) {
                     latest = progress.published.number().max(latest);
                 }
             }
@@ -118,8 +118,12 @@ impl Notes {
 }
 
 /// Writes what was heard to the file `heard` of a folder.
-fn write_heard<R: Files + AllocGlobal>(rt: &R, folder: &str, heard: &Heard) -> io::Result<()> {
-    let text = heard.text(rt.alloc())?;
+fn write_peer_progress<R: Files + AllocGlobal>(
+    rt: &R,
+    folder: &str,
+    known: &PeerProgress,
+) -> io::Result<()> {
+    let text = known.text(rt.alloc())?;
     let path = path_in(rt.alloc(), folder, "heard")?;
     let second = path_in(rt.alloc(), folder, "heard.new")?;
     replace(rt, path.as_str(), second.as_str(), &text)

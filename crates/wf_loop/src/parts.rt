@@ -12,7 +12,7 @@ use mio::net::TcpListener;
 use mio::{Events, Poll, Registry};
 use std::alloc::Global;
 use std::net::{Net, SocketAddr};
-use wf_peer::Heard;
+use wf_peer::PeerProgress;
 use wf_reader::Answerer;
 use wf_visitors::{Visitors, listen};
 
@@ -135,7 +135,7 @@ fn begin_at(
     alloc: Global,
     plan: NodePlan,
     doors: Doors,
-    heard: Heard,
+    known: PeerProgress,
     time: u64,
 ) -> Result<HubStart, LoopFault>
     ensures begun { IfOk result (λ begun. responses_of begun.visitors ≡ []) }
@@ -152,7 +152,7 @@ fn begin_at(
     let answerer = answerer_of(&plan);
     let visitors = Visitors::new(alloc, plan.clients, Some(http), CLIENT)?;
     let desk = Desk::new(alloc, answerer, admin, readers)?;
-    let mesh = Mesh::new(alloc, plan, listener, heard, time)?;
+    let mesh = Mesh::new(alloc, plan, listener, known, time)?;
     Ok(HubStart {
         parts: HubParts {
             poll,
@@ -168,17 +168,17 @@ fn begin_at(
 pub(crate) fn bind<R: Net + AllocGlobal>(
     rt: &R,
     plan: NodePlan,
-    heard: Heard,
+    known: PeerProgress,
     time: u64,
 ) -> Result<HubStart, LoopFault>
     ensures begun { IfOk result (λ begun. responses_of begun.visitors ≡ []) }
     ensures cause { IfErr result (IsCause plan) }
 {
     match doors_of(rt, &plan) {
-        Ok(doors) => begin_at(rt.alloc(), plan, doors, heard, time),
+        Ok(doors) => begin_at(rt.alloc(), plan, doors, known, time),
         Err(fault) => {
             drop(plan);
-            drop(heard);
+            drop(known);
             Err(fault)
         }
     }

@@ -215,7 +215,7 @@ impl Mesh {
         }
     }
 
-    /// Asks each peer for the next definition: peers hear by this that the node is there.
+    /// Asks each peer for the next definition: peers learn by this that the node is there.
     #[tactic(auto, using(crate::proofs::Continuation::still, crate::proofs::Continuation::twice))]
     pub(crate) fn ask_all<T: Tape + Drop>(&mut self, alloc: Global, process: &mut Process<T>)
         ensures { GoesOn T.Tape process.old process.new }

@@ -22,7 +22,7 @@ use std::rt::Files;
 use std::time::{Clock, Duration};
 use wf_actor::Process;
 use wf_operator::{Behind, PictureCounts};
-use wf_peer::{Heard, PeerRejection};
+use wf_peer::{PeerProgress, PeerRejection};
 use wf_tape::Tape;
 use wf_visitors::{Context, Log, Visitors, now};
 
@@ -120,13 +120,13 @@ impl<T: Tape + Drop> Hub<T> {
         rt: &R,
         plan: NodePlan,
         process: Process<T>,
-        heard: Heard,
+        known: PeerProgress,
     ) -> Result<Self, LoopFault>
         ensures process { IfOk result (λ hub. process_of hub ≡ process) }
         ensures cause { IfErr result (IsCause plan) }
     {
         let time = now(rt);
-        hub_of(rt.alloc(), bind(rt, plan, heard, time), process, time)
+        hub_of(rt.alloc(), bind(rt, plan, known, time), process, time)
     }
 
     /// Where clients come, as the system told it when the address was bound.

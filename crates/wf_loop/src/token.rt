@@ -4,7 +4,7 @@
 const DIAL: usize = 64;
 
 /// The first token of the connections from peers.
-const HEARD: usize = 128;
+const INBOUND: usize = 128;
 
 /// The first token of the operator's connections.
 pub(crate) const ASKER: usize = 512;
@@ -47,7 +47,7 @@ impl Socket {
             Socket::Admin => 2,
             Socket::Readers => 3,
             Socket::Dial(index) => DIAL.saturating_add(index),
-            Socket::Inbound(index) => HEARD.saturating_add(index),
+            Socket::Inbound(index) => INBOUND.saturating_add(index),
             Socket::Asker(index) => ASKER.saturating_add(index),
             Socket::Reader(index) => READER.saturating_add(index),
             Socket::Client(index) => CLIENT.saturating_add(index),
@@ -67,10 +67,10 @@ impl Socket {
 
     /// The connection of a token.
     fn of_connection(token: usize) -> Socket {
-        if token < HEARD {
+        if token < INBOUND {
             Socket::Dial(token.saturating_sub(DIAL))
         } else if token < ASKER {
-            Socket::Inbound(token - HEARD)
+            Socket::Inbound(token - INBOUND)
         } else if token < READER {
             Socket::Asker(token - ASKER)
         } else if token < CLIENT {

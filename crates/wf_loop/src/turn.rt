@@ -215,8 +215,8 @@ pub(crate) fn answer_operators<R: Files + Clock + Eprint + AllocGlobal, T: Tape 
     behind: &mut Behind,
 ) {
     let history = voter.process.node().history();
-    let heard = mesh.notes.latest(mesh.dials.len());
-    let is_behind = behind.judge(history.published().number() < heard, context.time);
+    let latest = mesh.notes.latest(mesh.dials.len());
+    let is_behind = behind.judge(history.published().number() < latest, context.time);
     if desk.operators.waits() {
         // what was published in this turn has its digests too
         mesh.notes.extend(history);
@@ -236,7 +236,7 @@ fn serve_facts<R: Files + Clock + Eprint + AllocGlobal, T: Tape + Drop>(
 ) {
     let process = &voter.process;
     let history = process.node().history();
-    let heard = mesh.notes.latest(mesh.dials.len());
+    let latest = mesh.notes.latest(mesh.dials.len());
     let Desk {
         operators,
         readers,
@@ -257,10 +257,10 @@ fn serve_facts<R: Files + Clock + Eprint + AllocGlobal, T: Tape + Drop>(
         proposal: process.node().proposal(),
         differs: mesh.differs,
         reader_differs: readers.differs(context.time),
-        heard: heard.max(history.published().number()),
+        latest: latest.max(history.published().number()),
         is_behind,
-        clients: clients.visitors.taken(),
-        readers: readers.taken(),
+        clients: clients.visitors.taken_slots(),
+        readers: readers.reader_count(),
     };
     serve_operators(operators, context, &mut Operator::new(facts));
 }

@@ -6,9 +6,9 @@ use Rattle.wf_mail.specs.Outbox.{OutboxState}
 use Rattle.wf_mail.specs.Receiver.{ReceiverState, Open, Closed, is_memory, came, taken, IsOpen, IsClosed}
 use Rattle.wf_mail.proofs.Received.{memory_is, not_memory}
 use Rattle.std.proofs.lemmas.List.{take-append-drop}
-use Rattle.wf_wire.specs.Stream.{Reads}
-use Rattle.wf_wire.specs.declared.fault.InboxFault.{InboxFault}
-use Rattle.wf_wire.specs.declared.fault.InboxFault.TheVariants.{Memory}
+use Rattle.wf_mail.specs.Stream.{Reads}
+use Rattle.wf_codec.specs.declared.fault.DecodeFault.{DecodeFault}
+use Rattle.wf_codec.specs.declared.fault.DecodeFault.TheVariants.{Memory}
 
 begins_through : {A : Type 0} (xs ys zs : List A) → IsBeginning xs ys → IsBeginning ys zs → IsBeginning xs zs
 begins_through xs ys zs (rest, e) (more, h) = (rest ++ more, sym (append_assoc xs rest more) ∙ subst (λ k. k ++ more ≡ zs) (sym e) h)
@@ -32,11 +32,11 @@ piece_begins chunk rest waiting piece count front whole =
     sym (append_assoc piece (drop count chunk) rest) ∙ ap (λ bytes. (bytes ++ drop count chunk) ++ rest) front ∙ ap (λ bytes. bytes ++ rest) (take-append-drop count chunk) ∙ whole
 
 -- an error that can only be allocation failure is
-unless : (is : Bool) (fault : InboxFault) → is_memory fault ≡ is → ((fault ≢ Memory) → ⊥) → fault ≡ Memory
+unless : (is : Bool) (fault : DecodeFault) → is_memory fault ≡ is → ((fault ≢ Memory) → ⊥) → fault ≡ Memory
 unless true fault e never = memory_is fault e
 unless false fault e never = absurd (never (not_memory fault e))
 
-pub only_memory : (outbox : OutboxState) (receiver now : ReceiverState) (piece after : List ℕ) (fault : InboxFault) → AreMessages outbox.put → outbox.written ++ outbox.waiting ≡ spelled outbox.put →
+pub only_memory : (outbox : OutboxState) (receiver now : ReceiverState) (piece after : List ℕ) (fault : DecodeFault) → AreMessages outbox.put → outbox.written ++ outbox.waiting ≡ spelled outbox.put →
     IsOpen receiver → taken receiver ≡ outbox.written → piece ++ after ≡ outbox.waiting → IsClosed receiver piece fault now → fault ≡ Memory
 only_memory outbox (Open messages rest) now piece after fault are spells is_open same next closed =
     unless (is_memory fault) fault refl (λ differs. never_breaks outbox.put ((spelled messages ++ rest) ++ piece) fault

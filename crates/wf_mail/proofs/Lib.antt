@@ -1,3 +1,8 @@
+pub mod Faults
+pub mod Headers
+pub mod WholeMessages
+pub mod Joined
+pub mod Split
 mod Spelled
 mod Outboxes
 mod Streams

@@ -6,29 +6,30 @@ use Rattle.wf_codec.specs.Message.{view}
 use Rattle.wf_codec.specs.declared.message.Message as code
 use Rattle.wf_def.specs.Definition.{Definition}
 use Rattle.wf_model.specs.Message.{Message}
-use Rattle.wf_wire.specs.Inbox as inbox
-use Rattle.wf_wire.specs.Inbox.{InboxState, IsFed, IsBroken}
-use Rattle.wf_wire.specs.Stream.{Splits, Reads, Breaks}
-use Rattle.wf_wire.specs.declared.fault.InboxFault.{InboxFault}
-use Rattle.wf_wire.specs.declared.fault.InboxFault.TheVariants.{BadVersion, BadKind, BadField, NotCanonical, TooLong, Memory}
+use Rattle.wf_mail.specs.Inbox as inbox
+use Rattle.wf_mail.specs.Inbox.{InboxState, IsFed, IsBroken}
+use Rattle.wf_mail.specs.Stream.{Splits, Reads, Breaks}
+use Rattle.wf_codec.specs.declared.fault.DecodeFault.{DecodeFault}
+use Rattle.wf_codec.specs.declared.fault.DecodeFault.TheVariants.{Short, BadVersion, BadKind, BadField, NotCanonical, TooLong, Memory}
 use Rattle.wf_mail.specs.Mail.{spelled, AreMessages}
 use Rattle.wf_mail.specs.Receiver.{ReceiverState, Closed, is_memory, logged, with_inbox, state_of, came, taken, IsReceived, IsClosed, KeepsPartIn, IsReceiver}
 use Rattle.wf_mail.proofs.Spelled.{spelled_then, messages_then}
 use Rattle.wf_mail.proofs.Streams.{splits_are, are_split, breaks_behind}
-use Rattle.wf_wire.proofs.Streams.{nothing_is_part}
+use Rattle.wf_mail.proofs.WholeMessages.{nothing_is_part}
 
 abbrev Log : Type 0
 Log = List (Vec code.Message Global × ℕ)
 
-pub memory_is : (fault : InboxFault) → is_memory fault ≡ true → fault ≡ Memory
+pub memory_is : (fault : DecodeFault) → is_memory fault ≡ true → fault ≡ Memory
 memory_is Memory e = refl
 memory_is BadVersion e = absurd (true≢false (sym e))
 memory_is BadKind e = absurd (true≢false (sym e))
 memory_is BadField e = absurd (true≢false (sym e))
 memory_is NotCanonical e = absurd (true≢false (sym e))
 memory_is TooLong e = absurd (true≢false (sym e))
+memory_is Short e = absurd (true≢false (sym e))
 
-pub not_memory : (fault : InboxFault) → is_memory fault ≡ false → fault ≢ Memory
+pub not_memory : (fault : DecodeFault) → is_memory fault ≡ false → fault ≢ Memory
 not_memory fault e = λ same. true≢false (sym (ap is_memory same) ∙ e)
 
 -- the log of one more call
@@ -93,7 +94,7 @@ takes_now out log log' messages count old new piece before not_out was e fed =
 -- ---- an error
 
 -- the error of the inbox, once it has failed
-closes_by_fault : (messages : List (Message Definition)) (old new : InboxState) (piece : List ℕ) (fault : InboxFault) → AreMessages messages → IsBroken old piece fault new →
+closes_by_fault : (messages : List (Message Definition)) (old new : InboxState) (piece : List ℕ) (fault : DecodeFault) → AreMessages messages → IsBroken old piece fault new →
     IsClosed (with_inbox messages old) piece fault (with_inbox messages new)
 closes_by_fault messages (inbox.Open rest) new piece fault are broken = (
   ap (with_inbox messages) broken.1,
@@ -102,18 +103,18 @@ closes_by_fault messages (inbox.Open rest) new piece fault are broken = (
 closes_by_fault messages (inbox.Failed earlier) new piece fault are broken = (broken.0, ap (with_inbox messages) broken.1)
 
 -- an allocation failed
-closes_by_memory : (messages : List (Message Definition)) (old : InboxState) (piece : List ℕ) (fault : InboxFault) → fault ≡ Memory → ((earlier : InboxFault) → old ≡ inbox.Failed earlier → fault ≡ earlier) →
+closes_by_memory : (messages : List (Message Definition)) (old : InboxState) (piece : List ℕ) (fault : DecodeFault) → fault ≡ Memory → ((earlier : DecodeFault) → old ≡ inbox.Failed earlier → fault ≡ earlier) →
     IsClosed (with_inbox messages old) piece fault (Closed messages Memory)
 closes_by_memory messages (inbox.Open rest) piece fault memory again = (ap (Closed messages) (sym memory), λ differs. absurd (differs memory))
 closes_by_memory messages (inbox.Failed earlier) piece fault memory again = (again earlier refl, ap (Closed messages) (sym memory ∙ again earlier refl))
 
-closes : (is_out : Bool) (messages : List (Message Definition)) (old new : InboxState) (piece : List ℕ) (fault : InboxFault) → is_memory fault ≡ is_out → AreMessages messages →
-    (fault ≢ Memory → IsBroken old piece fault new) → ((earlier : InboxFault) → old ≡ inbox.Failed earlier → fault ≡ earlier) → IsClosed (with_inbox messages old) piece fault (state_of is_out messages new)
+closes : (is_out : Bool) (messages : List (Message Definition)) (old new : InboxState) (piece : List ℕ) (fault : DecodeFault) → is_memory fault ≡ is_out → AreMessages messages →
+    (fault ≢ Memory → IsBroken old piece fault new) → ((earlier : DecodeFault) → old ≡ inbox.Failed earlier → fault ≡ earlier) → IsClosed (with_inbox messages old) piece fault (state_of is_out messages new)
 closes true messages old new piece fault out are broken again = closes_by_memory messages old piece fault (memory_is fault out) again
 closes false messages old new piece fault out are broken again = closes_by_fault messages old new piece fault are (broken (not_memory fault out))
 
-pub closed_now : (out out_now : Bool) (messages : List (Message Definition)) (old new : InboxState) (piece : List ℕ) (fault : InboxFault) (before : ReceiverState) → out ≡ false → state_of out messages old ≡ before →
-    out_now ≡ is_memory fault → AreMessages messages → (fault ≢ Memory → IsBroken old piece fault new) → ((earlier : InboxFault) → old ≡ inbox.Failed earlier → fault ≡ earlier) →
+pub closed_now : (out out_now : Bool) (messages : List (Message Definition)) (old new : InboxState) (piece : List ℕ) (fault : DecodeFault) (before : ReceiverState) → out ≡ false → state_of out messages old ≡ before →
+    out_now ≡ is_memory fault → AreMessages messages → (fault ≢ Memory → IsBroken old piece fault new) → ((earlier : DecodeFault) → old ≡ inbox.Failed earlier → fault ≡ earlier) →
     IsClosed before piece fault (state_of out_now messages new)
 closed_now out out_now messages old new piece fault before not_out was now are broken again =
     subst (λ x. IsClosed x piece fault (state_of out_now messages new)) was
@@ -127,10 +128,10 @@ pub same_error : {T E : Type 0} (x y : E) → ◌≡◌ {A = Result T E} (Err x)
 unfolding error_of
 same_error x y e = ap (λ r. error_of r x) e
 
-pub failed_part : (state : InboxState) (fault : InboxFault) → state ≡ inbox.Failed fault → KeepsPartIn state
+pub failed_part : (state : InboxState) (fault : DecodeFault) → state ≡ inbox.Failed fault → KeepsPartIn state
 failed_part state fault e = subst KeepsPartIn (sym e) tt
 
-pub broken_part : (old new : InboxState) (piece : List ℕ) (fault : InboxFault) → IsBroken old piece fault new → KeepsPartIn new
+pub broken_part : (old new : InboxState) (piece : List ℕ) (fault : DecodeFault) → IsBroken old piece fault new → KeepsPartIn new
 broken_part (inbox.Open rest) new piece fault broken = failed_part new fault broken.1
 broken_part (inbox.Failed earlier) new piece fault broken = failed_part new earlier broken.1
 

@@ -5,10 +5,10 @@ use Rattle.wf_codec.proofs.Validated.{none_begins_another, none_is_empty}
 use Rattle.wf_codec.specs.Encoding.{spelling}
 use Rattle.wf_def.specs.Definition.{Definition}
 use Rattle.wf_model.specs.Message.{Message}
-use Rattle.wf_wire.proofs.Split.{breaks_or_reads, split_one_way, stays_broken}
-use Rattle.wf_wire.proofs.Streams.{nothing_is_part}
-use Rattle.wf_wire.specs.Stream.{Splits, Reads, Breaks}
-use Rattle.wf_wire.specs.declared.fault.InboxFault.{InboxFault}
+use Rattle.wf_mail.proofs.Split.{breaks_or_reads, split_one_way, stays_broken}
+use Rattle.wf_mail.proofs.WholeMessages.{nothing_is_part}
+use Rattle.wf_mail.specs.Stream.{Splits, Reads, Breaks}
+use Rattle.wf_codec.specs.declared.fault.DecodeFault.{DecodeFault}
 use Rattle.wf_mail.specs.Mail.{spelled, AreMessages, IsBeginning}
 use Rattle.wf_mail.specs.Theorem.{OnlySentCome, AllSentCome, NeverBreaks}
 
@@ -43,7 +43,7 @@ splits_behind (m ∷ messages) stream later rest are splits = (
   splits_behind messages stream later rest are.1 splits,
 )
 
-pub breaks_behind : (messages : List (Message Definition)) (stream : List ℕ) (fault : InboxFault) → AreMessages messages → Breaks stream fault → Breaks (spelled messages ++ stream) fault
+pub breaks_behind : (messages : List (Message Definition)) (stream : List ℕ) (fault : DecodeFault) → AreMessages messages → Breaks stream fault → Breaks (spelled messages ++ stream) fault
 breaks_behind messages stream fault are breaks = record {
   messages = messages ++ breaks.messages;
   rest = breaks.rest;

@@ -1,3 +1,8 @@
+pub mod Stream
+pub mod Inbox
+pub mod Header
+pub mod FrontMessage
+pub mod StreamTheorem
 pub mod Mail
 pub mod Outbox
 pub mod Receiver

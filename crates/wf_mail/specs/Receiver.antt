@@ -5,26 +5,22 @@ use Rattle.wf_codec.specs.Message.{view}
 use Rattle.wf_codec.specs.declared.message.Message as code
 use Rattle.wf_def.specs.Definition.{Definition}
 use Rattle.wf_model.specs.Message.{Message}
-use Rattle.wf_wire.specs.Inbox as inbox
-use Rattle.wf_wire.specs.Inbox.{InboxState}
-use Rattle.wf_wire.specs.Stream.{IsPart, Reads, Breaks}
-use Rattle.wf_wire.specs.declared.fault.InboxFault.{InboxFault}
-use Rattle.wf_wire.specs.declared.fault.InboxFault.TheVariants.{BadVersion, BadKind, BadField, NotCanonical, TooLong, Memory}
+use Rattle.wf_mail.specs.Inbox as inbox
+use Rattle.wf_mail.specs.Inbox.{InboxState}
+use Rattle.wf_mail.specs.Stream.{IsPart, Reads, Breaks}
+use Rattle.wf_codec.specs.declared.fault.DecodeFault.{DecodeFault}
+use Rattle.wf_codec.specs.declared.fault.DecodeFault.TheVariants.{Memory}
 use Rattle.wf_mail.specs.Mail.{spelled, AreMessages}
 
 -- whether an allocation failed
-abbrev pub is_memory : InboxFault → Bool
+abbrev pub is_memory : DecodeFault → Bool
 is_memory Memory = true
-is_memory BadVersion = false
-is_memory BadKind = false
-is_memory BadField = false
-is_memory NotCanonical = false
-is_memory TooLong = false
+is_memory fault = false
 
 -- the messages that came, and the bytes after the last of them; or the messages that came before an error, and that error
 pub data ReceiverState : Type 0 where
   Open : (came : List (Message Definition)) (rest : List ℕ) → ReceiverState
-  Closed : (came : List (Message Definition)) (fault : InboxFault) → ReceiverState
+  Closed : (came : List (Message Definition)) (fault : DecodeFault) → ReceiverState
 
 -- the messages of a log
 abbrev pub logged : List (Vec code.Message Global × ℕ) → List (Message Definition)
@@ -62,7 +58,7 @@ IsReceived before piece messages after = ⊥
 
 -- The receiver closed with the error, or was closed with it. Unless an allocation failed, the bytes taken and the piece are whole
 -- messages and then bytes with this error.
-abbrev pub IsClosed : ReceiverState → List ℕ → InboxFault → ReceiverState → Type 0
+abbrev pub IsClosed : ReceiverState → List ℕ → DecodeFault → ReceiverState → Type 0
 IsClosed (Open before rest) piece fault after = (after ≡ Closed before fault) × (fault ≢ Memory → Breaks ((spelled before ++ rest) ++ piece) fault)
 IsClosed (Closed before earlier) piece fault after = (fault ≡ earlier) × (after ≡ Closed before earlier)
 

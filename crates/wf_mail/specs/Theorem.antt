@@ -2,8 +2,8 @@
 use Rattle.std.specs.Prelude.{◌≡◌, ℕ, List, []}
 use Rattle.wf_def.specs.Definition.{Definition}
 use Rattle.wf_model.specs.Message.{Message}
-use Rattle.wf_wire.specs.Stream.{Splits, Reads, Breaks}
-use Rattle.wf_wire.specs.declared.fault.InboxFault.{InboxFault}
+use Rattle.wf_mail.specs.Stream.{Splits, Reads, Breaks}
+use Rattle.wf_codec.specs.declared.fault.DecodeFault.{DecodeFault}
 use Rattle.wf_mail.specs.Mail.{spelled, AreMessages, IsBeginning, IsCarried}
 
 -- Of a connection only messages come that were put in, in order, none skipped, repeated or invented.
@@ -16,4 +16,4 @@ AllSentCome = (put came : List (Message Definition)) (rest : List ℕ) → AreMe
 
 -- What comes of a connection never has an error.
 abbrev pub NeverBreaks : Type 0
-NeverBreaks = (put : List (Message Definition)) (bytes : List ℕ) (fault : InboxFault) → IsCarried put bytes → Breaks bytes fault → ⊥
+NeverBreaks = (put : List (Message Definition)) (bytes : List ℕ) (fault : DecodeFault) → IsCarried put bytes → Breaks bytes fault → ⊥

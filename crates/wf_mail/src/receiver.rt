@@ -1,13 +1,13 @@
 ghost use Rattle.std.specs.Prelude.{◌≡◌, ◌++◌, ℕ, List, [], map, IfErr, IfOk, OnOk};
 ghost use Rattle.wf_codec.specs.Message.{view};
 ghost use Rattle.wf_mail.specs.Receiver.{Open, came, is_memory, taken, IsClosed, IsReceived};
-ghost use Rattle.wf_wire.specs.Stream.{Reads};
+ghost use Rattle.wf_mail.specs.Stream.{Reads};
 
+use crate::inbox::Inbox;
 use http_server::Log;
 use std::alloc::Global;
 use std::marker::Model;
-use wf_codec::Message;
-use wf_wire::{Inbox, InboxFault};
+use wf_codec::{DecodeFault, Message};
 
 /// The receiving end of a connection. Model: the messages that came, and the bytes after the last of them; or, once it is closed,
 /// the messages that came before the error, and the error.
@@ -46,14 +46,14 @@ impl Receiver {
     ///
     /// After an error the receiver is closed, and each later call returns the same error: of `Memory` too, since a caller has no
     /// piece a second time.
-    pub fn receive(&mut self, piece: &[u8]) -> Result<Vec<Message>, InboxFault>
+    pub fn receive(&mut self, piece: &[u8]) -> Result<Vec<Message>, DecodeFault>
         ensures ok { IfOk result (λ messages.
             IsReceived self.old piece.now (map view messages.items) self.new) }
         ensures bytes { OnOk result (taken self.new ≡ taken self.old ++ piece.now) }
         ensures err { IfErr result (λ fault. IsClosed self.old piece.now fault self.new) }
     {
         if self.is_out_of_memory {
-            return Err(InboxFault::Memory);
+            return Err(DecodeFault::Memory);
         }
         match self.inbox.feed(piece) {
             Ok(messages) => {
@@ -76,15 +76,8 @@ impl Receiver {
 }
 
 /// Whether an allocation failed.
-fn is_memory(fault: InboxFault) -> bool
+fn is_memory(fault: DecodeFault) -> bool
     ensures { result ≡ is_memory fault }
 {
-    match fault {
-        InboxFault::Memory => true,
-        InboxFault::BadVersion
-        | InboxFault::BadKind
-        | InboxFault::BadField
-        | InboxFault::NotCanonical
-        | InboxFault::TooLong => false,
-    }
+    matches!(fault, DecodeFault::Memory)
 }

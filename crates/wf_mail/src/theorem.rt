@@ -7,11 +7,11 @@ ghost use Rattle.wf_mail.specs.Mail.{IsBeginning};
 ghost use Rattle.wf_mail.specs.Receiver.{came, taken, IsOpen};
 
 use crate::dropped::Dropped;
+use crate::inbox::MESSAGE_BYTES;
 use crate::outbox::Outbox;
 use crate::receiver::Receiver;
 use std::alloc::Global;
-use wf_codec::Message;
-use wf_wire::{InboxFault, MESSAGE_BYTES};
+use wf_codec::{DecodeFault, Message};
 
 /// Of a connection that carries a beginning of what was put in, only messages come that were put in, in order, none skipped,
 /// repeated or invented; all of them once all bytes came; and never an error. Theorems about the definitions: the call does
@@ -40,13 +40,13 @@ pub fn carry_over(
     outbox: &mut Outbox,
     receiver: &mut Receiver,
     most: usize,
-) -> Result<(), InboxFault>
+) -> Result<(), DecodeFault>
     requires some { 0 < most }
     requires open { IsOpen receiver.old }
     requires carried { taken receiver.old ≡ outbox.old.written }
     ensures put { outbox.new.put ≡ outbox.old.put }
     ensures all { OnOk result (came receiver.new ≡ outbox.old.put) }
-    ensures memory { IfErr result (λ fault. fault ≡ InboxFault.Memory) }
+    ensures memory { IfErr result (λ fault. fault ≡ DecodeFault.Memory) }
 {
     while outbox.remaining() > 0 {
         outbox.always_spells();
@@ -64,15 +64,15 @@ pub fn carry_over(
 
 /// An example: a message crosses byte by byte, and is what comes.
 #[tactic(auto, unfolding(crate::specs::Mail::spelled))]
-pub fn cross_by_bytes(alloc: Global, message: &Message) -> Result<Receiver, InboxFault>
+pub fn cross_by_bytes(alloc: Global, message: &Message) -> Result<Receiver, DecodeFault>
     ensures { IfOk result (λ receiver. came receiver ≡ view message.now ∷ []) }
 {
     let mut outbox = Outbox::new(alloc, MESSAGE_BYTES);
     let mut receiver = Receiver::new(alloc);
     match outbox.put(message) {
         Ok(()) => {}
-        Err(Dropped::NoRoom) => return Err(InboxFault::TooLong),
-        Err(Dropped::Memory) => return Err(InboxFault::Memory),
+        Err(Dropped::NoRoom) => return Err(DecodeFault::TooLong),
+        Err(Dropped::Memory) => return Err(DecodeFault::Memory),
     }
     match carry_over(&mut outbox, &mut receiver, 1) {
         Ok(()) => Ok(receiver),

@@ -1,3 +1,5 @@
+pub mod Options
+pub mod Pairs
 pub mod Texts
 pub mod Counted
 pub mod RejectionTheorem

@@ -13,8 +13,8 @@ use Rattle.wf_mapfile.specs.declared.slots.LayerSlots.{LayerSlots}
 use Rattle.wf_token.specs.Token.{Token}
 use Rattle.wf_block.specs.Grammar.{◌>>=◌, text, one_of}
 use Rattle.wf_block.specs.Steps.{once, again, step_by, step_or, put_into, block}
-use Rattle.wf_metadata.specs.Metadata.{metadata}
-use Rattle.wf_metadata.specs.Web.{no_metadata}
+use Rattle.wf_mapfile.specs.Metadata.{metadata}
+use Rattle.wf_mapfile.specs.Web.{no_metadata}
 use Rattle.wf_class.specs.Class.{class}
 use Rattle.wf_feature.specs.Feature.{feature}
 unfoldable pub use Rattle.wf_feature.specs.Layers.{is_layer_name, features_left, points_left}

@@ -3,8 +3,9 @@ pub use Rattle.wf_token.specs.Token
 pub use Rattle.wf_block.specs.Grammar
 pub use Rattle.wf_block.specs.Steps
 pub use Rattle.wf_block.specs.ReadContract
-pub use Rattle.wf_metadata.specs.Metadata
-pub use Rattle.wf_metadata.specs.Web
+pub mod Metadata
+pub mod Pairs
+pub mod Web
 pub use Rattle.wf_class.specs.Color
 pub use Rattle.wf_class.specs.Style
 pub use Rattle.wf_class.specs.Label

@@ -12,8 +12,8 @@ use Rattle.wf_token.specs.Token.{Token}
 use Rattle.wf_block.specs.Grammar.{◌>>=◌, choice, text, number, end}
 use Rattle.wf_block.specs.Steps.{once, again, step_by, step_or, put_into, block}
 use Rattle.wf_class.specs.Color.{color}
-use Rattle.wf_metadata.specs.declared.slots.Metadata as kept
-use Rattle.wf_metadata.specs.Web.{web, no_metadata}
+use Rattle.wf_mapfile.specs.declared.slots.Metadata as kept
+use Rattle.wf_mapfile.specs.Web.{web, no_metadata}
 use Rattle.wf_mapfile.specs.Layer.{layer}
 
 -- four numbers, each minimum below its maximum

@@ -7,26 +7,18 @@ ghost use Rattle.wf_block.specs.ReadContract.{Gives, Passes};
 ghost use Rattle.wf_block.specs.Steps.{again};
 ghost use Rattle.wf_class.specs.Class.{class};
 ghost use Rattle.wf_feature.specs.Feature.{feature};
-ghost use Rattle.wf_metadata.specs.Web.{no_metadata};
+ghost use Rattle.wf_mapfile.specs.Web.{no_metadata};
 ghost use Rattle.wf_def.specs.Limit.{most_classes};
 
-use crate::slots::{LayerDropped, LayerOnce, LayerSlots};
+use crate::metadata::read_metadata;
+use crate::slots::{LayerDropped, LayerOnce, LayerSlots, Metadata};
 use std::alloc::{AllocError, Global};
-use wf_block::block::{Slots, fill_block};
-use wf_block::default::text_or_empty;
-use wf_block::fault::MapFault;
-use wf_block::keyword::is_name;
-use wf_block::once;
-use wf_block::parser::Parser;
-use wf_class::class::read_class;
-use wf_def::choice::LayerKind;
-use wf_def::layer::{Classes, Features, Layer};
-use wf_def::text::Text;
-use wf_feature::feature::read_feature;
-use wf_feature::layers::{LayerName, LayerRead, Layers};
-use wf_metadata::metadata::read_metadata;
-use wf_metadata::slots::Metadata;
-use wf_token::token::Token;
+use wf_block::{MapFault, Parser, Slots, fill_block, is_name, once, text_or_empty};
+use wf_class::read_class;
+use wf_def::{Classes, Features, Layer, LayerKind};
+use wf_feature::{LayerName, LayerRead, Layers, read_feature};
+use wf_text::Text;
+use wf_token::Token;
 
 /// LAYER while it is read.
 #[derive(Drop)]

@@ -2,28 +2,21 @@
 ghost use Rattle.std.specs.Prelude.{◌≡◌, [], None, IfOk, codes, length, nat_lt, unwrap_or};
 ghost use Rattle.wf_mapfile.specs.Map.{definition, extent, map, map_dropped, map_of, map_once, no_map, projection, projection_named, two_numbers};
 ghost use Rattle.wf_block.specs.ReadContract.{Gives, Passes};
-ghost use Rattle.wf_metadata.specs.Web.{no_metadata};
+ghost use Rattle.wf_mapfile.specs.Web.{no_metadata};
 ghost use Rattle.wf_def.specs.Limit.{most_layers};
 
 use crate::layer::read_layer;
-use crate::slots::{MapDropped, MapOnce, MapSlots};
+use crate::slots::{MapDropped, MapOnce, MapSlots, Metadata};
+use crate::web::read_web;
 use std::alloc::{AllocError, Global};
-use wf_block::block::{Slots, fill_block};
-use wf_block::choice::choose;
-use wf_block::default::{text_or, text_or_empty};
-use wf_block::fault::MapFault;
-use wf_block::keyword::is_name;
-use wf_block::once;
-use wf_block::parser::Parser;
-use wf_class::color::read_color;
-use wf_def::choice::Projection;
-use wf_def::extent::Extent;
-use wf_def::map::MapDef;
-use wf_def::text::Text;
-use wf_feature::layers::Layers;
-use wf_metadata::slots::Metadata;
-use wf_metadata::web::read_web;
-use wf_token::token::Token;
+use wf_block::{
+    MapFault, Parser, Slots, choose, fill_block, is_name, once, text_or, text_or_empty,
+};
+use wf_class::read_color;
+use wf_def::{Extent, MapDef, Projection};
+use wf_feature::Layers;
+use wf_text::Text;
+use wf_token::Token;
 
 /// The name of a map without NAME.
 const DEFAULT_NAME: &str = "map";

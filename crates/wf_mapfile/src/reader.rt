@@ -9,12 +9,9 @@ ghost use Rattle.wf_token.specs.Token.{Token as TokenValue, token_value, tokens}
 
 use crate::map::read_map;
 use std::alloc::Global;
-use wf_block::fault::MapFault;
-use wf_block::keyword::is_name;
-use wf_block::parser::Parser;
-use wf_def::map::MapDef;
-use wf_token::lexer::tokenize;
-use wf_token::token::{LexFault, Token, TokenKind};
+use wf_block::{MapFault, Parser, is_name};
+use wf_def::MapDef;
+use wf_token::{LexFault, Token, TokenKind, tokenize};
 
 /// The longest mapfile, in bytes.
 pub const MOST_MAPFILE_BYTES: usize = 131_072;

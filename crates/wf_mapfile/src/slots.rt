@@ -1,11 +1,8 @@
 //! The slots that the keywords of the blocks fill. A dropped keyword's slot says only that it came.
 
-use wf_def::choice::{LayerKind, Projection};
-use wf_def::extent::Extent;
-use wf_def::layer::{Classes, Features};
-use wf_def::text::Text;
-use wf_feature::layers::{LayerName, Layers};
-pub use wf_metadata::slots::{Metadata, WebSlots};
+use wf_def::{Classes, Extent, Features, LayerKind, Projection};
+use wf_feature::{LayerName, Layers};
+use wf_text::Text;
 
 /// LAYER.
 #[derive(Drop)]
@@ -87,4 +84,26 @@ pub struct MapDropped {
     pub image_type: Option<()>,
     /// The directory of data.
     pub shape_path: Option<()>,
+}
+
+/// The values of METADATA that are kept (OGC 06-042 7.2.4.2).
+#[derive(Drop)]
+pub struct Metadata {
+    /// The human-readable title of the service.
+    pub title: Option<Text>,
+    /// A short description of the service.
+    pub abstract_text: Option<Text>,
+    /// The address that requests are sent to.
+    pub address: Option<Text>,
+}
+
+/// WEB.
+#[derive(Default, Drop)]
+pub struct WebSlots {
+    /// The pairs that are kept.
+    pub metadata: Option<Metadata>,
+    /// The directory of pictures.
+    pub image_path: Option<()>,
+    /// The address of pictures.
+    pub image_url: Option<()>,
 }

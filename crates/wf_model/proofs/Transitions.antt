@@ -5,7 +5,7 @@ use Rattle.wf_ballot.specs.Majority.{count_nodes, is_majority_of}
 use Rattle.wf_ballot.specs.Sequence.{last_sequence}
 use Rattle.wf_model.specs.Message.{Vote, Message, Prepare, Promise, Accept, Accepted, Nack, Chosen, Ask}
 use Rattle.wf_model.specs.DurableState as stored_part
-use Rattle.wf_model.specs.DurableState.{DurableState, Record, Tried, Promised, Published, published, next_sequence, with_record, fits}
+use Rattle.wf_model.specs.DurableState.{DurableState, Promised, Published, published, next_sequence, with_record, fits}
 use Rattle.wf_model.specs.VolatileState.{Proposal, Proposing, Idle, Running, Won, Overtaken, Leadership, VolatileState, Preparing, Accepting, proposed, is_at, leading_at}
 use Rattle.wf_model.specs.Table.{Transition, Input, Propose, Retry, CatchUp, Deliver, store, quiet, only_sends, stores, running_transition, when_running, with_proposal, round_known, begin_at, ask_votes, lead, propose_by, on_propose, on_retry, on_catch_up, reports, reports_from, on_ask, most_reports, is_above, is_rejected, nack, promise_to, prepare_open, on_prepare, votes_at, vote_for, accept_open, on_accept, is_new_response, with_promise, asking_votes, promised, on_promise, with_vote, on_nack, ended, ends, after_publishing, voted, on_accepted, on_chosen, on_message, transition}
 use Rattle.wf_model.specs.Fits.{IsForNext, TransitionFits, RecordsFit}

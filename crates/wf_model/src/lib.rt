@@ -20,7 +20,7 @@
 //! `wf_safety`'s.
 #![tactic(auto)]
 
-pub mod action;
+mod action;
 
 ghost use Rattle.std.specs.Prelude.{◌≡◌, [], ◌∷◌, None, Some};
 ghost use Rattle.wf_model.specs.Chosen.{definition};

@@ -23,7 +23,6 @@ use Rattle.wf_node.specs.declared.fault.NodeFault.TheVariants.{Memory}
 use Rattle.wf_node.specs.Act.{IsAct, IsChange, IsRejectedOr, IsReply}
 use Rattle.wf_node.specs.Fault.{rejected_by, TakesMemory, ByEntry, ByMessages, fault_of}
 use Rattle.wf_node.specs.DurablePart as keeping
-use Rattle.wf_node.specs.DurablePart.{DurablePart}
 use Rattle.wf_node.specs.Parts.{Parts, stored_of}
 use Rattle.wf_node.proofs.Replies.{change_as, change_from, memory_changes, sends_changes}
 use Rattle.wf_tape.specs.declared.tape.Tape.{Ghosts as Tape}

@@ -127,7 +127,7 @@ fn short_records(alloc: Global, persistent: &DurablePart) -> Result<Vec<Record>,
     ensures { IfOk result (λ records. map view records.items ≡ short_records (stored_in persistent.now)) }
 {
     let mut records = Vec::new(alloc);
-    push_tried(&mut records, persistent.tried())?;
+    push_tried(&mut records, persistent.last_round())?;
     push_sequences(&mut records, persistent)?;
     push_promise(&mut records, persistent)?;
     Ok(records)

@@ -2,7 +2,7 @@ use crate::fault::NodeFault;
 use crate::machine::Machine;
 use std::marker::Model;
 use wf_ballot::{NodeId, Seq};
-use wf_def::map::MapDef;
+use wf_def::MapDef;
 use wf_learner::History;
 use wf_proposer::ProposalState;
 use wf_tape::{MemoryTape, Tape};

@@ -37,7 +37,7 @@ impl<T: Tape> Machine<T> {
             drop(own);
             return Err(NodeFault::SequenceFull);
         }
-        let tried = self.persistent.tried();
+        let tried = self.persistent.last_round();
         let published = self.persistent.history().published();
         match self.proposer.start(alloc, tried, published, own) {
             Ok(next) => self.perform(alloc, next),
@@ -51,7 +51,7 @@ impl<T: Tape> Machine<T> {
         ensures act { Acts T.Tape Retry self.old result self.new }
         ensures id { self.new.persistent.id ≡ self.old.persistent.id }
     {
-        match self.proposer.retry(alloc, self.persistent.tried()) {
+        match self.proposer.retry(alloc, self.persistent.last_round()) {
             Ok(next) => self.perform(alloc, next),
             Err(step_rejection) => Err(fault_of(step_rejection)),
         }
@@ -70,7 +70,7 @@ impl<T: Tape> Machine<T> {
         let published = self.persistent.history().published();
         fault_for(
             self.proposer
-                .start_step_rejection(self.persistent.tried(), published),
+                .start_step_rejection(self.persistent.last_round(), published),
         )
     }
 
@@ -78,7 +78,10 @@ impl<T: Tape> Machine<T> {
     pub(crate) fn retry_step_rejection(&self) -> Option<NodeFault>
         ensures { IsWhyNot (retry_step_rejection self.now.proposer (stored_of self.now.persistent)) result }
     {
-        fault_for(self.proposer.retry_step_rejection(self.persistent.tried()))
+        fault_for(
+            self.proposer
+                .retry_step_rejection(self.persistent.last_round()),
+        )
     }
 
     /// A Promise arrived.

@@ -70,7 +70,7 @@ impl DurablePart {
     }
 
     /// The last round that the node tried, 0 before the first.
-    pub(crate) fn tried(&self) -> u32
+    pub(crate) fn last_round(&self) -> u32
         ensures { result ≡ self.now.parts.tried }
     {
         self.tried

@@ -1,6 +1,6 @@
 -- From the error of a part to that of the command.
 use Rattle.std.proofs.Common.{◌≡◌, ℕ, List, refl}
-use Rattle.std.specs.Prelude.{Option, Some, IsSome, Err, option_map}
+use Rattle.std.specs.Prelude.{Some, IsSome, Err, option_map}
 use Rattle.wf_address.specs.Address.{IsListFault, IsNoAddress, words_of}
 use Rattle.wf_address.specs.declared.address_option.AddressOption.TheVariants as options
 use Rattle.wf_address.specs.declared.list.ListFault.{ListFault}
@@ -27,7 +27,7 @@ system_of_node line (faults.NotEmpty why) is = absurd is
 system_of_node line (faults.Unread kind) is = tt
 system_of_node line (faults.Unwritten kind) is = tt
 system_of_node line (faults.Rejected why) is = absurd is
-system_of_node line (faults.Heard why) is = tt
+system_of_node line (faults.PeerProgress why) is = tt
 system_of_node line (faults.FromUnread kind) is = absurd is
 system_of_node line (faults.FromBad offset) is = absurd is
 system_of_node line (faults.TapeUnread kind) is = tt
@@ -52,7 +52,7 @@ system_of_init line (faults.NotEmpty why) is = absurd is
 system_of_init line (faults.Unread kind) is = tt
 system_of_init line (faults.Unwritten kind) is = tt
 system_of_init line (faults.Rejected why) is = absurd is
-system_of_init line (faults.Heard why) is = tt
+system_of_init line (faults.PeerProgress why) is = tt
 system_of_init line (faults.FromUnread kind) is = absurd is
 system_of_init line (faults.FromBad offset) is = absurd is
 system_of_init line (faults.TapeUnread kind) is = tt
@@ -83,7 +83,7 @@ from_fault line (faults.NotEmpty why) some is = absurd is
 from_fault line (faults.Unread kind) some is = absurd is
 from_fault line (faults.Unwritten kind) some is = absurd is
 from_fault line (faults.Rejected why) some is = absurd is
-from_fault line (faults.Heard why) some is = absurd is
+from_fault line (faults.PeerProgress why) some is = absurd is
 from_fault line (faults.FromUnread kind) some is = some
 from_fault line (faults.FromBad offset) some is = some
 from_fault line (faults.TapeUnread kind) some is = absurd is
@@ -109,7 +109,7 @@ module _ {T : Type 0} (tapes : Tape T) (line : NodeLine) where
   not_begun (faults.Unread kind) is = is
   not_begun (faults.Unwritten kind) is = is
   not_begun (faults.Rejected why) is = is
-  not_begun (faults.Heard why) is = is
+  not_begun (faults.PeerProgress why) is = is
   not_begun (faults.FromUnread kind) is = is
   not_begun (faults.FromBad offset) is = is
   not_begun (faults.TapeUnread kind) is = is
@@ -137,7 +137,7 @@ not_opened tapes file (faults.NotEmpty why) is = absurd is
 not_opened tapes file (faults.Unread kind) is = tt
 not_opened tapes file (faults.Unwritten kind) is = tt
 not_opened tapes file (faults.Rejected why) is = absurd is
-not_opened tapes file (faults.Heard why) is = tt
+not_opened tapes file (faults.PeerProgress why) is = tt
 not_opened tapes file (faults.FromUnread kind) is = absurd is
 not_opened tapes file (faults.FromBad offset) is = absurd is
 not_opened tapes file (faults.TapeUnread kind) is = tt

@@ -1,5 +1,5 @@
 -- From a start that was admitted to a node that was served.
-use Rattle.std.proofs.Common.{◌≡◌, ◌∙◌, ◌≤◌, ◌<◌, ℕ, [], append-nil, arith, inl, refl, sym, subst}
+use Rattle.std.proofs.Common.{◌≡◌, ◌<◌, ℕ, [], append-nil, arith, inl, refl, sym, subst}
 use Rattle.std.specs.Prelude.{Result, Ok, Err, length}
 use Rattle.wf_actor.specs.declared.process.Process.{Process}
 use Rattle.wf_address.specs.Address.{words_of}
@@ -79,7 +79,7 @@ module _ {T : Type 0} (tapes : Tape T) where
   served_by line file (Err (faults.Unread kind)) admit end = tt
   served_by line file (Err (faults.Unwritten kind)) admit end = tt
   served_by line file (Err (faults.Rejected why)) admit end = absurd end
-  served_by line file (Err (faults.Heard why)) admit end = tt
+  served_by line file (Err (faults.PeerProgress why)) admit end = tt
   served_by line file (Err (faults.FromUnread kind)) admit end = absurd end
   served_by line file (Err (faults.FromBad offset)) admit end = absurd end
   served_by line file (Err (faults.TapeUnread kind)) admit end = tt

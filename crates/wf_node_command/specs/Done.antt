@@ -1,5 +1,5 @@
 -- What a command did.
-use Rattle.std.specs.Prelude.{◌≡◌, ◌≤◌, ◌<◌, ℕ, ⊤, List, [], Option, Some, None, Result, Ok, Err, IsSome, MatchOption, length, option_map}
+use Rattle.std.specs.Prelude.{◌≡◌, ◌≤◌, ◌<◌, ℕ, ⊤, List, [], Option, Some, Result, Ok, Err, IsSome, MatchOption, length, option_map}
 use Rattle.wf_actor.specs.Start.{IsOpened}
 use Rattle.wf_actor.specs.Process.{IsBegun}
 use Rattle.wf_actor.specs.declared.process.Process.{Process}

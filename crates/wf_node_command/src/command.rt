@@ -9,7 +9,7 @@ use std::fs::File;
 use std::net::Net;
 use std::rt::Files;
 use std::time::Clock;
-use wf_line::node_line::NodeCommand;
+use wf_line::NodeCommand;
 use wf_tape::{FileTape, Tape};
 
 /// Runs a command: `init` makes the folder of a node, and `node` serves it for this many turns, or until a peer tells it that it has to

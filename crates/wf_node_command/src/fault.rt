@@ -7,7 +7,7 @@ use thiserror::Error;
 use wf_address::AddressOption;
 use wf_folder::{NodeRejection, NotEmpty};
 use wf_loop::LoopFault;
-use wf_peer::{HeardFault, PeerRejection};
+use wf_peer::{PeerProgressFault, PeerRejection};
 
 /// Why a command ends with an error. Its text is the line on standard error.
 #[derive(Clone, Copy, Debug, Error)]
@@ -47,7 +47,7 @@ pub enum CommandFault {
     Rejected(NodeRejection),
     /// The file `heard` is bad.
     #[error("bad file heard: {0}")]
-    Heard(HeardFault),
+    PeerProgress(PeerProgressFault),
     /// The file of `--from` can't be read.
     #[error("--from can't be read: {0}")]
     FromUnread(io::ErrorKind),
@@ -98,7 +98,7 @@ impl CommandFault {
             | CommandFault::Unread(_)
             | CommandFault::Unwritten(_)
             | CommandFault::Rejected(_)
-            | CommandFault::Heard(_)
+            | CommandFault::PeerProgress(_)
             | CommandFault::FromUnread(_)
             | CommandFault::FromBad(_)
             | CommandFault::TapeUnread(_)

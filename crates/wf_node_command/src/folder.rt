@@ -12,14 +12,14 @@ use std::rt::Files;
 use std::{fs, io};
 use wf_folder::{NodeFile, NodeFound, Presence};
 use wf_loop::{path_in, replace};
-use wf_peer::Heard;
+use wf_peer::PeerProgress;
 use wf_stream::{Stream, read_up_to};
 
 /// More bytes than a node's file `farm` has.
 const MOST_FILE_BYTES: usize = 512;
 
 /// More bytes than a file `heard` has.
-const MOST_HEARD_BYTES: usize = 65_536;
+const MOST_PEER_PROGRESS_BYTES: usize = 65_536;
 
 /// Where the system gives random bytes.
 const RANDOM_BYTES: &str = "/dev/urandom";
@@ -197,18 +197,18 @@ pub(crate) fn find_in<R: Files + AllocGlobal>(
 }
 
 /// What was heard of the peers before, by the file `heard` of a folder: nothing if there is none.
-pub(crate) fn read_heard<R: Files + AllocGlobal>(
+pub(crate) fn read_peer_progress<R: Files + AllocGlobal>(
     rt: &R,
     folder: &str,
-) -> Result<Heard, CommandFault>
+) -> Result<PeerProgress, CommandFault>
     ensures { IfErr result IsFromSystem }
 {
-    match read_if_there(rt, folder, "heard", MOST_HEARD_BYTES) {
-        Ok(Some(bytes)) => match Heard::read(&bytes) {
-            Ok(heard) => Ok(heard),
-            Err(fault) => Err(CommandFault::Heard(fault)),
+    match read_if_there(rt, folder, "heard", MOST_PEER_PROGRESS_BYTES) {
+        Ok(Some(bytes)) => match PeerProgress::read(&bytes) {
+            Ok(known) => Ok(known),
+            Err(fault) => Err(CommandFault::PeerProgress(fault)),
         },
-        Ok(None) => Ok(Heard::new()),
+        Ok(None) => Ok(PeerProgress::new()),
         Err(fault) => Err(fault),
     }
 }

@@ -14,7 +14,7 @@ use std::rt::Files;
 use wf_ballot::NodeId;
 use wf_folder::{FarmName, NodeFile, admit_new};
 use wf_journal::OpenFault;
-use wf_line::node_line::InitLine;
+use wf_line::InitLine;
 use wf_loop::write_file;
 use wf_node::Node;
 use wf_tape::MemoryTape;

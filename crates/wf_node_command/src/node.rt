@@ -10,7 +10,7 @@ ghost use Rattle.wf_node_command.specs.Done.{IsAdmitted, IsEnd, IsNodeDone, IsNo
 ghost use Rattle.wf_node_command.specs.Fault.{IsFromSystem, fault_of};
 
 use crate::fault::CommandFault;
-use crate::folder::{find_in, hold, presence, read_heard, replace_farm, tape_path};
+use crate::folder::{find_in, hold, presence, read_peer_progress, replace_farm, tape_path};
 use crate::tape::{FileOpener, Opener, open_process, open_tape};
 use std::alloc::Global;
 use std::fs::File;
@@ -20,14 +20,14 @@ use std::time::Clock;
 use wf_address::{AddressOption, ListFault, address, address_if_any, addresses};
 use wf_ballot::NodeId;
 use wf_folder::{NodeFile, NodeFound, admit_node};
-use wf_line::node_line::NodeLine;
+use wf_line::NodeLine;
 use wf_loop::{Begun, Hub, Log, NodeEvent, NodePlan, Process};
-use wf_peer::{Heard, Own, PeerRejection, Progress};
+use wf_peer::{Own, PeerProgress, PeerRejection, Progress};
 use wf_tape::{FileTape, Tape};
 
 /// Where clients, peers, the operator and readers come, and where all nodes' peers do.
 #[derive(Drop)]
-struct Places {
+struct NodeAddresses {
     peers: Vec<SocketAddr>,
     http: SocketAddr,
     listen: Option<SocketAddr>,
@@ -45,18 +45,18 @@ pub(crate) fn node<'a, R: Files<File = File> + Clock + Eprint + Net + AllocGloba
     requires { IsNodeInRange line.now }
     ensures { IsNodeDone ⟦<FileTape<&'a R> as Tape>⟧ line.now result }
 {
-    let places = match places_of(rt.alloc(), line) {
-        Ok(places) => places,
+    let node_addresses = match addresses_of(rt.alloc(), line) {
+        Ok(node_addresses) => node_addresses,
         Err(fault) => return Err(fault),
     };
     match hold(rt, line.state) {
         Ok(held) => {
-            let ended = start(rt, line, places, turns);
+            let ended = start(rt, line, node_addresses, turns);
             drop(held);
             ended
         }
         Err(fault) => {
-            drop(places);
+            drop(node_addresses);
             Err(fault)
         }
     }
@@ -64,10 +64,10 @@ pub(crate) fn node<'a, R: Files<File = File> + Clock + Eprint + Net + AllocGloba
 
 /// The addresses of a command line.
 #[tactic(auto, using(crate::proofs::Faults::list_fault, crate::proofs::Faults::bad_http, crate::proofs::Faults::bad_listen, crate::proofs::Faults::bad_admin, crate::proofs::Faults::bad_readers, wf_address::proofs::AddressList::as_many))]
-fn places_of(alloc: Global, line: &NodeLine<'_>) -> Result<Places, CommandFault>
-    ensures peers { IfOk result (λ places.
-        length places.peers.items ≡ length (words_of line.now.peers.now)) }
-    ensures most { IfOk result (λ places. length places.peers.items ≤ 64) }
+fn addresses_of(alloc: Global, line: &NodeLine<'_>) -> Result<NodeAddresses, CommandFault>
+    ensures peers { IfOk result (λ node_addresses.
+        length node_addresses.peers.items ≡ length (words_of line.now.peers.now)) }
+    ensures most { IfOk result (λ node_addresses. length node_addresses.peers.items ≤ 64) }
     ensures fault { IfErr result (IsNodeFault line.now) }
 {
     let http = match address(line.http) {
@@ -87,7 +87,7 @@ fn places_of(alloc: Global, line: &NodeLine<'_>) -> Result<Places, CommandFault>
         None => return Err(CommandFault::BadAddress(AddressOption::Readers)),
     };
     match addresses(alloc, line.peers) {
-        Ok(peers) => Ok(Places {
+        Ok(peers) => Ok(NodeAddresses {
             peers,
             http,
             listen,
@@ -114,18 +114,18 @@ fn fault_of(fault: ListFault) -> CommandFault
 fn start<'a, R: Files<File = File> + Clock + Eprint + Net + AllocGlobal>(
     rt: &'a R,
     line: &NodeLine<'_>,
-    places: Places,
+    node_addresses: NodeAddresses,
     turns: u64,
 ) -> Result<(), CommandFault>
     requires range { IsNodeInRange line.now }
-    requires peers { length places.peers.items ≡ length (words_of line.now.peers.now) }
-    requires most { length places.peers.items ≤ 64 }
+    requires peers { length node_addresses.peers.items ≡ length (words_of line.now.peers.now) }
+    requires most { length node_addresses.peers.items ≤ 64 }
     ensures { IsNodeDone ⟦<FileTape<&'a R> as Tape>⟧ line.now result }
 {
-    match admit(rt, line, places.peers.len() as u8) {
-        Ok(file) => start_as(rt, line, places, &file, turns),
+    match admit(rt, line, node_addresses.peers.len() as u8) {
+        Ok(file) => start_as(rt, line, node_addresses, &file, turns),
         Err(fault) => {
-            drop(places);
+            drop(node_addresses);
             Err(fault)
         }
     }
@@ -175,24 +175,24 @@ fn node_of(found: &NodeFound) -> u8 {
 fn start_as<'a, R: Files<File = File> + Clock + Eprint + Net + AllocGlobal>(
     rt: &'a R,
     line: &NodeLine<'_>,
-    places: Places,
+    node_addresses: NodeAddresses,
     file: &NodeFile,
     turns: u64,
 ) -> Result<(), CommandFault>
     requires range { IsNodeInRange line.now }
     requires admit { IsAdmitted line.now file.now }
     requires file { IsNodeFile file.now }
-    requires nodes { file.now.nodes ≡ length places.peers.items }
+    requires nodes { file.now.nodes ≡ length node_addresses.peers.items }
     ensures { IsNodeDone ⟦<FileTape<&'a R> as Tape>⟧ line.now result }
 {
     let path = match tape_path(rt.alloc(), line.state, file.node) {
         Ok(path) => path,
         Err(fault) => {
-            drop(places);
+            drop(node_addresses);
             return Err(fault);
         }
     };
-    serve_at(rt, line, places, file, path.as_str(), turns)
+    serve_at(rt, line, node_addresses, file, path.as_str(), turns)
 }
 
 /// Serves the node of this file on the tape at this path.
@@ -200,18 +200,25 @@ fn start_as<'a, R: Files<File = File> + Clock + Eprint + Net + AllocGlobal>(
 fn serve_at<'a, R: Files<File = File> + Clock + Eprint + Net + AllocGlobal>(
     rt: &'a R,
     line: &NodeLine<'_>,
-    places: Places,
+    node_addresses: NodeAddresses,
     file: &NodeFile,
     path: &str,
     turns: u64,
 ) -> Result<(), CommandFault>
     requires range { IsNodeInRange line.now }
     requires file { IsNodeFile file.now }
-    requires nodes { file.now.nodes ≡ length places.peers.items }
+    requires nodes { file.now.nodes ≡ length node_addresses.peers.items }
     ensures { IsEnd ⟦<FileTape<&'a R> as Tape>⟧ file.now result }
 {
-    match opened(rt, line, file, path) {
-        Ok((progress, process)) => match plan_of(rt.alloc(), line, places, file, progress, path) {
+    match open_node(rt, line, file, path) {
+        Ok((progress, process)) => match plan_of(
+            rt.alloc(),
+            line,
+            node_addresses,
+            file,
+            progress,
+            path,
+        ) {
             Ok(plan) => begin(rt, line, file, plan, process, path, turns),
             Err(fault) => {
                 drop(process);
@@ -219,14 +226,14 @@ fn serve_at<'a, R: Files<File = File> + Clock + Eprint + Net + AllocGlobal>(
             }
         },
         Err(fault) => {
-            drop(places);
+            drop(node_addresses);
             Err(fault)
         }
     }
 }
 
 /// How far the node of this file is, and its process on the tape at this path.
-fn opened<'a, R: Files + Clock + Eprint + AllocGlobal>(
+fn open_node<'a, R: Files + Clock + Eprint + AllocGlobal>(
     rt: &'a R,
     line: &NodeLine<'_>,
     file: &NodeFile,
@@ -249,22 +256,22 @@ fn opened<'a, R: Files + Clock + Eprint + AllocGlobal>(
 fn plan_of(
     alloc: Global,
     line: &NodeLine<'_>,
-    places: Places,
+    node_addresses: NodeAddresses,
     file: &NodeFile,
     start: Progress,
     path: &str,
 ) -> Result<NodePlan, CommandFault>
     requires file { IsNodeFile file.now }
-    requires nodes { file.now.nodes ≡ length places.peers.items }
+    requires nodes { file.now.nodes ≡ length node_addresses.peers.items }
     ensures { IfErr result IsFromSystem }
 {
-    let Places {
+    let NodeAddresses {
         peers,
         http,
         listen,
         admin,
         readers,
-    } = places;
+    } = node_addresses;
     let Ok(folder) = String::from_str(alloc, line.state) else {
         drop(peers);
         return Err(CommandFault::Memory);
@@ -309,13 +316,13 @@ fn begin<'a, R: Files<File = File> + Clock + Eprint + Net + AllocGlobal>(
     ensures { IsEnd ⟦<FileTape<&'a R> as Tape>⟧ file.now result }
 {
     match count_start(rt, line, file) {
-        Ok(heard) => serve(
+        Ok(known) => serve(
             rt,
             line,
             file,
             plan,
             process,
-            heard,
+            known,
             &FileOpener { rt, path },
             turns,
         ),
@@ -332,16 +339,16 @@ fn count_start<R: Files + AllocGlobal>(
     rt: &R,
     line: &NodeLine<'_>,
     file: &NodeFile,
-) -> Result<Heard, CommandFault>
+) -> Result<PeerProgress, CommandFault>
     requires { IsNodeFile file.now }
     ensures { IfErr result IsFromSystem }
 {
-    let heard = match read_heard(rt, line.state) {
-        Ok(heard) => heard,
+    let known = match read_peer_progress(rt, line.state) {
+        Ok(known) => known,
         Err(fault) => return Err(fault),
     };
     match replace_farm(rt, line.state, file) {
-        Ok(()) => Ok(heard),
+        Ok(()) => Ok(known),
         Err(fault) => Err(fault),
     }
 }
@@ -353,7 +360,7 @@ fn serve<R: Files<File = File> + Clock + Eprint + Net + AllocGlobal, T: Tape + D
     file: &NodeFile,
     plan: NodePlan,
     process: Process<T>,
-    heard: Heard,
+    known: PeerProgress,
     opener: &O,
     turns: u64,
 ) -> Result<(), CommandFault>
@@ -362,7 +369,7 @@ fn serve<R: Files<File = File> + Clock + Eprint + Net + AllocGlobal, T: Tape + D
 {
     let log = Log::new(rt, line.log);
     let listen = plan.listen;
-    let mut hub = match Hub::new(rt, plan, process, heard) {
+    let mut hub = match Hub::new(rt, plan, process, known) {
         Ok(hub) => hub,
         Err(fault) => return Err(CommandFault::Loop(fault)),
     };

@@ -5,8 +5,7 @@ use crate::page::TextPage;
 use crate::request::{FirstLine, is_whole, number_of, request_of};
 use http::StatusCode;
 use std::alloc::{AllocError, Global};
-use wf_client::partial_request::Incoming;
-use wf_client::response_buffer::Outgoing;
+use wf_client::{Incoming, Outgoing};
 use wf_learner::History;
 use wf_visitors::{Server, ServerReply};
 

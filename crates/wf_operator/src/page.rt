@@ -2,9 +2,8 @@
 
 use http::StatusCode;
 use std::alloc::{AllocError, Global};
-use wf_client::response_buffer::Outgoing;
-use wf_http::http_error::Allowed;
-use wf_http::response::Response;
+use wf_client::Outgoing;
+use wf_http::{Allowed, Response};
 
 /// The media type of text.
 const TEXT: &str = "text/plain; charset=utf-8";

@@ -10,8 +10,8 @@ use Rattle.wf_def.specs.Limit.{most_classes}
 use Rattle.wf_token.specs.Token.{Token}
 use Rattle.wf_block.specs.Grammar.{◌>>=◌, text, choice}
 use Rattle.wf_block.specs.Steps.{again}
-use Rattle.wf_metadata.specs.declared.slots.Metadata as kept
-use Rattle.wf_metadata.specs.Metadata.{metadata}
+use Rattle.wf_mapfile.specs.declared.slots.Metadata as kept
+use Rattle.wf_mapfile.specs.Metadata.{metadata}
 use Rattle.wf_class.specs.Class.{class}
 use Rattle.wf_feature.specs.Feature.{feature}
 use Rattle.wf_feature.specs.Layers.{is_layer_name, features_left, points_left}

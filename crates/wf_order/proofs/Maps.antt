@@ -7,8 +7,8 @@ use Rattle.wf_def.specs.declared.choice.Projection.{Projection}
 use Rattle.wf_def.specs.Limit.{most_layers}
 use Rattle.wf_token.specs.Token.{Token, Word}
 use Rattle.wf_block.specs.Grammar.{◌>>=◌, text, number, end, choice}
-use Rattle.wf_metadata.specs.declared.slots.Metadata as kept
-use Rattle.wf_metadata.specs.Web.{web}
+use Rattle.wf_mapfile.specs.declared.slots.Metadata as kept
+use Rattle.wf_mapfile.specs.Web.{web}
 use Rattle.wf_class.specs.Color.{color}
 use Rattle.wf_mapfile.specs.declared.slots.MapDropped.{MapDropped}
 use Rattle.wf_mapfile.specs.declared.slots.MapOnce.{MapOnce}

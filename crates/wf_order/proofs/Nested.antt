@@ -10,7 +10,7 @@ use Rattle.wf_def.specs.Limit.{most_points}
 use Rattle.wf_token.specs.Token.{Token, Word, Quoted, Braced, tokens}
 use Rattle.wf_block.specs.Grammar.{◌>>=◌, word, is_end}
 use Rattle.wf_block.specs.Steps.{fill, block}
-use Rattle.wf_metadata.specs.Web.{web, web_put, no_settings}
+use Rattle.wf_mapfile.specs.Web.{web, web_put, no_settings}
 use Rattle.wf_class.specs.Style.{style, style_put, no_style}
 use Rattle.wf_class.specs.Label.{label, label_put, no_label}
 use Rattle.wf_class.specs.Class.{class, class_put, class_once, no_class}

@@ -6,7 +6,7 @@ use Rattle.std.specs.Prelude.{Option, Some, None, filter, bytes_eq, codes, if◌
 use Rattle.std.specs.List.{list_any}
 use Rattle.wf_token.specs.Token.{Token}
 use Rattle.wf_block.specs.Grammar.{all_differ}
-use Rattle.wf_metadata.specs.Metadata.{metadata, pairs, kept, value_at}
+use Rattle.wf_mapfile.specs.Metadata.{metadata, pairs, kept, value_at}
 use Rattle.wf_order.specs.Pairs.{has_key, ArePairsReordered, PairsMayBeReordered}
 use Rattle.wf_order.proofs.Readers.{Reads}
 use Rattle.wf_order.proofs.Webs.{pairs_read}

@@ -5,10 +5,10 @@ use Rattle.std.specs.Option.{option_or}
 use Rattle.std.specs.Str.{str_to_ascii_lowercase}
 use Rattle.wf_token.specs.Token.{Token}
 use Rattle.wf_block.specs.Grammar.{◌>>=◌, text, argument, end, choice, all_differ}
-use Rattle.wf_metadata.specs.declared.slots.Metadata as kept
-use Rattle.wf_metadata.specs.declared.slots.WebSlots.{WebSlots}
-use Rattle.wf_metadata.specs.Metadata.{metadata, pairs, kept as kept_of}
-use Rattle.wf_metadata.specs.Web.{web, web_put, no_settings, no_metadata}
+use Rattle.wf_mapfile.specs.declared.slots.Metadata as kept
+use Rattle.wf_mapfile.specs.declared.slots.WebSlots.{WebSlots}
+use Rattle.wf_mapfile.specs.Metadata.{metadata, pairs, kept as kept_of}
+use Rattle.wf_mapfile.specs.Web.{web, web_put, no_settings, no_metadata}
 use Rattle.wf_order.specs.Entries.{MayBeReordered, ConsistsOfEntries}
 use Rattle.wf_order.proofs.Readers.{Reader, give, ReadsOn, then_reads, gives_reads, nothing_reads, if_reads, text_reads}
 use Rattle.wf_order.proofs.Loops.{whole_loop_reads}

@@ -5,8 +5,8 @@ use Rattle.wf_def.specs.Definition.{Definition}
 use Rattle.wf_def.specs.Limit.{most_points}
 use Rattle.wf_token.specs.Token.{Token, Word, tokens}
 use Rattle.wf_block.specs.Grammar.{choice, is_end}
-use Rattle.wf_metadata.specs.declared.slots.WebSlots.{WebSlots}
-use Rattle.wf_metadata.specs.Web.{web_put, no_settings}
+use Rattle.wf_mapfile.specs.declared.slots.WebSlots.{WebSlots}
+use Rattle.wf_mapfile.specs.Web.{web_put, no_settings}
 use Rattle.wf_class.specs.declared.slots.StyleSlots.{StyleSlots}
 use Rattle.wf_class.specs.declared.slots.LabelSlots.{LabelSlots}
 use Rattle.wf_class.specs.declared.slots.ClassSlots.{ClassSlots}

@@ -1,7 +1,7 @@
 -- The pairs of METADATA in another order.
 use Rattle.std.specs.Prelude.{◌≡◌, ℕ, Bool, List, [], ◌++◌, length, filter, Some, bytes_eq}
 use Rattle.wf_token.specs.Token.{Token}
-use Rattle.wf_metadata.specs.Metadata.{metadata, pairs}
+use Rattle.wf_mapfile.specs.Metadata.{metadata, pairs}
 
 -- whether a pair has that key, in lower case
 unfoldable pub has_key : List ℕ → List ℕ × List ℕ → Bool

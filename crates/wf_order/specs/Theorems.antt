@@ -2,7 +2,7 @@
 use Rattle.std.specs.Prelude.{ℕ, ◌≤◌, List, []}
 use Rattle.wf_def.specs.Definition.{LayerDefinition}
 use Rattle.wf_def.specs.Limit.{most_points}
-use Rattle.wf_metadata.specs.Web.{web, web_put, no_settings}
+use Rattle.wf_mapfile.specs.Web.{web, web_put, no_settings}
 use Rattle.wf_class.specs.Style.{style, style_put, no_style}
 use Rattle.wf_class.specs.Label.{label, label_put, no_label}
 use Rattle.wf_class.specs.Class.{class, class_put, no_class}

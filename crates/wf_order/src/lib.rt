@@ -14,4 +14,10 @@
 //! Doesn't: which error comes first, and where, depends on the order, and no contract says anything of it.
 #![tactic(auto)]
 
-pub mod theorem;
+mod theorem;
+
+pub use theorem::{
+    classes_in_any_order, features_in_any_order, labels_in_any_order, layers_in_any_order,
+    mapfiles_in_any_order, maps_in_any_order, pairs_in_any_order, styles_in_any_order,
+    webs_in_any_order,
+};

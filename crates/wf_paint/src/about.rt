@@ -3,7 +3,7 @@ ghost use Rattle.wf_geometry.specs.Operation.{in_color, SquareOf};
 ghost use Rattle.wf_paint.specs.Shown.{IsShown};
 
 use crate::canvas::Canvas;
-use wf_def::color::Color;
+use wf_def::Color;
 use wf_geometry::{Position, span_about};
 
 /// Paints a square of `size` pixels about a position; nothing if `color` is None.

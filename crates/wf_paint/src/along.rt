@@ -7,7 +7,7 @@ ghost use Rattle.wf_paint.specs.Shown.{IsShown};
 use crate::canvas::Canvas;
 use crate::edges::Edges;
 use crate::strip::draw_strip;
-use wf_def::color::Color;
+use wf_def::Color;
 use wf_geometry::{Segment, strip_of};
 
 /// How many long segments are drawn from one look for painted blocks to the next.
@@ -24,7 +24,7 @@ pub(crate) fn draw_along(canvas: &mut Canvas, width: u8, edges: &Edges, color: O
         return;
     };
     let mut long = 0;
-    let segments = edges.drawn();
+    let segments = edges.line_segments();
     for segment in segments {
         let strip = strip_of(width, segment, canvas.width(), canvas.height());
         draw_strip(canvas, strip, color);

@@ -11,7 +11,7 @@ use crate::pixels::Pixels;
 use crate::pixmap::Pixmap;
 use std::alloc::{AllocError, Global};
 use std::marker::Model;
-use wf_def::color::Color;
+use wf_def::Color;
 
 /// The width and height of a block, in pixels. A word has the bits of all blocks of its rows.
 pub(crate) const BLOCK_SIDE: u32 = 16;

@@ -53,7 +53,7 @@ impl Edges {
     }
 
     /// Those that a line is drawn along.
-    pub(crate) fn drawn(&self) -> &[Segment]
+    pub(crate) fn line_segments(&self) -> &[Segment]
         ensures { AreAlong self.now result.now }
     {
         match &self.distinct {
@@ -70,7 +70,7 @@ fn distinct_of_many(alloc: Global, all: &[Segment]) -> Result<Option<Vec<Segment
     if all.len() < MANY {
         return Ok(None);
     }
-    let distinct = unlike_neighbours(alloc, &sorted(alloc, all)?)?;
+    let distinct = unlike_neighbours(alloc, &sort_segments(alloc, all)?)?;
     Ok(Some(distinct))
 }
 
@@ -81,12 +81,12 @@ fn odd_of_many(alloc: Global, all: &[Segment]) -> Result<Option<Vec<Segment>>, A
     if all.len() < MANY {
         return Ok(None);
     }
-    let odd = odd_neighbours(alloc, &sorted(alloc, all)?)?;
+    let odd = odd_neighbours(alloc, &sort_segments(alloc, all)?)?;
     Ok(Some(odd))
 }
 
 /// The segments by their positions, so that equal ones are neighbours.
-fn sorted(alloc: Global, segments: &[Segment]) -> Result<Vec<Segment>, AllocError>
+fn sort_segments(alloc: Global, segments: &[Segment]) -> Result<Vec<Segment>, AllocError>
     ensures { IfOk result (λ sorted. IsPermutation segments.now sorted.items) }
 {
     let mut sorted = Vec::with_capacity(alloc, segments.len())?;

@@ -12,7 +12,7 @@ ghost use Rattle.wf_geometry.specs.Limit.{most_pixels};
 use crate::canvas::Canvas;
 use crate::edges::Edges;
 use std::alloc::{AllocError, Global};
-use wf_def::color::Color;
+use wf_def::Color;
 use wf_geometry::{Segment, centres_below, find_reaches};
 
 /// From so many reaches in a row on, marks are faster than sorting.

@@ -18,13 +18,7 @@ use crate::inside::draw_inside;
 use crate::pixmap::Pixmap;
 use crate::segments::{paths, rings};
 use std::alloc::{AllocError, Global};
-use wf_def::choice::LayerKind;
-use wf_def::color::Color;
-use wf_def::feature::{Feature, Part};
-use wf_def::layer::Layer;
-use wf_def::map::MapDef;
-use wf_def::point::Point;
-use wf_def::style::Style;
+use wf_def::{Color, Feature, Layer, LayerKind, MapDef, Part, Point, Style};
 use wf_geometry::View;
 
 /// Paints the layers at these indices of the map, each over those before it, over a background. Each pixel has the colour of the

@@ -4,7 +4,7 @@ ghost use Rattle.wf_paint.specs.Cells.{IsPlain, IsWritten};
 
 use std::alloc::{AllocError, Global};
 use std::marker::Model;
-use wf_def::color::Color;
+use wf_def::Color;
 
 /// How many pixels are copied at once.
 const BLOCK_PIXELS: u32 = 1_024;

@@ -5,7 +5,7 @@ ghost use Rattle.wf_paint.specs.Pixmap.{IsPixmap, IsSet, column_of, row_of};
 use crate::pixels::Pixels;
 use std::alloc::{AllocError, Global};
 use std::marker::Model;
-use wf_def::color::Color;
+use wf_def::Color;
 use wf_geometry::Pixel;
 
 /// A picture: three bytes a pixel, red, green and blue, row by row, the top row first.

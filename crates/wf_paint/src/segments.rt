@@ -4,8 +4,7 @@ ghost use Rattle.wf_geometry.specs.Position.{PositionValue};
 ghost use Rattle.wf_geometry.specs.Segments.{path_from, path, ring, positions, paths, rings};
 
 use std::alloc::{AllocError, Global};
-use wf_def::feature::Part;
-use wf_def::point::Point;
+use wf_def::{Part, Point};
 use wf_geometry::{Position, Segment, View};
 
 /// The segments from each point of a part to the next, part by part.

@@ -11,7 +11,7 @@ ghost use Rattle.wf_paint.specs.RowPart.{most_between, IsPart, IsBetween, IsHidd
 ghost use Rattle.wf_geometry.specs.Limit.{most_pixels, pixel_side};
 
 use crate::canvas::{BLOCK_SIDE, Canvas};
-use wf_def::color::Color;
+use wf_def::Color;
 use wf_geometry::{
     Quotient, RowEnds, Span, Strip, ends_in, leap, multiples_up_to, quotient_sum, row_within,
 };

@@ -8,7 +8,7 @@ use Rattle.wf_ballot.specs.OrderTheorems.{below-asymmetric, below-irreflexive}
 use Rattle.wf_model.specs.Message.{Message, Prepare, Promise, Accept, Accepted, Nack, Chosen, Ask}
 use Rattle.wf_model.specs.DurableState.{raised}
 use Rattle.wf_peer.specs.Progress.{HasKept, IsNoLess, IsNoLower, higher_promise, together}
-use Rattle.wf_peer.specs.Sender.{NeverFalls, heard_of, promised, publish_up_to, advance_by, tried}
+use Rattle.wf_peer.specs.Sender.{NeverFalls, progress_of_peer, promised, publish_up_to, advance_by, tried}
 use Rattle.wf_peer.specs.declared.progress.Progress.{Progress}
 
 pub no_lower_self : (promise : Option Ballot) → IsNoLower promise promise
@@ -47,18 +47,18 @@ by_reported p (Ask s) = by_published p (s - 1)
 
 -- ---- together they are no less than what was heard
 
-no_lower_both : (heard claimed : Option Ballot) → IsNoLower heard (higher_promise heard claimed)
-no_lower_both heard None = no_lower_self heard
-no_lower_both heard (Some b) = no_lower_raised heard b
+no_lower_both : (known claimed : Option Ballot) → IsNoLower known (higher_promise known claimed)
+no_lower_both known None = no_lower_self known
+no_lower_both known (Some b) = no_lower_raised known b
 
-by_together : (heard claimed : Progress) → HasKept (Some heard) claimed → IsNoLess heard (together (Some heard) claimed)
-by_together heard claimed kept = elim kept [
-  | inl same ↦ record { mark = same.mark; starts = omega (arith, same.starts); life = λ e. same.life; round = omega arith; promise = no_lower_both heard.promise claimed.promise; published = omega arith }
-  | inr more ↦ record { mark = more.mark; starts = more.starts; life = more.life; round = omega arith; promise = no_lower_both heard.promise claimed.promise; published = omega arith }
+by_together : (known claimed : Progress) → HasKept (Some known) claimed → IsNoLess known (together (Some known) claimed)
+by_together known claimed kept = elim kept [
+  | inl same ↦ record { mark = same.mark; starts = omega (arith, same.starts); life = λ e. same.life; round = omega arith; promise = no_lower_both known.promise claimed.promise; published = omega arith }
+  | inr more ↦ record { mark = more.mark; starts = more.starts; life = more.life; round = omega arith; promise = no_lower_both known.promise claimed.promise; published = omega arith }
 ]
 
-pub nothing_falls : (heard : List (Option Progress)) → NeverFalls heard heard
-nothing_falls heard = λ i p at. (p, at, no_less_self p)
+pub nothing_falls : (known : List (Option Progress)) → NeverFalls known known
+nothing_falls known = λ i p at. (p, at, no_less_self p)
 
 -- ---- one is set
 
@@ -68,31 +68,31 @@ equal_or_not i k = elim (cases_lt i k) [
   | inr no_less ↦ elim (cases_lt k i) [ inl more ↦ inr (λ (e : i ≡ k). omega (arith, more, e)) | inr no_more ↦ inl (omega arith) ]
 ]
 
-within : (heard : List (Option Progress)) (i : ℕ) (p : Progress) → heard_of heard i ≡ Some p → i < length heard
-within heard i p at = elim (cases_lt i (length heard)) [
+within : (known : List (Option Progress)) (i : ℕ) (p : Progress) → progress_of_peer known i ≡ Some p → i < length known
+within known i p at = elim (cases_lt i (length known)) [
   | inl less ↦ less
-  | inr past ↦ let none : heard_of heard i ≡ None = get_or_past heard i None past in absurd cc
+  | inr past ↦ let none : progress_of_peer known i ≡ None = get_or_past known i None past in absurd cc
 ]
 
 -- what is set is no less than what was heard
-falls_by : (old new : List (Option Progress)) (node : ℕ) (q : Progress) → ((p : Progress) → heard_of old node ≡ Some p → IsNoLess p q) → new ≡ slice_set old node (Some q) → NeverFalls old new
+falls_by : (old new : List (Option Progress)) (node : ℕ) (q : Progress) → ((p : Progress) → progress_of_peer old node ≡ Some p → IsNoLess p q) → new ≡ slice_set old node (Some q) → NeverFalls old new
 falls_by old new node q no_less is = λ i p at. elim (equal_or_not i node) [
   | inl same ↦
-      let there : heard_of old node ≡ Some p = ap (heard_of old) (sym same) ∙ at in
+      let there : progress_of_peer old node ≡ Some p = ap (progress_of_peer old) (sym same) ∙ at in
       let lt : node < length old = within old node p there in
-      let now : heard_of new i ≡ Some q = ap (heard_of new) same ∙ ap (λ (l : List (Option Progress)). heard_of l node) is ∙ get_or-set_same old node (Some q) None lt in
+      let now : progress_of_peer new i ≡ Some q = ap (progress_of_peer new) same ∙ ap (λ (l : List (Option Progress)). progress_of_peer l node) is ∙ get_or-set_same old node (Some q) None lt in
       (q, now, no_less p there)
   | inr other ↦
-      let now : heard_of new i ≡ Some p = ap (λ (l : List (Option Progress)). heard_of l i) is ∙ get_or-set_other old node i (Some q) None other ∙ at in
+      let now : progress_of_peer new i ≡ Some p = ap (λ (l : List (Option Progress)). progress_of_peer l i) is ∙ get_or-set_other old node i (Some q) None other ∙ at in
       (p, now, no_less_self p)
 ]
 
-pub falls_by_greeting : (old new : List (Option Progress)) (node : ℕ) (claimed : Progress) → HasKept (heard_of old node) claimed →
-    new ≡ slice_set old node (Some (together (heard_of old node) claimed)) → NeverFalls old new
+pub falls_by_greeting : (old new : List (Option Progress)) (node : ℕ) (claimed : Progress) → HasKept (progress_of_peer old node) claimed →
+    new ≡ slice_set old node (Some (together (progress_of_peer old node) claimed)) → NeverFalls old new
 falls_by_greeting old new node claimed kept is =
-    falls_by old new node (together (heard_of old node) claimed) (λ p at. subst (λ (h : Option Progress). IsNoLess p (together h claimed)) (sym at) (by_together p claimed (subst (λ (h : Option Progress). HasKept h claimed) at kept))) is
+    falls_by old new node (together (progress_of_peer old node) claimed) (λ p at. subst (λ (h : Option Progress). IsNoLess p (together h claimed)) (sym at) (by_together p claimed (subst (λ (h : Option Progress). HasKept h claimed) at kept))) is
 
-pub falls_by_message : {V : Type 0} (old new : List (Option Progress)) (node : ℕ) (p : Progress) (m : Message V) → heard_of old node ≡ Some p →
+pub falls_by_message : {V : Type 0} (old new : List (Option Progress)) (node : ℕ) (p : Progress) (m : Message V) → progress_of_peer old node ≡ Some p →
     new ≡ slice_set old node (Some (advance_by p m)) → NeverFalls old new
 falls_by_message old new node p m there is =
     falls_by old new node (advance_by p m) (λ h at. let same : h ≡ p = cc in subst (λ (x : Progress). IsNoLess x (advance_by p m)) (sym same) (by_reported p m)) is

@@ -7,8 +7,8 @@ use Rattle.wf_ballot.specs.Ballot.{Ballot, IsBallot}
 use Rattle.wf_folder.specs.Number.{number_digits}
 use Rattle.wf_ballot.specs.Sequence.{IsSequence}
 use Rattle.wf_peer.specs.Greeting.{IsPromise}
-use Rattle.wf_peer.specs.HeardText.{AreHeardOf, IsHeardOf, ReadsLines, heard_text, line_then, lines_of, mark_then, number_then, promise_then}
-use Rattle.wf_peer.specs.declared.fault.HeardFault.{HeardFault}
+use Rattle.wf_peer.specs.PeerProgressText.{ArePeerProgress, IsPeerProgress, ReadsLines, peer_progress_text, line_then, lines_of, mark_then, number_then, promise_then}
+use Rattle.wf_peer.specs.declared.fault.PeerProgressFault.{PeerProgressFault}
 use Rattle.wf_peer.specs.declared.progress.Progress.{Progress}
 use Rattle.wf_peer.proofs.Same.{both_lines, same_lines}
 
@@ -48,9 +48,9 @@ seven_parts t0 t1 t2 t3 t4 t5 t6 t7 p e1 e2 e3 e4 e5 e6 e7 =
     ∙ digits_then t1 t2 (codes " starts ") (number_digits p.starts) _ e2
     ∙ digits_then t0 t1 (codes "mark ") (encode_lower p.mark) _ e1
 
-pub heard_parts : (p : Progress) → IsBytes p.mark → length p.mark ≡ 16 → p.starts < 2 ^ 32 → IsBytes p.life → length p.life ≡ 16 → p.round < 2 ^ 32 → IsPromise p.promise →
-    IsSequence p.published → IsHeardOf (Some p)
-heard_parts p mark size starts life life_size round promise published =
+pub peer_progress_parts : (p : Progress) → IsBytes p.mark → length p.mark ≡ 16 → p.starts < 2 ^ 32 → IsBytes p.life → length p.life ≡ 16 → p.round < 2 ^ 32 → IsPromise p.promise →
+    IsSequence p.published → IsPeerProgress (Some p)
+peer_progress_parts p mark size starts life life_size round promise published =
     (record { mark = size; starts = starts; life = life_size; round = round; promise = promise; published = published }, mark, life)
 
 -- ---- a line and those of the others
@@ -59,9 +59,9 @@ nothing_before : (rest : List ℕ) → line_then None [] ++ rest ≡ line_then N
 unfolding line_then
 nothing_before rest = refl
 
-heard_before : (p : Progress) (rest : List ℕ) → line_then (Some p) [] ++ rest ≡ line_then (Some p) rest
+peer_progress_before : (p : Progress) (rest : List ℕ) → line_then (Some p) [] ++ rest ≡ line_then (Some p) rest
 unfolding line_then
-heard_before p rest =
+peer_progress_before p rest =
     append_assoc (codes "mark ") _ rest ∙ ap (λ (l : List ℕ). codes "mark " ++ l) (append_assoc (encode_lower p.mark) _ rest
     ∙ ap (λ (l : List ℕ). encode_lower p.mark ++ l) (append_assoc (codes " starts ") _ rest
     ∙ ap (λ (l : List ℕ). codes " starts " ++ l) (append_assoc (number_digits p.starts) _ rest
@@ -75,7 +75,7 @@ heard_before p rest =
 
 before_others : (node : Option Progress) (rest : List ℕ) → line_then node [] ++ rest ≡ line_then node rest
 before_others None rest = nothing_before rest
-before_others (Some p) rest = heard_before p rest
+before_others (Some p) rest = peer_progress_before p rest
 
 range_rest : (rest : List (Option Progress)) → take (suc (length rest) - 1) rest ≡ rest
 range_rest rest = take_all (suc (length rest) - 1) rest (omega arith)
@@ -91,18 +91,18 @@ one_line_more old mid new [] first some is of_mid of_new = absurd (omega (arith,
 one_line_more old mid new (x ∷ rest) first some is of_mid of_new =
     front_line old mid new x rest (of_mid ∙ ap (λ (n : Option Progress). old ++ line_then n []) is) (of_new ∙ ap (λ (l : List (Option Progress)). mid ++ lines_of l) (range_rest rest))
 
-pub one_more : (nodes : List (Option Progress)) (first : Option Progress) → 1 ≤ length nodes → first ≡ slice_index_or nodes 0 first → IsHeardOf first → AreHeardOf (take (length nodes - 1) (drop 1 nodes)) → AreHeardOf nodes
-unfolding AreHeardOf
-one_more [] first some is heard are = tt
-one_more (x ∷ rest) first some is heard are = (subst IsHeardOf is heard, subst AreHeardOf (range_rest rest) are)
+pub one_more : (nodes : List (Option Progress)) (first : Option Progress) → 1 ≤ length nodes → first ≡ slice_index_or nodes 0 first → IsPeerProgress first → ArePeerProgress (take (length nodes - 1) (drop 1 nodes)) → ArePeerProgress nodes
+unfolding ArePeerProgress
+one_more [] first some is known are = tt
+one_more (x ∷ rest) first some is known are = (subst IsPeerProgress is known, subst ArePeerProgress (range_rest rest) are)
 
 pub no_line_more : (old : List ℕ) (nodes : List (Option Progress)) → length nodes < 1 → old ≡ old ++ lines_of nodes
 unfolding lines_of
 no_line_more old [] none = sym (append-nil old)
 no_line_more old (x ∷ rest) none = absurd (omega (arith, none))
 
-pub none_are : (nodes : List (Option Progress)) → length nodes < 1 → AreHeardOf nodes
-unfolding AreHeardOf
+pub none_are : (nodes : List (Option Progress)) → length nodes < 1 → ArePeerProgress nodes
+unfolding ArePeerProgress
 none_are [] none = tt
 none_are (x ∷ rest) none = absurd (omega (arith, none))
 
@@ -136,11 +136,11 @@ unfolding promise_then
 no_promise bytes nothing no_ballot None rest is e = nothing rest e
 no_promise bytes nothing no_ballot (Some b) rest is e = no_ballot b rest is e
 
-pub no_heard : (bytes : List ℕ) → ((rest : List ℕ) → bytes ≢ codes "nothing\n" ++ rest) → ((p : Progress) (rest : List ℕ) → IsHeardOf (Some p) → bytes ≢ line_then (Some p) rest) →
-    (x : Option Progress) (rest : List ℕ) → IsHeardOf x → bytes ≢ line_then x rest
+pub no_peer_progress : (bytes : List ℕ) → ((rest : List ℕ) → bytes ≢ codes "nothing\n" ++ rest) → ((p : Progress) (rest : List ℕ) → IsPeerProgress (Some p) → bytes ≢ line_then (Some p) rest) →
+    (x : Option Progress) (rest : List ℕ) → IsPeerProgress x → bytes ≢ line_then x rest
 unfolding line_then
-no_heard bytes nothing no_progress None rest is e = nothing rest e
-no_heard bytes nothing no_progress (Some p) rest is e = no_progress p rest is e
+no_peer_progress bytes nothing no_progress None rest is e = nothing rest e
+no_peer_progress bytes nothing no_progress (Some p) rest is e = no_progress p rest is e
 
 pub is_line : (b r1 r2 r3 r4 r5 rest : List ℕ) (p : Progress) → b ≡ mark_then (codes "mark ") p.mark r1 → r1 ≡ number_then (codes " starts ") p.starts r2 →
     r2 ≡ mark_then (codes " life ") p.life r3 → r3 ≡ number_then (codes " tried ") p.round r4 → r4 ≡ promise_then p.promise r5 →
@@ -156,8 +156,8 @@ unfolding lines_of
 no_bytes [] count = refl
 no_bytes (x ∷ nodes) count = absurd (omega (arith, count))
 
-no_nodes : (nodes : List (Option Progress)) → length nodes ≡ 0 → AreHeardOf nodes
-unfolding AreHeardOf
+no_nodes : (nodes : List (Option Progress)) → length nodes ≡ 0 → ArePeerProgress nodes
+unfolding ArePeerProgress
 no_nodes [] count = tt
 no_nodes (x ∷ nodes) count = absurd (omega (arith, count))
 
@@ -169,40 +169,40 @@ pub no_line : (bytes : List ℕ) (nodes : List (Option Progress)) → length nod
 no_line bytes nodes none end = (refl, no_nodes nodes none, none_left bytes end ∙ sym (no_bytes nodes none))
 
 pub some_bytes : (bytes : List ℕ) (nodes : List (Option Progress)) → length nodes ≡ 0 → length bytes ≢ 0 →
-    (others : List (Option Progress)) → length others ≡ length nodes → AreHeardOf others → bytes ≢ lines_of others
+    (others : List (Option Progress)) → length others ≡ length nodes → ArePeerProgress others → bytes ≢ lines_of others
 some_bytes bytes nodes none some = λ others count are e. some (ap length (e ∙ no_bytes others (count ∙ none)))
 
 -- bytes that no line begins
-pub not_one_line : (bytes : List ℕ) (count : ℕ) → 0 < count → ((node : Option Progress) (rest : List ℕ) → IsHeardOf node → bytes ≢ line_then node rest) →
-    (others : List (Option Progress)) → length others ≡ count → AreHeardOf others → bytes ≢ lines_of others
-unfolding lines_of AreHeardOf
+pub not_one_line : (bytes : List ℕ) (count : ℕ) → 0 < count → ((node : Option Progress) (rest : List ℕ) → IsPeerProgress node → bytes ≢ line_then node rest) →
+    (others : List (Option Progress)) → length others ≡ count → ArePeerProgress others → bytes ≢ lines_of others
+unfolding lines_of ArePeerProgress
 not_one_line bytes count some none [] size are = absurd (omega (arith, size, some))
 not_one_line bytes count some none (x ∷ more) size are = none x (lines_of more) are.0
 
 -- a line, and what is read of the others
-no_others : (bytes rest : List ℕ) (first : Option Progress) (count : ℕ) → IsHeardOf first → bytes ≡ line_then first rest →
-    ((more : List (Option Progress)) → length more ≡ count → AreHeardOf more → rest ≢ lines_of more) →
-    (others : List (Option Progress)) → length others ≡ suc count → AreHeardOf others → bytes ≢ lines_of others
-unfolding lines_of AreHeardOf
+no_others : (bytes rest : List ℕ) (first : Option Progress) (count : ℕ) → IsPeerProgress first → bytes ≡ line_then first rest →
+    ((more : List (Option Progress)) → length more ≡ count → ArePeerProgress more → rest ≢ lines_of more) →
+    (others : List (Option Progress)) → length others ≡ suc count → ArePeerProgress others → bytes ≢ lines_of others
+unfolding lines_of ArePeerProgress
 no_others bytes rest first count is e none [] size are same = absurd (omega (arith, size))
 no_others bytes rest first count is e none (x ∷ more) size are same =
     none more (omega (arith, size)) are.1 (both_lines first x rest (lines_of more) is are.0 (sym e ∙ same)).1
 
-pub one_line : (bytes rest : List ℕ) (node : Option Progress) (count : ℕ) (new : List (Option Progress)) (result : Result Unit HeardFault) → IsHeardOf node →
+pub one_line : (bytes rest : List ℕ) (node : Option Progress) (count : ℕ) (new : List (Option Progress)) (result : Result Unit PeerProgressFault) → IsPeerProgress node →
     bytes ≡ line_then node rest → ReadsLines rest count new result → ReadsLines bytes (suc count) (node ∷ new) result
-unfolding lines_of AreHeardOf
+unfolding lines_of ArePeerProgress
 one_line bytes rest node count new (Ok done) is e (size, are, same) = (ap suc size, (is, are), e ∙ ap (line_then node) same)
 one_line bytes rest node count new (Err fault) is e none = no_others bytes rest node count is e none
 
 -- ---- the whole text
 
-pub only_these : (bytes rest : List ℕ) (heard : List (Option Progress)) → bytes ≡ codes "wfarm heard 1\n" ++ rest → ReadsLines rest 64 heard (Ok tt) →
-    (others : List (Option Progress)) → length others ≡ 64 → AreHeardOf others → bytes ≡ heard_text others → ◌≡◌ {A = Result (List (Option Progress)) HeardFault} (Ok heard) (Ok others)
-only_these bytes rest heard marked (size, are, e) others count are_others same =
-    let rests : lines_of heard ≡ lines_of others = sym e ∙ append_cancel_left (codes "wfarm heard 1\n") rest (lines_of others) (sym marked ∙ same) in
-    ap (λ (l : List (Option Progress)). Ok l) (same_lines heard others (size ∙ sym count) are are_others rests)
+pub only_these : (bytes rest : List ℕ) (known : List (Option Progress)) → bytes ≡ codes "wfarm heard 1\n" ++ rest → ReadsLines rest 64 known (Ok tt) →
+    (others : List (Option Progress)) → length others ≡ 64 → ArePeerProgress others → bytes ≡ peer_progress_text others → ◌≡◌ {A = Result (List (Option Progress)) PeerProgressFault} (Ok known) (Ok others)
+only_these bytes rest known marked (size, are, e) others count are_others same =
+    let rests : lines_of known ≡ lines_of others = sym e ∙ append_cancel_left (codes "wfarm heard 1\n") rest (lines_of others) (sym marked ∙ same) in
+    ap (λ (l : List (Option Progress)). Ok l) (same_lines known others (size ∙ sym count) are are_others rests)
 
-pub not_lines : (bytes rest : List ℕ) (new : List (Option Progress)) (fault : HeardFault) → bytes ≡ codes "wfarm heard 1\n" ++ rest → ReadsLines rest 64 new (Err fault) →
-    (others : List (Option Progress)) → length others ≡ 64 → AreHeardOf others → bytes ≢ heard_text others
+pub not_lines : (bytes rest : List ℕ) (new : List (Option Progress)) (fault : PeerProgressFault) → bytes ≡ codes "wfarm heard 1\n" ++ rest → ReadsLines rest 64 new (Err fault) →
+    (others : List (Option Progress)) → length others ≡ 64 → ArePeerProgress others → bytes ≢ peer_progress_text others
 not_lines bytes rest new fault marked none others count are same =
     none others count are (append_cancel_left (codes "wfarm heard 1\n") rest (lines_of others) (sym marked ∙ same))

@@ -10,7 +10,7 @@ use Rattle.wf_model.specs.Fits.{IsForNext, NotBelow}
 use Rattle.wf_model.specs.Message.{Vote, Message, Prepare, Promise, Accept, Accepted, Nack, Chosen, Ask}
 use Rattle.wf_model.specs.RaisedTheorems.{raised-reached}
 use Rattle.wf_model.specs.DurableState as stored_part
-use Rattle.wf_model.specs.DurableState.{DurableState, Record, Tried, Promised, Published, published, next_sequence, definition_at, put, raised, with_record}
+use Rattle.wf_model.specs.DurableState.{DurableState, Published, published, next_sequence, definition_at, put, raised, with_record}
 use Rattle.wf_model.specs.VolatileState.{Proposal, Proposing, Idle, Running, Won, Overtaken, Leadership, VolatileState, Preparing, Accepting, proposed, same_ballot, is_at, is_in_window, leading_at}
 use Rattle.wf_model.specs.Table.{Transition, Input, Propose, Retry, CatchUp, Deliver, store, quiet, only_sends, stores, running_transition, when_running, with_proposal, round_known, begin_at, ask_votes, lead, propose_by, on_propose, on_retry, on_catch_up, reports_of, reports, reports_from, on_ask, most_reports, is_above, is_rejected, nack, promise_to, prepare_open, on_prepare, votes_at, vote_for, accept_open, on_accept, is_new_response, with_promise, asking_votes, leadership_of, promised, on_promise, with_vote, on_nack, voted, on_accepted, on_chosen, on_message, transition}
 use Rattle.wf_peer.specs.Progress.{IsNoLess, IsNoLower}
@@ -28,7 +28,7 @@ no_lower_cond : (held : Option Ballot) (p b : Ballot) (t : Bool) → NotBelow he
 no_lower_cond held p b true at kept = no_lower_of held b at
 no_lower_cond held p b false at kept = kept
 
-raised_no_more : (heard held : Option Ballot) (b : Ballot) → NotBelow held b → IsNoLower heard held → IsNoLower (raised heard b) held
+raised_no_more : (known held : Option Ballot) (b : Ballot) → NotBelow held b → IsNoLower known held → IsNoLower (raised known b) held
 unfolding raised
 raised_no_more None held b at kept = no_lower_of held b at
 raised_no_more (Some p) held b at kept = no_lower_cond held p b (below p b) at kept

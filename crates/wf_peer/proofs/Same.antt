@@ -13,7 +13,7 @@ use Rattle.wf_folder.specs.Number.{number_digits}
 use Rattle.wf_folder.specs.NumberTheorems.{digits_of_mark, eight}
 use Rattle.wf_folder.proofs.Numbers.{same_fronts}
 use Rattle.wf_peer.specs.Greeting.{IsPromise}
-use Rattle.wf_peer.specs.HeardText.{AreHeardOf, IsHeardOf, line_then, lines_of, mark_then, number_then, promise_then}
+use Rattle.wf_peer.specs.PeerProgressText.{ArePeerProgress, IsPeerProgress, line_then, lines_of, mark_then, number_then, promise_then}
 use Rattle.wf_peer.specs.declared.progress.Progress.{Progress}
 use Rattle.wf_peer.proofs.Parts.{same_progress}
 
@@ -83,9 +83,9 @@ both_promises (Some a) None r s of_a of_b e = absurd (not_promised a s r (sym e)
 both_promises (Some a) (Some b) r s of_a of_b e =
     let parts = both_ballots a b r s of_a of_b e in (ap (λ (x : Ballot). Some x) parts.0, parts.1)
 
-both_heard : (p q : Progress) (r s : List ℕ) → IsHeardOf (Some p) → IsHeardOf (Some q) → line_then (Some p) r ≡ line_then (Some q) s → (p ≡ q) × (r ≡ s)
+both_peer_progress : (p q : Progress) (r s : List ℕ) → IsPeerProgress (Some p) → IsPeerProgress (Some q) → line_then (Some p) r ≡ line_then (Some q) s → (p ≡ q) × (r ≡ s)
 unfolding line_then
-both_heard p q r s (of_p, mark_p, life_p) (of_q, mark_q, life_q) e =
+both_peer_progress p q r s (of_p, mark_p, life_p) (of_q, mark_q, life_q) e =
     let mark = both_marks (codes "mark ") p.mark q.mark _ _ of_p.mark of_q.mark mark_p mark_q e in
     let starts = both_numbers (codes " starts ") p.starts q.starts _ _ of_p.starts of_q.starts mark.1 in
     let life = both_marks (codes " life ") p.life q.life _ _ of_p.life of_q.life life_p life_q starts.1 in
@@ -95,9 +95,9 @@ both_heard p q r s (of_p, mark_p, life_p) (of_q, mark_q, life_q) e =
     (same_progress p q mark.0 starts.0 life.0 round.0 promise.0 published.0, append_cancel_left (codes "\n") r s published.1)
 
 -- a line of a node of which nothing was heard isn't that of another one
-pub not_heard : (p : Progress) (r s : List ℕ) → line_then None r ≡ line_then (Some p) s → ⊥
+pub not_peer_progress : (p : Progress) (r s : List ℕ) → line_then None r ≡ line_then (Some p) s → ⊥
 unfolding line_then
-not_heard p r s e =
+not_peer_progress p r s e =
     let letters : 110 ≡ 109 = ap (λ (l : List ℕ). get_or l 0 0) e in
     omega (arith, letters)
 
@@ -105,15 +105,15 @@ nothing_more : (r s : List ℕ) → line_then None r ≡ line_then None s → r 
 unfolding line_then
 nothing_more r s e = append_cancel_left (codes "nothing\n") r s e
 
-pub both_lines : (x y : Option Progress) (r s : List ℕ) → IsHeardOf x → IsHeardOf y → line_then x r ≡ line_then y s → (x ≡ y) × (r ≡ s)
+pub both_lines : (x y : Option Progress) (r s : List ℕ) → IsPeerProgress x → IsPeerProgress y → line_then x r ≡ line_then y s → (x ≡ y) × (r ≡ s)
 both_lines None None r s of_x of_y e = (refl, nothing_more r s e)
-both_lines None (Some q) r s of_x of_y e = absurd (not_heard q r s e)
-both_lines (Some p) None r s of_x of_y e = absurd (not_heard p s r (sym e))
+both_lines None (Some q) r s of_x of_y e = absurd (not_peer_progress q r s e)
+both_lines (Some p) None r s of_x of_y e = absurd (not_peer_progress p s r (sym e))
 both_lines (Some p) (Some q) r s of_x of_y e =
-    let parts = both_heard p q r s of_x of_y e in (ap (λ (z : Progress). Some z) parts.0, parts.1)
+    let parts = both_peer_progress p q r s of_x of_y e in (ap (λ (z : Progress). Some z) parts.0, parts.1)
 
-pub same_lines : (a b : List (Option Progress)) → length a ≡ length b → AreHeardOf a → AreHeardOf b → lines_of a ≡ lines_of b → a ≡ b
-unfolding lines_of AreHeardOf
+pub same_lines : (a b : List (Option Progress)) → length a ≡ length b → ArePeerProgress a → ArePeerProgress b → lines_of a ≡ lines_of b → a ≡ b
+unfolding lines_of ArePeerProgress
 same_lines [] [] size of_a of_b e = refl
 same_lines [] (y ∷ b) size of_a of_b e = absurd (omega (arith, size))
 same_lines (x ∷ a) [] size of_a of_b e = absurd (omega (arith, size))

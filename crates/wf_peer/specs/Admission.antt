@@ -18,32 +18,32 @@ AgreesWith None claimed = Unit {0}
 AgreesWith (Some own) claimed = own ≡ claimed
 
 -- A peer of the same farm, at its place, that forgot nothing of what was heard of it, and whose history agrees.
-pub record IsAdmitted (own : Own) (index : Option ℕ) (heard : Option Progress) (digest : Option (List ℕ)) (g : Greeting) : Type 0 where
+pub record IsAdmitted (own : Own) (index : Option ℕ) (known : Option Progress) (digest : Option (List ℕ)) (g : Greeting) : Type 0 where
   pub farm : g.farm ≡ own.farm
   pub nodes : g.nodes ≡ own.nodes
   pub node : IsPlaced own index g.node
-  pub kept : HasKept heard g.progress
+  pub kept : HasKept known g.progress
   pub agrees : AgreesWith digest g.digest
 
 -- what is less than was heard
-abbrev pub IsLess : (heard claimed : Progress) → PeerRejection → Type 0
-IsLess heard claimed causes.OtherMark = claimed.mark ≢ heard.mark
-IsLess heard claimed causes.OlderStart = claimed.starts < heard.starts
-IsLess heard claimed causes.OtherLife = (claimed.starts ≡ heard.starts) × (claimed.life ≢ heard.life)
-IsLess heard claimed causes.LowerRound = claimed.round < heard.round
-IsLess heard claimed causes.LowerPromise = ¬ IsNoLower heard.promise claimed.promise
-IsLess heard claimed causes.LowerSequence = claimed.published < heard.published
-IsLess heard claimed _ = ⊥
+abbrev pub IsLess : (known claimed : Progress) → PeerRejection → Type 0
+IsLess known claimed causes.OtherMark = claimed.mark ≢ known.mark
+IsLess known claimed causes.OlderStart = claimed.starts < known.starts
+IsLess known claimed causes.OtherLife = (claimed.starts ≡ known.starts) × (claimed.life ≢ known.life)
+IsLess known claimed causes.LowerRound = claimed.round < known.round
+IsLess known claimed causes.LowerPromise = ¬ IsNoLower known.promise claimed.promise
+IsLess known claimed causes.LowerSequence = claimed.published < known.published
+IsLess known claimed _ = ⊥
 
 -- of another start than was heard
 abbrev pub IsForgotten : Option Progress → Progress → PeerRejection → Type 0
 IsForgotten None claimed why = ⊥
-IsForgotten (Some heard) claimed why = (¬ IsSameStart heard claimed) × IsLess heard claimed why
+IsForgotten (Some known) claimed why = (¬ IsSameStart known claimed) × IsLess known claimed why
 
 -- the cause is one
 abbrev pub IsCause : Own → Option ℕ → Option Progress → Option (List ℕ) → Greeting → PeerRejection → Type 0
-IsCause own index heard digest g causes.OtherFarm = g.farm ≢ own.farm
-IsCause own index heard digest g causes.OtherNodes = g.nodes ≢ own.nodes
-IsCause own index heard digest g causes.OtherNode = ¬ IsPlaced own index g.node
-IsCause own index heard digest g causes.OtherHistory = ¬ AgreesWith digest g.digest
-IsCause own index heard digest g why = IsForgotten heard g.progress why
+IsCause own index known digest g causes.OtherFarm = g.farm ≢ own.farm
+IsCause own index known digest g causes.OtherNodes = g.nodes ≢ own.nodes
+IsCause own index known digest g causes.OtherNode = ¬ IsPlaced own index g.node
+IsCause own index known digest g causes.OtherHistory = ¬ AgreesWith digest g.digest
+IsCause own index known digest g why = IsForgotten known g.progress why

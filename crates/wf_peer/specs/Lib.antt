@@ -1,6 +1,6 @@
 pub mod Admission
 pub mod Greeting
-pub mod HeardText
+pub mod PeerProgressText
 pub mod Progress
 pub mod GreetingReply
 pub mod Sender

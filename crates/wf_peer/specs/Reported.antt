@@ -34,7 +34,7 @@ pub record GoTogether {V : Type 0} (stored : DurableState V) (volatile : Volatil
 -- what was heard, if it is no more than the node's progress, is no more after each of these messages
 abbrev pub ReportNoMore : {V : Type 0} → Progress → List (Message V) → Type 0
 ReportNoMore progress [] = ⊤
-ReportNoMore progress (m ∷ rest) = ((heard : Progress) → IsNoLess heard progress → IsNoLess (advance_by heard m) progress) × ReportNoMore progress rest
+ReportNoMore progress (m ∷ rest) = ((known : Progress) → IsNoLess known progress → IsNoLess (advance_by known m) progress) × ReportNoMore progress rest
 
 -- a transition's record takes nothing back, and its messages tell no more than is stored by then
 pub record ReportsNoMore {V : Type 0} (start : Progress) (stored : DurableState V) (transition : Transition V) : Type 0 where

@@ -38,14 +38,14 @@ advance_by p (Ask s) = publish_up_to p (s - 1)
 
 -- ---- what was heard of each node of a farm, that of node i at index i
 
-abbrev pub heard_of : List (Option Progress) → ℕ → Option Progress
-heard_of heard i = slice_index_or heard i None
+abbrev pub progress_of_peer : List (Option Progress) → ℕ → Option Progress
+progress_of_peer known i = slice_index_or known i None
 
 -- after a node's message: where it greeted, what that tells
 abbrev pub with_reported : {V : Type 0} → List (Option Progress) → ℕ → Option Progress → Message V → List (Option Progress)
-with_reported heard i None m = heard
-with_reported heard i (Some p) m = slice_set heard i (Some (advance_by p m))
+with_reported known i None m = known
+with_reported known i (Some p) m = slice_set known i (Some (advance_by p m))
 
 -- nothing that was heard falls
 abbrev pub NeverFalls : (old new : List (Option Progress)) → Type 0
-NeverFalls old new = (i : ℕ) (p : Progress) → heard_of old i ≡ Some p → (q : Progress) × (heard_of new i ≡ Some q) × IsNoLess p q
+NeverFalls old new = (i : ℕ) (p : Progress) → progress_of_peer old i ≡ Some p → (q : Progress) × (progress_of_peer new i ≡ Some q) × IsNoLess p q

@@ -28,12 +28,12 @@ pub struct Own {
 pub fn admit(
     own: &Own,
     index: Option<NodeId>,
-    heard: Option<Progress>,
+    known: Option<Progress>,
     digest: Option<[u8; 32]>,
     greeting: &Greeting,
 ) -> Result<(), PeerRejection>
-    ensures admitted { IsOk result ↔ IsAdmitted own.now index heard digest greeting.now }
-    ensures cause { IfErr result (IsCause own.now index heard digest greeting.now) }
+    ensures admitted { IsOk result ↔ IsAdmitted own.now index known digest greeting.now }
+    ensures cause { IfErr result (IsCause own.now index known digest greeting.now) }
 {
     if greeting.farm != own.farm {
         return Err(PeerRejection::OtherFarm);
@@ -44,7 +44,7 @@ pub fn admit(
     if !is_placed(own, index, greeting.node) {
         return Err(PeerRejection::OtherNode);
     }
-    if let Some(why) = forgotten_since(heard, &greeting.progress) {
+    if let Some(why) = forgotten_since(known, &greeting.progress) {
         return Err(why);
     }
     if agrees(digest, &greeting.digest) {
@@ -65,13 +65,13 @@ fn is_placed(own: &Own, index: Option<NodeId>, node: NodeId) -> bool
 }
 
 /// What a peer forgot that was heard of it.
-fn forgotten_since(heard: Option<Progress>, claimed: &Progress) -> Option<PeerRejection>
-    ensures none { IfNone result (HasKept heard claimed.now) }
-    ensures some { IfSome result (λ why. IsForgotten heard claimed.now why) }
-    ensures lost { IfSome result (λ _. ¬ HasKept heard claimed.now) }
+fn forgotten_since(known: Option<Progress>, claimed: &Progress) -> Option<PeerRejection>
+    ensures none { IfNone result (HasKept known claimed.now) }
+    ensures some { IfSome result (λ why. IsForgotten known claimed.now why) }
+    ensures lost { IfSome result (λ _. ¬ HasKept known claimed.now) }
 {
-    match heard {
-        Some(heard) if !is_same_start(&heard, claimed) => match forgotten(&heard, claimed) {
+    match known {
+        Some(known) if !is_same_start(&known, claimed) => match forgotten(&known, claimed) {
             Some(why) => Some(why),
             None => None,
         },
@@ -80,47 +80,47 @@ fn forgotten_since(heard: Option<Progress>, claimed: &Progress) -> Option<PeerRe
 }
 
 /// Whether both tell of one start of one folder.
-fn is_same_start(heard: &Progress, claimed: &Progress) -> bool
-    ensures { IsTrue result ↔ IsSameStart heard.now claimed.now }
+fn is_same_start(known: &Progress, claimed: &Progress) -> bool
+    ensures { IsTrue result ↔ IsSameStart known.now claimed.now }
 {
-    claimed.mark == heard.mark && claimed.starts == heard.starts && claimed.life == heard.life
+    claimed.mark == known.mark && claimed.starts == known.starts && claimed.life == known.life
 }
 
 /// What is less than what was heard.
-fn forgotten(heard: &Progress, claimed: &Progress) -> Option<PeerRejection>
-    ensures none { IfNone result (IsNoLess heard.now claimed.now) }
-    ensures some { IfSome result (λ why. IsLess heard.now claimed.now why) }
-    ensures less { IfSome result (λ _. ¬ IsNoLess heard.now claimed.now) }
+fn forgotten(known: &Progress, claimed: &Progress) -> Option<PeerRejection>
+    ensures none { IfNone result (IsNoLess known.now claimed.now) }
+    ensures some { IfSome result (λ why. IsLess known.now claimed.now why) }
+    ensures less { IfSome result (λ _. ¬ IsNoLess known.now claimed.now) }
 {
-    if claimed.mark != heard.mark {
+    if claimed.mark != known.mark {
         return Some(PeerRejection::OtherMark);
     }
-    if claimed.starts < heard.starts {
+    if claimed.starts < known.starts {
         return Some(PeerRejection::OlderStart);
     }
-    if claimed.starts == heard.starts && claimed.life != heard.life {
+    if claimed.starts == known.starts && claimed.life != known.life {
         return Some(PeerRejection::OtherLife);
     }
-    if claimed.round < heard.round {
+    if claimed.round < known.round {
         return Some(PeerRejection::LowerRound);
     }
-    if !is_no_lower(heard.promise, claimed.promise) {
+    if !is_no_lower(known.promise, claimed.promise) {
         return Some(PeerRejection::LowerPromise);
     }
-    if claimed.published.number() < heard.published.number() {
+    if claimed.published.number() < known.published.number() {
         return Some(PeerRejection::LowerSequence);
     }
     None
 }
 
 /// Whether a promise is no lower than one that was heard.
-fn is_no_lower(heard: Option<Ballot>, claimed: Option<Ballot>) -> bool
-    ensures { IsTrue result ↔ IsNoLower heard claimed }
+fn is_no_lower(known: Option<Ballot>, claimed: Option<Ballot>) -> bool
+    ensures { IsTrue result ↔ IsNoLower known claimed }
 {
-    match (heard, claimed) {
+    match (known, claimed) {
         (None, _) => true,
         (Some(_), None) => false,
-        (Some(heard), Some(claimed)) => !claimed.is_below(heard),
+        (Some(known), Some(claimed)) => !claimed.is_below(known),
     }
 }
 

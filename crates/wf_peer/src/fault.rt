@@ -19,7 +19,7 @@ pub enum GreetingFault {
 
 /// Why bytes aren't the text of what was heard.
 #[derive(Clone, Copy, Debug, PartialEq, Eq, Error)]
-pub enum HeardFault {
+pub enum PeerProgressFault {
     /// They aren't at this line, counted from 1, or go on after the last one.
     #[error("malformed at line {0}")]
     Line(usize),

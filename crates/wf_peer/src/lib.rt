@@ -2,14 +2,14 @@
 //!
 //! Nodes in processes of their own greet each other before they send messages. A [`Greeting`] says which farm and node a peer is,
 //! and its [`Progress`]: its folder's mark, how often it started, the mark of this start, the highest round that it tried, its promise and
-//! its last published sequence. [`admit`] lets a peer in or says why not ([`PeerRejection`]); [`Heard`] keeps the progress that was
+//! its last published sequence. [`admit`] lets a peer in or says why not ([`PeerRejection`]); [`PeerProgress`] keeps the progress that was
 //! last heard of each peer, raised by each greeting and each message that comes from it, and its text for a file. A sound node's progress never falls, since each
 //! record is synced before a message tells of it: a later start that says less than was heard lost its disk, or runs on a copy.
 //! Within one start nothing is compared, since what a node says on two connections comes in any order. [`is_from`] says who may send a message.
 //!
 //! Promises: each greeting and each reply to one has exactly one encoding, and nothing else is decoded as it
 //! (`specs/Greeting.antt`). A peer is let in iff it meets the definition, and a cause that is returned is one (`specs/Admission.antt`). What was heard never
-//! falls (`specs/Progress.antt`, `specs/Sender.antt`), and has exactly one text (`specs/HeardText.antt`). If
+//! falls (`specs/Progress.antt`, `specs/Sender.antt`), and has exactly one text (`specs/PeerProgressText.antt`). If
 //! a node's volatile state goes with what it has stored, a transition's messages tell no more of it than is stored by then
 //! (`specs/Reported.antt`).
 //!
@@ -21,9 +21,9 @@ mod decoder;
 mod encoder;
 mod fault;
 mod greeting;
-mod heard;
-mod heard_reader;
-mod heard_text;
+mod peer_progress;
+mod peer_progress_reader;
+mod peer_progress_text;
 mod progress;
 mod rejection;
 mod reply;
@@ -33,9 +33,9 @@ mod theorem;
 pub use admission::{Own, admit};
 pub use decoder::decode;
 pub use encoder::encode;
-pub use fault::{GreetingFault, HeardFault};
+pub use fault::{GreetingFault, PeerProgressFault};
 pub use greeting::{GREETING_BYTES, Greeting, PEER_VERSION};
-pub use heard::Heard;
+pub use peer_progress::PeerProgress;
 pub use progress::Progress;
 pub use rejection::PeerRejection;
 pub use reply::{GreetingReply, REJECTION_BYTES, decode_reply, encode_rejection};

@@ -7,12 +7,9 @@ ghost use Rattle.wf_picture.specs.Picture.{corner_of, labelled, IsCutOut, IsImag
 use crate::image::{file, header_size, image};
 use crate::request::{PictureRequest, Size};
 use std::alloc::{AllocError, Global};
-use wf_def::color::Color;
-use wf_def::map::MapDef;
+use wf_def::{Color, MapDef};
 use wf_geometry::{Corner, View};
-use wf_label::draw::draw_labels;
-use wf_label::placement::place;
-use wf_label::theorem::there_is_one_placed_set;
+use wf_label::{draw_labels, place, there_is_one_placed_set};
 use wf_paint::{Pixmap, paint_after};
 
 /// The picture of a request, as a file: its layers from the lowest to the uppermost over the background, with their labels over
@@ -27,7 +24,7 @@ pub fn draw(alloc: Global, map: &MapDef, request: &PictureRequest) -> Result<Vec
     if is_whole(&view, request.size()) {
         return file_of(alloc, map, layers, &view, background);
     }
-    let pixmap = labelled(alloc, map, layers, &view, background)?;
+    let pixmap = draw_view(alloc, map, layers, &view, background)?;
     cut(alloc, &pixmap, &view, request.size())
 }
 
@@ -69,7 +66,7 @@ pub fn view_of(map: &MapDef, request: &PictureRequest) -> View
 /// The picture of the whole view: the map's layers at these indices, from the lowest to the uppermost, over the background's
 /// colour, with their labels over them. The pictures of all requests that have the view are parts of it. Allocation failure is
 /// the only error.
-pub fn labelled(
+pub fn draw_view(
     alloc: Global,
     map: &MapDef,
     layers: &[usize],

@@ -3,8 +3,7 @@ ghost use Rattle.std.specs.Prelude.{◌≡◌};
 ghost use Rattle.wf_picture.specs.Request.{IsSize, IsLargeEnough, IsRequest};
 
 use std::marker::Model;
-use wf_def::color::Color;
-use wf_def::extent::Extent;
+use wf_def::{Color, Extent};
 
 /// How wide and how high a picture is, in pixels.
 #[derive(Clone, Copy, PartialEq, Eq)]

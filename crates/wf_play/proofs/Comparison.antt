@@ -2,8 +2,8 @@
 use Rattle.std.proofs.Common.{◌≡◌, ◌&&◌, ℕ, Bool, true, List, refl, sym, ap, subst, ◌∙◌, bytes_eq}
 use Rattle.std.proofs.lemmas.Slice.Eq.{bytes_eq-Decides}
 use Rattle.wf_wms.specs.Answer.{AnswerValue}
-use Rattle.wf_wms.specs.declared.answer.Kind.{Kind}
-use Rattle.wf_wms.specs.contracts.answer.KindEq.TheImpl.Laws.{laws-law}
+use Rattle.wf_wms.specs.declared.response.Kind.{Kind}
+use Rattle.wf_wms.specs.contracts.response.KindEq.TheImpl.Laws.{laws-law}
 use Rattle.wf_farm.specs.ClientAnswers.{Answers, HasOneAnswer, HasOneMapAnswer, sequence_at}
 use Rattle.wf_farm.specs.Farm.{MemoryFarm}
 use Rattle.wf_play.specs.Comparison.{Compares, IsTrueWhereOne, is_same_answer, is_same_kind}
@@ -39,7 +39,7 @@ compared farm i j query a b test first second is = record { answer = a; another 
 pub true_where_one : (farm : MemoryFarm) (i j : ℕ) (query : List ℕ) (a b : AnswerValue) (test : Bool) → HasOneAnswer farm → HasOneMapAnswer farm →
     Answers farm i (sequence_at farm i) query a → Answers farm j (sequence_at farm j) query b → test ≡ is_same_answer a b → IsTrueWhereOne farm i j query test
 unfolding HasOneAnswer HasOneMapAnswer
-true_where_one farm i j query a b test law map_theorem first second is = record {
-  one_sequence = λ same. found_equal a b test is (law i j (sequence_at farm i) query a b first (subst (λ s. Answers farm j s query b) (sym same) second));
+true_where_one farm i j query a b test sequence_theorem map_theorem first second is = record {
+  one_sequence = λ same. found_equal a b test is (sequence_theorem i j (sequence_at farm i) query a b first (subst (λ s. Answers farm j s query b) (sym same) second));
   one_map = λ m here there. found_equal a b test is (map_theorem i j (sequence_at farm i) (sequence_at farm j) m query a b here there first second);
 }

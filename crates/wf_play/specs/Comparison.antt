@@ -1,8 +1,8 @@
 -- What two nodes of a farm answer to one query, compared.
 use Rattle.std.specs.Prelude.{◌≡◌, ◌⊎◌, ◌&&◌, ℕ, Bool, true, List, bytes_eq}
 use Rattle.wf_wms.specs.Answer.{AnswerValue, AsksForMap}
-use Rattle.wf_wms.specs.declared.answer.Kind.{Kind}
-use Rattle.wf_wms.specs.contracts.answer.KindPartialEq.TheImpl as kinds
+use Rattle.wf_wms.specs.declared.response.Kind.{Kind}
+use Rattle.wf_wms.specs.contracts.response.KindPartialEq.TheImpl as kinds
 use Rattle.wf_farm.specs.ClientAnswers.{Answers, IsNoAnswer, sequence_at}
 use Rattle.wf_farm.specs.Farm.{MemoryFarm}
 use Rattle.wf_farm.specs.declared.fault.FarmFault.{FarmFault}

@@ -11,8 +11,8 @@ use Rattle.wf_tape.specs.MemoryTape.{TapeValue}
 use Rattle.wf_wms.specs.Answer.{AnswerValue}
 use Rattle.wf_wms.specs.declared.exception.Exception.{Exception}
 use Rattle.wf_wms.specs.declared.exception.Exception.TheVariants as exception
-use Rattle.wf_wms.specs.declared.answer.Kind.{Kind}
-use Rattle.wf_wms.specs.declared.answer.Kind.TheVariants as kind
+use Rattle.wf_wms.specs.declared.response.Kind.{Kind}
+use Rattle.wf_wms.specs.declared.response.Kind.TheVariants as kind
 use Rattle.wf_farm.specs.ClientAnswers.{Answers, sequence_at}
 use Rattle.wf_farm.specs.Farm.{MemoryFarm, running_in}
 use Rattle.wf_farm.specs.Fault.{number_of as rejection_number}

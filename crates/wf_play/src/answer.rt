@@ -11,7 +11,7 @@ use std::alloc::AllocError;
 use std::fmt::Write;
 use wf_ballot::{Seq, Slot};
 use wf_canon::Canon;
-use wf_def::map::MapDef;
+use wf_def::MapDef;
 use wf_farm::Farm;
 use wf_node::Node;
 use wf_proposer::ProposalState;

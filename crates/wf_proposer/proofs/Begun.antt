@@ -3,7 +3,7 @@ use Rattle.std.proofs.Common.{◌≡◌, ℕ, ◌+◌, max, Bool, true, false, i
 use Rattle.wf_ballot.specs.Ballot.{Ballot}
 use Rattle.wf_def.specs.Definition.{Definition}
 use Rattle.wf_model.specs.Fits.{IsForNext}
-use Rattle.wf_model.specs.DurableState.{HasStored, DurableState, published, next_sequence}
+use Rattle.wf_model.specs.DurableState.{HasStored, DurableState, next_sequence}
 use Rattle.wf_model.specs.Message.{Prepare, Accept, from_sequence, vote_of}
 use Rattle.wf_model.specs.DurableState as stored_part
 use Rattle.wf_model.specs.Table.{Transition, StepRejection, begin_at, stores, only_sends, ask_votes, lead, propose_by, on_propose, on_retry, running_transition, round_known, rounds_full, reject_round}

@@ -154,12 +154,12 @@ impl Proposal {
         if !self.is_new_response(n, from, report.slot(), ballot) {
             return ignore(alloc, report);
         }
-        self.promised(alloc, n, self.responders.with(from), best, report)
+        self.after_promise(alloc, n, self.responders.with(from), best, report)
     }
 
     /// The result after these nodes promised, the last one with this report. Once they are a majority, votes are asked for; only
     /// that allocates.
-    fn promised(
+    fn after_promise(
         &self,
         alloc: Global,
         n: u8,
@@ -250,7 +250,7 @@ impl Proposal {
     /// The definition that votes were asked for under the leadership: that of the best vote reported at the proposal's slot, or else
     /// its own.
     #[tactic(auto, unfolding(wf_model::specs::Message::first_vote, wf_model::specs::VolatileState::carried))]
-    fn carried<'a>(&'a self, leadership: &'a Option<Leadership>) -> &'a Canon
+    fn definition_to_accept<'a>(&'a self, leadership: &'a Option<Leadership>) -> &'a Canon
         ensures { result.now ≡ model.carried
             (first_vote (led_votes (leading_of leadership.now) self.now.slot)) self.now.own }
     {
@@ -279,17 +279,17 @@ impl Proposal {
         if !self.is_new_response(n, from, slot, ballot) {
             return Ok(Next::quiet(alloc, Change::Nothing));
         }
-        self.voted(
+        self.after_vote(
             alloc,
             n,
             self.responders.with(from),
-            self.carried(leadership),
+            self.definition_to_accept(leadership),
         )
     }
 
     /// The result after these nodes voted for the definition. Once they are a majority, it is published and the proposal ends; only
     /// that allocates.
-    fn voted(
+    fn after_vote(
         &self,
         alloc: Global,
         n: u8,
@@ -315,7 +315,7 @@ impl Proposal {
         match canon.copy() {
             Ok(reported) => {
                 let message = Message::Chosen(self.slot, reported);
-                let change = Change::Proposes(self.ended(canon));
+                let change = Change::Proposes(self.end_with(canon));
                 Next::only_sends(alloc, Some(published), message, change)
             }
             Err(fault) => {
@@ -326,7 +326,7 @@ impl Proposal {
     }
 
     /// How the proposal ends if the definition is published at its slot.
-    pub fn ended(&self, canon: &Canon) -> Proposing
+    pub fn end_with(&self, canon: &Canon) -> Proposing
         ensures { result ≡ ended_with self.now canon.now }
     {
         Proposing::Ended(self.slot, self.own == *canon)

@@ -308,7 +308,7 @@ impl Proposer {
         if let Proposing::Running(proposal, _) = &self.volatile.proposing
             && proposal.is_for(slot)
         {
-            let ended = proposal.ended(canon);
+            let ended = proposal.end_with(canon);
             self.volatile.proposes(ended);
         }
     }

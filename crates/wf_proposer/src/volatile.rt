@@ -67,8 +67,8 @@ impl VolatileState {
             Change::Proposes(next) => self.proposes(next),
             Change::CountsPromise(responders, report) => self
                 .proposing
-                .promised(responders, report),
-            Change::CountsVote(responders) => self.proposing.voted(responders),
+                .count_promise(responders, report),
+            Change::CountsVote(responders) => self.proposing.count_vote(responders),
             Change::Sees(round) => self.proposing.see(round),
         }
     }
@@ -93,7 +93,7 @@ impl Proposing {
     ghost use Rattle.std.specs.Prelude.{◌≡◌};
     ghost use Rattle.wf_proposer.specs.Change.{with_promise, with_seen, with_vote};
 
-    fn promised(&mut self, responders: Responders, report: Report)
+    fn count_promise(&mut self, responders: Responders, report: Report)
         ensures { self.new ≡ with_promise responders report.votes self.old }
     {
         match self {
@@ -108,7 +108,7 @@ impl Proposing {
         }
     }
 
-    fn voted(&mut self, responders: Responders)
+    fn count_vote(&mut self, responders: Responders)
         ensures { self.new ≡ with_vote responders self.old }
     {
         if let Proposing::Running(proposal, Phase::Accepting) = self {

@@ -1,5 +1,5 @@
 -- The parts of an answer.
-use Rattle.std.proofs.Common.{◌≡◌, ◌∙◌, ℕ, List, ◌++◌, length, take, drop, refl, sym, ap}
+use Rattle.std.proofs.Common.{◌≡◌, ◌∙◌, ℕ, List, ◌++◌, length, take, drop, sym, ap}
 use Rattle.wf_ballot.specs.Sequence.{seq_bytes}
 use Rattle.wf_def.specs.Definition.{Definition}
 use Rattle.wf_reader.proofs.Parts.{drop_front, joined, length_of_sequence, take_front}

@@ -7,7 +7,6 @@ use Rattle.std.proofs.lemmas.Nat.{be_bytes_4, from_be_bytes-to_be_bytes_4}
 use Rattle.wf_ballot.specs.Sequence.{seq_bytes}
 use Rattle.wf_def.specs.Definition.{Definition}
 use Rattle.wf_frame.specs.Report.{text_bytes}
-use Rattle.wf_model.specs.Table.{most_reports}
 use Rattle.wf_reader.proofs.Parts.{drop_front, joined, length_of_sequence, take_front}
 use Rattle.wf_reader.specs.ReaderAnswer.{ReaderAnswer}
 use Rattle.wf_reader.specs.Reply.{AreTexts, IsReply, answer_fields, body_bytes, cause_sequence, most_body_bytes, most_reply_bytes, reply_bytes, texts_bytes}

@@ -62,7 +62,7 @@ impl ReadersPort {
     }
 
     /// The number of readers.
-    pub fn taken(&self) -> usize {
+    pub fn reader_count(&self) -> usize {
         self.slots.iter().filter(|slot| slot.is_some()).count()
     }
 
@@ -103,7 +103,7 @@ impl ReadersPort {
         context: &Context<'_, '_, R>,
         mut stream: TcpStream,
     ) {
-        let Some(index) = place(self.slots.as_slice()) else {
+        let Some(index) = slot_index(self.slots.as_slice()) else {
             return;
         };
         if self.take(index).is_some() {
@@ -189,7 +189,7 @@ fn is_silent_at(slot: &Option<Reader>, time: u64) -> bool {
 }
 
 /// The slot for a newcomer: the first free one, else that of the reader that has waited longest. None: there are no slots.
-fn place(slots: &[Option<Reader>]) -> Option<usize> {
+fn slot_index(slots: &[Option<Reader>]) -> Option<usize> {
     let mut found: Option<(usize, u64)> = None;
     for (index, slot) in slots.iter().enumerate() {
         let since = match slot {

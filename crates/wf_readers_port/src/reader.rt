@@ -4,7 +4,7 @@ use crate::port::PortView;
 use crate::replies::{QuestionOutcome, answer};
 use mio::net::TcpStream;
 use std::alloc::Global;
-use wf_client::response_buffer::Outgoing;
+use wf_client::Outgoing;
 use wf_reader::{QUESTION_BYTES, QuestionRejection};
 use wf_stream::Sink;
 use wf_timing::is_silent;

@@ -1,5 +1,5 @@
 -- What a replica answers.
-use Rattle.std.proofs.Common.{◌≡◌, ℕ, List, length, ap, refl, sym, subst}
+use Rattle.std.proofs.Common.{◌≡◌, ℕ, List, length, refl, sym, subst}
 use Rattle.std.specs.Prelude.{Ok, Some}
 use Rattle.wf_def.specs.Definition.{Definition}
 use Rattle.wf_edge.specs.ErrorResponse.{response_of_error}

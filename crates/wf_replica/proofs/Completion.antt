@@ -1,5 +1,5 @@
 -- Where no response was written, nothing was.
-use Rattle.std.proofs.Common.{◌≡◌, List, ℕ, sym, subst}
+use Rattle.std.proofs.Common.{List, ℕ, sym, subst}
 use Rattle.std.specs.Prelude.{Option}
 use Rattle.wf_client.specs.ResponseBuffer.{Outgoing}
 use Rattle.wf_edge.specs.ResponseEnd.{IsEnded, IsFaultEnded}

@@ -1,9 +1,9 @@
 -- What a replica has heard and learned.
-use Rattle.std.specs.Prelude.{◌≡◌, ℕ, ◌≤◌, List, ◌∷◌, [], ◌++◌, length, take}
+use Rattle.std.specs.Prelude.{◌≡◌, ℕ, ◌≤◌, List, ◌++◌, length, take}
 use Rattle.wf_def.specs.Definition.{Definition}
 use Rattle.wf_safety.specs.Theorems.{IsBeginning}
 use Rattle.wf_learner.specs.History.{next_of}
-use Rattle.wf_model.specs.Message.{Chosen, Message}
+use Rattle.wf_model.specs.Message.{Message}
 use Rattle.wf_tape.specs.declared.tape.Tape.{Ghosts as Tape}
 use Rattle.wf_replica.specs.LearnedList.{messages_of, numbered}
 use Rattle.wf_replica.specs.declared.follower.Follower.{Follower}

@@ -2,7 +2,7 @@
 use Rattle.std.proofs.Common.{◌≡◌, ◌∙◌, List, [], ◌++◌, sym, ap, append_assoc, append-nil}
 use Rattle.wf_def.specs.Definition.{Definition}
 use Rattle.wf_safety.specs.Theorems.{IsBeginning}
-use Rattle.wf_replica.specs.Follower.{Grows, IsSame, list_of}
+use Rattle.wf_replica.specs.Follower.{Grows, list_of}
 use Rattle.wf_replica.specs.declared.follower.Follower.{Follower}
 use Rattle.wf_tape.specs.declared.tape.Tape.{Ghosts as Tape}
 

@@ -1,5 +1,5 @@
 -- Which source a replica asks, and when. Times are in milliseconds.
-use Rattle.std.specs.Prelude.{◌≡◌, ℕ, ◌+◌, ◌-◌, ◌%◌, ◌≤◌, ◌<◌, Option, Some, None}
+use Rattle.std.specs.Prelude.{ℕ, ◌+◌, ◌-◌, ◌%◌, ◌≤◌, ◌<◌, Option, Some, None}
 use Rattle.wf_timing.specs.Moment.{later}
 use Rattle.wf_replica.specs.declared.questions.Asking.{Asking}
 

@@ -1,8 +1,8 @@
 -- What a replica responds to a request: from its published maps, as a node does, but for its status; and it publishes nothing.
-use Rattle.std.specs.Prelude.{◌≡◌, ℕ, List, ◌++◌, codes, decimal, length, Option, Some, Result, Ok, Err}
+use Rattle.std.specs.Prelude.{◌≡◌, ℕ, List, ◌++◌, codes, decimal, length, Some, Result, Ok, Err}
 use Rattle.wf_client.specs.ResponseBuffer.{Outgoing}
 use Rattle.wf_def.specs.Definition.{Definition}
-use Rattle.wf_edge.specs.ErrorResponse.{response_of_error, response_of}
+use Rattle.wf_edge.specs.ErrorResponse.{response_of}
 use Rattle.wf_edge.specs.Page.{IsServiceGiven, line_page}
 use Rattle.wf_edge.specs.Request.{BeginsWith, IsRequestFault, Request}
 use Rattle.wf_edge.specs.Route.{resolved}

@@ -10,7 +10,7 @@ use Rattle.wf_model.specs.DurableState.{definition_at}
 use Rattle.wf_model.specs.Table.{most_reports, reports_from}
 use Rattle.wf_reader.specs.Answerer.{next_reported}
 use Rattle.wf_tape.specs.declared.tape.Tape.{Ghosts as Tape}
-use Rattle.wf_wms.specs.Answer.{AnswerValue, AsksForMap, IsAnswerOf}
+use Rattle.wf_wms.specs.Answer.{AnswerValue, IsAnswerOf}
 use Rattle.wf_replica.specs.LearnedList.{learned, numbered}
 
 -- What an answer at a readers' port says is what a node answers when it is asked for the next definition.

@@ -24,7 +24,7 @@ use wf_folder::FarmName;
 use wf_learner::History;
 use wf_reader::Question;
 use wf_tape::Tape;
-use wf_wms::cache::Cache;
+use wf_wms::Cache;
 
 impl<T: Tape + Drop> Follower<T> {
     /// A replica that has learned nothing, with room for so many pictures. The only error is allocation failure; the tape is dropped.

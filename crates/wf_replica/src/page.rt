@@ -10,11 +10,9 @@ use arrayvec::ArrayVec;
 use http::StatusCode;
 use itoa::Buffer;
 use wf_ballot::Seq;
-use wf_client::response_buffer::Outgoing;
-use wf_edge::completion::write_response;
-use wf_edge::outcome::Outcome;
-use wf_http::buffer::append;
-use wf_http::response::Response;
+use wf_client::Outgoing;
+use wf_edge::{Outcome, write_response};
+use wf_http::{Response, append};
 
 /// The media type of a line of text.
 const PLAIN: &str = "text/plain";

@@ -7,17 +7,12 @@ ghost use Rattle.wf_replica.specs.Service.{AsksToPublish, IsServed, IsUnsent};
 use crate::follower::Follower;
 use crate::shelf::Shelf;
 use std::alloc::Global;
-use wf_client::partial_request::Incoming;
-use wf_client::response_buffer::Outgoing;
-use wf_edge::completion::{write_error, write_response};
-use wf_edge::error_report::respond_to_error;
-use wf_edge::error_response::ErrorResponse;
-use wf_edge::outcome::Outcome;
-use wf_edge::request::Request;
-use wf_edge::resource::RequestedResource;
-use wf_edge::route::resolve;
-use wf_http::front::Front;
-use wf_http::http_error::HttpError;
+use wf_client::{Incoming, Outgoing};
+use wf_edge::{
+    ErrorResponse, Outcome, Request, RequestedResource, resolve, respond_to_error, write_error,
+    write_response,
+};
+use wf_http::{Front, HttpError};
 use wf_tape::Tape;
 
 impl<T: Tape> Follower<T> {

@@ -12,20 +12,16 @@ use std::alloc::{AllocError, Global};
 use std::marker::Model;
 use wf_ballot::NodeId;
 use wf_career::Replica;
-use wf_client::response_buffer::Outgoing;
+use wf_client::Outgoing;
 use wf_codec::Message;
-use wf_edge::answer::answer_get;
-use wf_edge::completion::write_response;
-use wf_edge::error_report::respond_to_error;
-use wf_edge::error_response::ErrorResponse;
-use wf_edge::outcome::Outcome;
-use wf_edge::request::Request;
-use wf_edge::resource::RequestedResource;
-use wf_edge::status::Status;
-use wf_http::http_error::HttpError;
+use wf_edge::{
+    ErrorResponse, Outcome, Request, RequestedResource, Status, answer_get, respond_to_error,
+    write_response,
+};
+use wf_http::HttpError;
 use wf_learner::History;
 use wf_proposer::ProposalState;
-use wf_wms::cache::Cache;
+use wf_wms::Cache;
 
 /// The published maps of a replica, with the pictures of them that are cached. Model: the history.
 #[derive(Drop)]
@@ -96,7 +92,7 @@ impl Shelf {
         ensures same { self.new ≡ self.old }
         ensures answered { IsAnswered request.now self.old.definitions outgoing.old.bytes outgoing.new.bytes result }
     {
-        match request.asked() {
+        match request.resource() {
             RequestedResource::Wms => self.show(alloc, outgoing, request),
             RequestedResource::Status => write_status(outgoing, self.history().published()),
             RequestedResource::Publish(_) => write_response(

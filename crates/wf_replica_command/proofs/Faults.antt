@@ -1,6 +1,6 @@
 -- From the error of a part to that of the command, and from a hub to what it has served.
 use Rattle.std.proofs.Common.{◌≡◌, ◌∙◌, ℕ, List, [], ap, refl, subst}
-use Rattle.std.specs.Prelude.{Option, Some, None, Result, Ok, Err, IfErr, length, option_map, take}
+use Rattle.std.specs.Prelude.{Some, Result, Ok, Err, length, option_map, take}
 use Rattle.std.proofs.Math.Seq.{take-length}
 use Rattle.wf_address.specs.Address.{IsNoAddress, words_of, IsListFault}
 use Rattle.wf_address.specs.declared.address_option.AddressOption.TheVariants as options
@@ -12,10 +12,8 @@ use Rattle.wf_def.specs.Definition.{Definition}
 use Rattle.wf_line.specs.declared.replica_line.ReplicaLine.{ReplicaLine}
 use Rattle.wf_model.specs.Message.{Message}
 use Rattle.wf_reader.specs.declared.rejection.QuestionRejection.{QuestionRejection}
-use Rattle.wf_replica.specs.Follower.{received_by, list_of}
 use Rattle.wf_replica.specs.Theorems.{AreReported, LearnedAreServed}
 use Rattle.wf_replica.specs.LearnedList.{learned}
-use Rattle.wf_replica.specs.declared.follower.Follower.{Follower}
 use Rattle.wf_replica_command.specs.Done.{HasServed, IsDone, IsEnd}
 use Rattle.wf_replica_command.specs.Fault.{IsFromSystem, IsReplicaFault, fault_of}
 use Rattle.wf_replica_command.specs.ReplicaHub.{HasAnswered, HasLived, HasStayed, IsOfFarm}

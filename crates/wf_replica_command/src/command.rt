@@ -16,7 +16,7 @@ use std::net::Net;
 use std::rt::Files;
 use std::time::Clock;
 use wf_folder::FarmName;
-use wf_line::replica_line::ReplicaLine;
+use wf_line::ReplicaLine;
 use wf_replica::{Follower, FoundTape};
 use wf_tape::{FileTape, Tape};
 use wf_visitors::{Log, now};

@@ -7,8 +7,7 @@ use std::rt::Files;
 use wf_ballot::Seq;
 use wf_digest::Digests;
 use wf_learner::History;
-use wf_operator::metrics::{counter, gauge, seconds};
-use wf_operator::{Health, Operated, PictureCounts};
+use wf_operator::{Health, Operated, PictureCounts, counter, gauge, seconds};
 use wf_visitors::Counts;
 
 /// What a replica tells its operator.

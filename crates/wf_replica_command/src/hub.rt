@@ -332,8 +332,8 @@ fn answer_operators<R: Files + Clock + Eprint + AllocGlobal, T: Tape + Drop>(
         has_tape: follower.has_tape(),
         reader_differs: readers.differs(context.time),
         is_behind: behind.judge(published < asker.received, context.time),
-        clients: clients.visitors.taken(),
-        readers: readers.taken(),
+        clients: clients.visitors.taken_slots(),
+        readers: readers.reader_count(),
     });
     for _ in 0..OPERATORS {
         let Some(index) = operators.next() else {

@@ -7,7 +7,7 @@ use std::alloc::Global;
 use std::net::SocketAddr;
 use wf_address::{AddressOption, ListFault, address, address_if_any, addresses};
 use wf_folder::FarmName;
-use wf_line::replica_line::ReplicaLine;
+use wf_line::ReplicaLine;
 
 /// The farm of a replica, whom it asks, and where others come.
 #[derive(Drop)]

@@ -4,9 +4,8 @@ ghost use Rattle.wf_replica.specs.Follower.{IsSame};
 ghost use Rattle.wf_replica_command.specs.Answer.{IsResponse};
 
 use std::alloc::Global;
-use wf_client::partial_request::Incoming;
-use wf_client::response_buffer::Outgoing;
-use wf_edge::outcome::Outcome;
+use wf_client::{Incoming, Outgoing};
+use wf_edge::Outcome;
 use wf_operator::PictureCounts;
 use wf_replica::Follower;
 use wf_tape::Tape;
@@ -32,12 +31,12 @@ impl<T: Tape + Drop> Server for Renderer<T> {
         outgoing: &mut Outgoing,
     ) -> ServerReply {
         self.follower.always_learned();
-        let taken = self.follower.cache().taken();
+        let taken = self.follower.cache().cached_tiles();
         match self.follower.serve(alloc, incoming, outgoing) {
             Outcome::ReadFailed => ServerReply::Lacks(1),
             Outcome::NoRequest => ServerReply::Nothing,
             Outcome::Sent(status, bytes) | Outcome::WriteFailed(status, bytes) => {
-                let is_cached = self.follower.cache().taken() != taken;
+                let is_cached = self.follower.cache().cached_tiles() != taken;
                 self.pictures.note(outgoing.bytes(), is_cached);
                 ServerReply::Sent { status, bytes }
             }

@@ -6,7 +6,7 @@ use mio::Registry;
 use mio::net::TcpStream;
 use std::alloc::Global;
 use std::net::{Net, SocketAddr};
-use wf_client::response_buffer::Outgoing;
+use wf_client::Outgoing;
 use wf_reader::{Question, Reply, ReplyFault, decode_reply, encode_question, reply_length};
 use wf_stream::Sink;
 use wf_visitors::{Done, read, register, register_again, write};

@@ -5,7 +5,7 @@ use Rattle.wf_ballot.specs.Ballot.{Ballot}
 use Rattle.wf_model.specs.DurableState.{DurableState, Record, Tried, Promised, Accepted, Published, published, with_record}
 use Rattle.wf_model.specs.VolatileState.{VolatileState, at_start}
 use Rattle.wf_model.specs.Table as table
-use Rattle.wf_model.specs.Table.{Transition, store}
+use Rattle.wf_model.specs.Table.{store}
 use Rattle.wf_model.specs.World.{Node, World, Event, Act, Stop, Restart, Torn, Kept, Before, After, Turn, stored_after, kept_part, with_node, after_turn, after_torn, stop_running, after_stop, restart_stopped, after_restart, turn, happens, steps, start, after}
 use Rattle.wf_model.specs.Chosen.{history_of, history}
 use Rattle.wf_model.specs.StepsTheorems.{steps_in_turn}

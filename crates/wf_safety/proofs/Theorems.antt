@@ -7,7 +7,7 @@ use Rattle.wf_model.specs.DurableState.{DurableState, definition_at}
 use Rattle.wf_model.specs.Fits.{NotBelow}
 use Rattle.wf_model.specs.VolatileState.{Proposing, Idle, Running, Won, Overtaken, VolatileState}
 use Rattle.wf_model.specs.Table as table
-use Rattle.wf_model.specs.Table.{Action, store}
+use Rattle.wf_model.specs.Table.{store}
 use Rattle.wf_model.specs.World.{Node, World, Event, Act, Stop, Restart, Torn, Kept, Turn, stored_after, with_node, after_turn, after_torn, stop_running, after_stop, restart_stopped, after_restart, turn, happens, after}
 use Rattle.wf_model.specs.Chosen.{IsIn, IsChosen, history_of, history, definition}
 use Rattle.wf_safety.specs.Theorems.{ballots_of, IsTried, Proposes, node_of, AsksForItself, OwnBallotsIn, OwnBallots, IsBound, KeptPromisesIn, KeptPromises, PromisedMajorityIn, PromisedMajority, AgreementIn, Agreement}

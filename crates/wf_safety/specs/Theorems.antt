@@ -8,7 +8,7 @@ use Rattle.wf_model.specs.DurableState.{DurableState, definition_at}
 use Rattle.wf_model.specs.Fits.{NotBelow}
 use Rattle.wf_model.specs.VolatileState.{Proposal, VolatileState, Running, window}
 use Rattle.wf_model.specs.World as world
-use Rattle.wf_model.specs.World.{Node, World, Event, after, happens}
+use Rattle.wf_model.specs.World.{World, Event, after, happens}
 use Rattle.wf_model.specs.Chosen.{IsIn, Voted, Reported, IsChosen, history, definition}
 
 -- ---- ballots belong to their nodes

@@ -7,8 +7,8 @@ use Rattle.std.specs.Str.{bytes_eq}
 use Rattle.std.proofs.lemmas.Option.{slice_get-map}
 use Rattle.wf_def.specs.Definition.{Definition}
 use Rattle.wf_def.specs.Equality.{definition_eq}
-use Rattle.wf_script.specs.Script.{name, definition, place_with}
-use Rattle.wf_script.specs.Orders.{place_of}
+use Rattle.wf_script.specs.Script.{name, definition, index_with}
+use Rattle.wf_script.specs.Orders.{index_of}
 use Rattle.wf_script.specs.declared.maps.Named as maps
 
 module _ {X Y : Type 0} (view : X → Y) (test : Y → Bool) where
@@ -26,18 +26,18 @@ module _ {X Y : Type 0} (view : X → Y) (test : Y → Bool) where
       ap (λ n. cond (nat_lt n (length xs)) (Some n) None) (none_yet xs)
       ∙ ap (λ n. cond (nat_lt (prefix_len (λ y. not (test y)) (map view xs)) n) (Some (prefix_len (λ y. not (test y)) (map view xs))) None) (as_many xs)
 
-pub found_by_name : (named : List maps.Named) (word : List ℕ) → position (λ m. bytes_eq (name m) word) named ≡ place_of (map name named) word
+pub found_by_name : (named : List maps.Named) (word : List ℕ) → position (λ m. bytes_eq (name m) word) named ≡ index_of (map name named) word
 found_by_name named word = first_viewed name (λ other. bytes_eq other word) named
 
-pub found_by_meaning : (named : List maps.Named) (d : Definition) → position (λ m. definition_eq (definition m) d) named ≡ place_with (map definition named) d
+pub found_by_meaning : (named : List maps.Named) (d : Definition) → position (λ m. definition_eq (definition m) d) named ≡ index_with (map definition named) d
 found_by_meaning named d = first_viewed definition (λ other. definition_eq other d) named
 
 -- its name is the one at its index
 pub named_there : (named : List maps.Named) (d : Definition) (found : Option ℕ) → found ≡ position (λ m. definition_eq (definition m) d) named
-    → option_map name (option_and_then (slice_get named) found) ≡ option_and_then (slice_get (map name named)) (place_with (map definition named) d)
+    → option_map name (option_and_then (slice_get named) found) ≡ option_and_then (slice_get (map name named)) (index_with (map definition named) d)
 named_there named d found is =
     there found ∙ ap (option_and_then (slice_get (map name named))) (is ∙ found_by_meaning named d)
   where
-    there : (place : Option ℕ) → option_map name (option_and_then (slice_get named) place) ≡ option_and_then (slice_get (map name named)) place
+    there : (index : Option ℕ) → option_map name (option_and_then (slice_get named) index) ≡ option_and_then (slice_get (map name named)) index
     there None = refl
     there (Some k) = sym (slice_get-map name named k)

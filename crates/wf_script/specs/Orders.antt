@@ -19,14 +19,14 @@ use Rattle.wf_script.specs.declared.verb.Verb.{Verb}
 use Rattle.wf_script.specs.declared.verb.Verb.TheVariants as verb
 
 -- the map of this name, by its index among the names
-abbrev pub place_of : List (List ℕ) → List ℕ → Option ℕ
-place_of names name = position (λ other. bytes_eq other name) names
+abbrev pub index_of : List (List ℕ) → List ℕ → Option ℕ
+index_of names name = position (λ other. bytes_eq other name) names
 
 -- the map that the first word names
 unfoldable pub a_map : List (List ℕ) → List (List ℕ) → Result (ℕ × List (List ℕ)) Wrong
 a_map names words = do
   name ← a_text words
-  map ← ok_or (place_of names name.0) BadLine
+  map ← ok_or (index_of names name.0) BadLine
   Ok (map, name.1)
 
 -- the numbers that all words are

@@ -41,8 +41,8 @@ pub record IsScript (script : Script) : Type 0 where
 -- ---- names
 
 -- the first map of a script that means this
-abbrev pub place_with : List Definition → Definition → Option ℕ
-place_with maps d = position (λ other. definition_eq other d) maps
+abbrev pub index_with : List Definition → Definition → Option ℕ
+index_with maps d = position (λ other. definition_eq other d) maps
 
 abbrev pub or_unknown : Option (List ℕ) → List ℕ
 or_unknown None = codes "?"
@@ -51,7 +51,7 @@ or_unknown (Some name) = name
 -- the name of the map that a node published, a question mark where it published none that the script has
 abbrev pub name_of : Script → Option Definition → List ℕ
 name_of script None = codes "?"
-name_of script (Some d) = or_unknown (option_and_then (slice_get script.names) (place_with script.maps d))
+name_of script (Some d) = or_unknown (option_and_then (slice_get script.names) (index_with script.maps d))
 
 -- the name of a map
 abbrev pub name : maps.Named → List ℕ

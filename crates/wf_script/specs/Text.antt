@@ -12,7 +12,7 @@ use Rattle.wf_script.specs.Lines.{Lines, examined, lines, most_maps, over_limit}
 use Rattle.wf_script.specs.Script.{name, Numbered, Script, definition, numbered}
 use Rattle.wf_script.specs.Order as order
 use Rattle.wf_script.specs.Order.{Order}
-use Rattle.wf_script.specs.Orders.{order_of, place_of}
+use Rattle.wf_script.specs.Orders.{order_of, index_of}
 use Rattle.wf_script.specs.ReadContract.{◌>>=◌, at_line}
 use Rattle.wf_script.specs.Verb.{verb_of}
 use Rattle.wf_script.specs.Words.{a_number, a_text, ends_map, is_skipped, no_word, words}
@@ -57,10 +57,10 @@ is_name word = not (length word == 0) && nat_le (length word) most_name_bytes &&
 -- a name that no map has yet
 abbrev pub unless_there : List ℕ → Option ℕ → Result (List ℕ) Wrong
 unless_there word None = Ok word
-unless_there word (Some place) = Err wrongs.BadLine
+unless_there word (Some index) = Err wrongs.BadLine
 
 unfoldable pub new_name : List (List ℕ) → List ℕ → Result (List ℕ) Wrong
-new_name names word = if is_name word then unless_there word (place_of names word) else Err wrongs.BadLine
+new_name names word = if is_name word then unless_there word (index_of names word) else Err wrongs.BadLine
 
 -- the name that is the last word of a line
 unfoldable pub a_new_name : List (List ℕ) → List (List ℕ) → Result (List ℕ) Wrong

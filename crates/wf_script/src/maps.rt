@@ -14,8 +14,8 @@ ghost use Rattle.wf_def.specs.Equality.{definition_eq};
 use crate::fault::Wrong;
 use std::alloc::{AllocError, Global};
 use wf_canon::{Canon, CanonFault};
-use wf_def::map::MapDef;
-use wf_mapfile::fault::MapFault;
+use wf_def::MapDef;
+use wf_mapfile::MapFault;
 
 /// The most maps of a script.
 pub const MOST_MAPS: usize = 64;
@@ -39,8 +39,8 @@ pub(crate) struct Maps {
 
 impl Maps {
     ghost use Rattle.std.specs.Prelude.{◌++◌, ◌∷◌, [], OnOk, map};
-    ghost use Rattle.wf_script.specs.Orders.{place_of};
-    ghost use Rattle.wf_script.specs.Script.{place_with};
+    ghost use Rattle.wf_script.specs.Orders.{index_of};
+    ghost use Rattle.wf_script.specs.Script.{index_with};
 
     pub(crate) fn new(alloc: Global) -> Maps
         ensures { result.named.items ≡ [] }
@@ -80,7 +80,7 @@ impl Maps {
     /// The number of the map of this name, counted from 0.
     #[tactic(auto, using(crate::proofs::MapNames::found_by_name))]
     pub(crate) fn number_of(&self, name: &str) -> Option<usize>
-        ensures { result ≡ place_of (map name_of self.now.named.items) name.now }
+        ensures { result ≡ index_of (map name_of self.now.named.items) name.now }
     {
         number_of(&self.named, name)
     }
@@ -99,7 +99,7 @@ impl Maps {
     pub(crate) fn name_of(&self, meant: &MapDef) -> Option<&str>
         ensures { option_copied result
             ≡ option_and_then (slice_get (map name_of self.now.named.items))
-            (place_with (map definition self.now.named.items) meant.now) }
+            (index_with (map definition self.now.named.items) meant.now) }
     {
         name_of(&self.named, meant)
     }

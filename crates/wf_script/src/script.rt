@@ -18,7 +18,7 @@ use std::alloc::Global;
 use std::marker::Model;
 use wf_ballot::NODES;
 use wf_canon::Canon;
-use wf_def::map::MapDef;
+use wf_def::MapDef;
 
 /// A script: how many nodes its farm has, its maps, and its orders with their lines.
 pub struct Script {

@@ -34,8 +34,8 @@ pub read_response : {T K : Type 0} (tapes : Tape T) (sinks : Sink K) (node_index
     (request : Request) (node : Node T) (history : List Definition) (shown : status.Status) (answer : Outcome) →
     arrived ≡ Ok request → slice_get nodes node_index ≡ Some node → history ≡ node.parts.history → shown ≡ status_at node → IsRead sinks request history shown sink sink_after answer →
     outcome.request ≡ answer → outcome.deliveries ≡ no_deliveries → IsResponse tapes sinks node_index arrived sink sink_after nodes outcome nodes
-read_response tapes sinks node_index arrived sink sink_after nodes outcome request node history shown answer heard at same_history same_status read is quiet =
-    subst (λ (a : Result Request RequestFault). IsResponse tapes sinks node_index a sink sink_after nodes outcome nodes) (sym heard)
+read_response tapes sinks node_index arrived sink sink_after nodes outcome request node history shown answer received at same_history same_status read is quiet =
+    subst (λ (a : Result Request RequestFault). IsResponse tapes sinks node_index a sink sink_after nodes outcome nodes) (sym received)
     (inl (
       record {
         node = node;

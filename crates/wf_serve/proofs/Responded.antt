@@ -1,4 +1,4 @@
--- From what was heard and the response to it to the request that was served.
+-- From what was read and the response to it to the request that was served.
 use Rattle.std.proofs.Common.{◌≡◌, ℕ, List, [], Vec, refl, sym, ap, inl, inr}
 use Rattle.std.specs.Prelude.{slice_get, Some, Result, Ok, Err, IfOk, IfErr, IfSome}
 use Rattle.std.specs.declared.alloc.Global.{Global}

@@ -1,5 +1,5 @@
 -- From what a farm's nodes did to what was served of a service.
-use Rattle.std.proofs.Common.{◌≡◌, ℕ, List, false, true, length, sym}
+use Rattle.std.proofs.Common.{◌≡◌, List, false, true, length, sym}
 use Rattle.std.specs.Prelude.{Option, Some, None, IsSome, Result, Ok, Err, OnOk}
 use Rattle.std.proofs.lemmas.Option.{none-some}
 use Rattle.wf_delivery.specs.Delivery.{AnyPart}

@@ -1,4 +1,4 @@
--- How a node of a farm answers a request: one that only reads from what it has published, a publish by a step that the others hear of.
+-- How a node of a farm answers a request: one that only reads from what it has published, a publish by a step whose messages the others receive.
 use Rattle.std.specs.Prelude.{◌≡◌, ◌⊎◌, ℕ, false, List, slice_get, Some, Result, Ok, Err, Vec}
 use Rattle.std.specs.declared.alloc.Global.{Global}
 use Rattle.wf_codec.specs.declared.message.Message.{Message}
@@ -56,7 +56,7 @@ module _ {T K : Type 0} (tapes : Tape T) (sinks : Sink K) where
     pub quiet : outcome.deliveries ≡ no_deliveries
     pub same : nodes_after ≡ nodes
 
-  -- the response to what was heard
+  -- the response to what was read
   abbrev pub IsResponse : ℕ → Result Request RequestFault → K → K → List (Node T) → ConnectionOutcome → List (Node T) → Type 0
   IsResponse node_index (Ok request) sink sink_after nodes outcome nodes_after = IsReply node_index request sink sink_after nodes outcome nodes_after
   IsResponse node_index (Err why) sink sink_after nodes outcome nodes_after = IsRejected why sink sink_after nodes outcome nodes_after

@@ -7,7 +7,7 @@ ghost use Rattle.wf_wms.specs.CachedPictures.{most_cached};
 use std::alloc::{AllocError, Global};
 use wf_farm::Farm;
 use wf_tape::Tape;
-use wf_wms::cache::Cache;
+use wf_wms::Cache;
 
 /// Returns a cache for each node, of `capacity` pictures at most, all empty.
 pub(crate) fn caches_for<T: Tape>(

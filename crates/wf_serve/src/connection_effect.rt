@@ -19,19 +19,17 @@ use crate::publication::an_accepted_map_is_published;
 use std::alloc::Global;
 use wf_codec::Message;
 use wf_delivery::Pumped;
-use wf_edge::answer::{answer_get, status_of};
-use wf_edge::completion::write_error;
-use wf_edge::outcome::Outcome;
-use wf_edge::request::Request;
-use wf_edge::resource::RequestedResource;
-use wf_edge::theorem::equal_requests_have_equal_responses;
+use wf_edge::{
+    Outcome, Request, RequestedResource, answer_get, equal_requests_have_equal_responses,
+    status_of, write_error,
+};
 use wf_farm::Farm;
-use wf_http::fault::RequestFault;
+use wf_http::RequestFault;
 use wf_node::Node;
 use wf_proposer::ProposalState;
 use wf_stream::{Sink, Source};
 use wf_tape::Tape;
-use wf_wms::cache::Cache;
+use wf_wms::Cache;
 
 /// What came of a connection.
 #[derive(Clone, Copy, PartialEq, Eq)]
@@ -110,7 +108,7 @@ pub(crate) fn agree_still<T: Tape>(farm: &Farm<T>)
     equal_requests_have_equal_responses::<T>();
 }
 
-/// Lets the node at an index answer the request that was heard, with its cache; if there is none, writes its rejection, and nothing if
+/// Lets the node at an index answer the request that was read, with its cache; if there is none, writes its rejection, and nothing if
 /// the input was empty or a read failed. A request that only reads is answered from what the node has published, and sends nothing; a
 /// publish changes the node, and its messages are delivered.
 fn respond<K: Sink, T: Tape>(
@@ -135,7 +133,7 @@ fn respond<K: Sink, T: Tape>(
         Ok(request) => request,
         Err(fault) => return outcome_without_publish(write_error(sink, *fault)),
     };
-    match request.asked() {
+    match request.resource() {
         RequestedResource::Wms | RequestedResource::Status => {
             let Some(node) = farm.node(node_index) else {
                 unreachable!();

@@ -17,7 +17,7 @@ use std::time::{Clock, Duration};
 use wf_farm::Farm;
 use wf_tape::Tape;
 use wf_visitors::Log;
-use wf_wms::cache::Cache;
+use wf_wms::Cache;
 
 /// The time limit for a client to send its request, and then to receive the response, in seconds.
 const PEER_SECONDS: u64 = 10;

@@ -3,7 +3,7 @@
 use crate::timed_reader::TimedReader;
 use std::net::{Shutdown, TcpStream};
 use std::time::{Clock, Duration};
-use wf_edge::outcome::Outcome;
+use wf_edge::Outcome;
 use wf_stream::Source;
 
 /// The time for which a client may go on sending after its response, in seconds.

@@ -7,9 +7,7 @@ ghost use Rattle.wf_serve.specs.ConnectionEffect.{IsAsked};
 
 use std::alloc::Global;
 use wf_codec::Message;
-use wf_edge::outcome::Outcome;
-use wf_edge::request::Request;
-use wf_edge::serve::{Served, publish_request};
+use wf_edge::{Outcome, Request, Served, publish_request};
 use wf_farm::NodeClient;
 use wf_node::{Input, Node, NodeFault};
 use wf_stream::Sink;

@@ -26,7 +26,7 @@ use wf_service::Service;
 use wf_stream::Sink;
 use wf_tape::{FileTape, MemoryTape, Tape};
 use wf_visitors::Log;
-use wf_wms::cache::Cache;
+use wf_wms::Cache;
 
 /// Serves nodes at a port of 127.0.0.1, to the service's number of connections, one after the other: connection c, counted from
 /// 0, by node c mod N. The port is bound first: if that fails, no tape is opened. Then the nodes are opened from their tapes in the

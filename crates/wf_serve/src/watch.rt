@@ -3,7 +3,7 @@
 use crate::event::ServeEvent;
 use std::alloc::Global;
 use std::time::Clock;
-use wf_edge::outcome::Outcome;
+use wf_edge::Outcome;
 use wf_farm::Farm;
 use wf_node::{Node, NodeFault};
 use wf_proposer::ProposalState;

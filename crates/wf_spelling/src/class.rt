@@ -11,10 +11,7 @@ use crate::line::{
     push_alone, push_optional_color, push_optional_expression, push_with_color, push_with_text,
     push_with_whole, push_with_word,
 };
-use wf_def::choice::{LabelPosition, LabelSize};
-use wf_def::class::Class;
-use wf_def::label::Label;
-use wf_def::style::Style;
+use wf_def::{Class, Label, LabelPosition, LabelSize, Style};
 
 /// Writes a style.
 pub fn push_style(out: &mut Draft, style: &Style)

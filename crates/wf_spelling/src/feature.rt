@@ -8,8 +8,7 @@ ghost use Rattle.wf_spelling.specs.Draft.{Writes};
 
 use crate::draft::Draft;
 use crate::line::{push_alone, push_point, push_with_text};
-use wf_def::feature::{Feature, Part};
-use wf_def::point::Point;
+use wf_def::{Feature, Part, Point};
 
 /// Writes points, one on each line.
 fn push_points(out: &mut Draft, points: &[Point])

@@ -10,11 +10,7 @@ use crate::class::push_class;
 use crate::draft::Draft;
 use crate::feature::push_feature;
 use crate::line::{push_alone, push_with_key, push_with_text, push_with_word, quote_for};
-use wf_def::choice::LayerKind;
-use wf_def::class::Class;
-use wf_def::feature::Feature;
-use wf_def::layer::Layer;
-use wf_def::text::Text;
+use wf_def::{Class, Feature, Layer, LayerKind, Text};
 
 /// The word of a layer's kind.
 pub fn kind_word(kind: LayerKind) -> &'static str

@@ -4,7 +4,7 @@
 //! mapfile reference). `specs/Canon.antt` defines it as the lines of a definition, one after the other. wf_token defines how tokens
 //! are written on a line, wf_text how a number is written.
 //!
-//! Promises: [`text::text_of`] returns exactly the text of its definition. [`scan::map::scan`] accepts canonical texts alone, and
+//! Promises: [`text_of`] returns exactly the text of its definition. [`scan_text`] accepts canonical texts alone, and
 //! returns their definition. Not here: whether bytes that the scanner leaves are a canonical text (wf_canon decides it).
 //!
 //! Modules: `draft` is a text while it is written, `line` writes the lines of one item; `class`, `feature`, `layer` and `writer`
@@ -13,11 +13,15 @@
 
 mod class;
 mod draft;
-pub mod fault;
+mod fault;
 mod feature;
 mod layer;
 mod line;
 mod number;
-pub mod scan;
-pub mod text;
+mod scan;
+mod text;
 mod writer;
+
+pub use fault::CanonFault;
+pub use scan::map::scan_text;
+pub use text::{MOST_CANON_BYTES, text_of};

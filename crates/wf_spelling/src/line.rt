@@ -9,11 +9,7 @@ ghost use Rattle.wf_spelling.specs.Draft.{Writes};
 
 use crate::draft::Draft;
 use crate::number::{push_number, push_whole};
-use wf_def::color::Color;
-use wf_def::expression::Expression;
-use wf_def::extent::Extent;
-use wf_def::micro::Micro;
-use wf_def::point::Point;
+use wf_def::{Color, Expression, Extent, Micro, Point};
 
 /// The quote around a text.
 pub fn quote_for(text: &[u8]) -> u8

@@ -6,8 +6,8 @@ ghost use Rattle.wf_spelling.specs.Draft.{Writes};
 
 use crate::draft::Draft;
 use itoa::Buffer;
-use wf_def::micro::Micro;
-use wf_text::number_text::NumberText;
+use wf_def::Micro;
+use wf_text::NumberText;
 
 /// Writes an integer.
 pub fn push_whole(out: &mut Draft, whole: u64)

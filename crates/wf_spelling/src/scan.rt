@@ -7,5 +7,5 @@ mod cursor;
 mod feature;
 mod layer;
 mod line;
-pub mod map;
+pub(crate) mod map;
 mod number;

@@ -8,7 +8,7 @@ use crate::draft::Draft;
 use crate::fault::CanonFault;
 use crate::writer::push_map;
 use std::alloc::{AllocError, Global};
-use wf_def::map::MapDef;
+use wf_def::MapDef;
 
 /// The longest canonical text, in bytes.
 pub const MOST_CANON_BYTES: usize = 65_536;

@@ -10,8 +10,7 @@ ghost use Rattle.wf_spelling.specs.Draft.{Writes};
 use crate::draft::Draft;
 use crate::layer::push_layer;
 use crate::line::{push_alone, push_quoted, push_with_extent, push_with_key, push_with_text};
-use wf_def::choice::Projection;
-use wf_def::map::MapDef;
+use wf_def::{MapDef, Projection};
 
 /// The text of a coordinate system.
 pub fn projection_text(projection: Projection) -> &'static str

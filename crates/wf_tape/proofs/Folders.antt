@@ -1,12 +1,12 @@
 -- What calls of a disk leave in its folder, for a tape.
-use Rattle.std.proofs.Common.{◌≡◌, ◌⊎◌, ℕ, Bool, true, false, List, [], ◌∷◌, ◌++◌, Option, Some, None, option_map, Result, Ok, Err, IsErrOf, OnOk, OnErr, if◌then◌else◌, refl, sym, ap, subst, ◌∙◌, append_assoc, inl, inr}
+use Rattle.std.proofs.Common.{◌≡◌, ◌⊎◌, ℕ, Bool, true, false, List, [], ◌∷◌, ◌++◌, Option, Some, None, option_map, Result, Ok, Err, OnOk, OnErr, if◌then◌else◌, refl, sym, ap, subst, ◌∙◌, append_assoc, inl, inr}
 use Rattle.std.proofs.lemmas.List.{append-nil}
 use Rattle.wf_disk.specs.declared.fault.DiskFault.{DiskFault}
 use Rattle.wf_disk.specs.declared.fault.DiskFault.TheVariants.{Device, Memory}
 use Rattle.wf_disk.specs.declared.folder.Name.TheVariants.{Own, Second}
 use Rattle.wf_disk.specs.Folder.{File, Folder, bytes_of, bytes_in, empty_file, whole, IsLeftOf, IsLeftOfOne, MayLeave, IsSynced}
 use Rattle.wf_disk.specs.FolderTheorems.{content_is_left, whole_is_left, no_file_is_left}
-use Rattle.wf_disk.specs.Call.{Open, Make, Append, Sync, Rename, SyncNames, Read, done, extended, synced, doubted, opened_over, IsThere, IsLeft, error_of}
+use Rattle.wf_disk.specs.Call.{Open, Make, Append, Sync, Rename, SyncNames, done, extended, synced, doubted, opened_over, IsThere, IsLeft, error_of}
 use Rattle.wf_tape.specs.Tape.{IsBeginning, IsOnlyImage, IsUnchanged, IsExtended, LeavesNoOther, LeavesOldOr, LeavesOldOrCut}
 use Rattle.wf_tape.specs.DiskTape.{IsSure, IsButSecond, unsynced, placed}
 

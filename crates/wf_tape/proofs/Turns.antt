@@ -1,10 +1,10 @@
 -- Calls of a disk in turn: the moments inside them, and their failures.
-use Rattle.std.proofs.Common.{◌≡◌, ◌⊎◌, ℕ, ◌≤◌, List, Result, Ok, Err, IsErrOf, OnOk, refl, sym, ap, subst, ◌∙◌, arith, inl, inr}
+use Rattle.std.proofs.Common.{◌≡◌, ℕ, List, Result, Ok, Err, OnOk, refl, subst, ◌∙◌, arith, inl, inr}
 use Rattle.wf_disk.specs.declared.disk.Disk.{Ghosts as Disk}
 use Rattle.wf_disk.specs.declared.fault.DiskFault.{DiskFault}
 use Rattle.wf_disk.specs.declared.fault.DiskFault.TheVariants as disk
 use Rattle.wf_disk.specs.Moments.{Elapses, IsNow, AreNested, LeavesOldOrNew, HasRisen}
-use Rattle.wf_disk.specs.Folder.{Folder, MayLeave}
+use Rattle.wf_disk.specs.Folder.{MayLeave}
 use Rattle.wf_disk.specs.Call.{IsCounted}
 use Rattle.wf_tape.specs.declared.fault.TapeFault.{TapeFault}
 use Rattle.wf_tape.specs.declared.fault.TapeFault.TheVariants as tape

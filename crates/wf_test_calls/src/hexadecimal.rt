@@ -1,6 +1,5 @@
 //! Bytes in hexadecimal.
-use wf_test_table::escape::digit;
-use wf_test_table::{Answered, Transcript, Unanswered};
+use wf_test_table::{Answered, Transcript, Unanswered, digit};
 
 /// Appends the bytes that the digits spell, two digits a byte.
 pub fn push_hexadecimal(digits: &str, bytes: &mut Transcript) -> Answered {

@@ -1,7 +1,7 @@
 //! A node of a farm.
 ghost use Rattle.std.specs.Prelude.{◌≡◌, ◌<◌, ◌≤◌};
 
-use crate::words::node;
+use crate::words::read_node;
 use std::marker::Model;
 use wf_ballot::{NODES, NodeId};
 use wf_test_table::{CaseWords, Unanswered};
@@ -28,7 +28,7 @@ impl Model for Member {
 impl Member {
     /// The node that `NODE of NODES` names, where the farm has it.
     pub fn parse(words: &mut CaseWords<'_>) -> Result<Member, Unanswered> {
-        let node = node(words)?;
+        let node = read_node(words)?;
         if words.word() != "of" {
             return Err(Unanswered::BadWords);
         }

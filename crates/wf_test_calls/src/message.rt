@@ -65,7 +65,7 @@ impl Spoken<'_> {
             self.words = ahead;
             return Ok(None);
         }
-        let voted = words::ballot(&mut self.words)?;
+        let voted = words::read_ballot(&mut self.words)?;
         match self.definition() {
             Ok(canon) => Ok(Some((voted, canon))),
             Err(unanswered) => Err(unanswered),
@@ -78,15 +78,15 @@ impl Spoken<'_> {
     }
 
     fn prepare(mut self) -> Result<Message, Unanswered> {
-        let slot = words::slot(&mut self.words)?;
-        let ballot = words::ballot(&mut self.words)?;
+        let slot = words::read_slot(&mut self.words)?;
+        let ballot = words::read_ballot(&mut self.words)?;
         Ok(Message::Prepare(slot, ballot))
     }
 
     fn promise(mut self) -> Result<Message, Unanswered> {
-        let from = words::node(&mut self.words)?;
-        let slot = words::slot(&mut self.words)?;
-        let ballot = words::ballot(&mut self.words)?;
+        let from = words::read_node(&mut self.words)?;
+        let slot = words::read_slot(&mut self.words)?;
+        let ballot = words::read_ballot(&mut self.words)?;
         match self.report(slot) {
             Ok(report) => Ok(Message::Promise(from, ballot, report)),
             Err(unanswered) => Err(unanswered),
@@ -94,8 +94,8 @@ impl Spoken<'_> {
     }
 
     fn accept(mut self) -> Result<Message, Unanswered> {
-        let slot = words::slot(&mut self.words)?;
-        let ballot = words::ballot(&mut self.words)?;
+        let slot = words::read_slot(&mut self.words)?;
+        let ballot = words::read_ballot(&mut self.words)?;
         match self.definition() {
             Ok(canon) => Ok(Message::Accept(slot, ballot, canon)),
             Err(unanswered) => Err(unanswered),
@@ -103,22 +103,22 @@ impl Spoken<'_> {
     }
 
     fn accepted(mut self) -> Result<Message, Unanswered> {
-        let from = words::node(&mut self.words)?;
-        let slot = words::slot(&mut self.words)?;
-        let ballot = words::ballot(&mut self.words)?;
+        let from = words::read_node(&mut self.words)?;
+        let slot = words::read_slot(&mut self.words)?;
+        let ballot = words::read_ballot(&mut self.words)?;
         Ok(Message::Accepted(from, slot, ballot))
     }
 
     fn nack(mut self) -> Result<Message, Unanswered> {
-        let from = words::node(&mut self.words)?;
-        let slot = words::slot(&mut self.words)?;
-        let ballot = words::ballot(&mut self.words)?;
-        let promised = words::ballot(&mut self.words)?;
+        let from = words::read_node(&mut self.words)?;
+        let slot = words::read_slot(&mut self.words)?;
+        let ballot = words::read_ballot(&mut self.words)?;
+        let promised = words::read_ballot(&mut self.words)?;
         Ok(Message::Nack(from, slot, ballot, promised))
     }
 
     fn chosen(mut self) -> Result<Message, Unanswered> {
-        let slot = words::slot(&mut self.words)?;
+        let slot = words::read_slot(&mut self.words)?;
         match self.definition() {
             Ok(canon) => Ok(Message::Chosen(slot, canon)),
             Err(unanswered) => Err(unanswered),
@@ -126,7 +126,7 @@ impl Spoken<'_> {
     }
 
     fn ask(mut self) -> Result<Message, Unanswered> {
-        let slot = words::slot(&mut self.words)?;
+        let slot = words::read_slot(&mut self.words)?;
         Ok(Message::Ask(slot))
     }
 }

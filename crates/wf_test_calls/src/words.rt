@@ -3,7 +3,7 @@ use wf_ballot::{Ballot, NodeId, Seq, Slot};
 use wf_test_table::{CaseWords, Unanswered};
 
 /// The next word, the number of a node.
-pub fn node(words: &mut CaseWords<'_>) -> Result<NodeId, Unanswered> {
+pub fn read_node(words: &mut CaseWords<'_>) -> Result<NodeId, Unanswered> {
     match NodeId::new(words.byte()?) {
         Some(node) => Ok(node),
         None => Err(Unanswered::BadWords),
@@ -11,7 +11,7 @@ pub fn node(words: &mut CaseWords<'_>) -> Result<NodeId, Unanswered> {
 }
 
 /// The next word, the number of a sequence.
-pub fn sequence(words: &mut CaseWords<'_>) -> Result<Seq, Unanswered> {
+pub fn read_sequence(words: &mut CaseWords<'_>) -> Result<Seq, Unanswered> {
     match Seq::new(words.short()?) {
         Some(sequence) => Ok(sequence),
         None => Err(Unanswered::BadWords),
@@ -19,7 +19,7 @@ pub fn sequence(words: &mut CaseWords<'_>) -> Result<Seq, Unanswered> {
 }
 
 /// The next word, the number of a slot.
-pub fn slot(words: &mut CaseWords<'_>) -> Result<Slot, Unanswered> {
+pub fn read_slot(words: &mut CaseWords<'_>) -> Result<Slot, Unanswered> {
     match Slot::new(words.short()?) {
         Some(slot) => Ok(slot),
         None => Err(Unanswered::BadWords),
@@ -27,9 +27,9 @@ pub fn slot(words: &mut CaseWords<'_>) -> Result<Slot, Unanswered> {
 }
 
 /// The next two words, a ballot's round and its node.
-pub fn ballot(words: &mut CaseWords<'_>) -> Result<Ballot, Unanswered> {
+pub fn read_ballot(words: &mut CaseWords<'_>) -> Result<Ballot, Unanswered> {
     let round = words.number()?;
-    let node = node(words)?;
+    let node = read_node(words)?;
     match Ballot::new(round, node) {
         Some(ballot) => Ok(ballot),
         None => Err(Unanswered::BadWords),

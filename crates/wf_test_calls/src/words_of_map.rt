@@ -6,7 +6,7 @@ use std::alloc::Global;
 use std::fmt::Display;
 use wf_ballot::Seq;
 use wf_canon::Canon;
-use wf_def::map::MapDef;
+use wf_def::MapDef;
 use wf_test_table::Transcript;
 
 /// Appends a line: a number and the definition there.

@@ -3,8 +3,7 @@ use crate::commands::write_outcome;
 use std::alloc::Global;
 use std::io;
 use std::io::{ErrorKind, Read, Write};
-use wf_commands::fault::RunFault;
-use wf_commands::run::run_canon;
+use wf_commands::{RunFault, run_canon};
 use wf_stream::Stream;
 use wf_test_table::{Answered, CaseInput, Transcript, Unanswered};
 

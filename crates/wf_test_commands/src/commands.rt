@@ -1,12 +1,9 @@
 //! The commands on bytes in memory.
 use std::alloc::Global;
 use wf_ballot::Seq;
-use wf_commands::fault::RunFault;
-use wf_commands::map_check::run_check;
-use wf_commands::run::{run_canon, run_caps};
+use wf_commands::{RunFault, run_canon, run_caps, run_check};
 use wf_stream::Stream;
-use wf_test_table::escape::unescape;
-use wf_test_table::{Answered, CaseInput, Transcript, Unanswered};
+use wf_test_table::{Answered, CaseInput, Transcript, Unanswered, unescape};
 
 /// Appends the line for standard error, where a command failed.
 pub(crate) fn write_outcome(outcome: Result<(), RunFault>, answer: &mut Transcript) {
@@ -47,7 +44,7 @@ pub(crate) fn check(asked: CaseInput<'_>, answer: &mut Transcript) -> Answered {
 }
 
 fn is_written(bytes: &[u8], output: &Transcript) -> bool {
-    match output.written() {
+    match output.finished_text() {
         Ok(written) => written == bytes,
         Err(_) => false,
     }
@@ -67,7 +64,7 @@ fn write_canon_again(alloc: Global, once: &[u8], answer: &mut Transcript) {
 }
 
 fn write_canon_twice(alloc: Global, once: &Transcript, answer: &mut Transcript) -> Answered {
-    let once = once.written()?;
+    let once = once.finished_text()?;
     answer.count(once.len());
     answer.text(" bytes, ");
     write_canon_again(alloc, once, answer);
@@ -94,7 +91,7 @@ fn write_caps(
     query: &Transcript,
     answer: &mut Transcript,
 ) -> Answered {
-    let query = query.written()?;
+    let query = query.finished_text()?;
     let mut source = Stream::new(asked.input);
     let mut sink = Stream::new(answer.target());
     let outcome = run_caps(

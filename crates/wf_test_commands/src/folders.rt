@@ -95,7 +95,7 @@ fn write_start(start: Result<Start, StartRejection>, answer: &mut Transcript) {
 }
 
 /// `admit N`: whether a farm of N nodes may start on a folder: its file, a space, its tapes.
-pub(crate) fn admitted(mut asked: CaseInput<'_>, answer: &mut Transcript) -> Answered {
+pub(crate) fn ask_admission(mut asked: CaseInput<'_>, answer: &mut Transcript) -> Answered {
     let nodes = asked.words.byte()?;
     let Some((file, tapes)) = asked.text()?.split_once(' ') else {
         return Err(Unanswered::BadWords);

@@ -92,7 +92,7 @@ fn write_line(runs: usize, left: &Transcript, answer: &mut Transcript) {
 
 /// Whether two answers were written, and are the same.
 fn is_same(first: &Transcript, second: &Transcript) -> bool {
-    match (first.written(), second.written()) {
+    match (first.finished_text(), second.finished_text()) {
         (Ok(first), Ok(second)) => first == second,
         _ => false,
     }

@@ -2,13 +2,11 @@
 use crate::recorder::Recorder;
 use clap::Error;
 use std::alloc::Global;
-use wf_commands::program::{Ending, rejection_status, run_words};
+use wf_commands::{Ending, rejection_status, run_words};
 use wf_farm::Carrier;
-use wf_line::arguments::line;
-use wf_line::line::{Line, Service};
+use wf_line::{Line, Service, line};
 use wf_stream::Stream;
-use wf_test_table::escape::unescape;
-use wf_test_table::{Answered, CaseInput, Transcript, Unanswered};
+use wf_test_table::{Answered, CaseInput, Transcript, Unanswered, unescape};
 
 fn write_service(service: Service<'_>, answer: &mut Transcript) {
     answer.text("serve ");
@@ -174,7 +172,7 @@ fn run_text<C: Carrier>(
     text: &Transcript,
     answer: &mut Transcript,
 ) -> Answered {
-    let Ok(text) = str::from_utf8(text.written()?) else {
+    let Ok(text) = str::from_utf8(text.finished_text()?) else {
         return Err(Unanswered::BadWords);
     };
     let words = words_of(asked.alloc, text, '\n')?;

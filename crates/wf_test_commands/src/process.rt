@@ -12,9 +12,8 @@ use std::process::ExitCode;
 use std::rt::{Clock, Env, Files};
 use std::time::Duration;
 use std::{fs, io};
-use wf_commands::program::program;
-use wf_test_table::escape::unescape;
-use wf_test_table::{Answered, CaseInput, Transcript, Unanswered};
+use wf_commands::run_process;
+use wf_test_table::{Answered, CaseInput, Transcript, Unanswered, unescape};
 
 /// Which of its standard streams is broken, or that another program has the folder `new`.
 #[derive(Clone, Copy, PartialEq)]
@@ -278,7 +277,7 @@ fn write_status(code: ExitCode, answer: &mut Transcript) {
 
 /// Appends what was written to a standard stream, each line after a mark.
 fn write_lines(mark: &str, written: Transcript, answer: &mut Transcript) -> Answered {
-    let reported_as = match written.written() {
+    let reported_as = match written.finished_text() {
         Ok(bytes) => {
             for line in bytes.split_inclusive(|byte| *byte == b'\n') {
                 answer.text(mark);
@@ -322,7 +321,7 @@ fn write_process<R: Files<File = File>>(
         output: RefCell::new(Transcript::new(asked.alloc)),
         errors: RefCell::new(Transcript::new(asked.alloc)),
     };
-    let code = program(&process);
+    let code = run_process(&process);
     drop(held);
     let TestProcess {
         files: _,
@@ -359,7 +358,7 @@ pub(crate) fn program_of<R: Files<File = File>>(
     };
     let mut words = Transcript::new(asked.alloc);
     let reported_as = match unescape(asked.words.rest(), &mut words) {
-        Ok(()) => match words.written() {
+        Ok(()) => match words.finished_text() {
             Ok(bytes) => write_process(files, asked, broken, bytes, answer),
             Err(_) => Err(Unanswered::Memory),
         },

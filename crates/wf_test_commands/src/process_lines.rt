@@ -1,9 +1,9 @@
 //! Command lines about processes of a farm.
 use crate::lines::{status_of, words_of, write_bracketed, write_rejection};
-use wf_line::node_line::{InitLine, NodeCommand, NodeLine};
-use wf_line::process_arguments::{names_process_command, process_command};
-use wf_line::process_line::ProcessCommand;
-use wf_line::replica_line::ReplicaLine;
+use wf_line::{
+    InitLine, NodeCommand, NodeLine, ProcessCommand, ReplicaLine, names_process_command,
+    process_command,
+};
 use wf_test_table::{Answered, CaseInput, Transcript};
 
 fn write_if_any(name: &str, text: Option<&str>, answer: &mut Transcript) {

@@ -15,7 +15,7 @@ impl<'r, R: Files<File = File> + Net<Listener = TcpListener, Stream = TcpStream>
     for CommandQuestions<'r, R> {
     fn answer(&self, mut asked: CaseInput<'_>, answer: &mut Transcript) -> Answered {
         match asked.words.word() {
-            "admit" => folders::admitted(asked, answer),
+            "admit" => folders::ask_admission(asked, answer),
             "canon" => commands::canon(asked, answer),
             "canon_broken" => broken::canon_broken(asked, answer),
             "canon_twice" => commands::canon_twice(asked, answer),

@@ -5,10 +5,9 @@ ghost use Rattle.wf_serve.specs.StartFault.{CountsWrites};
 ghost use Rattle.wf_test_commands.specs.Files.{content_at, is_file};
 
 use std::alloc::Global;
-use wf_commands::server::{NodeServer, ServeFault};
-use wf_commands::tapes::Tapes;
+use wf_commands::{NodeServer, ServeFault, Tapes};
 use wf_folder::{FoundFile, Presence, Start};
-use wf_line::line::Service;
+use wf_line::Service;
 use wf_listing::TapeReadFault;
 use wf_serve::{Cause, Survey};
 use wf_stream::{Sink, write_all};

@@ -1,5 +1,5 @@
 -- Three nodes, or one, each at the index of its number.
-use Rattle.std.proofs.Common.{◌≡◌, ℕ, zero, suc, List, [], ◌∷◌, slice_get, Some, subst}
+use Rattle.std.proofs.Common.{◌≡◌, ℕ, zero, suc, [], ◌∷◌, slice_get, Some, subst}
 use Rattle.std.proofs.lemmas.Option.{none-some, same_Some}
 use Rattle.wf_delivery.specs.Delivery.{StandAmong, StandInTurn}
 use Rattle.wf_node.specs.Node.{Node}

@@ -6,12 +6,11 @@ use std::alloc::Global;
 use std::io;
 use std::process::Abort;
 use wf_codec::Message;
-use wf_edge::outcome::Outcome;
-use wf_edge::serve::serve_one_cached;
+use wf_edge::{Outcome, serve_one_cached};
 use wf_node::{Input, Node};
 use wf_stream::{Bytes, Stream};
 use wf_tape::MemoryTape;
-use wf_wms::cache::Cache;
+use wf_wms::Cache;
 
 /// The canonical text of a map with a layer on which nothing is drawn.
 const MAP: &[u8] =
@@ -65,7 +64,7 @@ fn is_second_dropped(alloc: Global, node: &mut Node<MemoryTape>, cache: &mut Cac
         && sends_tile(alloc, node, cache, ON_BLUE)
         && sends_tile(alloc, node, cache, ON_RED)
         && sends_tile(alloc, node, cache, ON_GREEN);
-    are_sent && cache.drawings() == 4 && cache.taken() == 2
+    are_sent && cache.drawings() == 4 && cache.cached_tiles() == 2
 }
 
 /// Whether an empty cache of two pictures does.

@@ -4,12 +4,9 @@ ghost use Rattle.std.specs.Prelude.{◌≡◌, []};
 use std::alloc::Global;
 use std::process::Abort;
 use wf_canon::Canon;
-use wf_def::choice::LayerKind;
-use wf_def::fault::LayerFault;
-use wf_def::layer::{Classes, Features, Layer, is_layer_name};
-use wf_def::limits::MOST_LAYERS;
-use wf_def::map::MapDef;
-use wf_def::text::Text;
+use wf_def::{
+    Classes, Features, Layer, LayerFault, LayerKind, MOST_LAYERS, MapDef, Text, is_layer_name,
+};
 use wf_mapfile::read;
 
 /// The canonical text of a map with every part that a map may have.

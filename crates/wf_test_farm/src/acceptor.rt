@@ -12,10 +12,9 @@ use std::alloc::{AllocError, Global};
 use wf_acceptor::{Acceptor, AcceptorAnswer as Reply};
 use wf_ballot::Slot;
 use wf_journal::Record;
-use wf_test_calls::lines::{write_done, write_whether};
-use wf_test_calls::script::{CallMaps, read_script};
-use wf_test_calls::words;
-use wf_test_calls::words_of_record::write_step;
+use wf_test_calls::{
+    CallMaps, read_ballot, read_node, read_script, read_slot, write_done, write_step, write_whether,
+};
 use wf_test_table::{Answered, CaseInput, CaseWords, Transcript, Unanswered};
 
 #[derive(Drop)]
@@ -27,7 +26,7 @@ struct AcceptorSession<'a> {
 
 /// Appends what the acceptor of a node, which has stored nothing, answers to each call.
 pub(crate) fn ask(mut asked: CaseInput<'_>, answer: &mut Transcript) -> Answered {
-    let node = words::node(&mut asked.words)?;
+    let node = read_node(&mut asked.words)?;
     let script = read_script(asked.input)?;
     let mut session = AcceptorSession {
         alloc: asked.alloc,
@@ -60,8 +59,8 @@ impl AcceptorSession<'_> {
     }
 
     fn prepare(&mut self, call: &mut CaseWords<'_>, answer: &mut Transcript) -> Answered {
-        let slot = words::slot(call)?;
-        let ballot = words::ballot(call)?;
+        let slot = read_slot(call)?;
+        let ballot = read_ballot(call)?;
         if self.acceptor.is_published(slot) {
             return Err(Unanswered::BadWords);
         }
@@ -70,8 +69,8 @@ impl AcceptorSession<'_> {
     }
 
     fn accept(&mut self, call: &mut CaseWords<'_>, answer: &mut Transcript) -> Answered {
-        let slot = words::slot(call)?;
-        let ballot = words::ballot(call)?;
+        let slot = read_slot(call)?;
+        let ballot = read_ballot(call)?;
         if self.acceptor.is_published(slot) {
             return Err(Unanswered::BadWords);
         }
@@ -108,7 +107,7 @@ impl AcceptorSession<'_> {
     }
 
     fn publish(&mut self, call: &mut CaseWords<'_>, answer: &mut Transcript) -> Answered {
-        let slot = words::slot(call)?;
+        let slot = read_slot(call)?;
         if !self.is_next(slot) {
             return Err(Unanswered::BadWords);
         }
@@ -132,7 +131,7 @@ impl AcceptorSession<'_> {
     }
 
     fn is_published(&self, call: &mut CaseWords<'_>, answer: &mut Transcript) -> Answered {
-        let slot = words::slot(call)?;
+        let slot = read_slot(call)?;
         write_whether(self.acceptor.is_published(slot), answer);
         Ok(())
     }

@@ -2,9 +2,7 @@
 use crate::encoding_cases::write_spelled;
 use std::alloc::Global;
 use wf_codec::{DecodeFault, Message, decode};
-use wf_test_calls::lines::write_printed;
-use wf_test_calls::script::CallMaps;
-use wf_test_calls::words_of_message::write_message;
+use wf_test_calls::{CallMaps, write_message, write_printed};
 use wf_test_table::{Answered, CaseInput, Runs, Transcript, Unanswered};
 
 /// Appends how many bytes the message at the front has, and the message; or the error.
@@ -61,7 +59,7 @@ fn take_followed_by(
 
 fn write_decoded_of(asked: CaseInput<'_>, bytes: &Transcript, answer: &mut Transcript) -> Answered {
     let whole = CaseInput {
-        input: bytes.written()?,
+        input: bytes.finished_text()?,
         ..asked
     };
     write_decoded(whole, answer)

@@ -1,7 +1,6 @@
 //! Messages made of words, and their bytes.
 use wf_codec::{Message, encode};
-use wf_test_calls::message::Spoken;
-use wf_test_calls::script::Definitions;
+use wf_test_calls::{Definitions, Spoken};
 use wf_test_table::{Answered, CaseInput, Transcript};
 
 /// Appends `message ` and then the bytes of the message that the words spell; its definition, if it has one, is given by its

@@ -15,11 +15,10 @@ use std::alloc::{AllocError, Global};
 use wf_ballot::{Seq, Slot};
 use wf_canon::Canon;
 use wf_learner::{History, Learned};
-use wf_test_calls::lines::{write_done, write_field, write_none, write_printed, write_read};
-use wf_test_calls::script::{CallMaps, CallScript, read_script};
-use wf_test_calls::words;
-use wf_test_calls::words_of_map::{write_at, write_map};
-use wf_test_calls::words_of_record::record_sent;
+use wf_test_calls::{
+    CallMaps, CallScript, read_script, read_sequence, read_slot, record_sent, write_at, write_done,
+    write_field, write_map, write_none, write_printed, write_read,
+};
 use wf_test_table::{Answered, CaseInput, CaseWords, Transcript, Unanswered};
 
 #[derive(Drop)]
@@ -79,8 +78,8 @@ impl HistorySession<'_> {
         match asked {
             "published" => write_printed(self.history.published().number(), answer),
             "next" => write_read(self.history.next_slot(), answer),
-            "get" => self.get(words::sequence(call)?, answer),
-            asked => return self.look_at(asked, words::slot(call)?, answer),
+            "get" => self.get(read_sequence(call)?, answer),
+            asked => return self.look_at(asked, read_slot(call)?, answer),
         }
         Ok(())
     }
@@ -97,7 +96,7 @@ impl HistorySession<'_> {
     }
 
     fn learn(&mut self, call: &mut CaseWords<'_>, answer: &mut Transcript) -> Answered {
-        let slot = words::slot(call)?;
+        let slot = read_slot(call)?;
         let canon = self.maps.canon(self.alloc, call.word())?;
         match self.history.learn(slot, canon) {
             Ok(learned) => write_learned(learned, answer),
@@ -107,7 +106,7 @@ impl HistorySession<'_> {
     }
 
     fn fill(&mut self, call: &mut CaseWords<'_>, answer: &mut Transcript) -> Answered {
-        let last = words::slot(call)?;
+        let last = read_slot(call)?;
         let canon = self.maps.canon(self.alloc, call.word())?;
         let filled = self.learn_up_to(last, &canon);
         drop(canon);

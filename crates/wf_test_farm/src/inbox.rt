@@ -2,12 +2,10 @@
 ghost use Rattle.std.specs.Prelude.{◌≤◌, length};
 
 use std::alloc::Global;
-use wf_codec::{Message, encode};
-use wf_test_calls::lines::write_printed;
-use wf_test_calls::script::CallMaps;
-use wf_test_calls::words_of_message::write_message;
+use wf_codec::{DecodeFault, Message, encode};
+use wf_mail::Inbox;
+use wf_test_calls::{CallMaps, write_message, write_printed};
 use wf_test_table::{Answered, CaseInput, Transcript, Unanswered};
-use wf_wire::{Inbox, InboxFault};
 
 /// Appends what an inbox returns for each piece of that many bytes, the messages or the error; and how many bytes it keeps.
 pub(crate) fn write_fed(mut asked: CaseInput<'_>, answer: &mut Transcript) -> Answered {
@@ -28,7 +26,7 @@ pub(crate) fn write_fed(mut asked: CaseInput<'_>, answer: &mut Transcript) -> An
 fn write_piece(inbox: &mut Inbox, piece: &[u8], answer: &mut Transcript) {
     match inbox.feed(piece) {
         Ok(messages) => write_messages(messages, answer),
-        Err(InboxFault::Memory) => answer.cut(),
+        Err(DecodeFault::Memory) => answer.cut(),
         Err(fault) => write_printed(fault, answer),
     }
 }
@@ -65,7 +63,7 @@ fn gives_back(alloc: Global, bytes: &[u8], cut: usize) -> Result<bool, Unanswere
     spell_piece(&mut inbox, first, &mut spelled);
     spell_piece(&mut inbox, second, &mut spelled);
     drop(inbox);
-    let is_same = match spelled.written() {
+    let is_same = match spelled.finished_text() {
         Ok(written) => Ok(written == bytes),
         Err(_) => Err(Unanswered::Memory),
     };
@@ -76,7 +74,7 @@ fn gives_back(alloc: Global, bytes: &[u8], cut: usize) -> Result<bool, Unanswere
 fn spell_piece(inbox: &mut Inbox, piece: &[u8], spelled: &mut Transcript) {
     match inbox.feed(piece) {
         Ok(messages) => spell_messages(messages, spelled),
-        Err(InboxFault::Memory) => spelled.cut(),
+        Err(DecodeFault::Memory) => spelled.cut(),
         Err(fault) => write_printed(fault, spelled),
     }
 }

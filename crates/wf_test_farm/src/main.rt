@@ -4,7 +4,7 @@
 //! Standard input is a table of cases (`wf_test_table` defines its format). The program compares each answer with the expected one
 //! and writes each difference, with the counts on the last line. [`questions`] lists the questions.
 //!
-//! It has no contract of its own: its answers are those of `wf_ballot`, `wf_codec`, `wf_wire`, `wf_tape`, `wf_acceptor`,
+//! It has no contract of its own: its answers are those of `wf_ballot`, `wf_codec`, `wf_mail`, `wf_tape`, `wf_acceptor`,
 //! `wf_proposer`,
 //! `wf_learner` and `wf_node`, put into words.
 #![tactic(auto)]

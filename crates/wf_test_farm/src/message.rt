@@ -3,7 +3,7 @@ use crate::decoding_cases::{write_beginnings, write_copy, write_decoded, write_f
 use crate::encoding_cases::write_encoded;
 use crate::inbox::{write_cuts, write_fed};
 use wf_codec::DecodeFault;
-use wf_test_calls::lines::write_printed;
+use wf_test_calls::write_printed;
 use wf_test_table::{Answered, CaseInput, CaseWords, Transcript, Unanswered};
 
 pub(crate) fn ask(mut asked: CaseInput<'_>, answer: &mut Transcript) -> Answered {

@@ -23,7 +23,7 @@
 //!                          each length from FROM on; then as restart
 //! ```
 //!
-//! [`wf_test_calls::message`] defines the words of a message. The answer to a rejected step is `refused: ` and the error as it is
+//! `wf_test_calls` defines the words of a message. The answer to a rejected step is `refused: ` and the error as it is
 //! printed.
 use crate::open_cases::begin;
 use std::alloc::Global;
@@ -32,14 +32,10 @@ use wf_canon::Canon;
 use wf_codec::Message;
 use wf_node::{Input, Node, NodeFault};
 use wf_tape::MemoryTape;
-use wf_test_calls::lines::{write_printed, write_rejected};
-use wf_test_calls::member::Member;
-use wf_test_calls::message::Spoken;
-use wf_test_calls::script::{CallMaps, CallScript, Definitions, read_script};
-use wf_test_calls::words;
-use wf_test_calls::words_of_map::write_map;
-use wf_test_calls::words_of_proposal_state::write_proposal_state;
-use wf_test_calls::words_of_record::record_sent;
+use wf_test_calls::{
+    CallMaps, CallScript, Definitions, Member, Spoken, read_script, read_sequence, read_slot,
+    record_sent, write_map, write_printed, write_proposal_state, write_rejected,
+};
 use wf_test_table::{Answered, CaseInput, CaseWords, Transcript, Unanswered};
 
 /// A node, the maps of the script, and which node of the farm it is.
@@ -130,7 +126,7 @@ impl NodeSession<'_> {
     }
 
     fn definition(&self, call: &mut CaseWords<'_>, answer: &mut Transcript) -> Answered {
-        let sequence = words::sequence(call)?;
+        let sequence = read_sequence(call)?;
         let map = self.node.definition(sequence);
         write_map(self.alloc, sequence, map, self.maps, answer);
         Ok(())
@@ -175,7 +171,7 @@ impl NodeSession<'_> {
     }
 
     fn fill(&mut self, call: &mut CaseWords<'_>, answer: &mut Transcript) -> Answered {
-        let last = words::slot(call)?;
+        let last = read_slot(call)?;
         let canon = self.maps.canon(self.alloc, call.word())?;
         let filled = self.publish_up_to(last, &canon);
         drop(canon);

@@ -1,7 +1,9 @@
 //! Nodes, sequences and slots: their numbers, their bytes, and how they are read.
 use wf_ballot::{NodeId, Seq, Slot, split_node, split_slot};
-use wf_test_calls::lines::{write_bytes, write_left, write_none, write_printed, write_read};
-use wf_test_calls::words::{node, sequence, slot};
+use wf_test_calls::{
+    read_node, read_sequence, read_slot, write_bytes, write_left, write_none, write_printed,
+    write_read,
+};
 use wf_test_table::{Answered, CaseInput, CaseWords, Transcript, Unanswered};
 
 pub(crate) fn ask_node(asked: CaseInput<'_>, answer: &mut Transcript) -> Answered {
@@ -30,7 +32,7 @@ fn node_number(asked: CaseInput<'_>, answer: &mut Transcript) -> Answered {
 }
 
 fn node_bytes(asked: CaseInput<'_>, answer: &mut Transcript) -> Answered {
-    let node = node(&mut CaseWords::of(asked.input)?)?;
+    let node = read_node(&mut CaseWords::of(asked.input)?)?;
     write_bytes(&node.bytes(), answer);
     Ok(())
 }
@@ -64,7 +66,7 @@ fn sequence_number(asked: CaseInput<'_>, answer: &mut Transcript) -> Answered {
 }
 
 fn sequence_bytes(asked: CaseInput<'_>, answer: &mut Transcript) -> Answered {
-    let sequence = sequence(&mut CaseWords::of(asked.input)?)?;
+    let sequence = read_sequence(&mut CaseWords::of(asked.input)?)?;
     write_bytes(&sequence.bytes(), answer);
     Ok(())
 }
@@ -96,7 +98,7 @@ fn slot_number(asked: CaseInput<'_>, answer: &mut Transcript) -> Answered {
 }
 
 fn slot_of(asked: CaseInput<'_>, answer: &mut Transcript) -> Answered {
-    let sequence = sequence(&mut CaseWords::of(asked.input)?)?;
+    let sequence = read_sequence(&mut CaseWords::of(asked.input)?)?;
     match Slot::of(sequence) {
         Some(slot) => write_printed(slot.seq().number(), answer),
         None => write_none(answer),
@@ -105,7 +107,7 @@ fn slot_of(asked: CaseInput<'_>, answer: &mut Transcript) -> Answered {
 }
 
 fn slot_bytes(asked: CaseInput<'_>, answer: &mut Transcript) -> Answered {
-    let slot = slot(&mut CaseWords::of(asked.input)?)?;
+    let slot = read_slot(&mut CaseWords::of(asked.input)?)?;
     write_bytes(&slot.bytes(), answer);
     Ok(())
 }

@@ -3,9 +3,7 @@ use std::alloc::Global;
 use wf_journal::OpenFault;
 use wf_node::Node;
 use wf_tape::MemoryTape;
-use wf_test_calls::lines::write_field;
-use wf_test_calls::member::Member;
-use wf_test_calls::words_of_tape::{bytes_on, tape_of, write_length};
+use wf_test_calls::{Member, bytes_on, tape_of, write_field, write_length};
 use wf_test_table::{Answered, CaseInput, Transcript, Unanswered};
 
 /// The node on a tape; or the tape again, and why the node doesn't open.

@@ -15,12 +15,10 @@
 use std::alloc::Global;
 use wf_ballot::SEQUENCES;
 use wf_proposer::{Next, Proposer, StepRejection};
-use wf_test_calls::lines::write_rejected;
-use wf_test_calls::message::Spoken;
-use wf_test_calls::script::{CallMaps, CallScript, Definitions, read_script};
-use wf_test_calls::words;
-use wf_test_calls::words_of_proposal_state::write_proposal_state;
-use wf_test_calls::words_of_record::write_step;
+use wf_test_calls::{
+    CallMaps, CallScript, Definitions, Spoken, read_ballot, read_node, read_script, read_sequence,
+    read_slot, write_proposal_state, write_rejected, write_step,
+};
 use wf_test_table::{Answered, CaseInput, CaseWords, Transcript, Unanswered};
 
 #[derive(Drop)]
@@ -32,7 +30,7 @@ struct ProposerSession<'a> {
 
 /// Appends what the proposer of a node, of a farm of that many nodes, answers to each call, and the state of its proposal.
 pub(crate) fn ask(mut asked: CaseInput<'_>, answer: &mut Transcript) -> Answered {
-    let node = words::node(&mut asked.words)?;
+    let node = read_node(&mut asked.words)?;
     if asked.words.word() != "of" {
         return Err(Unanswered::BadWords);
     }
@@ -80,7 +78,7 @@ impl ProposerSession<'_> {
 
     fn start(&mut self, call: &mut CaseWords<'_>, answer: &mut Transcript) -> Answered {
         let tried = call.number()?;
-        let published = words::sequence(call)?;
+        let published = read_sequence(call)?;
         if published.number() >= SEQUENCES {
             return Err(Unanswered::BadWords);
         }
@@ -96,9 +94,9 @@ impl ProposerSession<'_> {
     }
 
     fn promise(&mut self, call: &mut CaseWords<'_>, answer: &mut Transcript) -> Answered {
-        let from = words::node(call)?;
-        let slot = words::slot(call)?;
-        let ballot = words::ballot(call)?;
+        let from = read_node(call)?;
+        let slot = read_slot(call)?;
+        let ballot = read_ballot(call)?;
         let spoken = Spoken {
             alloc: self.alloc,
             words: *call,
@@ -110,24 +108,24 @@ impl ProposerSession<'_> {
     }
 
     fn accepted(&mut self, call: &mut CaseWords<'_>, answer: &mut Transcript) -> Answered {
-        let from = words::node(call)?;
-        let slot = words::slot(call)?;
-        let ballot = words::ballot(call)?;
+        let from = read_node(call)?;
+        let slot = read_slot(call)?;
+        let ballot = read_ballot(call)?;
         let received = self.proposer.on_accepted(self.alloc, from, slot, ballot);
         self.give(received, answer)
     }
 
     fn nack(&mut self, call: &mut CaseWords<'_>, answer: &mut Transcript) -> Answered {
-        let slot = words::slot(call)?;
-        let ballot = words::ballot(call)?;
-        let promised = words::ballot(call)?;
+        let slot = read_slot(call)?;
+        let ballot = read_ballot(call)?;
+        let promised = read_ballot(call)?;
         let next = self.proposer.on_nack(self.alloc, slot, ballot, promised);
         self.commit(next, answer);
         Ok(())
     }
 
     fn published(&mut self, call: &mut CaseWords<'_>, answer: &mut Transcript) -> Answered {
-        let slot = words::slot(call)?;
+        let slot = read_slot(call)?;
         let canon = self.maps.canon(self.alloc, call.word())?;
         self.proposer.on_published(slot, &canon);
         drop(canon);

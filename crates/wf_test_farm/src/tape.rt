@@ -4,10 +4,7 @@ use wf_ballot::Slot;
 use wf_canon::Canon;
 use wf_journal::{Journal, OpenFault, Record};
 use wf_tape::MemoryTape;
-use wf_test_calls::lines::write_printed;
-use wf_test_calls::script::canon_of;
-use wf_test_calls::words_of_record::write_head;
-use wf_test_calls::words_of_tape::{bytes_on, tape_of, write_length};
+use wf_test_calls::{bytes_on, canon_of, tape_of, write_head, write_length, write_printed};
 use wf_test_table::{Answered, CaseInput, Transcript, Unanswered};
 
 pub(crate) fn ask(mut asked: CaseInput<'_>, answer: &mut Transcript) -> Answered {

@@ -4,9 +4,7 @@ use crate::open_cases::{begin, open, write_rejected};
 use std::mem::replace;
 use wf_node::Node;
 use wf_tape::MemoryTape;
-use wf_test_calls::hexadecimal::push_hexadecimal;
-use wf_test_calls::lines::{write_bytes, write_field};
-use wf_test_calls::words_of_tape::{bytes_on, tape_of, write_length};
+use wf_test_calls::{bytes_on, push_hexadecimal, tape_of, write_bytes, write_field, write_length};
 use wf_test_table::{Answered, CaseWords, Runs, Transcript, Unanswered};
 
 impl NodeSession<'_> {
@@ -21,7 +19,7 @@ impl NodeSession<'_> {
     }
 
     fn open_on_copy(&mut self, bytes: &Transcript, answer: &mut Transcript) -> Answered {
-        let tape = tape_of(self.alloc, bytes.written()?)?;
+        let tape = tape_of(self.alloc, bytes.finished_text()?)?;
         self.open_on(tape, answer);
         Ok(())
     }

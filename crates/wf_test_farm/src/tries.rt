@@ -1,9 +1,9 @@
 //! Majorities, rounds and ballots.
 use wf_ballot::{Ballot, is_majority, split_ballot, split_round};
-use wf_test_calls::lines::{
-    write_bytes, write_left, write_none, write_printed, write_read, write_whether,
+use wf_test_calls::{
+    read_ballot, read_node, write_bytes, write_left, write_none, write_printed, write_read,
+    write_whether,
 };
-use wf_test_calls::words::{ballot, node};
 use wf_test_table::{Answered, CaseInput, CaseWords, Transcript, Unanswered};
 
 pub(crate) fn majority(asked: CaseInput<'_>, answer: &mut Transcript) -> Answered {
@@ -60,19 +60,19 @@ fn write_parts(ballot: Option<Ballot>, answer: &mut Transcript) {
 fn ballot_number(asked: CaseInput<'_>, answer: &mut Transcript) -> Answered {
     let mut words = CaseWords::of(asked.input)?;
     let round = words.number()?;
-    write_parts(Ballot::new(round, node(&mut words)?), answer);
+    write_parts(Ballot::new(round, read_node(&mut words)?), answer);
     Ok(())
 }
 
 fn ballot_next(asked: CaseInput<'_>, answer: &mut Transcript) -> Answered {
     let mut words = CaseWords::of(asked.input)?;
     let round = words.number()?;
-    write_parts(Ballot::next(round, node(&mut words)?), answer);
+    write_parts(Ballot::next(round, read_node(&mut words)?), answer);
     Ok(())
 }
 
 fn ballot_bytes(asked: CaseInput<'_>, answer: &mut Transcript) -> Answered {
-    let ballot = ballot(&mut CaseWords::of(asked.input)?)?;
+    let ballot = read_ballot(&mut CaseWords::of(asked.input)?)?;
     write_bytes(&ballot.bytes(), answer);
     Ok(())
 }
@@ -86,8 +86,8 @@ fn ballot_split(input: &[u8], answer: &mut Transcript) {
 
 fn ballot_compare(asked: CaseInput<'_>, answer: &mut Transcript) -> Answered {
     let mut words = CaseWords::of(asked.input)?;
-    let first = ballot(&mut words)?;
-    let second = ballot(&mut words)?;
+    let first = read_ballot(&mut words)?;
+    let second = read_ballot(&mut words)?;
     answer.line(order(first, second));
     Ok(())
 }

@@ -5,9 +5,7 @@ use crate::maps::{is_same, learn_next, letter_of, read_canon};
 use std::alloc::Global;
 use wf_learner::History;
 use wf_test_table::{Answered, CaseInput, Transcript, Unanswered};
-use wf_wms::Answer as Given;
-use wf_wms::cache::Cache;
-use wf_wms::service::{answer as answer_query, answer_cached};
+use wf_wms::{Answer as Given, Cache, answer as answer_query, answer_cached};
 
 fn publish(alloc: Global, history: &mut History, mapfile: &[u8]) -> Answered {
     match read_canon(alloc, mapfile) {

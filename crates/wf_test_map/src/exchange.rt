@@ -2,10 +2,7 @@
 use crate::failing_streams::{Failure, Faltering, Taking};
 use std::alloc::Global;
 use std::io::ErrorKind;
-use wf_edge::completion::write_error;
-use wf_edge::outcome::Outcome;
-use wf_edge::request::Request;
-use wf_edge::resource::RequestedResource as Resource;
+use wf_edge::{Outcome, Request, RequestedResource as Resource, write_error};
 use wf_stream::Stream;
 use wf_test_table::{Answered, CaseInput, CaseWords, Transcript, Unanswered};
 
@@ -154,7 +151,7 @@ fn name(resource: Resource) -> &'static str {
 
 // Appends what a request asks for, its query and the length of its body.
 fn write_request(request: &Request, answer: &mut Transcript) {
-    answer.text(name(request.asked()));
+    answer.text(name(request.resource()));
     answer.bytes(request.query());
     answer.text("], body ");
     answer.count(request.body().len());

@@ -4,14 +4,11 @@ ghost use Rattle.wf_wms.specs.CachedPictures.{AllCached};
 use crate::requests::write_summary;
 use std::alloc::{AllocError, Global};
 use wf_canon::{Canon, CanonFault};
-use wf_def::map::MapDef;
+use wf_def::MapDef;
 use wf_learner::History;
-use wf_mapfile::fault::MapFault;
-use wf_test_table::escape::unescape;
-use wf_test_table::{Answered, CaseInput, Transcript, Unanswered};
-use wf_wms::Answer as Given;
-use wf_wms::cache::Cache;
-use wf_wms::service::{answer as answer_query, answer_cached};
+use wf_mapfile::MapFault;
+use wf_test_table::{Answered, CaseInput, Transcript, Unanswered, unescape};
+use wf_wms::{Answer as Given, Cache, answer as answer_query, answer_cached};
 
 /// Map `sq`: in 0 0 4 4, in metres, a red square from 1 1 to 3 3.
 const MAP_SQ: &str =
@@ -190,7 +187,7 @@ fn write_picture(bytes: &[u8], answer: &mut Transcript) -> Answered {
 }
 
 fn write_drawn(asked: CaseInput<'_>, query: &Transcript, answer: &mut Transcript) -> Answered {
-    match ask_map(asked.alloc, asked.input, query.written()?) {
+    match ask_map(asked.alloc, asked.input, query.finished_text()?) {
         Ok(given) => {
             let reported = write_picture(&given.bytes, answer);
             drop(given);

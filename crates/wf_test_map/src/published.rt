@@ -8,12 +8,12 @@ use std::alloc::Global;
 use wf_ballot::Slot;
 use wf_canon::Canon;
 use wf_codec::Message;
-use wf_edge::serve::serve_one_cached;
+use wf_edge::serve_one_cached;
 use wf_node::{Input, Node, NodeFault};
 use wf_tape::{MemoryTape, Tape};
-use wf_test_calls::member::Member;
+use wf_test_calls::Member;
 use wf_test_table::{Answered, CaseInput, Transcript, Unanswered};
-use wf_wms::cache::Cache;
+use wf_wms::Cache;
 
 /// Appends, for each request, what becomes of it, what is written and what is sent; if wanted, of
 /// one request that comes twice, by a cache of one picture. The

@@ -1,7 +1,6 @@
 //! Reports of exceptions, also each by itself.
 use wf_test_table::{Answered, CaseInput, CaseWords, Transcript, Unanswered};
-use wf_wms::report::report;
-use wf_wms::{Exception, Parameter};
+use wf_wms::{Exception, Parameter, exception_report};
 
 fn parameter_of(name: &str) -> Result<Parameter, Unanswered> {
     match name {
@@ -37,7 +36,7 @@ fn exception_of(mut words: CaseWords<'_>) -> Result<Exception, Unanswered> {
 
 /// `report EXCEPTION`: its report.
 pub(crate) fn report_of(asked: CaseInput<'_>, answer: &mut Transcript) -> Answered {
-    match report(asked.alloc, exception_of(asked.words)?) {
+    match exception_report(asked.alloc, exception_of(asked.words)?) {
         Ok(document) => {
             answer.bytes(&document);
             drop(document);

@@ -1,7 +1,7 @@
 //! Requests and their answers.
 use wf_ballot::Seq;
-use wf_def::map::MapDef;
-use wf_test_calls::words::sequence;
+use wf_def::MapDef;
+use wf_test_calls::read_sequence;
 use wf_test_table::{Answered, CaseInput, Transcript};
 use wf_wms::{Answer as Given, Exception, Kind, describe};
 
@@ -59,7 +59,7 @@ fn write_described(asked: CaseInput<'_>, sequence: Seq, map: &MapDef, answer: &m
 
 /// `request SEQ`: the kind, the media type and the length of the answer to a query about map `a` at an update sequence.
 pub(crate) fn request(mut asked: CaseInput<'_>, answer: &mut Transcript) -> Answered {
-    let sequence = sequence(&mut asked.words)?;
+    let sequence = read_sequence(&mut asked.words)?;
     match wf_mapfile::read(asked.alloc, MAP_A.as_bytes()) {
         Ok(map) => {
             write_described(asked, sequence, &map, answer);

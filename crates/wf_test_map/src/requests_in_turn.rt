@@ -3,12 +3,10 @@ use crate::exchange::{Exchange, write_outcome};
 use crate::failing_streams::Taking;
 use std::alloc::Global;
 use wf_codec::Message;
-use wf_edge::serve::{Served, serve_one};
+use wf_edge::{Served, serve_one};
 use wf_node::Node;
 use wf_tape::Tape;
-use wf_test_calls::member::Member;
-use wf_test_calls::script::CallMaps;
-use wf_test_calls::words_of_record::record_sent;
+use wf_test_calls::{CallMaps, Member, record_sent};
 use wf_test_table::{Answered, CaseInput, Transcript, Unanswered};
 
 /// Appends, for each request, what becomes of it, what is written and what is sent. The node of the words is new, on that tape.

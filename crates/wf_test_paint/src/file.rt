@@ -1,7 +1,7 @@
 //! Pictures of a map's layers with their labels, as files.
 use crate::request::{SectionRequest, are_below, indices_of};
 use crate::section::read_map;
-use wf_def::map::MapDef;
+use wf_def::MapDef;
 use wf_test_table::{Answered, CaseInput, Transcript, Unanswered};
 
 /// Appends the file of the picture of `BOX, W by H, BACKGROUND[, LAYER ..]`.

@@ -1,5 +1,5 @@
 //! Colours as letters: `K` black, `W` white, `R` red, `G` green, `B` blue, `Y` yellow; `?` any other.
-use wf_def::color::Color;
+use wf_def::Color;
 use wf_test_table::Unanswered;
 
 /// The letter of a colour.

@@ -5,10 +5,9 @@ use crate::request::{SectionRequest, are_below, indices_of};
 use crate::section::read_map;
 use crate::window::Window;
 use std::alloc::Global;
-use wf_def::map::MapDef;
+use wf_def::MapDef;
 use wf_geometry::View;
-use wf_label::draw::draw_labels;
-use wf_label::placement::place;
+use wf_label::{draw_labels, place};
 use wf_paint::{Pixmap, paint};
 use wf_test_table::{Answered, CaseInput, Transcript, Unanswered};
 

@@ -3,8 +3,7 @@ ghost use Rattle.std.specs.Prelude.{◌<◌, ◌↔◌, IsTrue, All};
 
 use crate::letter::color_of;
 use crate::section::Section;
-use wf_def::color::Color;
-use wf_def::map::MapDef;
+use wf_def::{Color, MapDef};
 use wf_test_table::{CaseInput, CaseWords, Unanswered};
 
 /// A section of a map and the colour of the background.

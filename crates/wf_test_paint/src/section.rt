@@ -3,16 +3,10 @@ ghost use Rattle.std.specs.Prelude.{◌≤◌, ◌<◌, ◌+ℤ◌, ◌≤ℤ◌
 ghost use Rattle.wf_geometry.specs.Limit.{least_cell, most_pixels};
 
 use std::alloc::Global;
-use wf_def::color::Color;
-use wf_def::extent::Extent;
-use wf_def::map::MapDef;
-use wf_def::micro::Micro;
-use wf_def::point::Point;
+use wf_def::{Color, Extent, MapDef, Micro, Point};
 use wf_geometry::View;
-use wf_mapfile::fault::MapFault;
-use wf_mapfile::read;
-use wf_picture::picture::draw;
-use wf_picture::request::{PictureRequest, Size};
+use wf_mapfile::{MapFault, read};
+use wf_picture::{PictureRequest, Size, draw};
 use wf_test_table::{CaseInput, CaseWords, Unanswered};
 
 /// A box and a size in pixels.

@@ -1,7 +1,7 @@
 //! Which pixels of a picture are written.
 use crate::letter::letter_of;
 use crate::section::read_other_side;
-use wf_def::color::Color;
+use wf_def::Color;
 use wf_paint::Pixmap;
 use wf_test_table::{Answered, CaseWords, Transcript, Unanswered};
 

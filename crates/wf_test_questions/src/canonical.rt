@@ -1,13 +1,10 @@
 //! Canonical numbers and texts.
 use crate::texts::text_of;
 use std::alloc::Global;
-use wf_canon::{Canon, CanonFault, write_number};
-use wf_def::choice::Projection;
-use wf_def::extent::Extent;
-use wf_def::map::MapDef;
-use wf_def::micro::Micro;
-use wf_def::text::Text;
+use wf_canon::{Canon, CanonFault};
+use wf_def::{Extent, MapDef, Projection};
 use wf_test_table::{Answered, CaseInput, CaseWords, Transcript, Unanswered};
+use wf_text::{Micro, Text, write_number};
 
 /// `canonical_number`: the canonical text of a number of millionths, after what is written already.
 pub(crate) fn number(asked: CaseInput<'_>, answer: &mut Transcript) -> Answered {

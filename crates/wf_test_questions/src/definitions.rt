@@ -6,18 +6,12 @@ use crate::mapfiles::write_value;
 use crate::shown::print_map;
 use crate::texts::text_of;
 use std::alloc::{AllocError, Global};
-use wf_def::attribute::attribute;
-use wf_def::choice::LayerKind;
-use wf_def::class::{Class, Styles};
-use wf_def::feature::{Feature, Part, ShapeParts};
-use wf_def::layer::{Classes, Features, Layer};
-use wf_def::map::MapDef;
-use wf_def::micro::Micro;
-use wf_def::point::Point;
-use wf_def::style::Style;
-use wf_def::text::Text;
-use wf_def::whole::Whole;
+use wf_def::{
+    Class, Classes, Feature, Features, Layer, LayerKind, MapDef, Part, Point, ShapeParts, Style,
+    Styles, attribute_value,
+};
 use wf_test_table::{Answered, CaseInput, CaseWords, Transcript, Unanswered};
+use wf_text::{Micro, Text, Whole};
 
 /// `attribute`: the value of names between commas, values between semicolons and a name, with `|` between the three.
 pub(crate) fn attribute_of_lists(asked: CaseInput<'_>, answer: &mut Transcript) -> Answered {
@@ -28,7 +22,7 @@ pub(crate) fn attribute_of_lists(asked: CaseInput<'_>, answer: &mut Transcript) 
         return Err(Unanswered::BadWords);
     };
     write_value(
-        attribute(names.as_bytes(), values.as_bytes(), name.as_bytes()),
+        attribute_value(names.as_bytes(), values.as_bytes(), name.as_bytes()),
         answer,
     );
     Ok(())

@@ -1,7 +1,7 @@
 //! Pieces of mapfiles, and the mapfile around them.
 use std::alloc::Global;
-use wf_def::map::MapDef;
-use wf_mapfile::fault::MapFault;
+use wf_def::MapDef;
+use wf_mapfile::MapFault;
 use wf_test_table::{Transcript, Unanswered};
 
 /// What comes before and after a piece, to make a mapfile of it.
@@ -43,7 +43,7 @@ pub(crate) const CLASS: Wrapping = Wrapping {
 };
 
 fn read_written(alloc: Global, mapfile: &Transcript) -> Result<MapDef, MapFault> {
-    match mapfile.written() {
+    match mapfile.finished_text() {
         Ok(mapfile) => wf_mapfile::read(alloc, mapfile),
         Err(_) => Err(MapFault::Memory),
     }

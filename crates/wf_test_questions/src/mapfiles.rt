@@ -3,13 +3,10 @@ use crate::mapfile_frame::{CLASS, Wrapping, wrapping_of};
 use crate::shown::{write_class, write_fault, write_layers, write_map};
 use crate::texts::text_of;
 use std::alloc::Global;
-use wf_def::class::Class;
-use wf_def::feature::Feature;
-use wf_def::layer::Layer;
-use wf_def::map::MapDef;
-use wf_def::text::Text;
-use wf_mapfile::fault::MapFault;
+use wf_def::{Class, Feature, Layer, MapDef};
+use wf_mapfile::MapFault;
 use wf_test_table::{Answered, CaseInput, Transcript, Unanswered};
+use wf_text::Text;
 
 // What is written about a map.
 #[derive(Clone, Copy)]

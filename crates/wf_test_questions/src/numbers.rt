@@ -1,10 +1,7 @@
 //! Numbers and boxes.
-use wf_def::extent::Extent;
-use wf_def::fault::NumberFault;
-use wf_def::limits::{MOST_BUFFER, MOST_PRIORITY, MOST_SIZE, MOST_WIDTH};
-use wf_def::micro::Micro;
-use wf_def::whole::Whole;
+use wf_def::{Extent, MOST_BUFFER, MOST_PRIORITY, MOST_SIZE, MOST_WIDTH};
 use wf_test_table::{Answered, CaseInput, CaseWords, Transcript, Unanswered};
+use wf_text::{Micro, NumberFault, Whole};
 
 fn print_number(number: Micro, answer: &mut Transcript) {
     answer.number(number.millionths());

@@ -1,17 +1,12 @@
 //! How definitions and errors are shown, piece by piece.
 use crate::numbers::write_sides;
-use wf_def::choice::{LabelPosition, LabelSize, LayerKind, Projection};
-use wf_def::class::Class;
-use wf_def::color::Color;
-use wf_def::expression::Expression;
-use wf_def::feature::Feature;
-use wf_def::label::Label;
-use wf_def::layer::Layer;
-use wf_def::map::MapDef;
-use wf_def::style::Style;
-use wf_def::text::Text;
-use wf_mapfile::fault::MapFault;
+use wf_def::{
+    Class, Color, Expression, Feature, Label, LabelPosition, LabelSize, Layer, LayerKind, MapDef,
+    Projection, Style,
+};
+use wf_mapfile::MapFault;
 use wf_test_table::Transcript;
+use wf_text::Text;
 
 // Appends a text and a bar.
 fn write_barred(text: &Text, answer: &mut Transcript) {

@@ -2,11 +2,9 @@
 use crate::mapfile_frame::{Wrapping, wrapping_of};
 use crate::shown::{print_map, write_fault};
 use std::alloc::Global;
-use wf_def::map::MapDef;
-use wf_mapfile::fault::MapFault;
-use wf_mapfile::read;
-use wf_test_table::escape::unescape;
-use wf_test_table::{Answered, CaseInput, Runs, Transcript, Unanswered};
+use wf_def::MapDef;
+use wf_mapfile::{MapFault, read};
+use wf_test_table::{Answered, CaseInput, Runs, Transcript, Unanswered, unescape};
 
 fn print_comparison(map: MapDef, first: &MapDef, answer: &mut Transcript) {
     let is_same = map == *first;
@@ -122,7 +120,7 @@ impl Filling<'_> {
 }
 
 fn print_meant(alloc: Global, mapfile: &Transcript, answer: &mut Transcript) {
-    match mapfile.written() {
+    match mapfile.finished_text() {
         Ok(mapfile) => print_read(read(alloc, mapfile), answer),
         Err(_) => answer.cut(),
     }
@@ -169,8 +167,8 @@ fn print_gaps(
 ) -> Answered {
     let text = asked.text()?;
     let gaps = Filling {
-        gap: gap.written()?,
-        other: other.written()?,
+        gap: gap.finished_text()?,
+        other: other.finished_text()?,
     };
     take_gaps(asked.alloc, text, gaps, answer);
     Ok(())

@@ -2,10 +2,9 @@
 ghost use Rattle.wf_def.specs.Text.{IsText};
 
 use std::alloc::Global;
-use wf_def::fault::TextFault;
-use wf_def::layer::is_layer_name;
-use wf_def::text::{Text, is_text_character};
+use wf_def::is_layer_name;
 use wf_test_table::{Answered, CaseInput, Transcript, Unanswered};
+use wf_text::{Text, TextFault, is_text_character};
 
 fn write_text_fault(fault: TextFault, answer: &mut Transcript) {
     match fault {

@@ -1,8 +1,6 @@
 //! Tokens.
-use wf_mapfile::lexer::tokenize;
-use wf_mapfile::token::{LexFault, LexFaultKind, Token, TokenKind, Tokens};
-use wf_test_table::escape::unescape;
-use wf_test_table::{Answered, CaseInput, Runs, Transcript, Unanswered};
+use wf_test_table::{Answered, CaseInput, Runs, Transcript, Unanswered, unescape};
+use wf_token::{LexFault, LexFaultKind, Token, TokenKind, Tokens, tokenize};
 
 // Appends a word as `offset:word`, a string as `offset"string"`, a list as `offset{list}`; without its text as `offset:`, `offset"` or
 // `offset{`.
@@ -70,7 +68,7 @@ fn write_between(front: &str, byte: u8, back: &str, text: &mut Transcript) -> An
 }
 
 fn print_shapes(asked: CaseInput<'_>, text: &Transcript, answer: &mut Transcript) {
-    match text.written() {
+    match text.finished_text() {
         Ok(input) => print_tokens(CaseInput { input, ..asked }, false, answer),
         Err(_) => answer.cut(),
     }

@@ -2,7 +2,7 @@
 use std::alloc::{AllocError, Global};
 use std::fmt::Display;
 
-/// What is appended so far. Where an allocation fails in an append, the answer remembers that and [`Transcript::written`] returns it;
+/// What is appended so far. Where an allocation fails in an append, the answer remembers that and [`Transcript::finished_text`] returns it;
 /// the calls that append return no error.
 pub struct Transcript {
     pub(crate) text: Vec<u8>,
@@ -94,7 +94,7 @@ impl Transcript {
     }
 
     /// What was appended, unless an allocation failed.
-    pub fn written(&self) -> Result<&[u8], AllocError> {
+    pub fn finished_text(&self) -> Result<&[u8], AllocError> {
         if self.is_cut {
             Err(AllocError)
         } else {

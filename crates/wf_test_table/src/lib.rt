@@ -1,7 +1,7 @@
 //! Tables of test cases, and the runner that asks them.
 //!
 //! A table is a text of lines. `case NAME` begins a case, `ask WORDS` is its question, `<` lines are its input and `>` lines the
-//! expected answer; `for INPUT => ANSWER` is a whole case in one line. [`line`] has every form of a line, and [`escape`] how
+//! expected answer; `for INPUT => ANSWER` is a whole case in one line. [`line`] has every form of a line, and `escape` how
 //! bytes are spelled in it. The program defines the questions: it implements [`Questions`].
 //!
 //! [`run_table`] asks each case's question and appends to a report each case whose answer differs, each line of the table that
@@ -16,9 +16,9 @@
 #![tactic(auto)]
 
 mod answer;
-mod asked;
+mod case_input;
 mod counts;
-pub mod escape;
+mod escape;
 mod fault;
 mod program;
 mod questions;
@@ -28,8 +28,9 @@ mod table_line;
 mod words;
 
 pub use answer::Transcript;
-pub use asked::CaseInput;
+pub use case_input::CaseInput;
 pub use counts::CaseCounts;
+pub use escape::{digit, unescape};
 pub use fault::TableFault;
 pub use program::run_program;
 pub use questions::{Answered, Questions, Unanswered};

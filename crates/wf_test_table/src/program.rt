@@ -21,7 +21,7 @@ fn is_right<Q: Questions>(
 
 fn print_report<R: Print>(rt: &R, report: &Transcript) -> io::Result<()> {
     let mut writer = io::writer(rt);
-    io::Write::write_all(&mut writer, report.written()?)
+    io::Write::write_all(&mut writer, report.finished_text()?)
 }
 
 // Asks the cases of the table, and prints the report.

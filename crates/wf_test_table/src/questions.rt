@@ -1,6 +1,6 @@
 //! The questions of a program of cases.
 use crate::answer::Transcript;
-use crate::asked::CaseInput;
+use crate::case_input::CaseInput;
 use std::alloc::AllocError;
 
 /// Why there is no answer.

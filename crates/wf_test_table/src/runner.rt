@@ -2,7 +2,7 @@
 ghost use Rattle.std.specs.Prelude.{◌≡◌, ◌≤◌};
 
 use crate::answer::Transcript;
-use crate::asked::CaseInput;
+use crate::case_input::CaseInput;
 use crate::counts::CaseCounts;
 use crate::escape::{escape, unescape};
 use crate::fault::TableFault;

@@ -12,7 +12,7 @@ use Rattle.std.proofs.lemmas.Nat.{mod_below, div_below, div-add-mod'}
 use Rattle.std.proofs.lemmas.Fmt.{digits_decimal, digits_value-decimal, decimal_nonempty, length-decimal-le}
 use Rattle.std.proofs.lemmas.Str.Parse.{IsNumeralModel, IsDigitsTest, FoldsDigits, numerals_by_fold}
 use Rattle.std.proofs.Math.Nat.{one-le-pow, pow-suc}
-use Rattle.wf_text.specs.Number.{Numeral, is_negative, after_sign, leading_digits, after_digits, spelled_onto, with_sign, power_of, numeral_from, numeral, scale, magnitude, in_range, number, IsMicro}
+use Rattle.wf_text.specs.Number.{Numeral, is_negative, after_sign, leading_digits, after_digits, spelled_onto, with_sign, power_of, numeral_from, numeral, scale, in_range, number, IsMicro}
 use Rattle.wf_text.specs.Number as reading
 use Rattle.wf_text.specs.NumberForm.{AreDigits}
 use Rattle.wf_text.specs.NumberText.{fraction_digits, fraction_text, magnitude_text, number_text}

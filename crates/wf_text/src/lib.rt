@@ -1,8 +1,8 @@
 //! The texts and numbers of a mapfile, as bounded values.
 //!
-//! A [`text::Text`] is UTF-8 of at most 1,000 bytes that fits between quotes of one kind. A [`value_list::ValueList`] is UTF-8 of
-//! at most 1,000 bytes that fits between braces. A [`micro::Micro`] is a coordinate, an integer number of millionths of a unit. A
-//! [`whole::Whole`] is an integer in a range. A [`number_text::NumberText`] is the text of a coordinate. Model: a `Text`, a
+//! A [`Text`] is UTF-8 of at most 1,000 bytes that fits between quotes of one kind. A [`ValueList`] is UTF-8 of
+//! at most 1,000 bytes that fits between braces. A [`Micro`] is a coordinate, an integer number of millionths of a unit. A
+//! [`Whole`] is an integer in a range. A [`NumberText`] is the text of a coordinate. Model: a `Text`, a
 //! `ValueList` and a `NumberText` are their bytes; a `Micro` and a `Whole` are their number.
 //!
 //! Promises: every value is within the limits of `specs/Limit.antt`. A number is read exactly as `specs/Number.antt` defines and
@@ -11,13 +11,26 @@
 //! (wf_token).
 #![tactic(auto)]
 
-pub mod digits;
-pub mod fault;
-pub mod limits;
-pub mod micro;
+mod digits;
+mod fault;
+mod limits;
+mod micro;
 mod number;
-pub mod number_form;
-pub mod number_text;
-pub mod text;
-pub mod value_list;
-pub mod whole;
+mod number_form;
+mod number_text;
+mod text;
+mod value_list;
+mod whole;
+
+pub use digits::{are_digits, number_of_digits};
+pub use fault::{NumberFault, TextFault};
+pub use limits::{
+    MOST_FRACTION_DIGITS, MOST_MILLIONTHS, MOST_POWER_DIGITS, MOST_TEXT_BYTES, MOST_WHOLE_DIGITS,
+    constants_are_the_limits,
+};
+pub use micro::Micro;
+pub use number_form::{number_form_is_exact, number_is_read_again};
+pub use number_text::{NumberText, write_number};
+pub use text::{Text, check_text, is_text_character};
+pub use value_list::{ValueList, check_list};
+pub use whole::Whole;

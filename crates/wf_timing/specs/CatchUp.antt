@@ -1,5 +1,5 @@
 -- Whose turn it is to be asked, and when.
-use Rattle.std.specs.Prelude.{◌≡◌, ℕ, ◌+◌, ◌<◌, ◌≤◌, ◌⊎◌, Bool, true, false, nat_le, List, length, slice_index_or, Option, Some, None, if◌then◌else◌}
+use Rattle.std.specs.Prelude.{◌≡◌, ℕ, ◌+◌, ◌<◌, ◌≤◌, ◌⊎◌, Bool, true, false, nat_le, List, slice_index_or, Option, Some, None, if◌then◌else◌}
 use Rattle.wf_timing.specs.declared.catch_up.CatchUp.{CatchUp}
 use Rattle.wf_timing.specs.declared.catch_up.PendingQuestion.{PendingQuestion}
 use Rattle.wf_timing.specs.Moment.{later, second}

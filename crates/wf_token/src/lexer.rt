@@ -10,9 +10,7 @@ ghost use Rattle.wf_token.specs.Lexeme.{tokens_by, IsWithin, begins, ends_word, 
 use crate::lexeme::Lexeme;
 use crate::token::{LexFault, LexFaultKind, Token, TokenKind, Tokens};
 use std::alloc::{AllocError, Global};
-use wf_text::limits::MOST_TEXT_BYTES;
-use wf_text::text::{check_text, is_text_character};
-use wf_text::value_list::check_list;
+use wf_text::{MOST_TEXT_BYTES, check_list, check_text, is_text_character};
 
 /// U+FEFF in UTF-8.
 const BYTE_ORDER_MARK: [u8; 3] = [0xEF, 0xBB, 0xBF];

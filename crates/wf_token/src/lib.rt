@@ -4,7 +4,7 @@
 //! automaton over bytes): words, strings in either quote, lists in braces, white space and two kinds of comment. Model: a token is
 //! its kind and its bytes, without its byte offset.
 //!
-//! Promises: [`lexer::tokenize`] returns the tokens of a text, and an error only if the text has none. It looks at each byte a
+//! Promises: [`tokenize`] returns the tokens of a text, and an error only if the text has none. It looks at each byte a
 //! bounded number of times. Which error, and its byte offset, is tested and not proved. Tokens that are spelled as lines, as
 //! `specs/Spelling.antt` defines, are read back as the same tokens, and such lines are UTF-8: theorems about the definitions. Not
 //! here: what tokens mean (wf_mapfile), and which lines a map has (wf_canon).
@@ -13,6 +13,10 @@
 #![tactic(auto)]
 
 mod lexeme;
-pub mod lexer;
-pub mod spelling;
-pub mod token;
+mod lexer;
+mod spelling;
+mod token;
+
+pub use lexer::{is_slash, tokenize};
+pub use spelling::{numbers_are_words, spelled_lines_are_read_again, spelled_lines_are_utf8};
+pub use token::{LexFault, LexFaultKind, Token, TokenKind, Tokens};

@@ -1,9 +1,9 @@
 -- What is still to be written to clients, as slots change and more are answered.
-use Rattle.std.proofs.Common.{◌≡◌, ◌<◌, ◌⊎◌, ℕ, suc, zero, Bool, true, false, List, [], ◌∷◌, ◌++◌, Option, Some, None, IfSome, length, slice_get, slice_index_or, slice_set, refl, sym, ap, subst, ◌∙◌, inl, inr, arith}
+use Rattle.std.proofs.Common.{◌≡◌, ◌<◌, ℕ, suc, zero, true, List, [], ◌∷◌, ◌++◌, Option, Some, None, IfSome, length, slice_index_or, slice_set, sym, ap, subst, ◌∙◌, inl, inr, arith}
 use Rattle.std.proofs.Math.Logic.{∥∥₁_elim, ∥∥₁_map, ∥∥₁_prop}
 use Rattle.wf_client.specs.Client.{Client, is_asking}
 use Rattle.wf_client.specs.ResponseBuffer.{Outgoing}
-use Rattle.wf_client.specs.declared.client.Phase.TheVariants.{Asking, Taking}
+use Rattle.wf_client.specs.declared.client.ClientPhase.TheVariants.{Asking, Taking}
 use Rattle.wf_visitors.specs.Responses.{AreResponses, HasResponded, MayRespond}
 use Rattle.wf_visitors.specs.Turn.{IsGiving, IsReceiving}
 

@@ -1,5 +1,5 @@
 -- What clients were answered, and what is still to be written to them.
-use Rattle.std.specs.Prelude.{◌≡◌, ◌⊎◌, ℕ, ⊤, Bool, false, List, [], ◌∷◌, ◌++◌, Option, Some, None}
+use Rattle.std.specs.Prelude.{◌≡◌, ◌⊎◌, ℕ, ⊤, false, List, [], ◌∷◌, Option, Some, None}
 use Rattle.wf_client.specs.Client.{Client, is_asking}
 
 -- one of the clients that were answered was sent these bytes

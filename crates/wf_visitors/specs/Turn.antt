@@ -1,5 +1,5 @@
 -- What a turn of a client changes.
-use Rattle.std.specs.Prelude.{◌≡◌, ℕ, List}
+use Rattle.std.specs.Prelude.{◌≡◌}
 use Rattle.wf_client.specs.Client.{Client}
 
 -- bytes may have come, and nothing else has changed

@@ -1,7 +1,6 @@
 -- Clients that were answered.
 use Rattle.std.specs.Prelude.{◌≡◌, ◌⊎◌, ℕ, Bool, true, false, List, [], ◌∷◌, ◌++◌}
 use Rattle.wf_client.specs.Client.{Client}
-use Rattle.wf_client.specs.ResponseBuffer.{Outgoing}
 use Rattle.wf_visitors.specs.ServerReply.{nothing, IsReply}
 use Rattle.wf_visitors.specs.declared.server.ServerReply.{ServerReply}
 use Rattle.wf_visitors.specs.declared.server.Server.{Ghosts as Server}

@@ -3,8 +3,7 @@ ghost use Rattle.std.specs.Prelude.{◌≡◌, ℕ, Bool, List};
 ghost use Rattle.wf_visitors.specs.ServerReply.{nothing, IsReply};
 
 use std::alloc::Global;
-use wf_client::partial_request::Incoming;
-use wf_client::response_buffer::Outgoing;
+use wf_client::{Incoming, Outgoing};
 
 /// What came of a request.
 #[derive(Clone, Copy, PartialEq, Eq)]

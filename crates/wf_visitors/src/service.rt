@@ -19,10 +19,7 @@ use mio::net::{TcpListener, TcpStream};
 use std::alloc::{AllocError, Global};
 use std::net::SocketAddr;
 use std::time::Clock;
-use wf_client::client::{Client, Phase};
-use wf_client::limits::BUDGET_BYTES;
-use wf_client::response_buffer::Outgoing;
-use wf_client::slots::{place, weight};
+use wf_client::{BUDGET_BYTES, Client, ClientPhase, Outgoing, slot_index, weight};
 
 /// The most connections accepted in one turn.
 const MOST_ACCEPTED: usize = 64;
@@ -82,7 +79,7 @@ impl Visitors {
     }
 
     /// The number of slots that are taken.
-    pub fn taken(&self) -> usize {
+    pub fn taken_slots(&self) -> usize {
         self.slots.iter().filter(|slot| slot.is_some()).count()
     }
 
@@ -106,7 +103,7 @@ impl Visitors {
             if !self.has_room() {
                 return;
             }
-            let Some(index) = place(self.slots.as_slice()) else {
+            let Some(index) = slot_index(self.slots.as_slice()) else {
                 return;
             };
             let Some(stream) = self.accept_one() else {
@@ -210,14 +207,16 @@ impl Visitors {
         ensures { responses_of self.new ≡ responses_of self.old }
     {
         match client.phase() {
-            Phase::Taking => {
+            ClientPhase::Taking => {
                 if client.outgoing.is_taken() {
                     self.part(context, connection, client, index);
                 } else {
                     self.keep(context, connection, client, index);
                 }
             }
-            Phase::Asking | Phase::Lingering => self.keep(context, connection, client, index),
+            ClientPhase::Asking | ClientPhase::Lingering => self.keep(
+                context, connection, client, index,
+            ),
         }
     }
 
@@ -251,7 +250,7 @@ impl Visitors {
         index: usize,
     )
         requires may { MayRespond (responses_of self.old) client }
-        requires takes { client.phase ≡ Phase.Taking }
+        requires takes { client.phase ≡ ClientPhase.Taking }
         ensures { responses_of self.new ≡ responses_of self.old }
     {
         let is_rejection = client.incoming.len() != 0;
@@ -477,15 +476,15 @@ fn go_on<R>(
     ensures { (responses : List (ClientValue × ℕ)) → MayRespond responses client.old → MayRespond responses client.new }
 {
     match client.phase() {
-        Phase::Asking => {
+        ClientPhase::Asking => {
             if client.incoming.may_be_whole() {
                 ClientTurn::Here
             } else {
                 receive(context.registry, connection, client, piece, token)
             }
         }
-        Phase::Taking => give(&mut connection.stream, client),
-        Phase::Lingering => drop_rest(&mut connection.stream, piece),
+        ClientPhase::Taking => give(&mut connection.stream, client),
+        ClientPhase::Lingering => drop_rest(&mut connection.stream, piece),
     }
 }
 
@@ -507,7 +506,7 @@ fn settle<R: AllocGlobal>(context: &Context<'_, '_, R>, client: &mut Client, sta
     if status < LEAST_REJECTION {
         client.incoming.clear(context.alloc());
     }
-    client.begin(Phase::Taking, context.time);
+    client.begin(ClientPhase::Taking, context.time);
 }
 
 /// A client that has taken its response parts.
@@ -515,5 +514,5 @@ fn part<R: AllocGlobal>(context: &Context<'_, '_, R>, client: &mut Client)
     ensures { client.new.outgoing ≡ client.old.outgoing }
 {
     client.incoming.clear(context.alloc());
-    client.begin(Phase::Lingering, context.time);
+    client.begin(ClientPhase::Lingering, context.time);
 }

@@ -4,7 +4,7 @@ ghost use Rattle.wf_client.specs.Client.{Client as ClientValue};
 ghost use Rattle.wf_visitors.specs.Responses.{AreResponses, MayRespond};
 
 use std::alloc::{AllocError, Global};
-use wf_client::client::Client;
+use wf_client::Client;
 
 /// That many free slots.
 #[tactic(auto, using(crate::proofs::Answered::none_responses, crate::proofs::Answered::one_more_free))]

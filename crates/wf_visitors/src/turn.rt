@@ -5,7 +5,7 @@ ghost use Rattle.wf_visitors.specs.Turn.{IsGiving, IsReceiving};
 use crate::socket::{ClientConnection, Done, read, write};
 use mio::Registry;
 use mio::net::TcpStream;
-use wf_client::client::Client;
+use wf_client::Client;
 
 /// The most bytes of a piece.
 pub(crate) const PIECE_BYTES: usize = 8_192;

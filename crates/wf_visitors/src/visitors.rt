@@ -4,7 +4,7 @@ use crate::counts::Counts;
 use crate::socket::ClientConnection;
 use http_server::Log as Past;
 use mio::net::TcpListener;
-use wf_client::client::Client;
+use wf_client::Client;
 
 /// Clients with their connections: that of slot i at index i. A clause sees a log that only proofs read: each client that was answered, as it
 /// was then, with what had come of its request and with the whole response.

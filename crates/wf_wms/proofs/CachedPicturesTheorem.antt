@@ -34,9 +34,9 @@ use Rattle.wf_wms.specs.Plan.{IsAskedOf, IsPictureFor, wanted_in}
 use Rattle.wf_wms.specs.CachedPictures.{AllCached, CacheValue, GrowthKeepsAll, IsAfter, IsCacheAfter, IsCellOf, IsDrawn, IsCached, IsRequestOf, IsTaken, IsTileAt, IsTileOf, IsUnkept, IsUsed, background_of, cache_of, entry_of, others, risen, tile_size}
 use Rattle.wf_wms.specs.Requested.{Wanted, requested}
 use Rattle.wf_wms.specs.contracts.cache.KeyPartialEq.TheImpl as keys
-use Rattle.wf_wms.specs.declared.asked.QueriedPicture.{QueriedPicture}
-use Rattle.wf_wms.specs.declared.asked.Plan.{Plan}
-use Rattle.wf_wms.specs.declared.asked.Plan.TheVariants.{Ready, Picture}
+use Rattle.wf_wms.specs.declared.plan.QueriedPicture.{QueriedPicture}
+use Rattle.wf_wms.specs.declared.plan.Plan.{Plan}
+use Rattle.wf_wms.specs.declared.plan.Plan.TheVariants.{Ready, Picture}
 use Rattle.wf_wms.specs.declared.cache.Key.{Key}
 
 -- ---- a history that grows

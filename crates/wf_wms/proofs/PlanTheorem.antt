@@ -11,9 +11,9 @@ use Rattle.wf_wms.specs.Plan.{IsAsked, IsPlanned, wanted_in}
 use Rattle.wf_wms.specs.MapRequest.{map_sequence, picture_in}
 use Rattle.wf_wms.specs.Query.{pairs_of, parameter}
 use Rattle.wf_wms.specs.Requested.{requested, wanted_at, wanted_by, wanted_of}
-use Rattle.wf_wms.specs.declared.asked.QueriedPicture.{QueriedPicture}
-use Rattle.wf_wms.specs.declared.asked.Plan.{Plan}
-use Rattle.wf_wms.specs.declared.asked.Plan.TheVariants.{Ready, Picture}
+use Rattle.wf_wms.specs.declared.plan.QueriedPicture.{QueriedPicture}
+use Rattle.wf_wms.specs.declared.plan.Plan.{Plan}
+use Rattle.wf_wms.specs.declared.plan.Plan.TheVariants.{Ready, Picture}
 use Rattle.wf_wms.specs.declared.exception.Exception.{Exception}
 use Rattle.wf_wms.specs.declared.checks.WmsOperation.{WmsOperation}
 use Rattle.wf_wms.specs.declared.checks.WmsOperation.TheVariants.{Map}

@@ -14,8 +14,8 @@ use Rattle.wf_wms.specs.declared.comparison.Comparison.TheVariants as comparison
 use Rattle.wf_wms.specs.declared.exception.Parameter.TheVariants.{Request, Service}
 use Rattle.wf_wms.specs.declared.exception.Exception.{Exception}
 use Rattle.wf_wms.specs.declared.exception.Exception.TheVariants as exception
-use Rattle.wf_wms.specs.declared.answer.Kind.{Kind}
-use Rattle.wf_wms.specs.declared.answer.Kind.TheVariants as kind
+use Rattle.wf_wms.specs.declared.response.Kind.{Kind}
+use Rattle.wf_wms.specs.declared.response.Kind.TheVariants as kind
 use Rattle.wf_wms.specs.declared.checks.WmsOperation.{WmsOperation}
 use Rattle.wf_wms.specs.declared.checks.WmsOperation.TheVariants.{Capabilities, Map}
 

@@ -7,7 +7,7 @@ use Rattle.std.specs.Char.{is_ascii_digit}
 use Rattle.std.specs.List.{All, list_all, slice_split}
 use Rattle.wf_def.specs.declared.choice.Projection.{Projection}
 use Rattle.wf_def.specs.declared.choice.Projection.TheVariants.{Epsg4326, Epsg3857}
-use Rattle.wf_def.specs.declared.fault.NumberFault.{NumberFault}
+use Rattle.wf_text.specs.declared.fault.NumberFault.{NumberFault}
 use Rattle.wf_def.specs.Definition.{Definition}
 use Rattle.wf_def.specs.Extent.{ExtentValue}
 use Rattle.wf_def.specs.Limits.{layer_names}

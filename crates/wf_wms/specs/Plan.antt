@@ -6,9 +6,9 @@ use Rattle.wf_learner.specs.History.{map_at}
 use Rattle.wf_wms.specs.Answer.{AnswerValue, IsPictureOf}
 use Rattle.wf_wms.specs.MapRequest.{AreLayersOf}
 use Rattle.wf_wms.specs.Requested.{Wanted}
-use Rattle.wf_wms.specs.declared.asked.QueriedPicture.{QueriedPicture}
-use Rattle.wf_wms.specs.declared.asked.Plan.{Plan}
-use Rattle.wf_wms.specs.declared.asked.Plan.TheVariants.{Ready, Picture}
+use Rattle.wf_wms.specs.declared.plan.QueriedPicture.{QueriedPicture}
+use Rattle.wf_wms.specs.declared.plan.Plan.{Plan}
+use Rattle.wf_wms.specs.declared.plan.Plan.TheVariants.{Ready, Picture}
 
 -- The requested picture is of a map that the history has, and its layers are that map's.
 pub record IsAskedOf (history : List Definition) (asked : QueriedPicture) : Type 0 where

@@ -3,7 +3,7 @@ ghost use Rattle.std.specs.Prelude.{◌≡◌, option_map};
 ghost use Rattle.wf_wms.specs.Background.{background_in, color_of, is_hex_mark};
 
 use crate::exception::{Exception, Parameter};
-use wf_def::color::Color;
+use wf_def::Color;
 
 /// The background colour if BGCOLOR is absent.
 const WHITE: Color = Color {

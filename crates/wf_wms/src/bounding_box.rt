@@ -6,8 +6,7 @@ ghost use Rattle.wf_wms.specs.MapRequest.{box_along, box_in, box_of, coordinate_
 
 use crate::entries::four_entries;
 use crate::exception::{Exception, Parameter};
-use wf_def::extent::Extent;
-use wf_def::micro::Micro;
+use wf_def::{Extent, Micro};
 use wf_geometry::LEAST_CELL;
 
 /// The order of a coordinate reference system's axes (OGC 06-042, 6.7.2 and annex B).

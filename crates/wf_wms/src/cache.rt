@@ -6,19 +6,17 @@ ghost use Rattle.wf_geometry.specs.Exact.{quotient};
 ghost use Rattle.wf_geometry.specs.Limit.{shared_tiles};
 ghost use Rattle.wf_wms.specs.CachedPictures.{most_cached, background_of, cache_of, entry_of, risen, AllCached, IsCellOf, IsCached, IsTaken, IsTileAt, IsTileOf, IsUsed};
 
-use crate::asked::QueriedPicture;
 use crate::maps::MapSource;
+use crate::plan::QueriedPicture;
 use lru::LruCache;
 use std::alloc::{AllocError, Global};
 use std::marker::Model;
 use std::num::NonZeroUsize;
-use wf_def::color::Color;
+use wf_def::Color;
 use wf_geometry::{GridCell, SHARED_TILES, TILE_PIXELS, View};
 use wf_learner::History;
 use wf_paint::Pixmap;
-use wf_picture::picture::{cut, labelled};
-use wf_picture::request::Size;
-use wf_picture::theorem::tiles_are_crops_of_one_picture;
+use wf_picture::{Size, cut, draw_view, tiles_are_crops_of_one_picture};
 
 /// The key of a picture that sixteen tiles are cut out of: its map, layers and background, and its position in the grid.
 #[derive(Drop, PartialEq, Eq, Hash)]
@@ -95,7 +93,7 @@ impl Cache {
     }
 
     /// How many tiles were cut out of a picture that was kept, so that none was drawn.
-    pub fn taken(&self) -> u64
+    pub fn cached_tiles(&self) -> u64
         ensures { result ≡ self.now.taken }
     {
         self.taken
@@ -156,7 +154,7 @@ impl Cache {
     {
         tiles_are_crops_of_one_picture();
         let map = history.published_map(key.sequence);
-        let pixmap = labelled(alloc, map, &key.layers, view, key.background())?;
+        let pixmap = draw_view(alloc, map, &key.layers, view, key.background())?;
         let file = cut(alloc, &pixmap, view, TILE)?;
         self.keep(key, pixmap);
         Ok(file)

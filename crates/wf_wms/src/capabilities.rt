@@ -5,14 +5,9 @@ ghost use Rattle.wf_wms.specs.Capabilities.{start_tag, end_tag, element, limit, 
 use crate::limits::MOST_ENTRIES;
 use crate::xml::{write_decimal, write_escaped, write_text};
 use std::alloc::{AllocError, Global};
-use wf_def::choice::Projection;
-use wf_def::extent::Extent;
-use wf_def::layer::Layer;
-use wf_def::map::MapDef;
-use wf_def::micro::Micro;
-use wf_def::text::Text;
+use wf_def::{Extent, Layer, MapDef, Micro, Projection, Text};
 use wf_geometry::MOST_PIXELS;
-use wf_text::number_text::write_number;
+use wf_text::write_number;
 
 #[tactic(auto, unfolding(crate::specs::Capabilities::start_tag))]
 fn write_start_tag(name: &str, document: &mut Vec<u8>) -> Result<(), AllocError>

@@ -8,13 +8,13 @@ ghost use Rattle.wf_wms.specs.MapRequest.{map_sequence, picture_in};
 ghost use Rattle.wf_wms.specs.Requested.{requested, wanted_at, wanted_of};
 ghost use Rattle.wf_wms.specs.declared.checks.WmsOperation.TheVariants.{Map};
 
-use crate::answer::Answer;
-use crate::asked::{Plan, QueriedPicture};
 use crate::description::{metadata_answer, operation};
 use crate::map_request::map_request;
 use crate::map_sequence::map_sequence;
 use crate::maps::MapSource;
+use crate::plan::{Plan, QueriedPicture};
 use crate::query::Query;
+use crate::response::Answer;
 use std::alloc::{AllocError, Global};
 
 /// The operations of this server (OGC 06-042, 7.1).

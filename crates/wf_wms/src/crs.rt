@@ -4,7 +4,7 @@ ghost use Rattle.wf_wms.specs.MapRequest.{axes_in};
 
 use crate::bounding_box::Axes;
 use crate::exception::{Exception, Parameter};
-use wf_def::choice::Projection;
+use wf_def::Projection;
 
 /// The axes of the coordinate reference system, if maps of the projection are offered in it.
 pub(crate) fn axes(projection: Projection, crs: Option<&str>) -> Result<Axes, Exception>

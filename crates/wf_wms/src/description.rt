@@ -3,14 +3,14 @@ ghost use Rattle.std.specs.Prelude.{◌≡◌, ◌≤◌, IfOk, option_map};
 ghost use Rattle.wf_ballot.specs.Sequence.{last_sequence};
 ghost use Rattle.wf_wms.specs.Answer.{check_service, check_sequence, description, metadata_answer, metadata_fault, operation_of};
 
-use crate::answer::Answer;
 use crate::checks::WmsOperation;
 use crate::comparison::Comparison;
 use crate::exception::{Exception, Parameter};
 use crate::query::Query;
+use crate::response::Answer;
 use crate::update_sequence::comparison;
 use std::alloc::{AllocError, Global};
-use wf_def::map::MapDef;
+use wf_def::MapDef;
 
 /// The operation that REQUEST names (OGC 06-042, 7.1).
 pub(crate) fn operation(request: Option<&str>) -> Result<WmsOperation, Exception>

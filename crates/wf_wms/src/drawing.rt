@@ -3,14 +3,14 @@ ghost use Rattle.std.specs.Prelude.{◌≡◌, IfOk, OnErr, OnOk, Some};
 ghost use Rattle.wf_wms.specs.Plan.{IsAskedOf, IsPictureFor};
 ghost use Rattle.wf_wms.specs.CachedPictures.{AllCached, IsAfter};
 
-use crate::answer::Answer;
-use crate::asked::QueriedPicture;
 use crate::cache::{Cache, Key};
 use crate::maps::MapSource;
+use crate::plan::QueriedPicture;
+use crate::response::Answer;
 use std::alloc::{AllocError, Global};
 use wf_geometry::GridCell;
 use wf_learner::History;
-use wf_picture::picture::{draw, view_of};
+use wf_picture::{draw, view_of};
 
 /// The answer with the picture, drawn without a cache.
 pub(crate) fn draw_uncached<M: MapSource>(

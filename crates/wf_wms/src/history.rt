@@ -2,7 +2,7 @@
 
 use crate::maps::MapSource;
 use wf_ballot::Seq;
-use wf_def::map::MapDef;
+use wf_def::MapDef;
 use wf_learner::History;
 
 impl MapSource for History {

@@ -8,7 +8,7 @@ use crate::entries::count_entries;
 use crate::exception::{Exception, Parameter};
 use crate::limits::MOST_ENTRIES;
 use std::alloc::{AllocError, Global};
-use wf_def::map::MapDef;
+use wf_def::MapDef;
 
 /// The layers that the list names, by their indices in the map, in the list's order: at most [`MOST_ENTRIES`], each a layer of the
 /// map. A name may occur twice.

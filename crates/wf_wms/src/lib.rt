@@ -7,17 +7,17 @@
 //! defined in wf_picture. A history is the list of published map definitions: update sequence n names the n-th, 0 the empty map.
 //!
 //! It promises, unless an allocation fails:
-//! - [`service::answer`] returns the defined answer at an update sequence of a history; [`service::preview`] that of a history of
+//! - [`answer`] returns the defined answer at an update sequence of a history; [`preview`] that of a history of
 //!   one map alone
 //! - [`describe`] returns the defined answer about one map definition, where GetMap isn't supported
 //! - a query has one answer, and it depends on the history only through the map that it describes or draws
-//!   ([`theorem::each_query_has_one_answer`])
-//! - apart from GetMap the answer is what `describe` returns ([`theorem::answers_are_descriptions`])
+//!   ([`each_query_has_one_answer`])
+//! - apart from GetMap the answer is what `describe` returns ([`answers_are_descriptions`])
 //! - a request that its text alone rejects has one answer at every server, whatever it has published
-//!   ([`theorem::texts_are_rejected_alike`]); `specs/Rejection.antt` has the checks that look neither at a map nor at a sequence
-//! - [`service::answer_cached`] returns the same answer by a [`cache::Cache`] of pictures, if each entry is its key's picture in
+//!   ([`texts_are_rejected_alike`]); `specs/Rejection.antt` has the checks that look neither at a map nor at a sequence
+//! - [`answer_cached`] returns the same answer by a [`Cache`] of pictures, if each entry is its key's picture in
 //!   this history (`specs/CachedPictures.antt`); each still is afterwards, also in any history that extends this one
-//!   ([`theorem::cached_pictures_outlast_growth`])
+//!   ([`cached_pictures_outlast_growth`])
 //! - which entries there are afterwards, and the counts: a tile is cut out of its picture if that is kept, which is the most
 //! recently
 //!   used then; one that isn't is drawn and kept, unless an allocation to keep it fails, in place of the least recently used if the
@@ -26,11 +26,9 @@
 //! It says nothing about the transport of queries and answers.
 #![tactic(auto)]
 
-mod answer;
-mod asked;
 mod background;
 mod bounding_box;
-pub mod cache;
+mod cache;
 mod capabilities;
 mod checks;
 mod comparison;
@@ -42,20 +40,31 @@ mod exception;
 mod format;
 mod history;
 mod layers;
-pub mod limits;
+mod limits;
 mod map_request;
 mod map_sequence;
 mod maps;
 mod only_map;
+mod plan;
 mod query;
-pub mod report;
-pub mod service;
+mod report;
+mod response;
+mod service;
 mod size;
 mod styles;
-pub mod theorem;
+mod theorem;
 mod update_sequence;
 mod xml;
 
-pub use answer::{Answer, Kind};
+pub use cache::Cache;
 pub use description::describe;
 pub use exception::{Exception, Parameter};
+pub use limits::constants_are_the_limits;
+pub use report::exception_report;
+pub use response::{Answer, Kind};
+pub use service::{answer, answer_cached, preview};
+pub use theorem::{
+    answers_are_descriptions, asked_maps_are_answered_alike, cached_pictures_outlast_growth,
+    each_query_has_an_answer, each_query_has_one_answer, sequences_are_rejected_alike,
+    texts_are_rejected_alike,
+};

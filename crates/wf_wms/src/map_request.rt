@@ -13,9 +13,8 @@ use crate::query::Query;
 use crate::size::picture_size;
 use crate::styles::check_styles;
 use std::alloc::{AllocError, Global};
-use wf_def::choice::Projection;
-use wf_def::map::MapDef;
-use wf_picture::request::PictureRequest;
+use wf_def::{MapDef, Projection};
+use wf_picture::PictureRequest;
 
 /// The picture of a map that a query requests, or the exception of the first check that fails.
 #[tactic(auto, unfolding(crate::specs::MapRequest::picture_in))]

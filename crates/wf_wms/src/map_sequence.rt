@@ -5,7 +5,7 @@ ghost use Rattle.wf_wms.specs.MapRequest.{map_sequence, sequence_in};
 use crate::exception::{Exception, Parameter};
 use crate::format::check_version;
 use crate::query::Query;
-use wf_text::digits::{are_digits, number_of_digits};
+use wf_text::{are_digits, number_of_digits};
 
 /// The sequence of the map that a query requests at a server at update sequence `seq`; VERSION is checked first.
 #[tactic(auto, unfolding(crate::specs::MapRequest::map_sequence))]

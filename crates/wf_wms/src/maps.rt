@@ -3,7 +3,7 @@ ghost use Rattle.std.specs.Prelude.{◌≡◌, ◌≤◌, List, Some, length};
 ghost use Rattle.wf_def.specs.Definition.{Definition};
 ghost use Rattle.wf_learner.specs.History.{map_at};
 
-use wf_def::map::MapDef;
+use wf_def::MapDef;
 
 /// A server's source of maps.
 pub(crate) trait MapSource {

@@ -3,7 +3,7 @@
 use crate::maps::MapSource;
 use std::alloc::{AllocError, Global};
 use std::marker::Model;
-use wf_def::map::MapDef;
+use wf_def::MapDef;
 
 /// The maps of a server that has published only this one, as sequence 1.
 #[derive(Drop)]

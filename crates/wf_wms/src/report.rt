@@ -112,7 +112,7 @@ const REPORT_CLOSING: &str = "</ServiceException>
 
 /// The report of one exception, as bytes of an XML document (OGC 06-042, 7.3.3.11 and annex E.2): the answer to a request that
 /// fails a check. Returns Ok unless allocation fails.
-pub fn report(alloc: Global, exception: Exception) -> Result<Vec<u8>, AllocError>
+pub fn exception_report(alloc: Global, exception: Exception) -> Result<Vec<u8>, AllocError>
     ensures { IfOk result (λ document. document.items ≡ exception_report exception) }
 {
     let mut document = Vec::new(alloc);

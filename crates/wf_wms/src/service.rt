@@ -3,15 +3,15 @@ ghost use Rattle.std.specs.Prelude.{◌≡◌, ◌≤◌, ◌∷◌, [], IfOk, O
 ghost use Rattle.wf_wms.specs.Answer.{IsAnswerOf};
 ghost use Rattle.wf_wms.specs.CachedPictures.{AllCached, IsCacheAfter};
 
-use crate::answer::Answer;
-use crate::asked::Plan;
 use crate::cache::Cache;
 use crate::checks::plan;
 use crate::drawing::{draw_by, draw_uncached};
 use crate::maps::MapSource;
 use crate::only_map::OnlyMap;
+use crate::plan::Plan;
+use crate::response::Answer;
 use std::alloc::{AllocError, Global};
-use wf_def::map::MapDef;
+use wf_def::MapDef;
 use wf_learner::History;
 
 /// The answer to a query at an update sequence of the history: the service metadata (OGC 06-042, 7.2), a picture of the map that

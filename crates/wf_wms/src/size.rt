@@ -7,8 +7,8 @@ ghost use Rattle.wf_wms.specs.MapRequest.{picture_size, size_in};
 use crate::exception::{Exception, Parameter};
 use crate::query::Query;
 use wf_geometry::MOST_PIXELS;
-use wf_picture::request::Size;
-use wf_text::digits::{are_digits, number_of_digits};
+use wf_picture::Size;
+use wf_text::{are_digits, number_of_digits};
 
 /// The size that WIDTH and HEIGHT give.
 #[tactic(auto, unfolding(crate::specs::MapRequest::picture_size))]

@@ -13,7 +13,7 @@ ghost use Rattle.wf_wms.specs.Rejection.{SequencesAreRejectedAlike, TextsAreReje
 pub fn each_query_has_one_answer()
     ensures { EachQueryHasOneAnswer }
 {
-    wf_picture::theorem::there_is_one_image();
+    wf_picture::there_is_one_image();
 }
 
 /// A query has an answer at each sequence that is published: so the definitions ask for nothing that can't be. A theorem: the call
@@ -21,7 +21,7 @@ pub fn each_query_has_one_answer()
 pub fn each_query_has_an_answer()
     ensures { EachQueryHasAnAnswer }
 {
-    wf_picture::theorem::there_is_one_image();
+    wf_picture::there_is_one_image();
 }
 
 /// A GetMap request for one published map (MAPSEQ) has the same answers from one history, whatever the last sequence of the server

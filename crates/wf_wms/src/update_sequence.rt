@@ -3,7 +3,7 @@ ghost use Rattle.std.specs.Prelude.{◌≡◌, option_map};
 ghost use Rattle.wf_wms.specs.UpdateSequence.{comparison_of, sequence_rule};
 
 use crate::comparison::Comparison;
-use wf_text::digits::{are_digits, number_of_digits};
+use wf_text::{are_digits, number_of_digits};
 
 fn compare(number: u64, seq: u16) -> Comparison
     ensures { result ≡ comparison_of number seq }

@@ -2,8 +2,8 @@
 #![tactic(auto)]
 
 use std::process::ExitCode;
-use wf_commands::program::program;
+use wf_commands::run_process;
 
 fn main(rt: HostRuntime) -> ExitCode {
-    program(&rt)
+    run_process(&rt)
 }

@@ -12,12 +12,7 @@ use crate::scan::line::{
     scan_alone, scan_optional_color, scan_optional_expression, scan_with_color, scan_with_text,
     scan_with_whole, scan_with_word,
 };
-use wf_def::choice::{LabelPosition, LabelSize};
-use wf_def::class::{Class, Styles};
-use wf_def::color::Color;
-use wf_def::label::Label;
-use wf_def::style::Style;
-use wf_def::whole::Whole;
+use wf_def::{Class, Color, Label, LabelPosition, LabelSize, Style, Styles, Whole};
 
 /// Scans a style.
 fn scan_style(cursor: &mut Cursor<'_>) -> Option<Style>

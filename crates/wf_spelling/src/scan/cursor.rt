@@ -96,7 +96,7 @@ impl<'a> Cursor<'a> {
 
     /// Goes past a text in its quotes, and returns the text; `None` unless one is ahead, in the quotes that it has in a canonical
     /// text.
-    pub fn quoted(&mut self) -> Option<&'a [u8]>
+    pub fn take_quoted(&mut self) -> Option<&'a [u8]>
         ensures { IfSome result (λ text. Scans self.old (quoted text.now) self.new) }
     {
         let (quote, behind) = self.rest.split_first()?;
@@ -110,7 +110,7 @@ impl<'a> Cursor<'a> {
     }
 
     /// Goes past a list in its braces, and returns its inside; `None` unless one is ahead.
-    pub fn braced(&mut self) -> Option<&'a [u8]>
+    pub fn take_braced(&mut self) -> Option<&'a [u8]>
         ensures { IfSome result (λ inside. Scans self.old (braced inside.now) self.new) }
     {
         let (opening, behind) = self.rest.split_first()?;

@@ -8,7 +8,7 @@ ghost use Rattle.wf_spelling.specs.Scan.{Scans};
 
 use crate::scan::cursor::Cursor;
 use crate::scan::line::{scan_alone, scan_point, scan_with_rare_text};
-use wf_def::feature::{Feature, Part, ShapeParts};
+use wf_def::{Feature, Part, ShapeParts};
 
 /// Scans points up to a line that isn't a point.
 fn scan_points(cursor: &mut Cursor<'_>) -> Option<Part>

@@ -13,12 +13,8 @@ use crate::scan::class::scan_class;
 use crate::scan::cursor::Cursor;
 use crate::scan::feature::scan_feature;
 use crate::scan::line::{scan_alone, scan_with_key, scan_with_text, scan_with_word};
-use wf_def::choice::LayerKind;
-use wf_def::feature::{Feature, Part};
-use wf_def::layer::{Classes, Features, Layer};
-use wf_def::limits::MOST_POINTS;
-use wf_def::text::Text;
-use wf_feature::layers::{LayerName, LayerRead};
+use wf_def::{Classes, Feature, Features, Layer, LayerKind, MOST_POINTS, Part, Text};
+use wf_feature::{LayerName, LayerRead};
 
 /// The kind of layer whose line is ahead; any, if none is.
 fn kind_ahead(cursor: &Cursor<'_>) -> LayerKind {
@@ -38,7 +34,7 @@ fn scan_attribute_names(cursor: &mut Cursor<'_>) -> Option<Text>
         (line (with_text (codes "PROCESSING") (codes "ITEMS=" ++ names))) cursor.new) }
 {
     cursor.take(b"PROCESSING ");
-    let bytes = cursor.quoted()?;
+    let bytes = cursor.take_quoted()?;
     cursor.take(b"\n");
     let names = bytes.strip_prefix(b"ITEMS=")?;
     match Text::new(cursor.alloc(), names) {

@@ -11,12 +11,7 @@ use crate::line::quote_for;
 use crate::scan::cursor::Cursor;
 use crate::scan::number::{scan_number, scan_whole};
 use std::alloc::Global;
-use wf_def::color::Color;
-use wf_def::expression::Expression;
-use wf_def::extent::Extent;
-use wf_def::micro::Micro;
-use wf_def::point::Point;
-use wf_def::text::{Text, ValueList, check_list};
+use wf_def::{Color, Expression, Extent, Micro, Point, Text, ValueList, check_list};
 
 /// Scans a line of one keyword.
 #[inline(always)]
@@ -47,7 +42,7 @@ pub fn scan_text(cursor: &mut Cursor<'_>) -> Option<Text>
     if cursor.skip(b"\"\"") {
         return empty_text(cursor.alloc());
     }
-    let bytes = cursor.quoted()?;
+    let bytes = cursor.take_quoted()?;
     match Text::new(cursor.alloc(), bytes) {
         Ok(text) => Some(text),
         Err(_) => None,
@@ -58,7 +53,7 @@ pub fn scan_text(cursor: &mut Cursor<'_>) -> Option<Text>
 fn scan_list(cursor: &mut Cursor<'_>) -> Option<ValueList>
     ensures { IfSome result (λ list. Scans cursor.old (braced list) cursor.new) }
 {
-    let bytes = cursor.braced()?;
+    let bytes = cursor.take_braced()?;
     let inside = check_list(bytes)?;
     match ValueList::from_str(cursor.alloc(), inside) {
         Ok(list) => Some(list),

@@ -13,10 +13,8 @@ use crate::scan::layer::scan_layer;
 use crate::scan::line::{scan_alone, scan_quoted, scan_with_extent, scan_with_key, scan_with_text};
 use crate::writer::projection_text;
 use std::alloc::Global;
-use wf_def::choice::Projection;
-use wf_def::map::MapDef;
-use wf_def::text::Text;
-use wf_feature::layers::{LayerRead, Layers};
+use wf_def::{MapDef, Projection, Text};
+use wf_feature::{LayerRead, Layers};
 
 /// The coordinate system whose line is ahead; any, if none is.
 fn projection_ahead(cursor: &Cursor<'_>) -> Projection {
@@ -186,7 +184,7 @@ fn scan_map(cursor: &mut Cursor<'_>) -> Option<MapDef>
 
 /// The map whose canonical text these bytes are. `None` if they are no canonical text, and where the general reader has to decide:
 /// if allocation fails, for one.
-pub fn scan(alloc: Global, bytes: &[u8]) -> Option<MapDef>
+pub fn scan_text(alloc: Global, bytes: &[u8]) -> Option<MapDef>
     ensures value { IfSome result (λ map. canon map ≡ bytes.now) }
     ensures within { IfSome result IsWithinLimits }
 {

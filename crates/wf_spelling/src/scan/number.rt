@@ -6,7 +6,7 @@ ghost use Rattle.wf_text.specs.NumberText.{fraction_digits, fraction_text, magni
 ghost use Rattle.wf_spelling.specs.Scan.{Scans};
 
 use crate::scan::cursor::Cursor;
-use wf_def::micro::Micro;
+use wf_def::Micro;
 
 /// The number of millionths in a unit.
 const UNIT: u64 = 1_000_000;

@@ -6,7 +6,7 @@ pub returns-in-Serve-clause-run : goal.returns-in-Serve-clause-run
 returns-in-Serve-clause-run g c = (
   c.in-Ok.line,
   c.in-Ok.ensures.asked,
-  served_line _ _ _ _ _ _ _ _ _ c.in-Ok.line c.in-Serve.service c.in-Serve.is c.serve.result c.served.result c.served.ensures
+  served_line _ _ _ _ _ _ _ _ _ c.in-Ok.line c.in-Serve.service c.in-Serve.is c.serve.result c.serve_result.result c.serve_result.ensures
       c.serve.ensures.served c.serve.ensures.writes c.end.ensures.reported_as c.end.ensures.status,
 )
 

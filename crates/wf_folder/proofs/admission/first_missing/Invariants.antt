@@ -1,5 +1,5 @@
 -- The nodes' tapes before this one are all there.
-use Rattle.std.proofs.Common.{◌≡◌, ◌<◌, ℕ}
+use Rattle.std.proofs.Common.{◌<◌, ℕ}
 use Rattle.wf_folder.specs.Admission.{IsThere}
 use Rattle.wf_folder.proofs.admission.first_missing.Given as goal
 

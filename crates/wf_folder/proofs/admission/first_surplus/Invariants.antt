@@ -1,5 +1,5 @@
 -- No tape before this one is one too many.
-use Rattle.std.proofs.Common.{◌≡◌, ◌<◌, ◌≤◌, ℕ}
+use Rattle.std.proofs.Common.{◌<◌, ◌≤◌, ℕ}
 use Rattle.wf_folder.specs.Admission.{IsThere}
 use Rattle.wf_folder.proofs.admission.first_surplus.Given as goal
 

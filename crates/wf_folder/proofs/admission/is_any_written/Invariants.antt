@@ -1,5 +1,5 @@
 -- No tape before this one has a byte.
-use Rattle.std.proofs.Common.{◌≡◌, ◌<◌, ℕ}
+use Rattle.std.proofs.Common.{◌<◌, ℕ}
 use Rattle.wf_folder.specs.Admission.{HasByte}
 use Rattle.wf_folder.proofs.admission.is_any_written.Given as goal
 

@@ -1,5 +1,4 @@
 -- The digits of a mark are read as it, and are in lowercase.
-use Rattle.std.proofs.Common.{◌≡◌, List, ℕ, sym}
 use Rattle.wf_folder.proofs.Digits.{decoded, of_none}
 use Rattle.wf_folder.proofs.reader.mark_of.Goals as goal
 

@@ -1,5 +1,4 @@
 -- A file's line says one of the two.
-use Rattle.wf_folder.specs.declared.farm_file.Beginning.{Beginning}
 use Rattle.wf_folder.specs.declared.farm_file.Beginning.TheVariants.{Empty, Found}
 use Rattle.wf_folder.proofs.reader.read_beginning.Goals as goal
 

@@ -1,6 +1,6 @@
 -- What a node may start on isn't missing, another's or the last.
-use Rattle.std.proofs.Common.{◌≡◌, ◌∙◌, ◌≤◌, ◌<◌, ℕ, sym, arith}
-use Rattle.wf_folder.specs.NodeAdmission.{IsNodeStart, IsNodeRejection, NodeStartsAreNotRejected}
+use Rattle.std.proofs.Common.{◌∙◌, sym, arith}
+use Rattle.wf_folder.specs.NodeAdmission.{NodeStartsAreNotRejected}
 use Rattle.wf_folder.specs.declared.node_admission.NodeFound.TheVariants as finds
 use Rattle.wf_folder.specs.declared.node_admission.NodeRejection.TheVariants as causes
 use Rattle.wf_folder.proofs.theorem.no_node_start_is_admitted_and_rejected.Goals as goal

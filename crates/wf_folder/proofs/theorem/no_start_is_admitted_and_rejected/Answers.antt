@@ -1,14 +1,10 @@
 -- What is there for a start isn't missing, one too many or another's.
-use Rattle.std.proofs.Common.{◌≡◌, ◌∙◌, ℕ, List, sym, ap}
-use Rattle.wf_folder.specs.Admission.{AllAreThere, IsRejection, IsStart, HasTapes, NoneIsSurplus, StartsAreNotRejected}
+use Rattle.std.proofs.Common.{◌∙◌, ℕ, sym, ap}
+use Rattle.wf_folder.specs.Admission.{StartsAreNotRejected}
 use Rattle.wf_folder.specs.declared.admission.FoundFile.{FoundFile}
 use Rattle.wf_folder.specs.declared.admission.FoundFile.TheVariants as finds
-use Rattle.wf_folder.specs.declared.admission.StartRejection.{StartRejection}
 use Rattle.wf_folder.specs.declared.admission.StartRejection.TheVariants as causes
-use Rattle.wf_folder.specs.declared.admission.Start.{Start}
 use Rattle.wf_folder.specs.declared.admission.Start.TheVariants as starts
-use Rattle.wf_folder.specs.declared.farm_file.FarmFile.{FarmFile}
-use Rattle.wf_folder.specs.declared.presence.Presence.{Presence}
 use Rattle.wf_folder.proofs.theorem.no_start_is_admitted_and_rejected.Goals as goal
 
 abbrev nodes_in : ℕ → FoundFile → ℕ

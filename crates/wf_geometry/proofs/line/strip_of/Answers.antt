@@ -10,7 +10,7 @@ returns-then-is_steep-clause-shown c = λ u v wide high.
     let line = c.in_order.result in
     let position = turned (centre (pos u) (pos v)) in
     let ordered : is_across c.args.width position line.from line.to ≡ is_on_flat c.args.width position (turned segment.from) (turned segment.to) =
-    rw (← c.turned.ensures, ← c.turned-then-is_steep.ensures) (c.in_order.ensures c.args.width position) in
+    rw (← c.exchange_axes.ensures, ← c.exchange_axes-then-is_steep.ensures) (c.in_order.ensures c.args.width position) in
     c.upward.ensures.shown u v wide high ∙ ordered ∙ sym (on_steep c.args.width (centre (pos u) (pos v)) segment (sym c.is_steep.ensures ∙ c.if-is_steep.true))
 
 pub returns-else-is_steep-clause-shown : goal.returns-else-is_steep-clause-shown

@@ -13,5 +13,5 @@ returns-clause-value c = λ u v.
     let runs : FitsSigned w64 c.run.result = search rules in
     let rises : FitsSigned w64 c.rise.result = search rules in
     let origin : c.deviation.result ≡ deviation (turned (centre (pos 0) (pos 0))) c.args.low c.args.high =
-    c.deviation.ensures.value ∙ ap (λ (p : PositionValue). deviation p c.args.low c.args.high) (c.turned.ensures ∙ ap (λ (p : PositionValue). turned p) c.centre.ensures) in
+    c.deviation.ensures.value ∙ ap (λ (p : PositionValue). deviation p c.args.low c.args.high) (c.exchange_axes.ensures ∙ ap (λ (p : PositionValue). turned p) c.centre.ensures) in
     rw (to_z-of_z origins, to_z-of_z runs, to_z-of_z rises, origin, c.rise.ensures.value, c.run.ensures.value) (upward_levels u v c.args.low c.args.high)

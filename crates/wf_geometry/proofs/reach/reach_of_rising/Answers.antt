@@ -14,9 +14,9 @@ steps_below-requires c =
 pub returns-clause-left : goal.returns-clause-left
 returns-clause-left c = λ u within.
     let step_fits : FitsSigned w128 c.step.result = search rules in
-    let bound_fits : FitsSigned w128 c.bound.result = search rules in
+    let bound_fits : FitsSigned w128 c.upper_bound.result = search rules in
     let level_fits = c.ranges.level in
     let up = beside_rises (record { x = pos 0; y = c.args.level }) c.args.low c.args.high c.requires.rising in
-    let counted : is_less (product c.step.result (pos u)) c.bound.result ≡ nat_lt u c.steps_below.result = simp to_z-of_z at (c.steps_below.ensures.below u within) in
-    let bound : c.bound.result ≡ difference (product (difference c.args.level c.args.low.y) (difference c.args.high.x c.args.low.x)) (product (difference (pos half_side) c.args.low.x) (difference c.args.high.y c.args.low.y)) = simp to_z-of_z at c.bound.ensures in
+    let counted : is_less (product c.step.result (pos u)) c.upper_bound.result ≡ nat_lt u c.steps_below.result = simp to_z-of_z at (c.steps_below.ensures.below u within) in
+    let bound : c.upper_bound.result ≡ difference (product (difference c.args.level c.args.low.y) (difference c.args.high.x c.args.low.x)) (product (difference (pos half_side) c.args.low.x) (difference c.args.high.y c.args.low.y)) = simp to_z-of_z at c.upper_bound.ensures in
     left_steps c.args.level u c.args.low c.args.high up ∙ rw (← c.step.ensures, ← bound) counted

@@ -11,6 +11,6 @@ returns-clause-spelled c =
     let filled = c.put_fields-kind.ensures in
     let text = c.put_fields-kind.result.1.now in
     written c.args.out.now.items c.reserve.new.self.items c.put_header.new.out.items c.put.new.out.items c.put-2.new.out.items c.put_fields-kind.new.fields.items text r
-    c.byte.result c.put_fields-kind.result.0 (c.byte.ensures ∙ ap version_byte c.written.ensures) filled.kind filled.body c.reserve.ensures.items
+    c.byte.result c.put_fields-kind.result.0 (c.byte.ensures ∙ ap version_byte c.current.ensures) filled.kind filled.body c.reserve.ensures.items
     (c.put_header.ensures.frame (row_bytes (texts r)) (counted c.put_fields-kind.new.fields.items text r _ _ filled.body c.len.ensures.value refl))
     (c.put.ensures.items ∙ ap (λ (t : List ℕ). c.put_header.new.out.items ++ t) c.as_slice.ensures.value) c.put-2.ensures.items

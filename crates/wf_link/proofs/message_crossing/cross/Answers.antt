@@ -3,7 +3,7 @@ use Rattle.std.proofs.Common.{◌∙◌, [], ◌∷◌, ap, inr, length, refl}
 use Rattle.std.proofs.lemmas.Result.{IfOk-weaker, on_err_weaker}
 use Rattle.wf_codec.specs.Message.{view}
 use Rattle.wf_codec.specs.Encoding.{spelling}
-use Rattle.wf_wire.specs.Stream.{Reads}
+use Rattle.wf_mail.specs.Stream.{Reads}
 use Rattle.wf_link.specs.Cause.{IsOneMessage}
 use Rattle.wf_link.specs.MessageCrossing.{ComesOut, IsSentIfLooped}
 use Rattle.wf_link.proofs.Causes.{fails_calm, fails_weaker, fares_lost, lost_more}

@@ -1,6 +1,5 @@
 -- The lines of the records, and then that of what follows them.
-use Rattle.std.proofs.Common.{◌≡◌, ◌∙◌, ◌-◌, ◌++◌, map, length, subst, arith, refl}
-use Rattle.std.specs.Prelude.{OnOk}
+use Rattle.std.proofs.Common.{◌-◌, map, length, arith, refl}
 use Rattle.std.specs.String.{string_bytes}
 use Rattle.wf_journal.specs.Record.{view}
 use Rattle.wf_listing.proofs.Lines.{ends_within, listed}

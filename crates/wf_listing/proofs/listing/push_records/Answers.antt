@@ -1,12 +1,12 @@
 -- Each iteration appends the line of one more record, and goes on to the offset at which it ends.
-use Rattle.std.proofs.Common.{◌≡◌, ◌∙◌, ◌++◌, ◌+◌, ◌≤◌, ◌<◌, ℕ, List, map, take, length, sym, ap, append_assoc, arith}
+use Rattle.std.proofs.Common.{◌∙◌, ◌++◌, ◌+◌, List, map, length, ap, arith}
 use Rattle.std.proofs.lemmas.List.{take_all}
 use Rattle.std.specs.String.{string_bytes}
 use Rattle.wf_listing.specs.Listing.{record_lines}
 use Rattle.wf_journal.specs.declared.record.Record.{Record}
 use Rattle.wf_journal.specs.Record.{view}
 use Rattle.wf_journal.specs.Records.{length_of}
-use Rattle.wf_listing.proofs.Lines.{no_lines, no_length, next_length, next_lines, length_taken, lines_joined}
+use Rattle.wf_listing.proofs.Lines.{no_lines, no_length, next_length, length_taken, lines_joined}
 use Rattle.wf_listing.proofs.listing.push_records.Goals as goal
 
 pub loop-entry-init : goal.loop-entry-init

@@ -1,5 +1,5 @@
 -- Each iteration goes on behind a record that publishes none.
-use Rattle.std.proofs.Common.{◌≡◌, ◌∙◌, List, [], map, sym, ap}
+use Rattle.std.proofs.Common.{◌∙◌, List, map, sym, ap}
 use Rattle.std.proofs.lemmas.List.{drop_all}
 use Rattle.wf_journal.specs.declared.record.Record.{Record}
 use Rattle.wf_journal.specs.Record.{view}

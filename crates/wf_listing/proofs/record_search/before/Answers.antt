@@ -1,5 +1,5 @@
 -- What is read before the bad bytes is all that stands there, and none of it is bad.
-use Rattle.std.proofs.Common.{◌≡◌, List, ℕ, map, subst, take}
+use Rattle.std.proofs.Common.{List, ℕ, map, subst}
 use Rattle.wf_journal.specs.Journal.{IsBadAt, IsWhereBad}
 use Rattle.wf_journal.specs.Record.{view}
 use Rattle.wf_journal.specs.Records.{IsTapeOf}

@@ -1,5 +1,5 @@
-use Rattle.wf_loop.proofs.Continuation.{heard_own}
+use Rattle.wf_loop.proofs.Continuation.{own_received}
 use Rattle.wf_loop.proofs.acts.handle_own.Goals as goal
 
 pub returns : goal.returns
-returns g c = heard_own g.T.Tape _ _ _ c.handle_own.ensures
+returns g c = own_received g.T.Tape _ _ _ c.handle_own.ensures

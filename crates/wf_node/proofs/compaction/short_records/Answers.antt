@@ -12,7 +12,7 @@ pub returns : goal.returns
 unfolding short_records
 returns c =
     let stored = stored_of c.args.persistent.now in
-    let tried = c.in_ok-push_tried.ensures ∙ ap (λ records. map view records ++ tried_records c.tried.result) c.new-records.ensures.items ∙ ap tried_records c.tried.ensures in
+    let tried = c.in_ok-push_tried.ensures ∙ ap (λ records. map view records ++ tried_records c.last_round.result) c.new-records.ensures.items ∙ ap tried_records c.last_round.ensures in
     let sequences = c.in_ok-push_sequences.ensures ∙ ap (λ (rs : List (Record Definition)). rs ++ records_from stored 1 last_sequence) tried in
     c.in_ok-push_promise.ensures ∙ ap (λ (rs : List (Record Definition)). rs ++ promise_records stored stored.promise) sequences
     ∙ append_assoc (tried_records stored.tried) (records_from stored 1 last_sequence) (promise_records stored stored.promise)

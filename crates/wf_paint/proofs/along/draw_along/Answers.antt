@@ -22,7 +22,7 @@ pub loop-segment-preserved : goal.loop-segment-preserved
 loop-segment-preserved c =
     let strip = c.strip_of-strip.result in
     let segment = c.segment-item.result in
-    let segments = c.drawn-segments.result.now in
+    let segments = c.line_segments-segments.result.now in
     let drawn : IsColored (λ column row. is_on c.args.width (centre (pos column) (pos row)) segment) c.in-Some.color c.loop-segment.canvas c.draw_strip.new.canvas =
     IsColored-alike (is_in_strip strip.levels strip.rows strip.columns) (λ column row. is_on c.args.width (centre (pos column) (pos row)) segment) c.in-Some.color c.loop-segment.canvas c.draw_strip.new.canvas
     (λ column row wide high. sym (c.strip_of-strip.ensures.shown column row (rw c.width.ensures.value wide) (rw c.height.ensures.value high))) c.draw_strip.ensures in (
@@ -35,9 +35,9 @@ loop-segment-preserved c =
 
 pub returns : goal.returns
 returns c =
-    let segments = c.drawn-segments.result.now in
+    let segments = c.line_segments-segments.result.now in
     let all : take c.loop-segment.segment-index segments ≡ segments = take_all c.loop-segment.segment-index segments (omega arith) in
     let colored : IsColored (on_any c.args.width segments) c.in-Some.color c.args.canvas.now c.loop-segment.canvas =
     subst (λ (some : List Segment). IsColored (on_any c.args.width some) c.in-Some.color c.args.canvas.now c.loop-segment.canvas) all c.loop-segment.invariant.0 in
-    let drawn = line_along_some c.args.edges.now segments c.args.width c.in-Some.color c.args.canvas.now _ c.drawn-segments.ensures colored in
+    let drawn = line_along_some c.args.edges.now segments c.args.width c.in-Some.color c.args.canvas.now _ c.line_segments-segments.ensures colored in
     rw c.in-Some.is (IsShown-from_colored (LineOf c.args.width c.args.edges.now) c.in-Some.color c.args.canvas.now _ drawn)

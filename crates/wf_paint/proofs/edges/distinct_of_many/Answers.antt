@@ -10,7 +10,7 @@ returns-then-all-lt-MANY c = along_same c.args.all.now
 pub returns : goal.returns
 returns c =
     let all = c.args.all.now in
-    let sorted = c.in_ok-sorted.field-0.items in
+    let sorted = c.in_ok-sort_segments.field-0.items in
     let distinct = c.in_ok-distinct.distinct.items in
-    along_twice all sorted distinct (along_sorted all sorted c.in_ok-sorted.ensures)
+    along_twice all sorted distinct (along_sorted all sorted c.in_ok-sort_segments.ensures)
     (subst (λ (xs : List Segment). AreAlong xs distinct) c.deref.ensures.value c.in_ok-distinct.ensures)

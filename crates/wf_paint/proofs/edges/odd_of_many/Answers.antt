@@ -10,7 +10,7 @@ returns-then-all-lt-MANY c = around_same c.args.all.now
 pub returns : goal.returns
 returns c =
     let all = c.args.all.now in
-    let sorted = c.in_ok-sorted.field-0.items in
+    let sorted = c.in_ok-sort_segments.field-0.items in
     let odd = c.in_ok-odd.odd.items in
-    around_twice all sorted odd (around_sorted all sorted c.in_ok-sorted.ensures)
+    around_twice all sorted odd (around_sorted all sorted c.in_ok-sort_segments.ensures)
     (subst (λ (xs : List Segment). AreAround xs odd) c.deref.ensures.value c.in_ok-odd.ensures)

@@ -1,5 +1,5 @@
 -- A number that isn't a slot's has no definition.
-use Rattle.std.proofs.Common.{◌≡◌, ◌∙◌, ◌++◌, List, ap, sym, append-nil, arith}
+use Rattle.std.proofs.Common.{◌≡◌, ◌∙◌, ◌++◌, ap, sym, append-nil, arith}
 use Rattle.std.specs.Prelude.{Option, IsSome, is_some, false}
 use Rattle.std.specs.Option.{option_to_list}
 use Rattle.wf_ballot.specs.Sequence.{IsSlot}

@@ -2,7 +2,6 @@
 use Rattle.std.proofs.Common.{◌∙◌, ap, sym, length, arith}
 use Rattle.wf_reader.proofs.Fields.{fields_parts, fields_whole, same_answer}
 use Rattle.wf_reader.proofs.Sizes.{length_of_fields}
-use Rattle.wf_reader.specs.ReaderAnswer.{ReaderAnswer}
 use Rattle.wf_reader.specs.Reply.{answer_fields}
 use Rattle.wf_reader.proofs.reply_decoder.answer_of.Goals as goal
 

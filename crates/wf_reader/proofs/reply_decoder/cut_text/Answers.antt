@@ -1,5 +1,5 @@
 -- The first four bytes are the length of the text.
-use Rattle.std.proofs.Common.{◌≡◌, ◌∙◌, ◌++◌, ap, sym, length, length-append, arith}
+use Rattle.std.proofs.Common.{◌∙◌, ap, sym, length, length-append, arith}
 use Rattle.std.specs.Int.{w32, from_be_bytes}
 use Rattle.wf_reader.proofs.Parts.{drop_front, take_front}
 use Rattle.wf_reader.proofs.Sizes.{text_front, text_whole}

@@ -20,7 +20,7 @@ pub answer_get-requires : goal.answer_get-requires
 answer_get-requires g c =
     let there = node_there c.args.farm.now.hosts c.args.node_index c.requires.running c.requires.within c.in-Some.node.now (sym c.in-Some.ensures) in
     record {
-      reads = only_reads c.in-Ok.request.asked c.asked.result c.asked.ensures c.in-Wms.is;
+      reads = only_reads c.in-Ok.request.asked c.resource.result c.resource.ensures c.in-Wms.is;
       cached = subst (λ h. AllCached h c.args.cache.now) (sym c.history.ensures) (c.requires.cached c.in-Some.node.now there);
     }
 

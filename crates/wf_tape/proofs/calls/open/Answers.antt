@@ -1,8 +1,8 @@
 -- The own file is there, and its name is synced.
-use Rattle.std.proofs.Common.{Some, ap, ◌∙◌}
+use Rattle.std.proofs.Common.{ap, ◌∙◌}
 use Rattle.wf_tape.proofs.Folders.{open_images, open_content, names_done, names_own, names_images}
 use Rattle.wf_tape.proofs.Turns.{passes_one, passes_both, counted_on}
-use Rattle.wf_disk.specs.Folder.{MayLeave, IsLeftOf, bytes_in}
+use Rattle.wf_disk.specs.Folder.{MayLeave, bytes_in}
 use Rattle.wf_disk.specs.Call.{error_of}
 use Rattle.wf_tape.proofs.calls.«open».Goals as goal
 

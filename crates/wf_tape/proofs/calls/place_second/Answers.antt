@@ -2,7 +2,7 @@
 use Rattle.std.proofs.Common.{◌⊎◌, inl}
 use Rattle.wf_tape.proofs.Folders.{second_placed, place_failed, rename_failed, rename_memory, rename_images, names_images}
 use Rattle.wf_tape.proofs.Turns.{passes_one, passes_both, counted_on}
-use Rattle.wf_disk.specs.Folder.{MayLeave, IsLeftOf, bytes_in}
+use Rattle.wf_disk.specs.Folder.{MayLeave, IsLeftOf}
 use Rattle.wf_disk.specs.Call.{error_of}
 use Rattle.wf_tape.proofs.calls.place_second.Goals as goal
 

@@ -1,7 +1,7 @@
 -- The second file has the bytes, all of them synced, and nothing else has changed.
 use Rattle.wf_tape.proofs.Folders.{sync_kept, kept_on, kept_images, second_synced}
 use Rattle.wf_tape.proofs.Turns.{passes_one, passes_both, counted_on}
-use Rattle.wf_disk.specs.Folder.{MayLeave, IsLeftOf, bytes_in}
+use Rattle.wf_disk.specs.Folder.{MayLeave}
 use Rattle.wf_disk.specs.Call.{error_of}
 use Rattle.wf_tape.proofs.calls.put_second.Goals as goal
 

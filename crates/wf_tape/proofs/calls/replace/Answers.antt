@@ -1,11 +1,9 @@
 -- The own file is the new one, or the one from before.
 use Rattle.std.proofs.Common.{◌≡◌, ◌⊎◌, ap, ◌∙◌, inl, inr}
 use Rattle.wf_disk.specs.Folder.{Folder}
-use Rattle.wf_tape.specs.DiskTape.{IsButSecond}
 use Rattle.wf_tape.proofs.Folders.{kept_images, whole_second, placed_synced, placed_own, placed_images}
 use Rattle.wf_tape.proofs.Turns.{passes_both, passes_weaker, counted_on}
-use Rattle.wf_disk.specs.Folder.{MayLeave, IsLeftOf, bytes_in}
-use Rattle.wf_disk.specs.Call.{error_of}
+use Rattle.wf_disk.specs.Folder.{MayLeave, IsLeftOf}
 use Rattle.wf_tape.proofs.calls.replace.Goals as goal
 
 pub returns-in-Ok-clause-ok : goal.returns-in-Ok-clause-ok

@@ -2,7 +2,7 @@
 use Rattle.std.proofs.Common.{ap, ◌∙◌}
 use Rattle.wf_tape.proofs.Folders.{sync_done, sync_content, sync_earlier, sync_images}
 use Rattle.wf_tape.proofs.Turns.{passes_one, passes_both, passes_weaker, counted_on}
-use Rattle.wf_disk.specs.Folder.{MayLeave, IsLeftOf, bytes_in}
+use Rattle.wf_disk.specs.Folder.{MayLeave, bytes_in}
 use Rattle.wf_disk.specs.Call.{error_of}
 use Rattle.wf_tape.proofs.calls.sync.Goals as goal
 

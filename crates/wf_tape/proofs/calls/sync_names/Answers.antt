@@ -1,8 +1,7 @@
 -- The names are synced, or they were.
-use Rattle.std.proofs.Common.{Result, Ok, Err, OnOk}
 use Rattle.wf_tape.proofs.Folders.{names_done, names_own, names_stay, names_images}
 use Rattle.wf_tape.proofs.Turns.{passes_one, passes_none}
-use Rattle.wf_disk.specs.Folder.{MayLeave, IsLeftOf, bytes_in}
+use Rattle.wf_disk.specs.Folder.{MayLeave}
 use Rattle.wf_disk.specs.Call.{error_of}
 use Rattle.wf_tape.proofs.calls.sync_names.Goals as goal
 

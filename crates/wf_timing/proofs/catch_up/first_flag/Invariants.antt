@@ -1,5 +1,5 @@
 -- No flag before this one, from the index on, is set.
-use Rattle.std.proofs.Common.{◌≡◌, ◌≤◌, ◌<◌, ℕ}
+use Rattle.std.proofs.Common.{◌≤◌, ◌<◌, ℕ}
 use Rattle.wf_timing.specs.CatchUp.{IsSet}
 use Rattle.wf_timing.proofs.catch_up.first_flag.Given as goal
 

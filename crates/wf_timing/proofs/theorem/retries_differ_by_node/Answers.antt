@@ -1,9 +1,9 @@
 -- A node's waits are its first one, times a number that is the same for all nodes.
-use Rattle.std.proofs.Common.{◌≡◌, ℕ, zero, suc, ◌+◌, ◌*◌, ◌<◌, ◌≤◌, ◌∙◌, min, ap, sym, refl, arith}
+use Rattle.std.proofs.Common.{◌≡◌, ℕ, zero, suc, ◌+◌, ◌*◌, ◌≤◌, ◌∙◌, min, ap, arith}
 use Rattle.std.proofs.Common.{inl, inr}
 use Rattle.std.proofs.lemmas.Bool.{cases_lt}
 use Rattle.std.proofs.Math.Nat.{mul-le-mul_left}
-use Rattle.wf_timing.specs.Waits.{wait_after, doubled, first_retry, longest_retry, retry_wait, RetriesDifferByNode}
+use Rattle.wf_timing.specs.Waits.{wait_after, first_retry, retry_wait, RetriesDifferByNode}
 use Rattle.wf_timing.proofs.theorem.retries_differ_by_node.Goals as goal
 
 -- a limit of so many times the first wait

@@ -1,5 +1,5 @@
 -- A step, whose messages go to whom they are for; or an error, by which nothing is sent.
-use Rattle.std.proofs.Common.{◌≡◌, ◌<◌, ℕ, [], ◌++◌, map, Result, Ok, Err, Vec, refl, sym, ap, subst, ◌∙◌, append-nil}
+use Rattle.std.proofs.Common.{◌≡◌, ◌<◌, ℕ, [], map, Ok, Err, refl, sym, ap, subst, ◌∙◌}
 use Rattle.std.proofs.Math.Logic.{∥∥₁_elim, ∥∥₁_map, ∥∥₁_prop}
 use Rattle.wf_career.specs.Run.{given_to}
 use Rattle.wf_codec.specs.Message.{view}

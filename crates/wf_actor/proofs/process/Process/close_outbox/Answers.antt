@@ -2,7 +2,6 @@ use Rattle.std.proofs.Common.{◌≡◌, ◌<◌, ℕ, length, get_or, slice_set
 use Rattle.std.proofs.Math.Logic.{∥∥₁_map}
 use Rattle.std.proofs.lemmas.Option.{slice_get_read}
 use Rattle.wf_actor.specs.Life.{logged}
-use Rattle.wf_actor.specs.declared.link.Link.{Link}
 use Rattle.wf_actor.proofs.Changes.{closed_put, same_arrived}
 use Rattle.wf_actor.proofs.Receipt.{arrived_set}
 use Rattle.wf_actor.proofs.Dispatches.{link_set}

@@ -2,7 +2,7 @@ use Rattle.std.proofs.Common.{◌≡◌, ◌<◌, ℕ, length, Some, slice_get, 
 use Rattle.std.proofs.Math.Logic.{∥∥₁_map}
 use Rattle.std.proofs.lemmas.Option.{slice_get_read}
 use Rattle.wf_actor.specs.Life.{logged}
-use Rattle.wf_actor.specs.Sent.{AreArrivedCome, AreSent}
+use Rattle.wf_actor.specs.Sent.{AreArrivedCome}
 use Rattle.wf_actor.proofs.Changes.{same_put}
 use Rattle.wf_actor.proofs.Arrivals.{received_given, received_arrived, received_outbox}
 use Rattle.wf_actor.proofs.Dispatches.{link_set}

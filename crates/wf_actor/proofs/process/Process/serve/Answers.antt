@@ -1,10 +1,8 @@
 -- A request, whose messages go to every node.
-use Rattle.std.proofs.Common.{◌≡◌, ◌<◌, ℕ, map, refl, sym, ap, subst, ◌∙◌}
+use Rattle.std.proofs.Common.{◌<◌, ℕ, map, refl, sym, subst, ◌∙◌}
 use Rattle.std.proofs.Math.Logic.{∥∥₁_map}
 use Rattle.wf_codec.specs.Message.{view}
-use Rattle.wf_node.specs.Node.{Node}
 use Rattle.wf_actor.specs.Life.{logged}
-use Rattle.wf_actor.specs.Backlog.{queued}
 use Rattle.wf_actor.specs.Target.{includes}
 use Rattle.wf_actor.specs.declared.target.Target.TheVariants.{Everyone}
 use Rattle.wf_actor.proofs.Receipt.{given_stays, arrived_on}

@@ -28,15 +28,15 @@ invariant_of-self g c =
 
 pub returns-clause-done : goal.returns-clause-done
 returns-clause-done g c =
-    subst (λ (farm : MemoryFarm). IfOk c.reported.result (IsPumped c.args.nodes.now farm (after g c))) c.self.view_is
+    subst (λ (farm : MemoryFarm). IfOk c.pump_result.result (IsPumped c.args.nodes.now farm (after g c))) c.self.view_is
     (pump_done c.args.nodes.now (before g c) (after g c) c.len.result c.deref.result.now c.in-Ok.targets.items c.pump-end.result.progress (omega (arith, c.len.ensures)) c.deref.ensures.value c.in-Ok.ensures.targets
-    None refl c.pump-end.result.torn (c.pump-end.ensures.come tt) c.pumped-self-inside.ensures c.pump-end.result.end c.pump-end.ensures.end c.reported.result c.reported.ensures)
+    None refl c.pump-end.result.torn (c.pump-end.ensures.come tt) c.pumped-self-inside.ensures c.pump-end.result.end c.pump-end.ensures.end c.pump_result.result c.pump_result.ensures)
 
 pub returns-clause-part : goal.returns-clause-part
 returns-clause-part g c =
-    subst (λ (farm : MemoryFarm). IfErr c.reported.result (IsPumpedPart c.args.nodes.now farm (after g c))) c.self.view_is
+    subst (λ (farm : MemoryFarm). IfErr c.pump_result.result (IsPumpedPart c.args.nodes.now farm (after g c))) c.self.view_is
     (pump_part c.args.nodes.now (before g c) (after g c) c.len.result c.deref.result.now c.in-Ok.targets.items c.pump-end.result.progress (omega (arith, c.len.ensures)) c.deref.ensures.value c.in-Ok.ensures.targets
-    None refl c.pump-end.result.torn (c.pump-end.ensures.come tt) c.pumped-self-inside.ensures c.pump-end.result.end c.pump-end.ensures.end c.reported.result c.reported.ensures (c.pump-end.ensures.may refl))
+    None refl c.pump-end.result.torn (c.pump-end.ensures.come tt) c.pumped-self-inside.ensures c.pump-end.result.end c.pump-end.ensures.end c.pump_result.result c.pump_result.ensures (c.pump-end.ensures.may refl))
 
 pub returns-clause-grows : goal.returns-clause-grows
 unfolding HistoriesGrow

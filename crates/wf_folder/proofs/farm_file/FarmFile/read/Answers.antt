@@ -1,7 +1,7 @@
 -- What doesn't begin with the lines of this version and this kind is no file's text.
 use Rattle.std.proofs.Common.{◌++◌, ◌∙◌, sym}
 use Rattle.std.proofs.lemmas.List.{append_cancel_left}
-use Rattle.wf_folder.specs.FarmFile.{beginning_line, first_line, kind_line, mark_line, nodes_line}
+use Rattle.wf_folder.specs.FarmFile.{beginning_line, first_line, mark_line, nodes_line}
 use Rattle.wf_folder.proofs.farm_file.FarmFile.read.Goals as goal
 
 pub returns-in_default-after-clause-none : goal.returns-in_default-after-clause-none

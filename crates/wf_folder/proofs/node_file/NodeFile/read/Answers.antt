@@ -1,5 +1,5 @@
 -- What doesn't begin with the lines of this version and this kind is no file's text.
-use Rattle.std.proofs.Common.{◌++◌, ◌∙◌, sym}
+use Rattle.std.proofs.Common.{◌∙◌, sym}
 use Rattle.std.proofs.lemmas.List.{append_cancel_left}
 use Rattle.wf_folder.specs.FarmFile.{first_line}
 use Rattle.wf_folder.specs.NodeFile.{node_fields}

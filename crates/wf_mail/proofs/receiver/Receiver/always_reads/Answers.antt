@@ -1,5 +1,5 @@
 use Rattle.std.proofs.Common.{ℕ, List, subst}
-use Rattle.wf_wire.specs.Stream.{Reads}
+use Rattle.wf_mail.specs.Stream.{Reads}
 use Rattle.wf_mail.specs.Receiver.{logged, came, taken}
 use Rattle.wf_mail.proofs.Received.{reads_always}
 use Rattle.wf_mail.proofs.receiver.Receiver.always_reads.Goals as goal

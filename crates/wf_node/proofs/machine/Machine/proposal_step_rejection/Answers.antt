@@ -21,4 +21,4 @@ returns-then-is_full g c =
 pub returns : goal.returns
 returns g c =
     c.fault_for.ensures (reject_proposal (stored_of c.args.self.now.persistent.parts) (volatile_of c.args.self.now.proposer).leadership (volatile_of c.args.self.now.proposer).proposing)
-    (c.start_step_rejection.ensures (stored_of c.args.self.now.persistent.parts) (has_stored (stored_of c.args.self.now.persistent.parts) c.tried.result c.published-published.result c.tried.ensures (c.published-published.ensures.value ∙ ap length c.history.ensures)))
+    (c.start_step_rejection.ensures (stored_of c.args.self.now.persistent.parts) (has_stored (stored_of c.args.self.now.persistent.parts) c.last_round.result c.published-published.result c.last_round.ensures (c.published-published.ensures.value ∙ ap length c.history.ensures)))

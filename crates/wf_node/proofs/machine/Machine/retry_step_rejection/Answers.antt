@@ -8,4 +8,4 @@ use Rattle.wf_node.proofs.machine.Machine.retry_step_rejection.Goals as goal
 pub returns : goal.returns
 returns g c =
     c.fault_for.ensures (reject_retry (stored_of c.args.self.now.persistent.parts) (volatile_of c.args.self.now.proposer).proposing)
-    (c.retry_step_rejection.ensures (stored_of c.args.self.now.persistent.parts) (sym c.tried.ensures))
+    (c.retry_step_rejection.ensures (stored_of c.args.self.now.persistent.parts) (sym c.last_round.ensures))

@@ -11,10 +11,10 @@ returns-then-not-is_new_response-clause-transition c =
 
 pub returns-clause-transition : goal.returns-clause-transition
 returns-clause-transition c =
-    vote_transition c.args.leadership.now c.args.self.now c.args.n c.args.from c.args.slot c.args.ballot c.voted.result c.with.result _
-    (sym (c.is_new_response.ensures.vote (led_votes (leading_of c.args.leadership.now) c.args.self.now.slot)) ∙ c.if-not-is_new_response.false) c.with.ensures c.carried.ensures c.voted.ensures.next
+    vote_transition c.args.leadership.now c.args.self.now c.args.n c.args.from c.args.slot c.args.ballot c.after_vote.result c.with.result _
+    (sym (c.is_new_response.ensures.vote (led_votes (leading_of c.args.leadership.now) c.args.self.now.slot)) ∙ c.if-not-is_new_response.false) c.with.ensures c.definition_to_accept.ensures c.after_vote.ensures.next
 
 pub returns-clause-memory : goal.returns-clause-memory
 returns-clause-memory c =
-    vote_memory c.args.leadership.now c.args.self.now c.args.n c.args.from c.args.slot c.args.ballot c.voted.result c.with.result
-    (sym (c.is_new_response.ensures.vote (led_votes (leading_of c.args.leadership.now) c.args.self.now.slot)) ∙ c.if-not-is_new_response.false) c.with.ensures c.voted.ensures.memory
+    vote_memory c.args.leadership.now c.args.self.now c.args.n c.args.from c.args.slot c.args.ballot c.after_vote.result c.with.result
+    (sym (c.is_new_response.ensures.vote (led_votes (leading_of c.args.leadership.now) c.args.self.now.slot)) ∙ c.if-not-is_new_response.false) c.with.ensures c.after_vote.ensures.memory

@@ -10,9 +10,9 @@ returns-then-not-is_new_response-clause-transition c =
 pub returns-clause-transition : goal.returns-clause-transition
 returns-clause-transition c =
     λ leadership.
-    promise_counted leadership c.args.self.now c.args.best.now c.args.n c.args.from c.args.ballot c.args.report c.promised.result c.with.result (rw c.slot.ensures.value at (sym (c.is_new_response.ensures.promise c.args.best.now) ∙ c.if-not-is_new_response.false)) c.with.ensures c.promised.ensures.next
+    promise_counted leadership c.args.self.now c.args.best.now c.args.n c.args.from c.args.ballot c.args.report c.after_promise.result c.with.result (rw c.slot.ensures.value at (sym (c.is_new_response.ensures.promise c.args.best.now) ∙ c.if-not-is_new_response.false)) c.with.ensures c.after_promise.ensures.next
 
 pub returns-clause-memory : goal.returns-clause-memory
 returns-clause-memory c =
     λ leadership.
-    promise_sends leadership c.args.self.now c.args.best.now c.args.n c.args.from c.args.ballot c.args.report c.promised.result c.with.result (rw c.slot.ensures.value at (sym (c.is_new_response.ensures.promise c.args.best.now) ∙ c.if-not-is_new_response.false)) c.with.ensures c.promised.ensures.memory
+    promise_sends leadership c.args.self.now c.args.best.now c.args.n c.args.from c.args.ballot c.args.report c.after_promise.result c.with.result (rw c.slot.ensures.value at (sym (c.is_new_response.ensures.promise c.args.best.now) ∙ c.if-not-is_new_response.false)) c.with.ensures c.after_promise.ensures.memory

@@ -1,5 +1,5 @@
 -- Nothing is learned, or the first definition and then the others.
-use Rattle.std.proofs.Common.{◌≡◌, ◌∙◌, suc, length, refl, ap, arith}
+use Rattle.std.proofs.Common.{◌∙◌, suc, length, refl, ap, arith}
 use Rattle.wf_learner.specs.History.{History, next_of}
 use Rattle.wf_replica.proofs.Received.{empty_list, full, learns_first, learns_none, whole, whole_list}
 use Rattle.wf_replica.specs.Follower.{list_of}

@@ -1,0 +1,142 @@
+//! A connection from a peer, from which this node reads.
+
+use crate::event::PeerEnd;
+use mio::net::TcpStream;
+use std::alloc::Global;
+use wf_ballot::NodeId;
+use wf_client::Outgoing;
+use wf_peer::{
+    GREETING_BYTES, Greeting, GreetingFault, PeerRejection, decode, encode, encode_rejection,
+};
+use wf_stream::Sink;
+use wf_timing::is_silent;
+use wf_visitors::{Done, read, write};
+
+/// A connection from a peer.
+#[derive(Drop)]
+pub(crate) struct Inbound {
+    stream: TcpStream,
+    from: Option<NodeId>,
+    greeting: Vec<u8>,
+    reply: Outgoing,
+    last: u64,
+}
+
+/// What came in one piece.
+#[derive(Clone, Copy, PartialEq, Eq)]
+pub(crate) enum Came {
+    /// Nothing now.
+    Nothing,
+    /// A part of a greeting, or of a message.
+    Part,
+    /// The greeting of a peer.
+    Greeting(Greeting),
+    /// This many bytes of a peer, at the front of the buffer.
+    Bytes(NodeId, usize),
+    /// It has ended.
+    Ended(PeerEnd),
+}
+
+impl Inbound {
+    /// A connection that was accepted now.
+    pub(crate) fn new(alloc: Global, stream: TcpStream, now: u64) -> Self {
+        Inbound {
+            stream,
+            from: None,
+            greeting: Vec::new(alloc),
+            reply: Outgoing::new(alloc),
+            last: now,
+        }
+    }
+
+    /// The peer, once it has greeted.
+    pub(crate) fn from(&self) -> Option<NodeId> {
+        self.from
+    }
+
+    /// Its stream.
+    pub(crate) fn stream(&mut self) -> &mut TcpStream {
+        &mut self.stream
+    }
+
+    /// Whether nothing came for too long.
+    pub(crate) fn is_silent(&self, now: u64) -> bool {
+        is_silent(self.last, now)
+    }
+
+    /// Lets the peer in: from now on its messages come.
+    pub(crate) fn let_in(
+        &mut self,
+        alloc: Global,
+        peer: NodeId,
+        own: &Greeting,
+    ) -> Option<PeerEnd> {
+        let mut bytes = Vec::new(alloc);
+        if encode(own, &mut bytes).is_err() || self.reply.write(&bytes).is_err() {
+            return Some(PeerEnd::Memory);
+        }
+        self.from = Some(peer);
+        self.send()
+    }
+
+    /// Says why the peer isn't let in.
+    pub(crate) fn reject(&mut self, alloc: Global, why: PeerRejection) {
+        let mut bytes = Vec::new(alloc);
+        if encode_rejection(why, &mut bytes).is_ok() && self.reply.write(&bytes).is_ok() {
+            let _ = self.send();
+        }
+    }
+
+    /// Writes the rest of the answer to the greeting.
+    pub(crate) fn send(&mut self) -> Option<PeerEnd> {
+        for _ in 0..u64::MAX {
+            if self.reply.is_taken() {
+                return None;
+            }
+            match write(&mut self.stream, self.reply.rest()) {
+                Done::Bytes(count) => {
+                    let count = count.min(self.reply.remaining());
+                    self.reply.advance(count);
+                }
+                Done::Blocked => return None,
+                Done::Closed => return Some(PeerEnd::Closed),
+                Done::Failed => return Some(PeerEnd::Failed),
+            }
+        }
+        None
+    }
+
+    /// Reads once, to the front of a buffer.
+    pub(crate) fn handle(&mut self, piece: &mut [u8], now: u64) -> Came {
+        let room = match self.from {
+            None => GREETING_BYTES.saturating_sub(self.greeting.len()),
+            Some(_) => piece.len(),
+        };
+        let room = room.min(piece.len());
+        match read(&mut self.stream, &mut piece[..room]) {
+            Done::Bytes(count) => {
+                self.last = now;
+                let count = count.min(room);
+                match self.from {
+                    Some(from) => Came::Bytes(from, count),
+                    None => self.take_greeting(&piece[..count]),
+                }
+            }
+            Done::Blocked => Came::Nothing,
+            Done::Closed => Came::Ended(PeerEnd::Closed),
+            Done::Failed => Came::Ended(PeerEnd::Failed),
+        }
+    }
+
+    /// Takes in a piece of the greeting.
+    fn take_greeting(&mut self, piece: &[u8]) -> Came {
+        if self.greeting.extend_from_slice(piece).is_err() {
+            return Came::Ended(PeerEnd::Memory);
+        }
+        match decode(self.greeting.as_slice()) {
+            Ok(greeting) => Came::Greeting(greeting),
+            Err(GreetingFault::Short) => Came::Part,
+            Err(fault) => Came::Ended(PeerEnd::BadGreeting(fault)),
+        }
+    }
+}

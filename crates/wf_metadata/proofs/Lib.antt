@@ -1,2 +1,0 @@
-pub mod Options
-pub mod Pairs

@@ -1,6 +1,0 @@
-pub use Rattle.wf_block.specs.Grammar
-pub use Rattle.wf_block.specs.Steps
-pub use Rattle.wf_block.specs.ReadContract
-pub mod Metadata
-pub mod Pairs
-pub mod Web

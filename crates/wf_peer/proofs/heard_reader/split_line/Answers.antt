@@ -1,6 +1,0 @@
--- A line that isn't read is no node's.
-use Rattle.wf_peer.proofs.Lines.{no_heard}
-use Rattle.wf_peer.proofs.heard_reader.split_line.Goals as goal
-
-pub returns-in-None-split_progress-clause-none : goal.returns-in-None-split_progress-clause-none
-returns-in-None-split_progress-clause-none c = no_heard c.args.bytes.now c.in-None.ensures c.in-None-split_progress.ensures.none
