@@ -23,7 +23,7 @@ from kit import TOP, git, load_rt, stamp_libraries
 
 TICKS = os.sysconf("SC_CLK_TCK")
 PARTS = ("proof", "tests", "edits")
-LEAST = 3  # processor minutes of a crate that has a row of its own
+LEAST = 6  # processor minutes of a crate that has a row of its own
 COSTS = TOP / "docs" / "CI.md"
 MARKS = "<!-- gate_cost.py: begin -->\n", "<!-- gate_cost.py: end -->\n"
 
@@ -83,7 +83,7 @@ def look(seen, gate):
 
 
 def table(seen):
-    """The lines of the table: processor minutes per crate, of those that take three at least, and of all others together."""
+    """The lines of the table: processor minutes per crate, of those that take at least LEAST, and of all others together."""
     cost = collections.defaultdict(lambda: dict.fromkeys(PARTS, 0.0))
     for (crate, part), minutes in seen.values():
         cost[crate][part] += minutes
