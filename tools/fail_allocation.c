@@ -32,7 +32,7 @@ static long every = 1;
 struct outcome {
     int status;
     ssize_t length;
-    char output[1 << 23];
+    char output[1 << 26];
 };
 static struct outcome outcomes[2] = { { .length = -1 }, { .length = -1 } };
 static struct outcome *now = &outcomes[0], *before = &outcomes[1];

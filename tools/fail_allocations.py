@@ -195,10 +195,13 @@ class Case:
         return given[:index] + given[index + 1 :] == self.blocks_without(index)
 
     def verdict_of_edge(self, expected, given):
-        expected, given = blocks_of(expected), blocks_of(given)
+        # (how often it was written depends on where the response ends)
+        expected, given = (blocks_of(re.sub(rb"^\d+ writes\n", b"", it, flags=re.MULTILINE)) for it in (expected, given))
         if len(expected) != len(given):
             return "wrong"
-        index = next(it for it in range(len(given)) if given[it] != expected[it])
+        index = next((it for it in range(len(given)) if given[it] != expected[it]), None)
+        if index is None:
+            return "as always"
         if self.is_unavailable(index, expected, given):
             return "503"
         is_cut = given[:index] + given[index + 1 :] == expected[:index] + expected[index + 1 :] and is_part(given[index], expected[index])
@@ -217,6 +220,9 @@ class Case:
             others = [pair for pair in zip(expected, given) if pair[0] != pair[1]]
             is_cut = len(expected) == len(given) and len(others) == 1 and others[0][0].startswith(others[0][1])
             return "named" if is_cut else "wrong"
+        if self.question == "canonical":
+            # (the other reader reads what the quick one leaves)
+            return "named" if given == expected + b"the quick reader leaves it\n" else "wrong"
         if self.question == "table":
             told = given.removesuffix(b"memory ran out\n")
             return "named" if told != given and expected.startswith(told) else "wrong"
