@@ -20,13 +20,17 @@ back. At its end all must stand at one sequence, with equal histories. Cases:
     zeros       a tape with zeros behind its records, as a power cut may leave one, and with other bytes
     full        a start on files that can't grow
     disk        a disk that is full while its node runs; wants root
+    room        the same for 16 seconds, and a publish that needs the vote of its node; wants root
+    removed     a tape that failed, and whose file is removed
+    unmounted   a disk that is full, unmounted while its node runs, and mounted again; wants root
+    exchanged   a tape that failed, and another one in its place
+    rewritten   a tape that failed, and another file `farm` beside it
+    completed   a tape that failed, and has the record of the step that failed
 
 A line says what each saw; the status is 0 where all went as they should. A run takes four minutes.
 """
 
 import argparse
-import collections
-import hashlib
 import os
 import pathlib
 import re
@@ -39,185 +43,10 @@ import sys
 import tempfile
 import threading
 import time
-import urllib.error
-import urllib.request
 
-from farm import CAPABILITIES, PROGRAM, Wrong, free_ports, want
-
-TOP = pathlib.Path(__file__).resolve().parent.parent
-MAP = """MAP NAME "{name}" EXTENT 0 0 4 4 PROJECTION "init=epsg:3857" END
-WEB METADATA "wms_title" "{words}" END END
-LAYER NAME it TYPE POLYGON CLASS STYLE COLOR {color} END END FEATURE POINTS -9 -9 9 -9 9 9 -9 9 END END END END
-"""
-NODES = 3
-PATIENCE = 30
-
-
-PICTURE = ("/wms?VERSION=1.3.0&REQUEST=GetMap&LAYERS=it&STYLES=&CRS=EPSG:3857&BBOX=0,0,4,4&WIDTH=8&HEIGHT=8"
-           "&FORMAT=image/x-portable-pixmap&MAPSEQ=%d")
-
-
-def a_map(name, words="", more=0):
-    """A mapfile with this name, and a colour of its own; with so many comments of 1,000 bytes behind it."""
-    color = " ".join(map(str, hashlib.sha256(name.encode()).digest()[:3]))
-    return (MAP.format(name=name, words=words, color=color) + ("#" + "x" * 998 + "\n") * more).encode()
-
-
-def until(is_so, seconds=PATIENCE):
-    """The seconds until it is so."""
-    start = time.time()
-    while time.time() < start + seconds:
-        if is_so():
-            return round(time.time() - start, 2)
-        time.sleep(0.01)
-    raise Wrong("not in time")
-
-
-class Nodes:
-    """The nodes of a farm, each with its folder, ports and log."""
-
-    def __init__(self, program, folder):
-        self.program, self.folder = program, pathlib.Path(folder)
-        ports = free_ports(3 * NODES)
-        self.peer, self.http, self.admin = ports[:NODES], ports[NODES:2 * NODES], ports[2 * NODES:]
-        self.processes = [None] * NODES
-        self.folders = [0] * NODES
-
-    def place(self, i):
-        return self.folder / str(i)
-
-    def log(self, i):
-        return self.folder / f"log{i}"
-
-    def init(self, i, *more):
-        self.place(i).mkdir(exist_ok=True)
-        words = ["init", "--state", self.place(i), "--farm", "tried", "--id", i, "--nodes", NODES, *more]
-        return self.run(*words)
-
-    def run(self, *words):
-        return subprocess.run([str(self.program), *map(str, words)], capture_output=True, text=True, timeout=PATIENCE)
-
-    def words(self, i, place=None, http=None, listen=None):
-        peers = ",".join(f"127.0.0.1:{port}" for port in self.peer)
-        more = ["--listen", f"127.0.0.1:{listen}"] if listen else []
-        return ["node", "--state", str(place or self.place(i)), "--peers", peers, "--log", *more,
-                "--http", f"127.0.0.1:{http or self.http[i]}", "--admin", "127.0.0.1:" + str(0 if http else self.admin[i])]
-
-    def start(self, i):
-        with open(self.log(i), "a") as log:
-            self.processes[i] = subprocess.Popen([str(self.program), *self.words(i)], stderr=log)
-
-    def start_all(self):
-        for i in range(NODES):
-            want("init", self.init(i).returncode == 0)
-            self.start(i)
-        until(lambda: all(self.published(i) == 0 for i in range(NODES)))
-
-    def kill(self, i):
-        self.processes[i].kill()
-        self.processes[i].wait()
-
-    def ended(self, i):
-        """The status of a node that ends by itself, and its last line."""
-        until(lambda: self.processes[i].poll() is not None)
-        return self.processes[i].returncode, self.log(i).read_text().splitlines()[-1]
-
-    def get(self, i, path, port=None):
-        """The status and the body of an answer; 0 if there is none."""
-        try:
-            with urllib.request.urlopen(f"http://127.0.0.1:{port or self.http[i]}{path}", timeout=PATIENCE) as answer:
-                return answer.status, answer.read()
-        except urllib.error.HTTPError as error:
-            return error.code, error.read()
-        except OSError:
-            return 0, b""
-
-    def publish(self, i, text):
-        request = urllib.request.Request(f"http://127.0.0.1:{self.http[i]}/publish", data=text, method="POST")
-        try:
-            with urllib.request.urlopen(request, timeout=PATIENCE) as answer:
-                return answer.status
-        except urllib.error.HTTPError as error:
-            return error.code
-        except OSError:
-            return 0
-
-    def publish_whole(self, i, text):
-        """Publishes a map, and waits until this node has it or another."""
-        before = self.published(i)
-        until(lambda: self.publish(i, text) == 202)
-        until(lambda: before < self.published(i))
-
-    def published(self, i):
-        status, line = self.get(i, "/status")
-        return int(line.split()[3]) if status == 200 else -1
-
-    def digest(self):
-        """The digest of the history of node 0."""
-        line = self.get(0, f"/history?from={self.published(0)}", self.admin[0])[1]
-        return bytes.fromhex(line.split()[1].decode()) if line else bytes(32)
-
-    def level(self):
-        """The seconds until all nodes stand at one sequence; their histories are compared."""
-        seconds = until(lambda: len({self.published(i) for i in range(NODES)}) == 1)
-        top = self.published(0)
-        for start in range(1, top + 1, 256):
-            told = {self.get(i, f"/history?from={start}", self.admin[i]) for i in range(NODES)}
-            want("histories differ", len(told) == 1)
-        return seconds
-
-    def put(self, i, folder=None):
-        """Puts a copy of a folder in a node's place, or nothing: from now on it may tell less than before."""
-        shutil.rmtree(self.place(i), ignore_errors=True)
-        if folder:
-            shutil.copytree(folder, self.place(i))
-        self.folders[i] += 1
-
-    def end(self):
-        for process in self.processes:
-            if process and process.poll() is None:
-                process.send_signal(signal.SIGCONT)
-                process.kill()
-                process.wait()
-
-
-class Watch:
-    """Asks each node again and again, and compares all answers by sequence."""
-
-    def __init__(self, nodes):
-        self.nodes, self.over, self.lock = nodes, threading.Event(), threading.Lock()
-        self.answers, self.told, self.wrong, self.count = {}, collections.Counter(), [], 0
-        self.threads = [threading.Thread(target=self.ask, args=(i,)) for i in range(NODES)]
-        for thread in self.threads:
-            thread.start()
-
-    def ask(self, i):
-        while not self.over.wait(0.02):
-            life = (i, self.nodes.folders[i])
-            status, body = self.nodes.get(i, CAPABILITIES)
-            if status != 200:
-                continue
-            sequence = int(body.partition(b'updateSequence="')[2].partition(b'"')[0])
-            self.take(life, sequence, "capabilities", body, life == (i, self.nodes.folders[i]))
-            status, body = self.nodes.get(i, PICTURE % sequence) if sequence else (0, b"")
-            if status == 200:
-                self.take(life, sequence, "picture", body, False)
-
-    def take(self, life, sequence, kind, body, is_latest):
-        """Compares an answer with what was told before."""
-        with self.lock:
-            self.count += 1
-            if self.answers.setdefault((sequence, kind), body) != body:
-                self.wrong.append(f"node {life[0]}: other {kind} at sequence {sequence}")
-            if is_latest and sequence < self.told[life]:
-                self.wrong.append(f"node {life[0]} went back from {self.told[life]} to {sequence}")
-            self.told[life] = max(self.told[life], sequence)
-
-    def end(self):
-        self.over.set()
-        for thread in self.threads:
-            thread.join()
-        want("; ".join(self.wrong[:5]), not self.wrong)
+import halted_nodes
+from farm import PROGRAM, Wrong, free_ports, want
+from nodes import NODES, PATIENCE, Nodes, Watch, a_map, until
 
 
 def publish(nodes, _):
@@ -561,39 +390,9 @@ def full(nodes, _):
     return f"{ran.stderr.strip()}; level after {nodes.level()} s"
 
 
-def disk(nodes, _):
-    """A node whose disk is full goes on with what it had, and with the others once there is room."""
-    if os.geteuid() != 0:
-        return "left out: wants root"
-    nodes.kill(2)
-    shutil.copytree(nodes.place(2), nodes.folder / "sound")
-    subprocess.run(["mount", "-t", "tmpfs", "-o", "size=1m", "tmpfs", str(nodes.place(2))], check=True)
-    try:
-        shutil.copytree(nodes.folder / "sound", nodes.place(2), dirs_exist_ok=True)
-        nodes.start(2)
-        until(lambda: nodes.published(2) >= 0)
-        filling = nodes.place(2) / "filling"
-        with filling.open("wb", buffering=0) as file:
-            try:
-                while True:
-                    file.write(bytes(4096))
-            except OSError:
-                pass
-        for k in range(3):
-            nodes.publish_whole(0, a_map(f"disk{k}", "x" * 900))
-        halted = until(lambda: nodes.get(2, "/healthz", nodes.admin[2])[0] == 503)
-        cause = nodes.get(2, "/healthz", nodes.admin[2])[1].decode().strip()
-        want("a halted node took a publish", nodes.publish(2, a_map("refused")) == 503)
-        want("a halted node doesn't answer", nodes.get(2, CAPABILITIES)[0] == 200)
-        filling.unlink()
-        again = until(lambda: nodes.get(2, "/healthz", nodes.admin[2])[0] == 200, 90)
-        return f"503 ({cause}) after {halted} s, 200 again {again} s after there was room; level after {nodes.level()} s"
-    finally:
-        nodes.end()
-        subprocess.run(["umount", "-l", str(nodes.place(2))], check=True)
-
-
-CASES = [publish, pieces, kill, stop, clients, strangers, forged, forgot, missed, refused, zeros, full, disk]
+CASES = [publish, pieces, kill, stop, clients, strangers, forged, forgot, missed, refused, zeros, full, *halted_nodes.CASES]
+# at the end of these not all nodes run
+UNEVEN = [forgot, *halted_nodes.CASES]
 
 
 def attempt(case, options):
@@ -605,7 +404,7 @@ def attempt(case, options):
             nodes.start_all()
             watch = Watch(nodes)
             said = case(nodes, options)
-            if case not in (forgot, disk):
+            if case not in UNEVEN:
                 nodes.level()
             watch.end()
             return f"{said}; {watch.count} answers compared"

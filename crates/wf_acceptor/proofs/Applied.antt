@@ -75,6 +75,10 @@ applies part (Promised s b) next stored acts = applies_promised part s b stored 
 applies part (Accepted s b d) next stored acts = applies_accepted part s b d stored acts
 applies part (Published s d) next stored acts = applies_published part s d next stored acts
 
+-- A part that is the old one with the record is the old one after it.
+pub applied_where_equal : (old new : Part) (r : Record) → IsNext old r → new ≡ with_entry old r → Applies old new (view r)
+applied_where_equal old new r next is = subst (λ (part : Part). Applies old part (view r)) (sym is) (applies old r next)
+
 -- If applying a record succeeds, it is applied.
 pub applied_if_ok : {T E : Type 0} (result : Result T E) (old new : Acceptor) (r : Record) → IsNext old.part r →
     OnOk result (new ≡ record { part = with_entry old.part r; prepared = None }) → OnOk result (Applies old.part new.part (view r))

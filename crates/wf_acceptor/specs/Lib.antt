@@ -2,3 +2,4 @@ pub mod Slots
 pub mod Acceptor
 pub mod Prepared
 pub mod AcceptorAnswer
+pub mod Comparison

@@ -2,6 +2,7 @@ ghost use Rattle.std.specs.Prelude.{◌≡◌, None, Some};
 ghost use Rattle.wf_model.specs.DurableState.{raised};
 ghost use Rattle.wf_acceptor.specs.Prepared.{definition_of};
 
+use crate::comparison::{has_vote, have_same_votes};
 use crate::report::report_from;
 use crate::same::is_same_record;
 use crate::slots::{forget, make_room, put, value_at};
@@ -74,7 +75,7 @@ impl Model for Acceptor {
 }
 
 impl Acceptor {
-    ghost use Rattle.std.specs.Prelude.{◌≡◌, ◌<◌, ◌↔◌, IsTrue, IfOk, OnOk, OnErr, IsOk, Some, None, nat_le, IfSome};
+    ghost use Rattle.std.specs.Prelude.{◌≡◌, ◌<◌, ◌↔◌, IsTrue, IfOk, OnOk, OnErr, IsOk, Some, None, nat_le, unwrap_or, IfSome};
     ghost use Rattle.std.specs.FinMap as map;
     ghost use Rattle.wf_model.specs.DurableState.{nothing_stored};
     ghost use Rattle.wf_model.specs.Table as table;
@@ -83,6 +84,7 @@ impl Acceptor {
     ghost use Rattle.wf_codec.specs.Message.{view_vote};
     ghost use Rattle.wf_journal.specs.Record.{view as record_view};
     ghost use Rattle.wf_acceptor.specs.Acceptor.{votes_of, ActsFor, Applies, IsNext, HasRoomFor};
+    ghost use Rattle.wf_acceptor.specs.Comparison.{Agrees};
     ghost use Rattle.wf_acceptor.specs.AcceptorAnswer.{accept_transition, prepare_transition, Answers, Stores};
     ghost use Rattle.wf_acceptor.specs.Prepared.{nack_of, promising, replying, unprepared, voting, with_promise, with_open, with_entry, with_entry_at, with_published};
 
@@ -196,6 +198,95 @@ impl Acceptor {
         ensures room { HasRoomFor self.old entry.now → IsOk result }
     {
         self.take_in(entry)
+    }
+
+    /// Whether this acceptor has what the other one has: of the same node, with the same promise, votes and number of published
+    /// definitions.
+    #[tactic(auto, using(crate::proofs::Compared::agrees_as_same))]
+    pub fn has_same(&self, other: &Acceptor) -> bool
+        ensures { IsTrue result → self.now.part ≡ other.now.part }
+    {
+        self.agrees(other, other.promise, other.published, None)
+    }
+
+    /// Whether this acceptor has what the other one would have after the record, which has to be of the next slot if it is that of a
+    /// published definition.
+    pub fn has_applied(&self, other: &Acceptor, entry: &Record) -> bool
+        requires { IsNext other.now.part entry.now }
+        ensures { IsTrue result → Applies other.now.part self.now.part (record_view entry.now) }
+    {
+        self.is_with(other, entry)
+    }
+
+    // Whether this acceptor's part is the other one's with the record.
+    fn is_with(&self, other: &Acceptor, entry: &Record) -> bool
+        ensures { IsTrue result → self.now.part ≡ with_entry other.now.part entry.now }
+    {
+        match entry {
+            Record::Tried(_) => self.has_same(other),
+            Record::Promised(_, ballot) => self.has_promised(other, *ballot),
+            Record::Accepted(slot, ballot, canon) => {
+                if other.is_published(*slot) {
+                    self.has_same(other)
+                } else {
+                    self.has_voted(other, *slot, *ballot, canon)
+                }
+            }
+            Record::Published(slot, _) => self.has_published(other, *slot),
+        }
+    }
+
+    // Whether this acceptor's part is the other one's with the promise raised to the ballot.
+    #[tactic(auto, using(crate::proofs::Compared::agrees_as_promised))]
+    fn has_promised(&self, other: &Acceptor, ballot: Ballot) -> bool
+        ensures { IsTrue result → self.now.part ≡ with_promise other.now.part ballot }
+    {
+        self.agrees(
+            other,
+            higher_ballot(other.promise, ballot),
+            other.published,
+            None,
+        )
+    }
+
+    // Whether this acceptor's part is the other one's with this vote at the slot, and the promise raised to its ballot.
+    #[tactic(auto, using(crate::proofs::Compared::agrees_as_voted))]
+    fn has_voted(&self, other: &Acceptor, slot: Slot, ballot: Ballot, canon: &Canon) -> bool
+        ensures { IsTrue result →
+            self.now.part ≡ with_open other.now.part (Record.Accepted slot ballot canon.now) }
+    {
+        self.agrees(
+            other,
+            higher_ballot(other.promise, ballot),
+            other.published,
+            Some(slot),
+        ) && has_vote(&self.votes, slot, ballot, canon)
+    }
+
+    // Whether this acceptor's part is the other one's without the slot's vote, since the slot is published.
+    #[tactic(auto, using(crate::proofs::Compared::agrees_as_published))]
+    fn has_published(&self, other: &Acceptor, slot: Slot) -> bool
+        ensures { IsTrue result → self.now.part ≡ with_published other.now.part slot }
+    {
+        self.agrees(other, other.promise, Some(slot), Some(slot))
+            && value_at(&self.votes, slot).is_none()
+    }
+
+    // Whether this acceptor is of the other one's node, has this promise and this last published slot, and the other one's votes,
+    // except at the slot `but`.
+    fn agrees(
+        &self,
+        other: &Acceptor,
+        promise: Option<Ballot>,
+        published: Option<Slot>,
+        but: Option<Slot>,
+    ) -> bool
+        ensures { IsTrue result → Agrees promise (unwrap_or published 0) but other.now.part self.now.part }
+    {
+        self.id == other.id
+            && self.promise == promise
+            && self.published == published
+            && have_same_votes(&self.votes, &other.votes, &but)
     }
 
     // Whether the ballot is above the promise; true if there is no promise.

@@ -16,6 +16,7 @@
 #![tactic(auto)]
 
 mod acceptor;
+mod comparison;
 mod report;
 mod same;
 mod slots;

@@ -62,7 +62,7 @@ fn is_published(entry: &Record, slot: Slot, canon: &Canon) -> bool
 }
 
 /// Whether the two definitions are equal.
-fn is_same(a: &Canon, b: &Canon) -> bool
+pub fn is_same(a: &Canon, b: &Canon) -> bool
     ensures { IsTrue result ↔ (a.now ≡ b.now) }
 {
     *a == *b

@@ -17,8 +17,8 @@
 //!   Accept or an Ask are for the node that sent it, all other messages are for every node (`specs/Target.antt`).
 //! - [`Process::receive`] takes exactly the messages that the piece completes, and [`Process::handle`] delivers the first of them.
 //! - [`Process::serve`] answers a client as `wf_edge` does; a publish is an act.
-//! - A process whose tape failed returns N5 for each act and sends nothing more. It answers what reads. [`Process::reopen`] begins its
-//!   next run.
+//! - A process whose tape failed returns N5 for each act and sends nothing more. It answers what reads. [`Process::reopen`] is its next
+//!   run, on a tape that has what the node had stored, or that and the record of the step that failed.
 //! - Processes of which each shows its life, and hears only what was sent before, are a farm of `wf_career`
 //!   ([`processes_are_a_farm`]).
 //! - Node values that processes of a farm ever held respond to equal requests to the map service with equal bytes, as whole HTTP responses,
@@ -36,6 +36,7 @@ mod link;
 mod note;
 mod parts;
 mod process;
+mod reopening;
 mod service;
 mod stream;
 mod target;
@@ -46,6 +47,7 @@ pub use backlog::{BACKLOG_MESSAGES, Backlog};
 pub use cached::CachedNode;
 pub use link::{Link, OUTBOX_BYTES};
 pub use process::Process;
+pub use reopening::ReopenFault;
 pub use target::{Target, reply_target};
 pub use theorem::{
     a_life_is_part_of_a_farm, processes_are_a_farm, processes_respond_alike, runs_receive_their_own,

@@ -7,6 +7,7 @@ use crate::actor::{Actor, Origin};
 use crate::backlog::Backlog;
 use crate::link::Link;
 use crate::parts::{ProcessParts, make_room, send};
+use crate::reopening::ReopenFault;
 use crate::target::{Target, reply_target};
 use http_server::Log;
 use std::alloc::Global;
@@ -281,37 +282,53 @@ impl<T: Tape> Process<T> {
 }
 
 impl<T: Tape + Drop> Process<T> {
-    ghost use Rattle.std.specs.Prelude.{◌≢◌, ◌++◌, ◌∷◌, [], IfErr, OnErr, OnOk};
-    ghost use Rattle.wf_actor.specs.Start.{IsOpened};
+    ghost use Rattle.std.specs.Prelude.{◌++◌, ◌∷◌, [], IfErr, IfOk};
+    ghost use Rattle.wf_actor.specs.Start.{IsOpened, IsWhyNotReopened};
     ghost use Rattle.wf_actor.specs.Process.{IsBegun};
-    ghost use Rattle.wf_journal.specs.Journal.{IsWhyFailed};
-    ghost use Rattle.wf_node.specs.OpenedNode.{IsWhyBad};
-    ghost use Rattle.wf_tape.specs.Change.{Stays};
+    ghost use Rattle.wf_node.specs.Reopening.{HasStoredAs};
 
-    /// The next run of the process, on a tape from which its node is opened; the old node is dropped with its tape. Nothing waits, and
-    /// there are no connections. Err: nothing has changed, and the tape is returned as [`Process::open`] returns it.
-    pub fn reopen(&mut self, alloc: Global, tape: T) -> Result<(), (T, OpenFault)>
-        ensures opened { OnOk result
-            (IsOpened T.Tape tape self.old.actor.node.id self.old.n self.new.actor.node) }
-        ensures read_from { OnOk result (self.new.actor.read_from.items ≡ (tape, 0) ∷ []) }
-        ensures begun { OnOk result (IsBegun self.new) }
-        ensures n { self.new.n ≡ self.old.n }
-        ensures ended { OnOk result
-            (self.new.ended.items ≡ self.old.ended.items ++ (self.old.actor, 0) ∷ []) }
-        ensures same { OnErr result (self.new ≡ self.old) }
-        ensures unchanged { T.durable →
-            IfErr result (λ e. e.1 ≢ OpenFault.TapeFailed → Stays T.Tape tape e.0) }
-        ensures bad { T.durable → IfErr result (λ e. IsWhyBad e.1 (T.content tape)) }
-        ensures failed { IfErr result (λ e. IsWhyFailed e.1 (T.failed tape) (T.failed e.0)) }
+    /// The process in its next run, on a tape from which its node is opened, once its own has failed: nothing waits, there are no
+    /// connections, and this run is the last of those that have ended. It is the node that it was: it has stored what this node has, or
+    /// that and the record of the step within which the tape failed. That is compared, so it holds of any tape. Err: the tape doesn't
+    /// open, or isn't what this node left; it is dropped.
+    pub fn reopen(&self, alloc: Global, tape: T) -> Result<Process<T>, ReopenFault>
+        ensures opened { IfOk result (λ next.
+            IsOpened T.Tape tape self.now.actor.node.id self.now.n next.actor.node) }
+        ensures stored { IfOk result (λ next. HasStoredAs self.now.actor.node next.actor.node) }
+        ensures read_from { IfOk result (λ next. next.actor.read_from.items ≡ (tape, 0) ∷ []) }
+        ensures begun { IfOk result (λ next. IsBegun next) }
+        ensures n { IfOk result (λ next. next.n ≡ self.now.n) }
+        ensures ended { IfOk result (λ next.
+            next.ended.items ≡ self.now.ended.items ++ (self.now.actor, 0) ∷ []) }
+        ensures cause { T.durable → IfErr result (λ why. IsWhyNotReopened why (T.content tape)) }
     {
         match Process::open(alloc, tape, self.node().id(), self.n, self.pictures) {
-            Ok(mut next) => {
-                next.ended = self.ended.and(&self.actor, &0);
-                *self = next;
-                Ok(())
+            Ok(next) => self.follow(next),
+            Err((tape, fault)) => {
+                drop(tape);
+                Err(ReopenFault::Tape(fault))
             }
-            Err(step_rejection) => Err(step_rejection),
         }
+    }
+
+    /// The process that was just opened as this one's next run, if its node has stored what this one's has.
+    fn follow(&self, next: Process<T>) -> Result<Process<T>, ReopenFault>
+        requires begun { IsBegun next }
+        ensures stored { IfOk result (λ later. HasStoredAs self.now.actor.node later.actor.node) }
+        ensures actor { IfOk result (λ later. later.actor ≡ next.actor) }
+        ensures begun { IfOk result (λ later. IsBegun later) }
+        ensures n { IfOk result (λ later. later.n ≡ next.n) }
+        ensures ended { IfOk result (λ later.
+            later.ended.items ≡ self.now.ended.items ++ (self.now.actor, 0) ∷ []) }
+        ensures cause { IfErr result (λ why. why ≡ ReopenFault.Differs) }
+    {
+        if !next.node().has_stored_as(self.node()) {
+            drop(next);
+            return Err(ReopenFault::Differs);
+        }
+        let mut next = next;
+        next.ended = self.ended.and(&self.actor, &0);
+        Ok(next)
     }
 }
 

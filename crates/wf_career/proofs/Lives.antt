@@ -184,7 +184,7 @@ module _ {T : Type 0} (tapes : Tape T) (before : Node T) (input : table.Input De
   halted_same false (Halts is same quiet) halts = same
   halted_same false (Rejects why runs refused same quiet) halts = same
   halted_same false (giving.Steps runs none is grown) halts = absurd (both_ways before.halted runs halts)
-  halted_same false (Fails runs none is same part torn quiet) halts = absurd (both_ways before.halted runs halts)
+  halted_same false (Fails runs none is same keeps part torn quiet) halts = absurd (both_ways before.halted runs halts)
   halted_same true is halts = absurd (both_ways before.halted is.runs halts)
 
   -- a node whose tape fails has stored what it had
@@ -192,14 +192,14 @@ module _ {T : Type 0} (tapes : Tape T) (before : Node T) (input : table.Input De
   failed_same false (Halts is same quiet) runs halts = absurd (both_ways before.halted runs is)
   failed_same false (Rejects why is refused same quiet) runs halts = absurd (both_ways before.halted is (ap (λ (x : Node T). x.halted) (sym same) ∙ halts))
   failed_same false (giving.Steps is none transition grown) runs halts = absurd (both_ways after.halted transition.running halts)
-  failed_same false (Fails is none now same part torn quiet) runs halts = same
+  failed_same false (Fails is none now same keeps part torn quiet) runs halts = same
   failed_same true is runs halts = absurd (both_ways after.halted is.still halts)
 
   pub takes_grown : (lost : Bool) → Takes tapes lost input before after outputs → IsGrown before.parts.history after.parts.history
   takes_grown false (Halts is same quiet) = subst (λ (x : Node T). IsGrown before.parts.history x.parts.history) (sym same) (grown_itself before.parts.history)
   takes_grown false (Rejects why runs refused same quiet) = subst (λ (x : Node T). IsGrown before.parts.history x.parts.history) (sym same) (grown_itself before.parts.history)
   takes_grown false (giving.Steps runs none is grown) = transition_grown before after (transition_of before input) outputs is
-  takes_grown false (Fails runs none is same part torn quiet) = same_grown before after same
+  takes_grown false (Fails runs none is same keeps part torn quiet) = same_grown before after same
   takes_grown true is = same_grown before after is.same
 
   -- the node keeps its number
@@ -207,7 +207,7 @@ module _ {T : Type 0} (tapes : Tape T) (before : Node T) (input : table.Input De
   takes_id false (Halts is same quiet) = (ap (λ (x : Node T). x.id) same, ap (λ (x : Node T). x.n) same)
   takes_id false (Rejects why runs refused same quiet) = (ap (λ (x : Node T). x.id) same, ap (λ (x : Node T). x.n) same)
   takes_id false (giving.Steps runs none is grown) = (is.id, is.n)
-  takes_id false (Fails runs none is same part torn quiet) = (ap (λ (x : Node T). x.id) same, ap (λ (x : Node T). x.n) same)
+  takes_id false (Fails runs none is same keeps part torn quiet) = (ap (λ (x : Node T). x.id) same, ap (λ (x : Node T). x.n) same)
   takes_id true is = (ap (λ (x : Node T). x.id) is.same, ap (λ (x : Node T). x.n) is.same)
 
   -- what a tape that fails within the step stands for
@@ -246,7 +246,7 @@ module _ {T : Type 0} (tapes : Tape T) (before : Node T) (input : table.Input De
       as_item = refl;
       done = stepped n i before input own among after outputs (shown part before) (shown part after) none is (shown_running part before runs) (shown_running part after is.running);
     }
-    takes_deed false (Fails runs none halts same content torn quiet) = fails_deed runs none halts quiet (kept runs halts)
+    takes_deed false (Fails runs none halts same keeps content torn quiet) = fails_deed runs none halts quiet (kept runs halts)
     takes_deed true is = same_deed (shown_running part after is.still ∙ ap (λ (x : Node T). running x) is.same ∙ sym (shown_running part before is.runs)) is.quiet
 
 -- ---- step by step

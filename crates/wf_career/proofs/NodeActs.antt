@@ -34,10 +34,11 @@ module _ {T : Type 0} (tapes : Tape T) (before after : Node T) (input : Input) (
       IfErr result (λ fault. fault ≢ Memory → fault ≢ TapeFailed → after ≡ before) → IfErr result (λ fault. IsSameNode before after) → (result ≡ Err Memory → after.halted ≡ false) →
       (tapes.durable → result ≡ Err Memory → Stays tapes before.tape after.tape) → (result ≡ Err Memory → TakesMemory before (view input)) → (result ≡ Err TapeFailed → HasFailed tapes before.tape after.tape) →
       (result ≡ Err TapeFailed → IsSome (entry_of before (view input))) → (result ≡ Err TapeFailed → after.halted ≡ true) →
+      (result ≡ Err TapeFailed → after.failed ≡ entry_of before (view input)) →
       (tapes.durable → result ≡ Err TapeFailed → IsExtended (tapes.content before.tape) (bytes_of (entry_of before (view input))) (tapes.content after.tape)) →
       (tapes.durable → result ≡ Err TapeFailed → EachStandsFor (stored_of before) (stored_next before (view input)) (tapes.images after.tape)) →
       Takes tapes (is_lost result) (view input) before after (outputs_by result)
-  step_takes halted running refused transition on_tape content unchanged same memory same_tape takes failed writes halts part torn =
+  step_takes halted running refused transition on_tape content unchanged same memory same_tape takes failed writes halts kept part torn =
       step_is_answered tapes before after (view input) result (λ is. (halted is, unchanged_halted before after result (halted is) unchanged))
       (λ runs. record {
         running = λ is. absurd (both_ways before.halted runs (running is));
@@ -53,6 +54,7 @@ module _ {T : Type 0} (tapes : Tape T) (before after : Node T) (input : Input) (
         failed = failed;
         writes = writes;
         halts = halts;
+        kept = kept;
         part = part;
         torn = torn;
       })

@@ -38,6 +38,6 @@ pub use example::{open_first, three_processes_publish};
 pub use replica::Replica;
 pub use run::{act, open};
 pub use theorem::{
-    a_farm_goes_on, a_farm_is_one_run, durable_tapes_leave_this, lists_grow, processes_agree,
-    processes_answer_alike, replicas_agree, replicas_answer_alike,
+    a_compared_node_goes_on, a_farm_goes_on, a_farm_is_one_run, durable_tapes_leave_this,
+    lists_grow, processes_agree, processes_answer_alike, replicas_agree, replicas_answer_alike,
 };

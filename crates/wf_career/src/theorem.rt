@@ -2,7 +2,7 @@
 
 ghost use Rattle.wf_career.specs.Continuation.{EndGoesOn, NothingIsAFarm, StartGoesOn, StepGoesOn};
 ghost use Rattle.wf_career.specs.Theorems.{FarmIsOneRun, ListsGrow, OneAnswer, OneDefinition, OneHistory, OneMapAnswer};
-ghost use Rattle.wf_career.specs.CrashImages.{LeavesBetween, LeavesFailed, LeavesWithin};
+ghost use Rattle.wf_career.specs.CrashImages.{ComparisonLeaves, LeavesBetween, LeavesFailed, LeavesWithin};
 ghost use Rattle.wf_career.specs.Replica.{OneServed, ServedAgree, ServedAnswer, ServedMapAnswer};
 
 use wf_canon::Canon;
@@ -34,6 +34,12 @@ pub fn durable_tapes_leave_this<T: Tape>()
     ensures between { LeavesBetween T.Tape }
     ensures within { LeavesWithin T.Tape }
     ensures failed { LeavesFailed T.Tape }
+{}
+
+/// A node whose tape has failed, and that is opened again where a comparison says that it has stored what it had, or that and the
+/// record of the step that failed, goes on from what its run left: of any tape, whatever its files keep.
+pub fn a_compared_node_goes_on<T: Tape>()
+    ensures { ComparisonLeaves T.Tape }
 {}
 
 /// What the processes of a farm are now is reached by events of the model, which send exactly the messages that were returned.

@@ -126,7 +126,7 @@ module _ {T : Type 0} (tapes : Tape T) where
   chosen_taken node after outputs s d runs next (giving.Halts halted same quiet) = absurd (both_ways node.halted runs halted)
   chosen_taken node after outputs s d runs next (giving.Rejects why running refused same quiet) = absurd (none-some why refused)
   chosen_taken node after outputs s d runs next (giving.Steps running goes is grown) = inr (is.running, chosen_counted node after outputs s d next is)
-  chosen_taken node after outputs s d runs next (giving.Fails running goes halts same part each quiet) = inl halts
+  chosen_taken node after outputs s d runs next (giving.Fails running goes halts same keeps part each quiet) = inl halts
 
   -- A halted node takes nothing, and nothing is lost.
   taken_halted : (m : Message) (node after : Node T) → node.halted ≡ true → IsTaken tapes true m node after → ⊥

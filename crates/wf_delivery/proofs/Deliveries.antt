@@ -79,24 +79,25 @@ module _ {T A : Type 0} (tapes : Tape T) (node after : Node T) (input : Input De
       (node.halted ≡ false → fault.rejected_by result ≡ step_rejection_at node input) →
       IfErr result (λ f. f ≢ fault_case.Memory → f ≢ fault_case.TapeFailed → after ≡ node) → IfErr result (λ f. IsSameNode node after) → (result ≡ Err fault_case.Memory → after.halted ≡ false) →
       (tapes.durable → result ≡ Err fault_case.Memory → IsUnchanged (tapes.content node.tape) (tapes.content after.tape) (tapes.images node.tape) (tapes.images after.tape)) → (result ≡ Err fault_case.TapeFailed → after.halted ≡ true) →
+      (result ≡ Err fault_case.TapeFailed → after.failed ≡ (transition_of node input).entry) →
       (tapes.durable → result ≡ Err fault_case.TapeFailed → IsExtended (tapes.content node.tape) (bytes_of (transition_of node input).entry) (tapes.content after.tape)) →
       (tapes.durable → result ≡ Err fault_case.TapeFailed → EachStandsFor (stored_of node) (store (stored_of node) (transition_of node input).entry) (tapes.images after.tape)) →
       IfErr result (λ f. Takes tapes (is_memory f) input node after [])
-  any_rejected (Ok outputs) halted running refused unchanged same spares spared halts part torn = tt
-  any_rejected (Err fault_case.Memory) halted running refused unchanged same spares spared halts part torn =
+  any_rejected (Ok outputs) halted running refused unchanged same spares spared halts keeps part torn = tt
+  any_rejected (Err fault_case.Memory) halted running refused unchanged same spares spared halts keeps part torn =
       record { runs = runs_by {A = Vec Message A} (Err fault_case.Memory) node.halted refl halted; still = spares refl; same = same; kept = λ h. (spared h refl).content; quiet = refl }
-  any_rejected (Err fault_case.TapeFailed) halted running refused unchanged same spares spared halts part torn =
+  any_rejected (Err fault_case.TapeFailed) halted running refused unchanged same spares spared halts keeps part torn =
       let runs = runs_by {A = Vec Message A} (Err fault_case.TapeFailed) node.halted refl halted in
-      giving.Fails runs (sym (refused runs)) (halts refl) same (λ h. part h refl) (λ h. torn h refl) refl
-  any_rejected (Err fault_case.Halted) halted running refused unchanged same spares spared halts part torn =
+      giving.Fails runs (sym (refused runs)) (halts refl) same (keeps refl) (λ h. part h refl) (λ h. torn h refl) refl
+  any_rejected (Err fault_case.Halted) halted running refused unchanged same spares spared halts keeps part torn =
       let other = neither fault_case.Halted refl refl in giving.Halts (running refl) (unchanged other.0 other.1) refl
-  any_rejected (Err fault_case.Busy) halted running refused unchanged same spares spared halts part torn =
+  any_rejected (Err fault_case.Busy) halted running refused unchanged same spares spared halts keeps part torn =
       rejects tapes node after input fault_case.Busy table.Busy refl refl refl (runs_by {A = Vec Message A} (Err fault_case.Busy) node.halted refl halted) refused unchanged
-  any_rejected (Err fault_case.SequenceFull) halted running refused unchanged same spares spared halts part torn =
+  any_rejected (Err fault_case.SequenceFull) halted running refused unchanged same spares spared halts keeps part torn =
       rejects tapes node after input fault_case.SequenceFull table.SequenceFull refl refl refl (runs_by {A = Vec Message A} (Err fault_case.SequenceFull) node.halted refl halted) refused unchanged
-  any_rejected (Err fault_case.RoundsFull) halted running refused unchanged same spares spared halts part torn =
+  any_rejected (Err fault_case.RoundsFull) halted running refused unchanged same spares spared halts keeps part torn =
       rejects tapes node after input fault_case.RoundsFull table.RoundsFull refl refl refl (runs_by {A = Vec Message A} (Err fault_case.RoundsFull) node.halted refl halted) refused unchanged
-  any_rejected (Err fault_case.Nothing) halted running refused unchanged same spares spared halts part torn =
+  any_rejected (Err fault_case.Nothing) halted running refused unchanged same spares spared halts keeps part torn =
       rejects tapes node after input fault_case.Nothing table.NothingToRetry refl refl refl (runs_by {A = Vec Message A} (Err fault_case.Nothing) node.halted refl halted) refused unchanged
 
 -- A node that halts does so since its tape failed.
@@ -315,7 +316,7 @@ module _ {T : Type 0} (stands : ℕ → DurableState Definition → Type 0) (nod
     takes_acts tapes outputs false (giving.Halts halted same quiet) torn w refines = unchanged_shown w outputs same quiet refines
     takes_acts tapes outputs false (giving.Rejects why runs refused same quiet) torn w refines = unchanged_shown w outputs same quiet refines
     takes_acts tapes outputs false (giving.Steps runs goes is grown) torn w refines = Acts (steps_shown w outputs runs goes is refines)
-    takes_acts tapes outputs false (giving.Fails runs goes halts same part each quiet) torn w refines = fails_shown w outputs runs goes halts same quiet (torn halts each) refines
+    takes_acts tapes outputs false (giving.Fails runs goes halts same keeps part each quiet) torn w refines = fails_shown w outputs runs goes halts same quiet (torn halts each) refines
 
 -- ---- what is unchanged
 
@@ -325,7 +326,7 @@ module _ {T : Type 0} (tapes : Tape T) (node after : Node T) (input : Input Defi
   stays_halted false (giving.Halts was same quiet) halted = same
   stays_halted false (giving.Rejects why runs refused same quiet) halted = same
   stays_halted false (giving.Steps runs goes is grown) halted = absurd (both_ways node.halted runs halted)
-  stays_halted false (giving.Fails runs goes halts same part each quiet) halted = absurd (both_ways node.halted runs halted)
+  stays_halted false (giving.Fails runs goes halts same keeps part each quiet) halted = absurd (both_ways node.halted runs halted)
 
   by_itself : after ≡ node → (after.id ≡ node.id) × (after.n ≡ node.n) × IsGrown node.parts.history after.parts.history
   by_itself same =
@@ -339,7 +340,7 @@ module _ {T : Type 0} (tapes : Tape T) (node after : Node T) (input : Input Defi
   stays_itself false (giving.Halts halted same quiet) = by_itself same
   stays_itself false (giving.Rejects why runs refused same quiet) = by_itself same
   stays_itself false (giving.Steps runs goes is grown) = (is.id, is.n, transition_grown node after (transition_of node input) outputs is)
-  stays_itself false (giving.Fails runs goes halts same part each quiet) = but_for_tape same
+  stays_itself false (giving.Fails runs goes halts same keeps part each quiet) = but_for_tape same
 
 module _ {T : Type 0} (nodes : List (Node T)) (i : ℕ) (node after : Node T) (at : slice_get nodes i ≡ Some node) where
   pub keeps_halted : (node.halted ≡ true → after ≡ node) → KeepHalted nodes (slice_set nodes i after)

@@ -92,7 +92,7 @@ module _ {T : Type 0} (tapes : Tape T) (before after : Node T) (input : Input De
       let halted : before.halted ≡ true → answer ≡ Err fault_case.Halted = λ is. absurd (both_ways before.halted runs is) in
       takes_either answer
       (any_answered tapes before after input answer halted (λ is. step.refused) step.done step.grown)
-      (any_rejected tapes before after input answer halted (λ is. absurd (step.running is)) (λ is. step.refused) step.unchanged step.same step.still_running step.same_tape step.halts step.part step.torn)
+      (any_rejected tapes before after input answer halted (λ is. absurd (step.running is)) (λ is. step.refused) step.unchanged step.same step.still_running step.same_tape step.halts step.kept step.part step.torn)
 
   takes_halted : (answer : Result (Vec Message Global) NodeFault) → before.halted ≡ true → answer ≡ Err fault_case.Halted → after ≡ before → TakesBy answer
   takes_halted answer is halted same = subst TakesBy (sym halted) (giving.Halts is same refl)

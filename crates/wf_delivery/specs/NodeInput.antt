@@ -48,13 +48,13 @@ module _ {T : Type 0} (tapes : Tape T) where
 
   -- What a node does with an input that isn't lost. A halted node rejects it, and so does one whose step table rejects it: either
   -- is unchanged. Otherwise the node steps, and its tape holds the bytes of the step's record too; or its tape fails within the
-  -- step: nothing is sent, the tape holds a prefix of these bytes too, and each image stands for what was stored before or after.
+  -- step: the node keeps the step's record, nothing is sent, the tape holds a prefix of these bytes too, and each image stands for what was stored before or after.
   pub data Answers (input : Input Definition) (before after : Node T) (outputs : List Message) : Type 0 where
     Halts : before.halted ≡ true → after ≡ before → outputs ≡ [] → Answers input before after outputs
     Rejects : (why : StepRejection) → before.halted ≡ false → step_rejection_at before input ≡ Some why → after ≡ before → outputs ≡ [] → Answers input before after outputs
     Steps : before.halted ≡ false → step_rejection_at before input ≡ None → IsTransition before (transition_of before input) outputs after
         → (tapes.durable → tapes.content after.tape ≡ tapes.content before.tape ++ bytes_of (transition_of before input).entry) → Answers input before after outputs
-    Fails : before.halted ≡ false → step_rejection_at before input ≡ None → after.halted ≡ true → IsSameNode before after
+    Fails : before.halted ≡ false → step_rejection_at before input ≡ None → after.halted ≡ true → IsSameNode before after → after.failed ≡ (transition_of before input).entry
         → (tapes.durable → IsExtended (tapes.content before.tape) (bytes_of (transition_of before input).entry) (tapes.content after.tape))
         → (tapes.durable → EachStandsFor (stored_of before) (store (stored_of before) (transition_of before input).entry) (tapes.images after.tape)) → outputs ≡ [] → Answers input before after outputs
 

@@ -1,6 +1,7 @@
 //! A disk of the system, over std's files.
 
-ghost use Rattle.std.specs.Prelude.{◌≡◌, ◌≤◌, [], None, IfOk};
+ghost use Rattle.std.specs.Prelude.{◌≡◌, ◌≤◌, [], None, IfOk, false, true};
+ghost use Rattle.std.specs.Fs.{asks_create};
 ghost use Rattle.wf_disk.specs.Moments.{HasRisen};
 
 use crate::disk::Disk;
@@ -27,13 +28,34 @@ pub struct SystemDisk<R: Files + Drop> {
     second_path: String,
     own: Option<R::File>,
     second: Option<R::File>,
+    // whether a file that is absent is made when the disk is opened
+    creates: bool,
     failures: u64,
 }
 
 impl<R: Files + Drop> SystemDisk<R> {
-    /// The disk of the file at the path. The second file's name has `.new` appended. Nothing is opened yet.
+    /// The disk of the file at the path, which is made when the disk is opened if it is absent. The second file's name has `.new`
+    /// appended. Nothing is opened yet. The only error is allocation failure.
     pub fn new(alloc: Global, files: R, path: &str) -> Result<SystemDisk<R>, DiskFault>
-        ensures { IfOk result (λ disk. disk.failures ≡ 0) }
+        ensures failures { IfOk result (λ disk. disk.failures ≡ 0) }
+        ensures creates { IfOk result (λ disk. disk.creates ≡ true) }
+    {
+        SystemDisk::at(alloc, files, path, true)
+    }
+
+    /// The disk of the file at the path, which is never made: where it is absent the disk doesn't open, and that is `Device`. Nothing
+    /// is opened yet. The only error is allocation failure.
+    pub fn existing(alloc: Global, files: R, path: &str) -> Result<SystemDisk<R>, DiskFault>
+        ensures failures { IfOk result (λ disk. disk.failures ≡ 0) }
+        ensures creates { IfOk result (λ disk. disk.creates ≡ false) }
+    {
+        SystemDisk::at(alloc, files, path, false)
+    }
+
+    /// The disk of the file at the path, with nothing opened yet.
+    fn at(alloc: Global, files: R, path: &str, creates: bool) -> Result<SystemDisk<R>, DiskFault>
+        ensures failures { IfOk result (λ disk. disk.failures ≡ 0) }
+        ensures creates { IfOk result (λ disk. disk.creates ≡ creates) }
     {
         let own_path = path.to_string(alloc)?;
         let second_path = format!(in alloc; "{path}.new")?;
@@ -43,6 +65,7 @@ impl<R: Files + Drop> SystemDisk<R> {
             second_path,
             own: None,
             second: None,
+            creates,
             failures: 0,
         })
     }
@@ -57,8 +80,8 @@ impl<R: Files + Drop> SystemDisk<R> {
         DiskFault::Device
     }
 
-    /// Renames the second file to the first. If that fails, which of them has the path isn't known, so the path is opened again: a
-    /// handle that was open may be one of a file without a name.
+    /// Renames the second file to the first. If that fails, which of them has the path isn't known, so the path is opened again, and
+    /// no file is made there: a handle that was open may be one of a file without a name.
     fn put_second(&mut self) -> io::Result<()>
         ensures { self.new.failures ≡ self.old.failures }
     {
@@ -69,28 +92,30 @@ impl<R: Files + Drop> SystemDisk<R> {
                 Ok(())
             }
             Err(error) => {
-                self.own = open_file(&self.files, self.path.as_str()).ok();
+                self.own = open_file(&self.files, self.path.as_str(), false).ok();
                 Err(error)
             }
         }
     }
 }
 
-/// The options to open a file to read and write, and create it if it is absent.
-fn to_read_and_write() -> OpenOptions {
+/// The options to open a file to read and write, and to create it if it is absent and `creates` is set.
+fn to_read_and_write(creates: bool) -> OpenOptions
+    ensures { asks_create result ≡ creates }
+{
     let mut options = OpenOptions::new();
-    options.read(true).write(true).create(true);
+    options.read(true).write(true).create(creates);
     options
 }
 
-/// Opens the file at the path to read and write, and creates it if it is absent.
-fn open_file<R: Files>(files: &R, path: &str) -> io::Result<R::File> {
-    to_read_and_write().open(files, path)
+/// Opens the file at the path to read and write, and creates it if it is absent and `creates` is set.
+fn open_file<R: Files>(files: &R, path: &str, creates: bool) -> io::Result<R::File> {
+    to_read_and_write(creates).open(files, path)
 }
 
-/// Opens the file at the path to read and write, without bytes.
+/// Opens the file at the path to read and write, without bytes; it is created if it is absent.
 fn open_empty<R: Files>(files: &R, path: &str) -> io::Result<R::File> {
-    to_read_and_write().truncate(true).open(files, path)
+    to_read_and_write(true).truncate(true).open(files, path)
 }
 
 /// Appends the bytes to the file. False if it isn't open, or the write fails.
@@ -171,7 +196,7 @@ impl<R: Files + Drop> Disk for SystemDisk<R> {
     ghost nested = { λ no. absurd no };
 
     fn open(&mut self) -> Result<(), DiskFault> {
-        match open_file(&self.files, self.path.as_str()) {
+        match open_file(&self.files, self.path.as_str(), self.creates) {
             Ok(file) => {
                 self.own = Some(file);
                 Ok(())

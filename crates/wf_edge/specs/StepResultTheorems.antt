@@ -41,12 +41,13 @@ module _ {T A : Type 0} (tapes : Tape T) (before after : Node T) (input : Input 
       → (answer ≡ Err fault.TapeFailed → HasRisen (tapes.failed before.tape) (tapes.failed after.tape))
       → (answer ≡ Err fault.TapeFailed → IsSome (entry_of before input))
       → (answer ≡ Err fault.TapeFailed → after.halted ≡ true)
+      → (answer ≡ Err fault.TapeFailed → after.failed ≡ entry_of before input)
       → (tapes.durable → answer ≡ Err fault.TapeFailed → IsExtended (tapes.content before.tape) (bytes_of (entry_of before input)) (tapes.content after.tape))
       → (tapes.durable → answer ≡ Err fault.TapeFailed → EachStandsFor (stored_of before) (stored_next before input) (tapes.images after.tape))
       → (tapes.never_fails before.tape → tapes.never_fails after.tape)
       → (tapes.never_fails before.tape → IfErr answer (λ why. why ≢ fault.TapeFailed))
       → IsAnswer tapes input before answer after
-  answered answer halted running refused transition on_tape grown unchanged same memory same_tape takes failed writes halts part torn sturdy sound = record {
+  answered answer halted running refused transition on_tape grown unchanged same memory same_tape takes failed writes halts kept part torn sturdy sound = record {
     refused = λ is. (halted is, stays answer (halted is) unchanged);
     steps = λ is. record {
       running = not_halted answer running is;
@@ -62,6 +63,7 @@ module _ {T A : Type 0} (tapes : Tape T) (before after : Node T) (input : Input 
       failed = failed;
       writes = writes;
       halts = halts;
+      kept = kept;
       part = part;
       torn = torn;
     };

@@ -30,7 +30,7 @@ module _ {T : Type 0} (tapes : Tape T) (node after : Node T) (input : Input Defi
   taken_transition false (giving.Halts halted same quiet) kept still = absurd (both_ways node.halted runs halted)
   taken_transition false (giving.Rejects why is refused same quiet) kept still = absurd (none-some why (sym goes ∙ refused))
   taken_transition false (giving.Steps is free transition grown) kept still = transition
-  taken_transition false (giving.Fails is free halts same part each quiet) kept still = absurd (both_ways after.halted still halts)
+  taken_transition false (giving.Fails is free halts same keeps part each quiet) kept still = absurd (both_ways after.halted still halts)
 
 module _ (node after : Node TapeValue) (input : Input Definition) (outputs : List Message) (tapes : Tape TapeValue) where
   -- A node that took a step, or lost its input.

@@ -20,7 +20,7 @@ no_volatile = record { proposing = Idle; leadership = None }
 -- The entry as node i of n. A stopped node accepts no step, as one that is halted, and shows nothing of what is on its tape.
 abbrev pub node_in : {T : Type 0} → ℕ → ℕ → NodeHost T → Node T
 node_in n i (Running node) = node
-node_in n i (Stopped tape) = record { tape = tape; halted = true; id = i; n = n; parts = no_parts; volatile = no_volatile }
+node_in n i (Stopped tape) = record { tape = tape; halted = true; failed = None; id = i; n = n; parts = no_parts; volatile = no_volatile }
 
 -- the entries as nodes of n, from node i on
 unfoldable pub nodes_from : {T : Type 0} → ℕ → ℕ → List (NodeHost T) → List (Node T)

@@ -1,5 +1,5 @@
 -- A journal over a tape: whole records, all of them synced, and the effect of each call on them.
-use Rattle.std.specs.Prelude.{◌≡◌, ◌⊎◌, ℕ, Bool, List, [], ◌∷◌, ◌++◌, drop}
+use Rattle.std.specs.Prelude.{◌≡◌, ◌⊎◌, ℕ, Bool, List, [], ◌∷◌, ◌++◌, drop, Option}
 use Rattle.wf_model.specs.DurableState.{Record}
 use Rattle.wf_def.specs.Definition.{Definition}
 use Rattle.wf_journal.specs.declared.open_error.OpenFault.{OpenFault}
@@ -10,10 +10,11 @@ use Rattle.wf_tape.specs.declared.tape.Tape.{Ghosts as Tape}
 use Rattle.wf_journal.specs.Encoding.{Spells}
 use Rattle.wf_journal.specs.Records.{Splits, ReadsAs, AreRecords, AreWritten, IsBad}
 
--- the model of a journal: its tape, and whether it is halted
+-- the model of a journal: its tape, whether it is halted, and the record that it keeps of a failure
 pub record Journal (T : Type 0) : Type 0 where
   pub tape : T
   pub halted : Bool
+  pub failed : Option (Record Definition)
 
 -- the model of a tape that was read: the tape, the bytes that were read, and how many of them are the records'
 pub record Found (T : Type 0) : Type 0 where

@@ -1,6 +1,7 @@
 //! The journal: whole records on a tape, each written and synced before it is acknowledged.
 
-ghost use Rattle.std.specs.Prelude.{◌≡◌, ◌≢◌, ◌++◌, ◌∷◌, [], false, true, map, IfOk, IfErr, OnOk, OnErr, IsErrOf};
+ghost use Rattle.std.specs.Prelude.{◌≡◌, ◌≢◌, ◌++◌, ◌∷◌, [], false, true, map, option_map, None, IfOk, IfErr, OnOk, OnErr, IsErrOf};
+ghost use Rattle.std.specs.Option.{option_copied};
 ghost use Rattle.wf_tape.specs.declared.fault.TapeFault.TheVariants.{Memory};
 ghost use Rattle.wf_journal.specs.Record.{view};
 ghost use Rattle.wf_journal.specs.Records.{IsTapeOf};
@@ -16,24 +17,27 @@ use crate::open_error::{AddFault, OpenFault};
 use crate::record::Record;
 use std::alloc::Global;
 use std::marker::Model;
+use std::mem::replace;
 use wf_canon::one_text_one_map;
 use wf_tape::{MemoryTape, Tape, TapeFault};
 
-/// The records of a node on its tape. Model: the tape, and whether the journal is halted; if it isn't, a durable tape holds only
-/// whole records, all of them synced, and a sync of the tape can be relied on.
+/// The records of a node on its tape. Model: the tape, whether the journal is halted, and the record that it keeps of a failure of the
+/// tape; if it isn't halted, a durable tape holds only whole records, all of them synced, and a sync of the tape can be relied on.
 #[derive(Drop)]
 pub struct Journal<T: Tape> {
     pub(crate) tape: T,
     pub(crate) halted: bool,
+    pub(crate) failed: Option<Record>,
 }
 
 impl<T: Tape> Model for Journal<T> {
-    ghost use Rattle.std.specs.Prelude.{◌≡◌, false};
+    ghost use Rattle.std.specs.Prelude.{◌≡◌, false, option_map};
     ghost use Rattle.wf_journal.specs.Journal.{Journal, TapeIsSettled};
+    ghost use Rattle.wf_journal.specs.Record as entry;
 
     ghost Value = { Journal T };
 
-    ghost view = { λ j. record { tape = j.tape; halted = j.halted } };
+    ghost view = { λ j. record { tape = j.tape; halted = j.halted; failed = option_map entry.view j.failed } };
 
     ghost invariant = { λ j. (T.durable → j.halted ≡ false → TapeIsSettled T.Tape j.tape) × (j.halted ≡ false → T.doubtful j.tape ≡ false) };
 }
@@ -81,11 +85,12 @@ impl<T: Tape> Journal<T> {
     pub(crate) fn over(tape: T) -> Journal<T>
         requires settled { T.durable → TapeIsSettled T.Tape tape }
         requires sure { T.doubtful tape ≡ false }
-        ensures { result ≡ record { tape = tape; halted = false } }
+        ensures { result ≡ record { tape = tape; halted = false; failed = None } }
     {
         Journal {
             tape,
             halted: false,
+            failed: None,
         }
     }
 
@@ -140,6 +145,20 @@ impl<T: Tape> Journal<T> {
         self.halted
     }
 
+    /// Keeps the record that couldn't be added, since the tape failed: it may be on the tape, whole, and nobody was told of it.
+    pub fn keep_failed(&mut self, entry: Option<Record>)
+        ensures { self.new ≡ record self.old { failed = option_map view entry } }
+    {
+        drop(replace(&mut self.failed, entry));
+    }
+
+    /// The record that is kept of a failure of the tape, if one is.
+    pub fn failed(&self) -> Option<&Record>
+        ensures { option_map view (option_copied result) ≡ self.now.failed }
+    {
+        self.failed.as_ref()
+    }
+
     /// The tape. Unless the journal is halted, a durable one holds only whole records, all of them synced.
     pub fn tape(&self) -> &T
         ensures value { result.now ≡ self.now.tape }
@@ -160,8 +179,7 @@ impl<T: Tape> Journal<T> {
 impl Journal<MemoryTape> {
     /// Sets a failure of the tape (`MemoryTape::set_fuse`), and changes nothing else.
     pub fn set_fuse(&mut self, call: usize, kept: usize)
-        ensures tape { self.new.tape ≡ with_fuse call kept self.old.tape }
-        ensures halted { self.new.halted ≡ self.old.halted }
+        ensures { self.new ≡ record self.old { tape = with_fuse call kept self.old.tape } }
     {
         self.tape.set_fuse(call, kept);
     }

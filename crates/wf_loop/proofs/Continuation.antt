@@ -168,7 +168,8 @@ module _ {T : Type 0} (tapes : Tape T) where
   pub keeps_going : (before after : Process T tapes) → GoesOn tapes before after → KeepsEarlier tapes before after
   keeps_going before after goes = λ past earlier. earlier_on past before after goes earlier
 
-  pub keeps_reopened : {A B : Type 0} (result : Result A B) (before after : Process T tapes) → OnOk result (after.ended.items ≡ before.ended.items ++ (before.actor, 0) ∷ []) → OnErr result (after ≡ before)
-      → KeepsEarlier tapes before after
-  keeps_reopened (Ok done) before after ended same = λ past earlier. earlier_ended past before after 0 ended earlier
-  keeps_reopened (Err why) before after ended same = λ past earlier. subst (λ (p : Process T tapes). IsEarlier tapes past p) (sym same) earlier
+  pub keeps_begun : (before after : Process T tapes) → after.ended.items ≡ before.ended.items ++ (before.actor, 0) ∷ [] → KeepsEarlier tapes before after
+  keeps_begun before after ended = λ past earlier. earlier_ended past before after 0 ended earlier
+
+  pub keeps_same : (before after : Process T tapes) → after ≡ before → KeepsEarlier tapes before after
+  keeps_same before after same = λ past earlier. subst (λ (p : Process T tapes). IsEarlier tapes past p) (sym same) earlier

@@ -1,7 +1,8 @@
 -- The process of a hub, and the clients that it answered.
-use Rattle.std.specs.Prelude.{◌≡◌, ◌≤◌, ℕ, true, Option, Some, None}
+use Rattle.std.specs.Prelude.{◌≡◌, ◌≤◌, ℕ, true, [], Option, Some, None}
 use Rattle.std.specs.declared.net.socket_addr.SocketAddr.{SocketAddr}
 use Rattle.wf_actor.specs.declared.process.Process.{Process}
+use Rattle.wf_digest.specs.Digest.{AreDigestsOf}
 use Rattle.wf_loop.specs.Answer.{AreAnswered}
 use Rattle.wf_loop.specs.declared.hub.Hub.{Hub}
 use Rattle.wf_tape.specs.declared.tape.Tape.{Ghosts as Tape}
@@ -23,11 +24,18 @@ time_of hub = hub.time
 abbrev pub HasAnswered : {T : Type 0} (tapes : Tape T) → Hub T tapes → Type 0
 HasAnswered tapes hub = ∥ AreAnswered tapes hub.clients.before.items (responses_of hub.clients.visitors) hub.clients.after.items ∥₁
 
+-- The node greets by this start of its folder, as it is now: with its last round and its promise, and with digests that begin anew.
+pub record GreetsAsNow {T : Type 0} {tapes : Tape T} (count : ℕ) (hub : Hub T tapes) : Type 0 where
+  pub starts : hub.parts.mesh.plan.start.starts ≡ count
+  pub round : hub.parts.mesh.plan.start.round ≡ (process_of hub).actor.node.parts.tried
+  pub promise : hub.parts.mesh.plan.start.promise ≡ (process_of hub).actor.node.parts.promise
+  pub digests : AreDigestsOf [] hub.parts.mesh.notes.digests
+
 -- an alarm was set, and is due
 abbrev pub IsDue : Option Alarm → ℕ → Type 0
 IsDue None time = ⊥
 IsDue (Some alarm) time = alarm.due ≤ time
 
--- the node is halted, and it is time to open its tape anew
+-- the node is halted, and it is time to open its tape again
 abbrev pub IsReopeningDue : {T : Type 0} {tapes : Tape T} → Hub T tapes → Type 0
 IsReopeningDue hub = (hub.voter.process.actor.node.halted ≡ true) × IsDue hub.pace.reopening hub.time

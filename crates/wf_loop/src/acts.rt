@@ -1,13 +1,12 @@
 //! What is done to a process: by each of these its run goes on.
-ghost use Rattle.std.specs.Prelude.{◌≡◌, OnErr, OnOk};
-ghost use Rattle.wf_actor.specs.Process.{IsBegun};
+ghost use Rattle.std.specs.Prelude.{◌≡◌, ◌++◌, ◌∷◌, []};
 ghost use Rattle.wf_loop.specs.Continuation.{GoesOn, KeepsEarlier};
 
 use std::alloc::Global;
 use std::io;
+use std::mem::replace;
 use wf_actor::Process;
 use wf_ballot::NodeId;
-use wf_journal::OpenFault;
 use wf_stream::Sink;
 use wf_tape::Tape;
 
@@ -68,16 +67,11 @@ pub(crate) fn write<T: Tape, S: Sink>(
     process.write_to(peer, sink)
 }
 
-/// Begins another run on a tape. Err: the tape, and why its node doesn't open; nothing has changed.
-pub(crate) fn reopen<T: Tape + Drop>(
-    alloc: Global,
-    process: &mut Process<T>,
-    tape: T,
-) -> Result<(), (T, OpenFault)>
-    ensures begun { OnOk result (IsBegun process.new) }
-    ensures same { OnErr result (process.new ≡ process.old) }
-    ensures among { process.new.n ≡ process.old.n }
+/// Begins the process's next run, after which what it was is one of those that have ended.
+pub(crate) fn begin_run<T: Tape + Drop>(process: &mut Process<T>, next: Process<T>)
+    requires ended { next.ended.items ≡ process.old.ended.items ++ (process.old.actor, 0) ∷ [] }
+    ensures process { process.new ≡ next }
     ensures earlier { KeepsEarlier T.Tape process.old process.new }
 {
-    process.reopen(alloc, tape)
+    drop(replace(process, next));
 }

@@ -2,7 +2,6 @@
 
 use std::fmt;
 use std::net::SocketAddr;
-use wf_journal::OpenFault;
 use wf_peer::{GreetingFault, PeerRejection};
 use wf_visitors::{Level, LogEntry};
 
@@ -99,16 +98,14 @@ pub enum NodeEvent {
     },
     /// The node's tape has failed, and the node is halted.
     Halted,
-    /// The node's tape was opened anew.
+    /// The node's tape was opened again.
     Reopened,
-    /// The node's tape couldn't be opened anew.
-    NotReopened(OpenFault),
 }
 
 impl LogEntry for NodeEvent {
     fn level(&self) -> Level {
         match self {
-            NodeEvent::Halted | NodeEvent::NotReopened(_) => Level::Error,
+            NodeEvent::Halted => Level::Error,
             NodeEvent::Lost { .. } | NodeEvent::Dropped { .. } | NodeEvent::Overtaken { .. } =>
                 Level::Warn,
             NodeEvent::Listening { .. }
@@ -144,7 +141,6 @@ impl fmt::Display for NodeEvent {
             NodeEvent::Overtaken { sequence } => write!(f, "overtaken sequence={sequence}"),
             NodeEvent::Halted => f.write_str("tape-failed"),
             NodeEvent::Reopened => f.write_str("tape-reopened"),
-            NodeEvent::NotReopened(why) => write!(f, "tape-not-reopened why=\"{why}\""),
         }
     }
 }

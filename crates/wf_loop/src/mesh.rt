@@ -1,4 +1,5 @@
 //! The connections to and from the peers of a node.
+ghost use Rattle.std.specs.Prelude.{◌≡◌};
 ghost use Rattle.wf_loop.specs.Continuation.{GoesOn};
 
 use crate::acts::{handle, open_receiver, receive};
@@ -17,6 +18,7 @@ use std::rt::Files;
 use std::time::Clock;
 use wf_actor::Process;
 use wf_ballot::{NodeId, SEQUENCES};
+use wf_digest::Digests;
 use wf_learner::History;
 use wf_peer::{Greeting, PeerProgress, PeerRejection, Progress};
 use wf_tape::Tape;
@@ -491,7 +493,30 @@ impl Mesh {
         }
     }
 
-    /// Closes all connections: the node was opened anew.
+    /// The node is opened again, by this start: it greets as it is now, and connections begin anew.
+    pub(crate) fn begin_run<T: Tape + Drop>(
+        &mut self,
+        process: &Process<T>,
+        digests: Digests,
+        starts: u32,
+        time: u64,
+    )
+        ensures starts { self.new.plan.start.starts ≡ starts }
+        ensures round { self.new.plan.start.round ≡ process.now.actor.node.parts.tried }
+        ensures promise { self.new.plan.start.promise ≡ process.now.actor.node.parts.promise }
+        ensures digests { self.new.notes.digests ≡ digests }
+    {
+        self.close_all(time);
+        self.notes.begin(digests);
+        self.plan.start = Progress {
+            starts,
+            round: process.node().last_round(),
+            promise: process.node().promise(),
+            ..self.plan.start
+        };
+    }
+
+    /// Closes all connections.
     pub(crate) fn close_all(&mut self, time: u64) {
         for dial in &mut self.dials {
             dial.end(time);

@@ -1,8 +1,10 @@
 //! What was heard of the peers, and the digests of this node's history.
+ghost use Rattle.std.specs.Prelude.{◌≡◌};
 
-use crate::file::{path_in, replace};
+use crate::file::{path_in, replace as replace_file};
 use std::alloc::{AllocError, Global};
 use std::io;
+use std::mem::replace;
 use std::rt::Files;
 use wf_actor::Process;
 use wf_ballot::{NodeId, Seq};
@@ -51,6 +53,13 @@ impl Notes {
         if self.is_new && write_peer_progress(rt, folder, &self.known).is_ok() {
             self.is_new = false;
         }
+    }
+
+    /// The node is opened again: its digests begin with these, of no history yet.
+    pub(crate) fn begin(&mut self, digests: Digests)
+        ensures { self.new.digests ≡ digests }
+    {
+        drop(replace(&mut self.digests, digests));
     }
 
     /// Takes in what was published since.
@@ -126,5 +135,5 @@ fn write_peer_progress<R: Files + AllocGlobal>(
     let text = known.text(rt.alloc())?;
     let path = path_in(rt.alloc(), folder, "heard")?;
     let second = path_in(rt.alloc(), folder, "heard.new")?;
-    replace(rt, path.as_str(), second.as_str(), &text)
+    replace_file(rt, path.as_str(), second.as_str(), &text)
 }

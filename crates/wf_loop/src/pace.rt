@@ -22,11 +22,14 @@ use wf_visitors::Context;
 /// The time between two ticks, in milliseconds.
 pub(crate) const TICK_MILLIS: u64 = 100;
 
-/// The least time between two attempts to open a failed tape anew, in milliseconds.
+/// The least time between two attempts to open a failed tape again, in milliseconds.
 const LEAST_REOPENING: u64 = 1_000;
 
-/// The greatest time between two attempts to open a failed tape anew, in milliseconds.
-const MOST_REOPENING: u64 = 60_000;
+/// The greatest time between two attempts to open a failed tape again, in milliseconds.
+const MOST_REOPENING: u64 = 2_000;
+
+/// For how long a tape has to stand before the waits begin from the least one, in milliseconds.
+const LONG_STANDING: u64 = 60_000;
 
 /// What a node does by the clock, and what was last seen of it.
 #[derive(Clone, Copy)]
@@ -64,7 +67,7 @@ impl Pace {
         self.ticks.due.saturating_sub(time).min(TICK_MILLIS)
     }
 
-    /// Whether it is time to open the failed tape anew.
+    /// Whether it is time to open the failed tape again.
     pub(crate) fn is_reopening_due(&self, time: u64) -> bool
         ensures { IsTrue result ↔ IsDue self.now.reopening time }
     {
@@ -74,20 +77,20 @@ impl Pace {
         }
     }
 
-    /// The tape was opened anew.
+    /// The tape was opened again.
     pub(crate) fn note_reopening(&mut self, time: u64) {
         self.reopening = None;
         self.stands_since = time;
     }
 
-    /// The waits begin from the least one if the tape stood long enough; one that fails again soon is opened ever more seldom.
+    /// The waits begin from the least one if the tape stood long enough.
     fn begin_waits(&mut self, time: u64) {
-        if MOST_REOPENING <= time.saturating_sub(self.stands_since) {
+        if LONG_STANDING <= time.saturating_sub(self.stands_since) {
             self.reopenings = Backoff::new(LEAST_REOPENING, MOST_REOPENING);
         }
     }
 
-    /// The tape couldn't be opened anew: that is tried again later.
+    /// The tape couldn't be opened again: that is tried later.
     pub(crate) fn postpone_reopening(&mut self, time: u64) {
         self.reopening = Some(Alarm::after(time, self.reopenings.wait()));
     }

@@ -200,11 +200,14 @@ impl Mesh {
         }
     }
 
-    /// Asks a peer for the definitions that the node lacks, if it is time to.
+    /// Asks a peer for the definitions that the node lacks, if it is time to: nobody once the tape has failed.
     #[tactic(auto, using(crate::proofs::Continuation::still))]
     fn ask_next<T: Tape + Drop>(&mut self, alloc: Global, process: &mut Process<T>, time: u64)
         ensures { GoesOn T.Tape process.old process.new }
     {
+        if process.is_halted() {
+            return;
+        }
         let mut connected = [false; MOST_NODES];
         for (flag, dial) in connected.iter_mut().zip(self.dials.iter()) {
             *flag = dial.is_open();
@@ -236,10 +239,8 @@ impl Mesh {
     )
         ensures { GoesOn T.Tape process.old process.new }
     {
-        if !process.is_halted() {
-            self.ask_next(context.alloc(), process, context.time);
-            self.send(context, process);
-        }
+        self.ask_next(context.alloc(), process, context.time);
+        self.send(context, process);
         self.extend_digests(process.node().history());
     }
 

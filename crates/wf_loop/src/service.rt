@@ -1,19 +1,22 @@
 //! How a hub begins, waits for its sockets and goes on, turn after turn.
-ghost use Rattle.std.specs.Prelude.{◌≡◌, ◌≤◌, ◌↔◌, [], Err, IfErr, IfOk, IsTrue, OnErr, OnOk};
+ghost use Rattle.std.specs.Prelude.{◌≡◌, ◌≤◌, ◌+◌, ◌↔◌, ◌++◌, ◌∷◌, [], Err, IfErr, IfOk, IsTrue, OnErr, OnOk};
 ghost use Rattle.wf_actor.specs.Process.{IsBegun};
-ghost use Rattle.wf_loop.specs.Hub.{HasAnswered, IsReopeningDue, address_of, process_of, time_of};
+ghost use Rattle.wf_digest.specs.Digest.{AreDigestsOf};
+ghost use Rattle.wf_loop.specs.Hub.{GreetsAsNow, HasAnswered, IsReopeningDue, address_of, process_of, time_of};
+ghost use Rattle.wf_node.specs.Reopening.{HasStoredAs};
 ghost use Rattle.wf_loop.specs.Lived.{HasLived};
 ghost use Rattle.wf_loop.specs.Continuation.{GoesOn, KeepsEarlier};
 ghost use Rattle.wf_loop.specs.StartErrors.{IsCause};
 ghost use Rattle.wf_visitors.specs.Visitors.{responses_of};
 
-use crate::acts::reopen;
+use crate::acts::begin_run;
 use crate::clients::Clients;
 use crate::event::NodeEvent;
 use crate::hub::{Hub, Voter};
 use crate::pace::{Pace, TICK_MILLIS};
 use crate::parts::{HubParts, HubStart, MOST_EVENTS, bind};
 use crate::plan::{LoopFault, NodePlan};
+use crate::reopening::{NextRun, NodeFolder, NotReopened, TapeNotReopened};
 use crate::tally::Tally;
 use crate::turn::{answer_operators, has_more, serve_all};
 use std::alloc::Global;
@@ -21,6 +24,7 @@ use std::net::{Net, SocketAddr};
 use std::rt::Files;
 use std::time::{Clock, Duration};
 use wf_actor::Process;
+use wf_digest::Digests;
 use wf_operator::{Behind, PictureCounts};
 use wf_peer::{PeerProgress, PeerRejection};
 use wf_tape::Tape;
@@ -160,46 +164,129 @@ impl<T: Tape + Drop> Hub<T> {
         self.clients.always_answered();
     }
 
-    /// Whether the tape has failed and it is time to open it anew: after a second, and then after waits that
-    /// double, up to a minute, until it has stood for a minute.
+    /// Whether the tape has failed and it is time to open it again: after a second, and then every two seconds.
     pub fn is_reopening_due(&self) -> bool
         ensures { IsTrue result ↔ IsReopeningDue self.now }
     {
         self.voter.process.is_halted() && self.pace.is_reopening_due(self.time)
     }
 
-    /// The tape's file couldn't be opened anew, and that is tried again later.
-    pub fn postpone_reopening(&mut self)
-        ensures { process_of self.new ≡ process_of self.old }
-    {
-        self.pace.postpone_reopening(self.time);
-    }
-
-    /// Opens the node anew on a tape, once its own has failed: the node that it was, of as many. Its run ends, and another begins. Err: the
-    /// tape; nothing has changed but that it is tried again later.
-    pub fn reopen<R: Clock + Eprint + AllocGlobal>(
+    /// Opens the node again on the tape of its folder, once it has failed: the node that it was, of as many. Its run ends, and another
+    /// begins, which counts as a start of the folder. Err: why not; nothing has changed but that it is tried again later, and the
+    /// log has the cause.
+    #[tactic(auto, using(crate::proofs::Continuation::keeps_same))]
+    pub fn reopen<R: Clock + Eprint + AllocGlobal, F: NodeFolder<T>>(
         &mut self,
         rt: &R,
         log: &Log<'_, R>,
-        tape: T,
-    ) -> Result<(), T>
+        folder: &mut F,
+    ) -> Result<(), NotReopened>
         ensures begun { OnOk result (IsBegun (process_of self.new)) }
+        // It has stored what it had, or that and the record of the step that failed: whatever is on the tape, and of files too.
+        ensures stored { OnOk result
+            (HasStoredAs (process_of self.old).actor.node (process_of self.new).actor.node) }
+        ensures counted { OnOk result (F.starts folder.new ≡ F.starts folder.old + 1) }
+        ensures greets { OnOk result (GreetsAsNow (F.starts folder.new) self.new) }
         ensures same { OnErr result (process_of self.new ≡ process_of self.old) }
         ensures earlier { KeepsEarlier T.Tape (process_of self.old) (process_of self.new) }
     {
-        match reopen(rt.alloc(), &mut self.voter.process, tape) {
-            Ok(()) => {
-                self.parts.mesh.close_all(self.time);
-                self.pace.note_reopening(self.time);
+        match self.next_run(rt.alloc(), folder) {
+            Ok(next) => {
+                self.begin_run(next);
                 log.write(&NodeEvent::Reopened);
                 Ok(())
             }
-            Err((tape, why)) => {
+            Err(why) => {
                 self.pace.postpone_reopening(self.time);
-                log.write(&NodeEvent::NotReopened(why));
-                Err(tape)
+                let NodePlan { folder, tape, .. } = &self.parts.mesh.plan;
+                log.write(&TapeNotReopened {
+                    folder: folder.as_str(),
+                    tape: tape.as_str(),
+                    why,
+                });
+                Err(why)
             }
         }
+    }
+
+    /// The process's next run, on the tape of its folder, whose start is counted last.
+    fn next_run<F: NodeFolder<T>>(
+        &self,
+        alloc: Global,
+        folder: &mut F,
+    ) -> Result<NextRun<T>, NotReopened>
+        ensures begun { IfOk result (λ next. IsBegun next.process) }
+        ensures stored { IfOk result (λ next.
+            HasStoredAs (process_of self.now).actor.node next.process.actor.node) }
+        ensures ended { IfOk result (λ next. next.process.ended.items ≡
+            (process_of self.now).ended.items ++ ((process_of self.now).actor, 0) ∷ []) }
+        ensures digests { IfOk result (λ next. AreDigestsOf [] next.digests) }
+        ensures counted { IfOk result (λ next. F.starts folder.new ≡ F.starts folder.old + 1) }
+        ensures starts { IfOk result (λ next. next.starts ≡ F.starts folder.new) }
+    {
+        let process = match self.open_process(alloc, folder) {
+            Ok(process) => process,
+            Err(why) => return Err(why),
+        };
+        let Ok(digests) = Digests::new(alloc) else {
+            drop(process);
+            return Err(NotReopened::Memory);
+        };
+        match folder.count_start() {
+            Ok(starts) => Ok(NextRun {
+                process,
+                digests,
+                starts,
+            }),
+            Err(why) => {
+                drop(process);
+                drop(digests);
+                Err(why)
+            }
+        }
+    }
+
+    /// The process in its next run, on the tape of its folder.
+    fn open_process<F: NodeFolder<T>>(
+        &self,
+        alloc: Global,
+        folder: &mut F,
+    ) -> Result<Process<T>, NotReopened>
+        ensures begun { IfOk result (λ process. IsBegun process) }
+        ensures stored { IfOk result (λ process.
+            HasStoredAs (process_of self.now).actor.node process.actor.node) }
+        ensures ended { IfOk result (λ process. process.ended.items ≡
+            (process_of self.now).ended.items ++ ((process_of self.now).actor, 0) ∷ []) }
+        ensures starts { F.starts folder.new ≡ F.starts folder.old }
+    {
+        match folder.open() {
+            Ok(tape) => match self.voter.process.reopen(alloc, tape) {
+                Ok(process) => Ok(process),
+                Err(fault) => Err(NotReopened::Tape(fault)),
+            },
+            Err(why) => Err(why),
+        }
+    }
+
+    /// Begins the process's next run.
+    fn begin_run(&mut self, next: NextRun<T>)
+        requires ended { next.process.ended.items ≡
+            (process_of self.old).ended.items ++ ((process_of self.old).actor, 0) ∷ [] }
+        requires digests { AreDigestsOf [] next.digests }
+        ensures process { process_of self.new ≡ next.process }
+        ensures greets { GreetsAsNow next.starts self.new }
+        ensures earlier { KeepsEarlier T.Tape (process_of self.old) (process_of self.new) }
+    {
+        let NextRun {
+            process,
+            digests,
+            starts,
+        } = next;
+        begin_run(&mut self.voter.process, process);
+        self.parts
+            .mesh
+            .begin_run(&self.voter.process, digests, starts, self.time);
+        self.pace.note_reopening(self.time);
     }
 
     /// One turn: waits until a socket is ready or a tick is over, and does a bounded part of what there is to do.

@@ -11,3 +11,4 @@ mod Shortened
 mod Shown
 mod Steps
 mod Voted
+pub mod Histories

@@ -36,6 +36,11 @@ pub persistent_is : (tried : ℕ) (part : Part) (definitions : List Definition) 
 persistent_is tried part definitions stored same_tried acts same_history =
     λ i. record { tried = same_tried i; promise = sym acts.promise i; votes = sym acts.votes i; history = same_history i }
 
+-- Equal rounds, parts and histories are equal durable states.
+pub same_persistent : (tried other_tried : ℕ) (part other : Part) (definitions others : List Definition) → tried ≡ other_tried → part ≡ other → definitions ≡ others →
+    stored_of (parts_of tried part definitions) ≡ stored_of (parts_of other_tried other others)
+same_persistent tried other_tried part other definitions others rounds parts histories = λ i. stored_of (parts_of (rounds i) (parts i) (histories i))
+
 -- ---- applying a record
 
 -- Only a tried round's record changes the round.

@@ -19,7 +19,7 @@ use Rattle.wf_node.specs.declared.fault.NodeFault.TheVariants.{Memory, Busy, Seq
 use Rattle.wf_node.specs.Act.{IsChange, IsReply}
 use Rattle.wf_node.specs.Fault.{TakesMemory, ByEntry, ByMessages}
 use Rattle.wf_node.specs.Parts.{Parts, stored_of}
-use Rattle.wf_node.specs.TapeWrites.{bytes_of, IsTornAt, IsWritten, IsSpared, IsBroken, IsStoredBy, IsWrite}
+use Rattle.wf_node.specs.TapeWrites.{bytes_of, keeping, IsTornAt, IsWritten, IsSpared, IsBroken, IsStoredBy, IsWrite}
 use Rattle.wf_tape.specs.Change.{inside}
 use Rattle.wf_node.proofs.Fold.{stored_none, stored_by, torn_at, cut_at}
 use Rattle.wf_tape.specs.declared.tape.Tape.{Ghosts as Tape}
@@ -106,18 +106,42 @@ module _ {T : Type 0} (tapes : Tape T) where
   entry_taken None some = absurd (some refl)
   entry_taken (Some r) some = refl
 
-  -- If writing the record fails, the parts are unchanged.
-  pub write_fails : (A B : Type 0) (the_transition : Transition Definition) (journal journal_after : Journal T) (parts parts_after : Parts) (proposer : Proposer)
-      (fault : NodeFault) → parts_after ≡ parts → IsWrite tapes {A = B} the_transition.entry journal (Err fault) journal_after →
-      IsChange tapes {A = A} the_transition journal parts proposer (Err fault) journal_after parts_after proposer
-  write_fails A B the_transition journal journal_after parts parts_after proposer Memory same write =
+  -- what broke the journal is the same whatever record it keeps
+  broken_keeping : (entry : Option (Record Definition)) (journal journal_after : Journal T) → IsBroken tapes entry journal journal_after →
+      IsBroken tapes entry journal (record journal_after { failed = entry })
+  broken_keeping entry journal journal_after is = record {
+    entry_is = is.entry_is;
+    halted = is.halted;
+    risen = is.risen;
+    part = is.part;
+    torn = is.torn;
+    cut = is.cut;
+    moments = is.moments;
+    weak = is.weak;
+  }
+
+  -- If writing the record fails, the parts are unchanged, and the journal keeps the record if the tape failed.
+  write_fails_keeping : (A B : Type 0) (the_transition : Transition Definition) (journal written : Journal T) (parts parts_after : Parts) (proposer : Proposer)
+      (fault : NodeFault) → parts_after ≡ parts → IsWrite tapes {A = B} the_transition.entry journal (Err fault) written →
+      IsChange tapes {A = A} the_transition journal parts proposer (Err fault) (keeping fault the_transition.entry written) parts_after proposer
+  write_fails_keeping A B the_transition journal written parts parts_after proposer Memory same write =
       (write.0, record { parts = same; proposer = refl }, ByEntry (entry_taken the_transition.entry write.1), write.2)
-  write_fails A B the_transition journal journal_after parts parts_after proposer TapeFailed same write = (write, record { parts = same; proposer = refl })
-  write_fails A B the_transition journal journal_after parts parts_after proposer Busy same write = absurd write
-  write_fails A B the_transition journal journal_after parts parts_after proposer SequenceFull same write = absurd write
-  write_fails A B the_transition journal journal_after parts parts_after proposer RoundsFull same write = absurd write
-  write_fails A B the_transition journal journal_after parts parts_after proposer Nothing same write = absurd write
-  write_fails A B the_transition journal journal_after parts parts_after proposer Halted same write = absurd write
+  write_fails_keeping A B the_transition journal written parts parts_after proposer TapeFailed same write =
+      (broken_keeping the_transition.entry journal written write, record { parts = same; proposer = refl }, refl)
+  write_fails_keeping A B the_transition journal written parts parts_after proposer Busy same write = absurd write
+  write_fails_keeping A B the_transition journal written parts parts_after proposer SequenceFull same write = absurd write
+  write_fails_keeping A B the_transition journal written parts parts_after proposer RoundsFull same write = absurd write
+  write_fails_keeping A B the_transition journal written parts parts_after proposer Nothing same write = absurd write
+  write_fails_keeping A B the_transition journal written parts parts_after proposer Halted same write = absurd write
+
+  pub write_fails : (A B : Type 0) (the_transition : Transition Definition) (journal written journal_after : Journal T) (parts parts_after : Parts) (proposer : Proposer)
+      (fault : NodeFault) (entry : Option (Record Definition)) → parts_after ≡ parts → entry ≡ the_transition.entry → IsWrite tapes {A = B} entry journal (Err fault) written →
+      journal_after ≡ keeping fault entry written →
+      IsChange tapes {A = A} the_transition journal parts proposer (Err fault) journal_after parts_after proposer
+  write_fails A B the_transition journal written journal_after parts parts_after proposer fault entry same is write kept =
+      subst (λ (after : Journal T). IsChange tapes {A = A} the_transition journal parts proposer (Err fault) after parts_after proposer)
+      (sym (kept ∙ ap (λ e. keeping fault e written) is))
+      (write_fails_keeping A B the_transition journal written parts parts_after proposer fault same (subst (λ e. IsWrite tapes {A = B} e journal (Err fault) written) is write))
 
   -- One more record is on the tape, or it is there or not.
   pub written : (r : Record Definition) (journal journal_after : Journal T) → journal_after.halted ≡ false →

@@ -108,6 +108,7 @@ module _ {T : Type 0} (tapes : Tape T) where
     failed = λ e. absurd (differ _ _ (λ n. omega (arith, n)) e);
     writes = λ e. absurd (differ _ _ (λ n. omega (arith, n)) e);
     halts = λ e. absurd (differ _ _ (λ n. omega (arith, n)) e);
+    kept = λ e. absurd (differ _ _ (λ n. omega (arith, n)) e);
     part = λ h e. absurd (differ _ _ (λ n. omega (arith, n)) e);
     torn = λ h e. absurd (differ _ _ (λ n. omega (arith, n)) e);
   }
@@ -125,6 +126,7 @@ module _ {T : Type 0} (tapes : Tape T) where
     failed = λ e. absurd (differ _ _ (λ n. omega (arith, n)) e);
     writes = λ e. absurd (differ _ _ (λ n. omega (arith, n)) e);
     halts = λ e. absurd (differ _ _ (λ n. omega (arith, n)) e);
+    kept = λ e. absurd (differ _ _ (λ n. omega (arith, n)) e);
     part = λ h e. absurd (differ _ _ (λ n. omega (arith, n)) e);
     torn = λ h e. absurd (differ _ _ (λ n. omega (arith, n)) e);
   }
@@ -142,6 +144,7 @@ module _ {T : Type 0} (tapes : Tape T) where
     failed = λ e. change.0.risen;
     writes = λ e. subst (λ r. IsSome r.entry) (transition_shown journal parts proposer input) change.0.entry_is;
     halts = λ e. change.0.halted;
+    kept = λ e. change.2 ∙ ap (λ r. r.entry) (transition_shown journal parts proposer input);
     part = λ h e. subst (λ r. IsExtended (tapes.content journal.tape) (bytes_of r.entry) (tapes.content journal_after.tape)) (transition_shown journal parts proposer input) (change.0.part h);
     torn = λ h e.
         subst (λ r. EachStandsFor (stored_of parts) (store (stored_of parts) r.entry) (tapes.images journal_after.tape)) (transition_shown journal parts proposer input)
@@ -170,6 +173,7 @@ module _ {T : Type 0} (tapes : Tape T) where
     failed = λ e. absurd (rejected_is result why TapeFailed answered refl e);
     writes = λ e. absurd (rejected_is result why TapeFailed answered refl e);
     halts = λ e. absurd (rejected_is result why TapeFailed answered refl e);
+    kept = λ e. absurd (rejected_is result why TapeFailed answered refl e);
     part = λ h e. absurd (rejected_is result why TapeFailed answered refl e);
     torn = λ h e. absurd (rejected_is result why TapeFailed answered refl e);
   }

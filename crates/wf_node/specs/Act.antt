@@ -93,7 +93,7 @@ module _ {T : Type 0} (tapes : Tape T) where
       IsSpared tapes journal journal_after × IsSame parts parts_after proposer proposer_after × TakesMemory the_transition ×
       (tapes.durable → IsTornAt the_transition.entry (inside tapes journal.tape journal.tape) (inside tapes journal.tape journal_after.tape))
   IsChange the_transition journal parts proposer (Err TapeFailed) journal_after parts_after proposer_after =
-      IsBroken tapes the_transition.entry journal journal_after × IsSame parts parts_after proposer proposer_after
+      IsBroken tapes the_transition.entry journal journal_after × IsSame parts parts_after proposer proposer_after × (journal_after.failed ≡ the_transition.entry)
   IsChange the_transition journal parts proposer (Err Busy) journal_after parts_after proposer_after = ⊥
   IsChange the_transition journal parts proposer (Err SequenceFull) journal_after parts_after proposer_after = ⊥
   IsChange the_transition journal parts proposer (Err RoundsFull) journal_after parts_after proposer_after = ⊥

@@ -11,3 +11,4 @@ pub mod Step
 pub mod Compaction
 pub mod OpenedNode
 pub mod Growth
+pub mod Reopening

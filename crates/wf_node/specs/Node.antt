@@ -1,8 +1,8 @@
 -- The model of a node: its tape, its number, and its stored and volatile state.
-use Rattle.std.specs.Prelude.{◌≡◌, ℕ, Bool, false}
+use Rattle.std.specs.Prelude.{◌≡◌, ℕ, Bool, false, Option}
 use Rattle.wf_def.specs.Definition.{Definition}
 use Rattle.wf_model.specs.Fits.{IsForNext}
-use Rattle.wf_model.specs.DurableState.{DurableState}
+use Rattle.wf_model.specs.DurableState.{DurableState, Record}
 use Rattle.wf_model.specs.VolatileState as model
 use Rattle.wf_proposer.specs.Proposer as proposer
 use Rattle.wf_proposer.specs.Proposer.{Proposer}
@@ -16,10 +16,11 @@ use Rattle.wf_node.specs.VolatileState as shown
 use Rattle.wf_node.specs.VolatileState.{VolatileState}
 use Rattle.wf_tape.specs.declared.tape.Tape.{Ghosts as Tape}
 
--- A node of n. If it is halted, its tape failed, and it makes no more steps.
+-- A node of n. If it is halted, its tape failed, and it makes no more steps; it keeps the record of the step within which that was.
 pub record Node (T : Type 0) : Type 0 where
   pub tape : T
   pub halted : Bool
+  pub failed : Option (Record Definition)
   pub id : ℕ
   pub n : ℕ
   pub parts : Parts
@@ -42,6 +43,7 @@ view_of journal persistent_parts proposes =
     record {
       tape = journal.tape;
       halted = journal.halted;
+      failed = journal.failed;
       id = proposes.node;
       n = proposes.nodes;
       parts = persistent_parts;

@@ -48,9 +48,9 @@ pub record IsTransition {T : Type 0} (before : Node T) (the_transition : Transit
   pub volatile : volatile_of after ≡ the_transition.volatile
   pub messages : map message.view sent ≡ the_transition.messages
 
--- the node is unchanged except for its tape
+-- the node is unchanged except for its tape, and what it keeps of a failure of it
 abbrev pub IsSameNode : {T : Type 0} → Node T → Node T → Type 0
-IsSameNode before after = after ≡ record before { tape = after.tape; halted = after.halted }
+IsSameNode before after = after ≡ record before { tape = after.tape; halted = after.halted; failed = after.failed }
 
 -- the input may allocate at this node: its transition stores or sends something
 abbrev pub TakesMemory : {T : Type 0} → Node T → Input Definition → Type 0
@@ -72,5 +72,6 @@ module _ {T : Type 0} (tapes : Tape T) where
     pub failed : result ≡ Err TapeFailed → HasFailed tapes before.tape after.tape
     pub writes : result ≡ Err TapeFailed → IsSome (entry_of before input)
     pub halts : result ≡ Err TapeFailed → after.halted ≡ true
+    pub kept : result ≡ Err TapeFailed → after.failed ≡ entry_of before input
     pub part : tapes.durable → result ≡ Err TapeFailed → IsExtended (tapes.content before.tape) (bytes_of (entry_of before input)) (tapes.content after.tape)
     pub torn : tapes.durable → result ≡ Err TapeFailed → EachStandsFor (stored_of before) (stored_next before input) (tapes.images after.tape)

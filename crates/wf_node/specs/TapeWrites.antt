@@ -18,6 +18,16 @@ abbrev pub bytes_of : Option (Record Definition) → List ℕ
 bytes_of None = []
 bytes_of (Some r) = spelling r
 
+-- the journal once it keeps the record that wasn't stored, which it does if the tape failed
+abbrev pub keeping : {T : Type 0} → NodeFault → Option (Record Definition) → Journal T → Journal T
+keeping TapeFailed entry journal = record journal { failed = entry }
+keeping Memory entry journal = journal
+keeping Busy entry journal = journal
+keeping SequenceFull entry journal = journal
+keeping RoundsFull entry journal = journal
+keeping Halted entry journal = journal
+keeping Nothing entry journal = journal
+
 -- If the old images stand for a durable state that the record fits, the new ones stand for that part with the record.
 abbrev pub IsStoredBy : Option (Record Definition) → (List ℕ → Type 0) → (List ℕ → Type 0) → Type 0
 IsStoredBy entry old new = (stored : DurableState Definition) → Fits stored entry → AllStandFor stored old → AllStandFor (store stored entry) new

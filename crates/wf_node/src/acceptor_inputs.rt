@@ -13,7 +13,7 @@ ghost use Rattle.wf_journal.specs.Record.{view as view_record};
 use crate::fault::NodeFault;
 use crate::machine::Machine;
 use crate::reply::reply;
-use crate::tape_writes::store;
+use crate::tape_writes::{keep_unwritten, store};
 use std::alloc::Global;
 use wf_acceptor::AcceptorAnswer;
 use wf_ballot::{Ballot, Slot};
@@ -85,8 +85,8 @@ impl<T: Tape> Machine<T> {
                     Ok(messages)
                 }
                 Err(fault) => {
-                    drop(entry);
                     drop(messages);
+                    keep_unwritten(&mut self.journal, fault, entry);
                     Err(fault)
                 }
             },

@@ -155,7 +155,7 @@ fn push_sequences(records: &mut Vec<Record>, persistent: &DurablePart) -> Result
 }
 
 /// The slot of this number.
-fn slot_of(number: u16) -> Slot
+pub(crate) fn slot_of(number: u16) -> Slot
     requires { IsSlot number }
     ensures { result ≡ number }
 {

@@ -11,7 +11,7 @@ ghost use Rattle.wf_proposer.specs.Proposer.{volatile_of};
 use crate::fault::NodeFault;
 use crate::machine::Machine;
 use crate::reply::reply;
-use crate::tape_writes::store;
+use crate::tape_writes::{keep_unwritten, store};
 use std::alloc::Global;
 use wf_ballot::Slot;
 use wf_canon::Canon;
@@ -109,7 +109,7 @@ impl<T: Tape> Machine<T> {
                 Ok(Vec::new(alloc))
             }
             Err(fault) => {
-                drop(entry);
+                keep_unwritten(&mut self.journal, fault, Some(entry));
                 Err(fault)
             }
         }

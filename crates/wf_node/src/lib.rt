@@ -16,6 +16,7 @@
 
 mod acceptor_inputs;
 mod compaction;
+mod comparison;
 mod fault;
 mod learner_inputs;
 mod machine;

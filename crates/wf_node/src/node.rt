@@ -1,7 +1,8 @@
 use crate::fault::NodeFault;
 use crate::machine::Machine;
 use std::marker::Model;
-use wf_ballot::{NodeId, Seq};
+use wf_ballot::{Ballot, NodeId, Seq, Slot};
+use wf_canon::Canon;
 use wf_def::MapDef;
 use wf_learner::History;
 use wf_proposer::ProposalState;
@@ -29,13 +30,16 @@ impl<T: Tape> Model for Node<T> {
 }
 
 impl<T: Tape> Node<T> {
-    ghost use Rattle.std.specs.Prelude.{◌≡◌, true, false, length, if◌then◌else◌, IfSome, Some};
+    ghost use Rattle.std.specs.Prelude.{◌≡◌, true, false, length, if◌then◌else◌, IfSome, IsTrue, Some};
     ghost use Rattle.std.specs.Option.{option_copied};
     ghost use Rattle.wf_ballot.specs.Sequence.{IsSequence};
     ghost use Rattle.wf_def.specs.Limits.{IsWithinLimits};
     ghost use Rattle.wf_learner.specs.History.{map_at};
     ghost use Rattle.wf_node.specs.Fault.{IsWhyNot};
-    ghost use Rattle.wf_node.specs.Node.{volatile_of, IsOnTape};
+    ghost use Rattle.wf_codec.specs.Message.{view_vote};
+    ghost use Rattle.wf_model.specs.Table.{store};
+    ghost use Rattle.wf_node.specs.Node.{stored_of, volatile_of, IsOnTape};
+    ghost use Rattle.wf_node.specs.Reopening.{HasStoredAs};
     ghost use Rattle.wf_node.specs.Step.{proposal_step_rejection, retry_step_rejection};
     ghost use Rattle.wf_proposer.specs.ProposalState.{proposal_state_of};
     ghost use Rattle.wf_proposer.specs.declared.proposal_state.ProposalState.TheVariants.{None};
@@ -87,6 +91,56 @@ impl<T: Tape> Node<T> {
         ensures within { IfSome result (λ map. IsWithinLimits map.now) }
     {
         self.machine.persistent.history().get(seq)
+    }
+
+    /// The last round that the node tried, 0 before the first. On a halted node: that of before the failed step.
+    pub fn last_round(&self) -> u32
+        ensures { result ≡ self.now.parts.tried }
+    {
+        self.machine.persistent.last_round()
+    }
+
+    /// The node's promise, which is one for all sequences. On a halted node: that of before the failed step.
+    pub fn promise(&self) -> Option<Ballot>
+        ensures { result ≡ self.now.parts.promise }
+    {
+        self.machine.persistent.promise()
+    }
+
+    /// The node's vote at a slot that isn't published: its ballot and its definition. On a halted node: that of before the failed step.
+    pub fn vote_at(&self, slot: Slot) -> Option<&(Ballot, Canon)>
+        ensures { view_vote (option_copied result) ≡ (stored_of self.now).votes slot }
+    {
+        self.machine.persistent.vote_at(slot)
+    }
+
+    /// Whether this node has stored what the other one had, or that and the record of the step within which the other one's tape
+    /// failed: of two nodes on what one tape left, whether this one may go on for the other. It compares the last round, the promise,
+    /// the votes and the texts of the published definitions. Doesn't allocate, changes nothing.
+    pub fn has_stored_as(&self, other: &Node<T>) -> bool
+        ensures { IsTrue result → HasStoredAs other.now self.now }
+    {
+        self.has_same(other) || self.has_one_more(other)
+    }
+
+    /// Whether this node has stored what the other one had.
+    fn has_same(&self, other: &Node<T>) -> bool
+        ensures { IsTrue result → stored_of self.now ≡ stored_of other.now }
+    {
+        self.machine.persistent.is_same(&other.machine.persistent)
+    }
+
+    /// Whether this node has stored what the other one had, and the record that the other one keeps.
+    fn has_one_more(&self, other: &Node<T>) -> bool
+        ensures { IsTrue result → stored_of self.now ≡ store (stored_of other.now) other.now.failed }
+    {
+        match other.machine.journal.failed() {
+            Some(entry) => self
+                .machine
+                .persistent
+                .is_after(&other.machine.persistent, entry),
+            None => false,
+        }
     }
 
     /// Why a proposal would be rejected now: N5 if the node is halted, else the error of the step. None if it would begin.

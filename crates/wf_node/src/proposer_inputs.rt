@@ -13,7 +13,7 @@ ghost use Rattle.wf_proposer.specs.Proposer.{retry_step_rejection, transition_of
 
 use crate::fault::{NodeFault, fault_for, fault_of};
 use crate::machine::Machine;
-use crate::tape_writes::store;
+use crate::tape_writes::{keep_unwritten, store};
 use std::alloc::Global;
 use wf_ballot::{Ballot, NodeId, SEQUENCES, Slot};
 use wf_canon::Canon;
@@ -160,7 +160,7 @@ impl<T: Tape> Machine<T> {
                 Ok(messages)
             }
             Err(fault) => {
-                drop(next);
+                keep_unwritten(&mut self.journal, fault, next.into_entry());
                 Err(fault)
             }
         }

@@ -28,7 +28,7 @@ impl<T: Tape> Node<T> {
     /// there is no higher one; a proposal under a leadership that covers the next sequence needs none. Then N1 if allocation
     /// failed, which changes nothing either; a transition that stores and sends nothing, as that of an answer that leaves no
     /// majority, doesn't allocate. And N6 if the tape failed, which halts the node: a prefix of its record's bytes is on the tape,
-    /// after what was there, and no message is returned. A crash at each moment inside the step leaves what stands for the stored
+    /// after what was there, the node keeps the record, and no message is returned. A crash at each moment inside the step leaves what stands for the stored
     /// part from before it, or for the transition's. With a tape that won't fail N6 isn't returned, and the tape still won't fail.
     pub fn step(&mut self, alloc: Global, input: Input) -> Result<Vec<Message>, NodeFault>
         ensures halted { self.old.halted ≡ true → result ≡ Err NodeFault.Halted }
@@ -52,6 +52,8 @@ impl<T: Tape> Node<T> {
         ensures writes { result ≡ Err NodeFault.TapeFailed →
             IsSome (entry_of self.old (view input)) }
         ensures halts { result ≡ Err NodeFault.TapeFailed → self.new.halted ≡ true }
+        ensures kept { result ≡ Err NodeFault.TapeFailed →
+            self.new.failed ≡ entry_of self.old (view input) }
         ensures part { T.durable → result ≡ Err NodeFault.TapeFailed →
             IsExtended (T.content self.old.tape) (bytes_of (entry_of self.old (view input)))
             (T.content self.new.tape) }

@@ -5,6 +5,7 @@ ghost use Rattle.wf_acceptor.specs.Acceptor.{Applies, IsNext};
 ghost use Rattle.wf_node.specs.DurablePart.{IsRoomy, IsRoomFor, tried_after, definitions_after, publication_of};
 ghost use Rattle.wf_journal.specs.Record.{view};
 
+use crate::comparison::{are_same, has_learned};
 use std::alloc::{AllocError, Global};
 use std::marker::Model;
 use wf_acceptor::{Acceptor, AcceptorAnswer};
@@ -48,7 +49,7 @@ impl Model for DurablePart {
 }
 
 impl DurablePart {
-    ghost use Rattle.std.specs.Prelude.{◌≡◌, ◌<◌, ℕ, length, true, nat_le, option_map, IfOk, OnOk, OnErr, IsOk, IfSome, None, ◌≢◌};
+    ghost use Rattle.std.specs.Prelude.{◌≡◌, ◌<◌, ℕ, length, true, nat_le, option_map, IfOk, OnOk, OnErr, IsOk, IsTrue, IfSome, None, ◌≢◌};
     ghost use Rattle.std.specs.Option.{option_copied};
     ghost use Rattle.wf_model.specs.Fits.{Fits};
     ghost use Rattle.wf_codec.specs.Message.{view_vote};
@@ -168,6 +169,34 @@ impl DurablePart {
         }
     }
 
+    /// Whether this is the other durable state.
+    #[tactic(auto, using(crate::proofs::PersistentPart::same_persistent))]
+    pub(crate) fn is_same(&self, other: &DurablePart) -> bool
+        ensures { IsTrue result → stored_of self.now ≡ stored_of other.now }
+    {
+        self.tried == other.tried
+            && are_same(&self.history, &other.history)
+            && self.acceptor.has_same(&other.acceptor)
+    }
+
+    /// Whether this is what the other durable state is after the record.
+    pub(crate) fn is_after(&self, other: &DurablePart, entry: &Record) -> bool
+        ensures { IsTrue result →
+            stored_of self.now ≡ with_record (stored_of other.now) (view entry.now) }
+    {
+        if !other.fits(entry) {
+            return false;
+        }
+        let round = round_after(other.tried, entry);
+        if self.tried != round {
+            return false;
+        }
+        if !has_learned(&self.history, &other.history, entry) {
+            return false;
+        }
+        self.acceptor.has_applied(&other.acceptor, entry)
+    }
+
     /// Applies a record that fits, as the fold does. Doesn't allocate if there is room for the record; an error changes nothing.
     pub(crate) fn apply(&mut self, entry: Record) -> Result<(), AllocError>
         requires { fits (stored_of self.old) (view entry) ≡ true }
@@ -223,6 +252,16 @@ fn report(history: &mut History, acceptor: &mut Acceptor, entry: &Record) -> Res
             acceptor.apply(entry)
         }
         _ => acceptor.apply(entry),
+    }
+}
+
+// The last round that the node tried after the record.
+fn round_after(tried: u32, entry: &Record) -> u32
+    ensures { result ≡ tried_after tried entry.now }
+{
+    match entry {
+        Record::Tried(round) => round.number(),
+        Record::Promised(_, _) | Record::Accepted(_, _, _) | Record::Published(_, _) => tried,
     }
 }
 

@@ -2,7 +2,7 @@
 
 ghost use Rattle.std.specs.Prelude.{◌≡◌, false, option_map};
 ghost use Rattle.std.specs.Option.{option_copied};
-ghost use Rattle.wf_node.specs.TapeWrites.{IsWrite};
+ghost use Rattle.wf_node.specs.TapeWrites.{IsWrite, keeping};
 ghost use Rattle.wf_journal.specs.Record.{view};
 
 use crate::fault::NodeFault;
@@ -23,6 +23,25 @@ pub(crate) fn store<T: Tape>(
     match entry {
         None => Ok(()),
         Some(entry) => add(journal, alloc, entry),
+    }
+}
+
+/// Has the journal keep the record that wasn't stored, if that is since the tape failed: it may be on the tape.
+pub(crate) fn keep_unwritten<T: Tape>(
+    journal: &mut Journal<T>,
+    fault: NodeFault,
+    entry: Option<Record>,
+)
+    ensures { journal.new ≡ keeping fault (option_map view entry) journal.old }
+{
+    match fault {
+        NodeFault::TapeFailed => journal.keep_failed(entry),
+        NodeFault::Memory
+        | NodeFault::Busy
+        | NodeFault::SequenceFull
+        | NodeFault::RoundsFull
+        | NodeFault::Halted
+        | NodeFault::Nothing => drop(entry),
     }
 }
 

@@ -23,6 +23,7 @@ mod command;
 mod event;
 mod fault;
 mod folder;
+mod held;
 mod init;
 mod node;
 mod stored;

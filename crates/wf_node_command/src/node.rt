@@ -11,7 +11,8 @@ ghost use Rattle.wf_node_command.specs.Fault.{IsFromSystem, fault_of};
 
 use crate::fault::CommandFault;
 use crate::folder::{find_in, hold, presence, read_peer_progress, replace_farm, tape_path};
-use crate::tape::{FileOpener, Opener, open_process, open_tape};
+use crate::held::HeldFolder;
+use crate::tape::{open_process, open_tape};
 use std::alloc::Global;
 use std::fs::File;
 use std::net::{Net, SocketAddr};
@@ -21,7 +22,7 @@ use wf_address::{AddressOption, ListFault, address, address_if_any, addresses};
 use wf_ballot::NodeId;
 use wf_folder::{NodeFile, NodeFound, admit_node};
 use wf_line::NodeLine;
-use wf_loop::{Begun, Hub, Log, NodeEvent, NodePlan, Process};
+use wf_loop::{Begun, Hub, Log, NodeEvent, NodeFolder, NodePlan, Process};
 use wf_peer::{Own, PeerProgress, PeerRejection, Progress};
 use wf_tape::{FileTape, Tape};
 
@@ -51,7 +52,7 @@ pub(crate) fn node<'a, R: Files<File = File> + Clock + Eprint + Net + AllocGloba
     };
     match hold(rt, line.state) {
         Ok(held) => {
-            let ended = start(rt, line, node_addresses, turns);
+            let ended = start(rt, line, &held, node_addresses, turns);
             drop(held);
             ended
         }
@@ -114,6 +115,7 @@ fn fault_of(fault: ListFault) -> CommandFault
 fn start<'a, R: Files<File = File> + Clock + Eprint + Net + AllocGlobal>(
     rt: &'a R,
     line: &NodeLine<'_>,
+    held: &File,
     node_addresses: NodeAddresses,
     turns: u64,
 ) -> Result<(), CommandFault>
@@ -123,7 +125,7 @@ fn start<'a, R: Files<File = File> + Clock + Eprint + Net + AllocGlobal>(
     ensures { IsNodeDone ⟦<FileTape<&'a R> as Tape>⟧ line.now result }
 {
     match admit(rt, line, node_addresses.peers.len() as u8) {
-        Ok(file) => start_as(rt, line, node_addresses, &file, turns),
+        Ok(file) => start_as(rt, line, held, node_addresses, &file, turns),
         Err(fault) => {
             drop(node_addresses);
             Err(fault)
@@ -175,6 +177,7 @@ fn node_of(found: &NodeFound) -> u8 {
 fn start_as<'a, R: Files<File = File> + Clock + Eprint + Net + AllocGlobal>(
     rt: &'a R,
     line: &NodeLine<'_>,
+    held: &File,
     node_addresses: NodeAddresses,
     file: &NodeFile,
     turns: u64,
@@ -192,7 +195,7 @@ fn start_as<'a, R: Files<File = File> + Clock + Eprint + Net + AllocGlobal>(
             return Err(fault);
         }
     };
-    serve_at(rt, line, node_addresses, file, path.as_str(), turns)
+    serve_at(rt, line, held, node_addresses, file, path.as_str(), turns)
 }
 
 /// Serves the node of this file on the tape at this path.
@@ -200,6 +203,7 @@ fn start_as<'a, R: Files<File = File> + Clock + Eprint + Net + AllocGlobal>(
 fn serve_at<'a, R: Files<File = File> + Clock + Eprint + Net + AllocGlobal>(
     rt: &'a R,
     line: &NodeLine<'_>,
+    held: &File,
     node_addresses: NodeAddresses,
     file: &NodeFile,
     path: &str,
@@ -219,7 +223,7 @@ fn serve_at<'a, R: Files<File = File> + Clock + Eprint + Net + AllocGlobal>(
             progress,
             path,
         ) {
-            Ok(plan) => begin(rt, line, file, plan, process, path, turns),
+            Ok(plan) => begin(rt, line, held, file, plan, process, path, turns),
             Err(fault) => {
                 drop(process);
                 Err(fault)
@@ -305,6 +309,7 @@ fn plan_of(
 fn begin<'a, R: Files<File = File> + Clock + Eprint + Net + AllocGlobal>(
     rt: &'a R,
     line: &NodeLine<'_>,
+    held: &File,
     file: &NodeFile,
     plan: NodePlan,
     process: Process<FileTape<&'a R>>,
@@ -323,7 +328,7 @@ fn begin<'a, R: Files<File = File> + Clock + Eprint + Net + AllocGlobal>(
             plan,
             process,
             known,
-            &FileOpener { rt, path },
+            &mut HeldFolder::new(rt, line.state, path, held, *file),
             turns,
         ),
         Err(fault) => {
@@ -354,14 +359,18 @@ fn count_start<R: Files + AllocGlobal>(
 }
 
 /// Serves the node.
-fn serve<R: Files<File = File> + Clock + Eprint + Net + AllocGlobal, T: Tape + Drop, O: Opener<T>>(
+fn serve<
+    R: Files<File = File> + Clock + Eprint + Net + AllocGlobal,
+    T: Tape + Drop,
+    F: NodeFolder<T>,
+>(
     rt: &R,
     line: &NodeLine<'_>,
     file: &NodeFile,
     plan: NodePlan,
     process: Process<T>,
     known: PeerProgress,
-    opener: &O,
+    folder: &mut F,
     turns: u64,
 ) -> Result<(), CommandFault>
     requires started { IsStarted T.Tape file.now process }
@@ -380,7 +389,7 @@ fn serve<R: Files<File = File> + Clock + Eprint + Net + AllocGlobal, T: Tape + D
         node: file.node as usize,
         published: hub.process().node().published().number(),
     });
-    let ended = go_on(rt, &log, &mut hub, opener, turns);
+    let ended = go_on(rt, &log, &mut hub, folder, turns);
     drop(hub);
     match ended {
         Ok(()) => Ok(()),
@@ -388,13 +397,17 @@ fn serve<R: Files<File = File> + Clock + Eprint + Net + AllocGlobal, T: Tape + D
     }
 }
 
-/// Takes that many turns, or fewer if a peer tells the node that it has to end; where the tape has failed, it is opened anew.
+/// Takes that many turns, or fewer if a peer tells the node that it has to end; where the tape has failed, it is opened again.
 #[tactic(auto, using(crate::proofs::Started::kept_still))]
-fn go_on<R: Files<File = File> + Clock + Eprint + Net + AllocGlobal, T: Tape + Drop, O: Opener<T>>(
+fn go_on<
+    R: Files<File = File> + Clock + Eprint + Net + AllocGlobal,
+    T: Tape + Drop,
+    F: NodeFolder<T>,
+>(
     rt: &R,
     log: &Log<'_, R>,
     hub: &mut Hub<T>,
-    opener: &O,
+    folder: &mut F,
     turns: u64,
 ) -> Result<(), PeerRejection>
     // Whatever came in however many turns, the node has lived by its acts, was given only what receivers returned, and sent only what it
@@ -409,30 +422,23 @@ fn go_on<R: Files<File = File> + Clock + Eprint + Net + AllocGlobal, T: Tape + D
         if let Begun::Ended(why) = hub.go_on(rt, log) {
             return Err(why);
         }
-        reopen_if_due(rt, log, hub, opener);
+        reopen_if_due(rt, log, hub, folder);
     }
     hub.always_lived();
     Ok(())
 }
 
-/// Opens the tape of a halted node anew, if it is time to; where that fails it is tried again later.
+/// Opens the tape of a halted node again, if it is time to; where that fails it is tried later.
 #[tactic(auto, using(crate::proofs::Started::kept_still, crate::proofs::Started::kept_same))]
-fn reopen_if_due<R: Clock + Eprint + AllocGlobal, T: Tape + Drop, O: Opener<T>>(
+fn reopen_if_due<R: Clock + Eprint + AllocGlobal, T: Tape + Drop, F: NodeFolder<T>>(
     rt: &R,
     log: &Log<'_, R>,
     hub: &mut Hub<T>,
-    opener: &O,
+    folder: &mut F,
 )
     ensures { KeepsEarlier T.Tape (process_of hub.old) (process_of hub.new) }
 {
-    if !hub.is_reopening_due() {
-        return;
-    }
-    match opener.open() {
-        Some(tape) => match hub.reopen(rt, log, tape) {
-            Ok(()) => {}
-            Err(tape) => drop(tape),
-        },
-        None => hub.postpone_reopening(),
+    if hub.is_reopening_due() {
+        let _ = hub.reopen(rt, log, folder);
     }
 }

@@ -27,25 +27,6 @@ use wf_tape::{FileTape, Tape, TapeFault};
 /// The greatest length of a tape, in bytes.
 pub(crate) const MOST_TAPE_BYTES: usize = 8_589_934_592;
 
-/// What opens a node's tape anew.
-pub(crate) trait Opener<T> {
-    /// The tape. None: it can't be opened.
-    fn open(&self) -> Option<T>;
-}
-
-/// Opens the tape at a path.
-#[derive(Drop)]
-pub(crate) struct FileOpener<'a, 'p, R> {
-    pub(crate) rt: &'a R,
-    pub(crate) path: &'p str,
-}
-
-impl<'a, 'p, R: Files + AllocGlobal> Opener<FileTape<&'a R>> for FileOpener<'a, 'p, R> {
-    fn open(&self) -> Option<FileTape<&'a R>> {
-        FileTape::open(self.rt.alloc(), self.rt, self.path).ok()
-    }
-}
-
 /// The tape at a path.
 pub(crate) fn open_tape<'a, R: Files + AllocGlobal>(
     rt: &'a R,

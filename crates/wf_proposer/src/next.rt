@@ -87,6 +87,16 @@ impl Next {
         self.messages.as_slice()
     }
 
+    /// The record, of a result that isn't committed.
+    pub fn into_entry(self) -> Option<Record>
+        ensures { result ≡ self.entry }
+    {
+        let (entry, messages, change) = self.into_parts();
+        drop(messages);
+        drop(change);
+        entry
+    }
+
     /// The record, the messages and the change of the volatile state.
     pub(crate) fn into_parts(self) -> (Option<Record>, Vec<Message>, Change)
         ensures entry { result.0 ≡ self.entry }

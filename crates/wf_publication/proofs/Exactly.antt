@@ -42,7 +42,7 @@ module _ {T : Type 0} (tapes : Tape T) (i k : ℕ) (nodes after : List (Node T))
     takes_exactly (giving.Rejects why runs refused same quiet) = absurd (none-some why refused)
     takes_exactly (giving.Steps runs goes is grown) =
         steps_shown AnyPart nodes sent i one.node one.after (table.Deliver k) (table.Deliver (message.view one.handed)) one.at (sent_message sent k one.handed one.there) turns w one.outputs runs goes is refines
-    takes_exactly (giving.Fails runs goes halts same part each quiet) = absurd (both_ways one.after.halted runs_there halts)
+    takes_exactly (giving.Fails runs goes halts same keeps part each quiet) = absurd (both_ways one.after.halted runs_there halts)
 
     -- The delivery leads to exactly the world after it.
     one_exactly : Refines AnyPart after more (happens definition_eq w (deliver i k))

@@ -89,7 +89,7 @@ module _ {T : Type 0} (node after : Node T) (fresh : IsFresh node) where
     answers_fresh (model.Ask s) asks (giving.Rejects why running refused same none) = absurd (none-some why refused)
     answers_fresh (model.Ask s) asks (giving.Steps running goes is grown) =
         (stepped_fresh (table.Deliver (model.Ask s)) outputs is refl refl, none_outputs outputs (is.messages ∙ none_answered (stored_of node) (volatile_of node) s fresh.stored))
-    answers_fresh (model.Ask s) asks (giving.Fails running goes halts same part each none) = absurd (both_ways after.halted runs halts)
+    answers_fresh (model.Ask s) asks (giving.Fails running goes halts same keeps part each none) = absurd (both_ways after.halted runs halts)
 
     takes_fresh : (m : model.Message Definition) → IsAsk m → (lost : Bool) → Takes tapes lost (table.Deliver m) node after outputs → IsFresh after × (outputs ≡ [])
     takes_fresh m asks true is = (same_fresh is.still is.same, is.quiet)

@@ -14,7 +14,7 @@ use Rattle.wf_tape.specs.declared.tape.Tape.{Ghosts as Tape}
 -- a node that is unchanged but for its tape stands as it did when it opened
 pub opened_again : {T E : Type 0} (tapes : Tape T) (tape : T) (node : Node T) (result : Result (Node T × Bool) E) →
     node.halted ≡ false → volatile_of node ≡ at_start → (tapes.durable → IsFoldOf (stored_of node) (tapes.content tape)) →
-    IfOk result (λ x. x.0 ≡ record node { tape = x.0.tape }) → (tapes.durable → IfOk result (λ x. IsShort tapes x.0 x.1)) →
+    IfOk result (λ x. x.0 ≡ record node { tape = x.0.tape; failed = x.0.failed }) → (tapes.durable → IfOk result (λ x. IsShort tapes x.0 x.1)) →
     (tapes.durable → IfOk result (λ x. AllStandFor (stored_of node) (tapes.images x.0.tape))) → IfOk result (λ x. IsOpened tapes tape x.0 x.1)
 opened_again tapes tape node (Err e) running volatile stored same short stands = tt
 opened_again {T} tapes tape node (Ok (after, is_short)) running volatile stored same short stands =
@@ -29,7 +29,7 @@ opened_again {T} tapes tape node (Ok (after, is_short)) running volatile stored 
 
 -- and has stored what the bytes stand for that were read when it opened
 pub read_again : {T E : Type 0} (tapes : Tape T) (tape : T) (node : Node T) (result : Result (Node T × Bool) E) → node.halted ≡ false → volatile_of node ≡ at_start →
-    IsRead tapes.durable (tapes.content tape) (stored_of node) → IfOk result (λ x. x.0 ≡ record node { tape = x.0.tape }) → IfOk result (λ x. WasRead x.0)
+    IsRead tapes.durable (tapes.content tape) (stored_of node) → IfOk result (λ x. x.0 ≡ record node { tape = x.0.tape; failed = x.0.failed }) → IfOk result (λ x. WasRead x.0)
 read_again tapes tape node (Err e) running volatile found same = tt
 read_again {T} tapes tape node (Ok (after, is_short)) running volatile found same = record {
   bytes = found.bytes;

@@ -40,7 +40,8 @@ pub fn open_shortened<T: Tape>(
 /// Shortens the tape of a node.
 fn shorten<T: Tape>(alloc: Global, mut node: Node<T>) -> Result<(Node<T>, bool), T>
     requires { node.halted ≡ false }
-    ensures same { IfOk result (λ x. x.0 ≡ record node { tape = x.0.tape }) }
+    ensures same { IfOk result (λ x.
+        x.0 ≡ record node { tape = x.0.tape; failed = x.0.failed }) }
     ensures short { T.durable → IfOk result (λ x. IsShort T.Tape x.0 x.1) }
     ensures stands { T.durable →
         IfOk result (λ x. AllStandFor (stored_of node) (T.images x.0.tape)) }

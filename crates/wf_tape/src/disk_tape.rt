@@ -41,14 +41,32 @@ impl<R: Files + Drop> DiskTape<SystemDisk<R>> {
         ensures { IfOk result (λ tape. tape.disk.failures ≡ 0) }
     {
         match SystemDisk::new(alloc, files, path) {
-            Ok(disk) => match DiskTape::over(disk) {
-                Ok(tape) => Ok(tape),
-                Err((disk, fault)) => {
-                    drop(disk);
-                    Err(fault)
-                }
-            },
+            Ok(disk) => open_on(disk),
             Err(fault) => Err(tape_fault(fault)),
+        }
+    }
+
+    /// The tape in the file at the path, which has to be there: no file is created at the path. Returns `Device` if the file is absent
+    /// or can't be opened. Otherwise it is as [`FileTape::open`].
+    pub fn open_existing(alloc: Global, files: R, path: &str) -> Result<FileTape<R>, TapeFault>
+        ensures { IfOk result (λ tape. tape.disk.failures ≡ 0) }
+    {
+        match SystemDisk::existing(alloc, files, path) {
+            Ok(disk) => open_on(disk),
+            Err(fault) => Err(tape_fault(fault)),
+        }
+    }
+}
+
+/// The tape on a disk of the system.
+fn open_on<R: Files + Drop>(disk: SystemDisk<R>) -> Result<FileTape<R>, TapeFault>
+    ensures { IfOk result (λ tape. tape.disk.failures ≡ disk.failures) }
+{
+    match DiskTape::over(disk) {
+        Ok(tape) => Ok(tape),
+        Err((disk, fault)) => {
+            drop(disk);
+            Err(fault)
         }
     }
 }

@@ -11,7 +11,7 @@ returns-clause-answers g c =
 pub returns-clause-takes : goal.returns-clause-takes
 returns-clause-takes g c =
     any_rejected g.T.Tape c.args.node.now c.step.new.self (view c.args.input) c.step.result c.step.ensures.halted c.step.ensures.running c.step.ensures.refused c.step.ensures.unchanged c.step.ensures.same
-    c.step.ensures.memory c.step.ensures.same_tape c.step.ensures.halts c.step.ensures.part c.step.ensures.torn
+    c.step.ensures.memory c.step.ensures.same_tape c.step.ensures.halts c.step.ensures.kept c.step.ensures.part c.step.ensures.torn
 
 pub returns-clause-few : goal.returns-clause-few
 returns-clause-few g c = any_short c.args.node.now c.step.new.self (view c.args.input) c.transitions_are_short.ensures c.step.result c.step.ensures.transition

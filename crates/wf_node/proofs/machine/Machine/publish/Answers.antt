@@ -39,5 +39,6 @@ returns-in-Ok-clause-change g c =
 
 pub returns-in-Err-clause-change : goal.returns-in-Err-clause-change
 returns-in-Err-clause-change g c =
-    change_as g.T.Tape {A = Global} (publishing (volatile_of c.args.self.now.proposer) c.args.slot c.args.canon) (on_chosen definition_eq (stored_of c.args.self.now.persistent.parts) (volatile_of c.args.self.now.proposer) c.args.slot c.args.canon) c.args.self.now.journal c.store.new.journal c.args.self.now.persistent.parts c.make_room_for.new.self.parts c.args.self.now.proposer c.args.self.now.proposer (Err c.in-Err.fault) (sym (chosen_next (stored_of c.args.self.now.persistent.parts) (volatile_of c.args.self.now.proposer) c.args.slot c.args.canon c.requires.next))
-    (write_fails g.T.Tape Global (Unit {0}) (publishing (volatile_of c.args.self.now.proposer) c.args.slot c.args.canon) c.args.self.now.journal c.store.new.journal c.args.self.now.persistent.parts c.make_room_for.new.self.parts c.args.self.now.proposer c.in-Err.fault c.make_room_for.ensures.parts c.in-Err.ensures)
+    change_as g.T.Tape {A = Global} (publishing (volatile_of c.args.self.now.proposer) c.args.slot c.args.canon) (on_chosen definition_eq (stored_of c.args.self.now.persistent.parts) (volatile_of c.args.self.now.proposer) c.args.slot c.args.canon) c.args.self.now.journal c.keep_unwritten.new.journal c.args.self.now.persistent.parts c.make_room_for.new.self.parts c.args.self.now.proposer c.args.self.now.proposer (Err c.in-Err.fault) (sym (chosen_next (stored_of c.args.self.now.persistent.parts) (volatile_of c.args.self.now.proposer) c.args.slot c.args.canon c.requires.next))
+    (write_fails g.T.Tape Global (Unit {0}) (publishing (volatile_of c.args.self.now.proposer) c.args.slot c.args.canon) c.args.self.now.journal c.store.new.journal c.keep_unwritten.new.journal
+    c.args.self.now.persistent.parts c.make_room_for.new.self.parts c.args.self.now.proposer c.in-Err.fault (Some (Published c.args.slot c.args.canon)) c.make_room_for.ensures.parts refl c.in-Err.ensures c.keep_unwritten.ensures)

@@ -1,0 +1,381 @@
+"""Cases of `tools/try_nodes.py`: a node whose tape fails is halted, and its tape is opened anew only as the node that it was.
+
+What a program says is left open where it may choose its words: a line of the log is looked for by its event and the file that it names.
+"""
+
+import contextlib
+import os
+import re
+import shutil
+import subprocess
+import time
+
+from farm import CAPABILITIES, want
+from kill_nodes import map_of, records
+from nodes import NODES, PICTURE, a_map, is_so_within, until
+
+# more bytes than the last page of a tape may have left
+LONG_MAP = map_of(1, 9_000)
+# kinds of records
+TRIED, PROMISED, ACCEPTED, PUBLISHED = 1, 2, 3, 4
+# seconds
+WATCHED = 5
+LONG_HALT = 16
+SOON = 8
+
+
+def fail_tape(nodes, i):
+    """Lets a node's files grow no more and gives it a map, so that its tape fails."""
+    nodes.limit(i, 0)
+    nodes.publish(i, a_map("unstored"))
+    until(lambda: nodes.health(i)[0] == 503)
+
+
+def changes_while_halted(nodes, i, published, file, seconds=WATCHED):
+    """What shows that a halted node isn't halted any more, or not as it was, or that its log doesn't say why it stays so with the name of
+    this file, a pattern. What the log said before doesn't count."""
+    found, before, begun = set(), len(nodes.lines(i, "tape-not-reopened")), time.time()
+    while time.time() < begun + seconds:
+        status, said = nodes.health(i)
+        if status != 503:
+            found.add(f"node {i} isn't halted: {status} {said}")
+        now = nodes.published(i)
+        if now != published:
+            found.add(f"node {i} says published {now}, and had {published}")
+        time.sleep(0.05)
+    lines = nodes.lines(i, "tape-not-reopened")[before:]
+    # (what stands before the cause is open)
+    if not any(re.search(file, line) and re.search("(why|cause)=.", line) for line in lines):
+        found.add(f"no line tape-not-reopened about {file}{': ' if lines else ''}{''.join(lines[-1:])}")
+    return sorted(found)
+
+
+def two_maps(nodes, sequence):
+    """What shows that nodes have published different maps under a sequence."""
+    names = {i: nodes.name(i, sequence) for i in range(NODES)}
+    return [f"maps under {sequence}: {names}"] if len({*names.values()} - {None}) > 1 else []
+
+
+def compare_answers(nodes):
+    """Compares what all nodes answer at each sequence, now that all stand at one."""
+    for sequence in range(1, nodes.published(0) + 1):
+        for what, ports in ((PICTURE % sequence, nodes.http), (f"/map?seq={sequence}", nodes.admin)):
+            answers = {nodes.get(i, what, ports[i]) for i in range(NODES)}
+            want(f"{what}: {len(answers)} different answers", len(answers) == 1 and answers.pop()[0] == 200)
+    want("capabilities differ", len({nodes.get(i, CAPABILITIES) for i in range(NODES)}) == 1)
+
+
+# ---- a tape that was removed, or unmounted
+
+def removed(nodes, _):
+    """The tape of a halted node is removed: it stays halted, and serves what it had, until it is restarted and doesn't start."""
+    nodes.kill(2)
+    nodes.kill(1)
+    nodes.start_limitable(1)
+    nodes.publish_whole(0, a_map("x"))
+    until(lambda: nodes.published(1) == 1)
+    nodes.kill(0)
+    fail_tape(nodes, 1)
+    nodes.tape(1).unlink()
+    nodes.limit(1, None)
+    nodes.start(2)
+    nodes.wait(2)
+    nodes.publish(2, a_map("y"))
+    wrong = changes_while_halted(nodes, 1, 1, r"node-1\.tape", SOON)
+    nodes.start(0)
+    nodes.wait(0)
+    wrong += two_maps(nodes, 1)
+    want("; ".join(wrong), not wrong)
+    want("a tape was made", not nodes.tape(1).exists())
+    until(lambda: nodes.published(2) >= 1)
+    want("another map than x", {nodes.name(i, 1) for i in range(NODES)} == {"x"})
+    nodes.publish_whole(2, a_map("z"))
+    nodes.kill(1)
+    nodes.start(1)
+    ended = nodes.ended(1)
+    want(f"a start without a tape: {ended}", ended[0] == 1 and "tape missing" in ended[1] and not nodes.tape(1).exists())
+    return f"halted for {SOON} s, then: {ended[1]}"
+
+
+def may_mount(folder):
+    """Whether a file system may be mounted here."""
+    if os.geteuid() != 0:
+        return False
+    folder.mkdir()
+    is_mounted = subprocess.run(["mount", "-t", "tmpfs", "tmpfs", folder], capture_output=True).returncode == 0
+    if is_mounted:
+        subprocess.run(["umount", folder], check=True)
+    folder.rmdir()
+    return is_mounted
+
+
+LEFT_OUT = "left out: wants root, and that file systems may be mounted"
+
+
+class Disk:
+    """A disk of a megabyte in memory, with what a node's folder has; it is kept mounted elsewhere too."""
+
+    def __init__(self, nodes, i):
+        self.place, self.kept = nodes.place(i), nodes.folder / "disk"
+        self.kept.mkdir()
+        subprocess.run(["mount", "-t", "tmpfs", "-o", "size=1m", "tmpfs", self.kept], check=True)
+        shutil.copytree(self.place, self.kept, dirs_exist_ok=True)
+        shutil.rmtree(self.place)
+        self.place.mkdir()
+
+    def mount(self):
+        subprocess.run(["mount", "--bind", self.kept, self.place], check=True)
+
+    def unmount(self):
+        """Takes it away from a program that uses it."""
+        subprocess.run(["umount", "-l", self.place], check=True)
+
+    def fill(self):
+        with (self.kept / "filling").open("wb", buffering=0) as file, contextlib.suppress(OSError):
+            while True:
+                file.write(bytes(4096))
+
+    def make_room(self):
+        (self.kept / "filling").unlink()
+
+
+@contextlib.contextmanager
+def disk_of(nodes, i):
+    """A disk of its own for a node, which doesn't run yet; all nodes have ended when it goes."""
+    made = Disk(nodes, i)
+    try:
+        made.mount()
+        yield made
+    finally:
+        nodes.end()
+        for place in (made.place, made.kept):
+            subprocess.run(["umount", "-l", place], capture_output=True)
+
+
+def unmounted(nodes, _):
+    """The disk of a node is full, then unmounted, and mounted again later: until then it is halted, and it is only ever the node that it was.
+    It isn't so either on an exact copy of its folder, which it hasn't locked."""
+    if not may_mount(nodes.folder / "tried"):
+        return LEFT_OUT
+    nodes.kill(2)
+    nodes.kill(1)
+    with disk_of(nodes, 1) as its:
+        nodes.start(1)
+        nodes.wait(1)
+        nodes.publish_whole(0, a_map("x"))
+        until(lambda: nodes.published(1) == 1)
+        its.fill()
+        want("no publish", nodes.publish(0, LONG_MAP) == 202)
+        until(lambda: nodes.health(1)[0] == 503)
+        nodes.kill(0)
+        its.unmount()
+        nodes.start(2)
+        nodes.wait(2)
+        nodes.publish(2, a_map("y"))
+        files = rf"{nodes.place(1)}|\bfarm\b|node-1\.tape"
+        wrong = changes_while_halted(nodes, 1, 1, files, SOON)
+        nodes.start(0)
+        nodes.wait(0)
+        wrong += two_maps(nodes, 1)
+        want("; ".join(wrong), not wrong)
+        want("a file was made where the disk was", not list(nodes.place(1).iterdir()))
+        shutil.copytree(its.kept, nodes.place(1), dirs_exist_ok=True, ignore=shutil.ignore_patterns("filling"))
+        wrong = changes_while_halted(nodes, 1, 1, files)
+        want("; ".join(wrong), not wrong)
+        its.make_room()
+        its.mount()
+        # (whether it goes on by itself, or an operator starts it, is left open)
+        is_back = is_so_within(lambda: nodes.health(1)[0] == 200 or nodes.published(1) < 1, 10)
+        want(f"node 1 says published {nodes.published(1)}", nodes.published(1) >= 1)
+        if not is_back:
+            nodes.kill(1)
+            nodes.start(1)
+            nodes.wait(1)
+        nodes.publish_whole(2, a_map("z"))
+        nodes.level()
+        compare_answers(nodes)
+        return f"halted for {SOON + WATCHED} s; after it was mounted again it went on {'by itself' if is_back else 'when it was started'}"
+
+
+# ---- a full disk
+
+def disk(nodes, _):
+    """A node whose disk is full goes on with what it had, and with the others once there is room."""
+    if not may_mount(nodes.folder / "tried"):
+        return LEFT_OUT
+    nodes.kill(2)
+    with disk_of(nodes, 2) as its:
+        nodes.start(2)
+        nodes.wait(2)
+        its.fill()
+        for k in range(3):
+            nodes.publish_whole(0, a_map(f"disk{k}", "x" * 900))
+        halted = until(lambda: nodes.health(2)[0] == 503)
+        cause = nodes.health(2)[1]
+        want("a halted node took a publish", nodes.publish(2, a_map("refused")) == 503)
+        want("a halted node doesn't answer", nodes.get(2, CAPABILITIES)[0] == 200)
+        its.make_room()
+        again = until(lambda: nodes.health(2)[0] == 200, 90)
+        return f"503 ({cause}) after {halted} s, 200 again {again} s after there was room; level after {nodes.level()} s"
+
+
+def room(nodes, _):
+    """A disk was full for long, there is room again, and a publish needs the vote of its node: it is published within seconds, and the node
+    has counted one start more."""
+    if not may_mount(nodes.folder / "tried"):
+        return LEFT_OUT
+    nodes.kill(2)
+    with disk_of(nodes, 2) as its:
+        nodes.start(2)
+        nodes.wait(2)
+        nodes.publish_whole(0, a_map("first"))
+        nodes.level()
+        starts = nodes.starts(2)
+        its.fill()
+        nodes.publish_whole(0, LONG_MAP)
+        until(lambda: nodes.health(2)[0] == 503)
+        time.sleep(LONG_HALT)
+        nodes.kill(1)
+        want("no publish", nodes.publish(0, a_map("third")) == 202)
+        time.sleep(1)
+        want("published without a majority", nodes.published(0) == 2)
+        its.make_room()
+        seconds = until(lambda: nodes.published(0) == nodes.published(2) == 3)
+        counted = nodes.starts(2) - starts
+        rejected = [line for line in nodes.lines(0, "dropped") + nodes.lines(2, "lost") if "refused" in line]
+        nodes.start(1)
+        nodes.wait(1)
+        nodes.level()
+        compare_answers(nodes)
+        wrong = [f"{seconds} s from the room to the publication"] if seconds > SOON else []
+        wrong += [f"{counted} starts more are counted, not one"] if counted != 1 else []
+        want("; ".join(wrong + rejected), not wrong and not rejected)
+        return f"published {seconds} s after there was room, and after {LONG_HALT} s without; one start more"
+
+
+# ---- other files in a halted node's folder
+
+def check_each(nodes, changes):
+    """Fails the tape of node 1 once for each change, of a file to the bytes that are made of its own (None: it is removed); what went wrong.
+    Before the next one the file is as it was, and the node is started."""
+    wrong, published = [], nodes.published(1)
+    for name, (file, changed) in changes.items():
+        fail_tape(nodes, 1)
+        path = nodes.place(1) / file
+        sound = path.read_bytes()
+        content = changed(sound)
+        if content is None:
+            path.unlink()
+        else:
+            path.write_bytes(content)
+        nodes.limit(1, None)
+        found = changes_while_halted(nodes, 1, published, file)
+        wrong += [f"{name}: {', '.join(found)}"] if found else []
+        nodes.kill(1)
+        path.write_bytes(sound)
+        nodes.start_limitable(1)
+    return wrong
+
+
+def record(kind, body):
+    """The bytes of a tape's record."""
+    return bytes([2, kind]) + len(body).to_bytes(4, "big") + body
+
+
+def has_promised(nodes, i):
+    return any(kind == PROMISED for kind, _ in records(nodes.tape(i).read_bytes())[0])
+
+
+def exchanged(nodes, _):
+    """In the place of a halted node's tape is another one: it stays halted."""
+    for k in range(9):
+        nodes.publish_whole(0, a_map(f"first{k}"))
+        nodes.level()
+        if has_promised(nodes, 2):
+            break
+    older = nodes.tape(1).read_bytes()
+    nodes.kill(2)
+    nodes.kill(0)
+    nodes.start(0)
+    nodes.wait(0)
+    # node 2 has no part in node 0's second round, and then equally much
+    nodes.publish_whole(0, a_map("second"))
+    until(lambda: nodes.published(1) == nodes.published(0))
+    nodes.start(2)
+    nodes.wait(2)
+    nodes.level()
+    for i in (1, 2):
+        nodes.kill(i)
+        (nodes.start_limitable if i == 1 else nodes.start)(i)
+        nodes.wait(i)
+    tape, other = nodes.tape(1).read_bytes(), nodes.tape(2).read_bytes()
+    want(f"the tapes of nodes 1 and 2 have {len(tape)} and {len(other)} bytes", len(tape) == len(other) and tape != other)
+    changes = {"an older copy": lambda _: older,
+               "another node's tape of equal length": lambda _: other,
+               "a tape of equal length with another text": lambda own: own.replace(b'"second"', b'"sec0nd"'),
+               "its own with another record behind": lambda own: own + record(TRIED, (99).to_bytes(4, "big"))}
+    wrong = check_each(nodes, {name: ("node-1.tape", changed) for name, changed in changes.items()})
+    want("; ".join(wrong), not wrong)
+    nodes.publish_whole(1, a_map("after"))
+    nodes.level()
+    compare_answers(nodes)
+    return f"halted with each of {len(changes)} other tapes"
+
+
+def rewritten(nodes, _):
+    """In the place of a halted node's file `farm` is one of another start or folder, or none: it stays halted."""
+    nodes.publish_whole(0, a_map("first"))
+    nodes.level()
+    nodes.kill(1)
+    nodes.start_limitable(1)
+
+    def with_line(word, change):
+        return lambda own: re.sub(rf"(?m)^{word} (\w+)$", lambda line: f"{word} {change(line[1])}", own.decode()).encode()
+
+    changes = {"a later start": with_line("starts", lambda count: f"{int(count, 16) + 1:08x}"),
+               "an older start": with_line("starts", lambda count: f"{int(count, 16) - 1:08x}"),
+               "another mark": with_line("mark", lambda mark: mark[::-1]),
+               "another node's": with_line("node", lambda _: "02"),
+               "no file": lambda _: None}
+    wrong = check_each(nodes, {name: ("farm", changed) for name, changed in changes.items()})
+    want("; ".join(wrong), not wrong)
+    nodes.publish_whole(1, a_map("after"))
+    nodes.level()
+    compare_answers(nodes)
+    return f"halted with each of {len(changes)} other files"
+
+
+def completed(nodes, _):
+    """The record of the step that failed is whole on the tape, as a failed sync may leave it: its node goes on with it, and has counted one
+    start more."""
+    nodes.publish_whole(0, a_map("first"))
+    nodes.level()
+    nodes.kill(1)
+    nodes.start_limitable(1)
+    nodes.level()
+    text = subprocess.run([str(nodes.program), "canon"], input=a_map("second"), capture_output=True, check=True).stdout
+    # room for a vote (its frame has six bytes, its sequence two, its ballot five) and a promise, not for the publication
+    nodes.limit(1, nodes.tape(1).stat().st_size + len(text) + 13 + 50)
+    starts = nodes.starts(1)
+    nodes.kill(2)
+    nodes.publish_whole(0, a_map("second"))
+    until(lambda: nodes.health(1)[0] == 503)
+    want("node 1 has published it", nodes.published(1) == 1)
+    stored, _ = records(nodes.tape(1).read_bytes())
+    want(f"node 1's last record is of kind {stored[-1][0]}", stored[-1][0] == ACCEPTED)
+    failed = records(nodes.tape(0).read_bytes())[0][-1]
+    want(f"node 0's last record is of kind {failed[0]}", failed[0] == PUBLISHED)
+    nodes.tape(1).write_bytes(b"".join(record(*each) for each in [*stored, failed]))
+    nodes.limit(1, None)
+    seconds = until(lambda: nodes.health(1)[0] == 200 and nodes.published(1) == 2)
+    counted = nodes.starts(1) - starts
+    nodes.start(2)
+    nodes.wait(2)
+    nodes.publish_whole(1, a_map("third"))
+    nodes.level()
+    compare_answers(nodes)
+    want(f"{counted} starts more are counted, not one", counted == 1)
+    return f"it went on after {seconds} s; one start more"
+
+
+CASES = [disk, room, removed, unmounted, exchanged, rewritten, completed]
