@@ -1,5 +1,5 @@
 -- The transitions of a node that receives a Prepare, an Accept or an Ask.
-use Rattle.std.proofs.Common.{◌≡◌, ℕ, ◌<◌, Bool, true, false, List, [], ◌∷◌, ◌++◌, Option, Some, None, zero, suc, ◌≤◌, refl, sym, subst, inl, inr, arith, append-nil, leb-false, nat_le}
+use Rattle.std.proofs.Common.{◌≡◌, ◌⊎◌, ℕ, ◌+◌, ◌<◌, Bool, true, false, List, [], ◌∷◌, ◌++◌, Option, Some, None, zero, suc, ◌≤◌, refl, sym, subst, inl, inr, arith, append-nil, leb-true, leb-false, le_refl, nat_le}
 use Rattle.std.proofs.lemmas.Bool.{cases_Bool, false≢true}
 use Rattle.wf_ballot.specs.Ballot.{Ballot, below}
 use Rattle.wf_ballot.specs.OrderTheorems.{below-irreflexive, not_below-below}
@@ -10,15 +10,15 @@ use Rattle.wf_model.specs.Fits.{NotBelow}
 use Rattle.wf_model.specs.DurableState as stored_part
 use Rattle.wf_model.specs.VolatileState.{VolatileState, window}
 use Rattle.wf_model.specs.Table.{store, quiet, only_sends, stores, reports, reports_from, on_ask, is_above, is_rejected, nack, votes_from, promise_to, prepare_open, on_prepare, votes_at, vote_for, accept_open, on_accept, most_reports}
-use Rattle.wf_model.specs.Chosen.{IsIn}
+use Rattle.wf_model.specs.Chosen.{IsIn, Reports}
 use Rattle.wf_model.specs.PutTheorems.{put-same}
 use Rattle.wf_model.specs.RaisedTheorems.{raised-reached}
 use Rattle.wf_model.specs.VotesTheorems.{own_reported, all_reported}
-use Rattle.wf_safety.specs.Theorems.{vote_ballots, votes_ballots, VoteNotBelow}
+use Rattle.wf_safety.specs.Theorems.{vote_ballots, votes_ballots, VoteNotBelow, IsInWindow}
 use Rattle.wf_safety.proofs.Members.{member-parts}
 use Rattle.wf_safety.proofs.Facts.{Stands, DurableFacts, VolatileFacts, IsKnown, MaySend, NodeFacts, Sends, TransitionFacts}
-use Rattle.wf_safety.proofs.RecordFacts.{accepted_order, with_promise, is_promised, store_promised, with_vote, is_accepted, store_accepted}
-use Rattle.wf_safety.proofs.TransitionMessages.{VolatileFacts-longer, VolatileFacts-stored, IsAnswer, AreAnswers, answers_unasked, answers_ask, AreReported, reported_answers, reported_sends, reported_are_reported, reported_from_are_reported}
+use Rattle.wf_safety.proofs.RecordFacts.{accepted_order, raised_not_rejected, promised-tried, accepted-tried, with_promise, is_promised, store_promised, with_vote, is_accepted, store_accepted}
+use Rattle.wf_safety.proofs.TransitionMessages.{VolatileFacts-longer, VolatileFacts-stored, IsAnswer, AreAnswers, answers_unasked, answers_unprepared, answers_ask, AreReported, reported_answers, reported_sends, reported_are_reported, reported_from_are_reported}
 use Rattle.wf_safety.proofs.Ballots.{same_ballot-true}
 
 module _ {V : Type 0} (n i : ℕ) (stored : DurableState V) (sent : List (Message V)) where
@@ -31,6 +31,8 @@ module _ {V : Type 0} (n i : ℕ) (stored : DurableState V) (sent : List (Messag
     sends = tt;
     volatile = subst (λ x. VolatileFacts n i stored x volatile) (sym (append-nil sent)) at_work;
     asks = λ m is_in. absurd is_in;
+    rounds = le_refl stored.tried;
+    prepares = λ s b is_in. absurd is_in;
   }
 
   pub sends_facts : (volatile : VolatileState V) (new : List (Message V)) → DurableFacts n i stored sent → VolatileFacts n i stored sent volatile →
@@ -41,16 +43,20 @@ module _ {V : Type 0} (n i : ℕ) (stored : DurableState V) (sent : List (Messag
     sends = sends;
     volatile = VolatileFacts-longer sent new n i stored volatile (λ b of_i. answers_unasked new b answers) at_work;
     asks = answers_ask i volatile new answers;
+    rounds = le_refl stored.tried;
+    prepares = λ s b is_in. absurd (answers_unprepared new s b answers is_in);
   }
 
-  pub stores_facts : (volatile : VolatileState V) (r : Record V) (m : Message V) → DurableFacts n i (with_record stored r) sent →
+  pub stores_facts : (volatile : VolatileState V) (r : Record V) (m : Message V) → stored.tried ≤ (with_record stored r).tried → DurableFacts n i (with_record stored r) sent →
       VolatileFacts n i (with_record stored r) sent volatile → IsAnswer m → MaySend n i (with_record stored r) sent m → TransitionFacts n i stored sent (stores volatile r m)
   unfolding stores store
-  stores_facts volatile r m facts at_work answer may = record {
+  stores_facts volatile r m rises facts at_work answer may = record {
     stored = facts;
     sends = (may, tt);
     volatile = VolatileFacts-longer sent (m ∷ []) n i (with_record stored r) volatile (λ b of_i. answers_unasked (m ∷ []) b (answer, tt)) at_work;
     asks = answers_ask i volatile (m ∷ []) (answer, tt);
+    rounds = rises;
+    prepares = λ s b is_in. absurd (answers_unprepared (m ∷ []) s b (answer, tt) is_in);
   }
 
 module _ {V : Type 0} (n i : ℕ) (stored : DurableState V) (volatile : VolatileState V) (sent : List (Message V)) (facts : NodeFacts n i stored volatile sent) where
@@ -111,6 +117,23 @@ module _ {V : Type 0} (n i : ℕ) (stored : DurableState V) (volatile : Volatile
     | inr e ↦ absurd (rw e at is_in)
   ]
 
+  -- what is reported from s on is of its window
+  reported_within : (votes : ℕ → Option (Vote V)) (s count t : ℕ) (vote : Option (Vote V)) → Reports s (votes_from votes s count) t vote →
+      (s ≤ t) × (t < s + count) × (t ≤ last_sequence)
+  unfolding votes_from
+  reported_within votes s zero t vote h = absurd h
+  reported_within votes s (suc count) t vote h = elim (cases_Bool (nat_le s last_sequence)) [
+    | inl e ↦ (let h' : ((t ≡ s) × (votes s ≡ vote)) ⊎ Reports (suc s) (votes_from votes (suc s) count) t vote = rw e at h in
+        elim h' [
+          | inl here ↦ (let same : t ≡ s = here.0 in let is_sequence : s ≤ last_sequence = leb-true s last_sequence e in (omega arith, omega arith, omega arith))
+          | inr later ↦ (let next : (suc s ≤ t) × (t < suc s + count) × (t ≤ last_sequence) = reported_within votes (suc s) count t vote later in
+              let from : suc s ≤ t = next.0 in
+              let before : t < suc s + count = next.1 in
+              (omega arith, omega arith, next.2))
+        ])
+    | inr e ↦ absurd (rw e at h)
+  ]
+
   -- the votes that this node reports from s on
   abbrev reported : ℕ → List (Option (Vote V))
   reported s = votes_from stored.votes s window
@@ -135,6 +158,8 @@ module _ {V : Type 0} (n i : ℕ) (stored : DurableState V) (volatile : Volatile
           let own : (s ≤ t) × (stored.votes t ≡ Some v) = own_reported stored.votes s window t (Some v) h in
           lower_vote stored.promise b v.ballot lower (facts.stored.vote_within t v own.1);
       whole = λ t in_window. (stored.votes t, all_reported stored.votes s window t in_window.from_base in_window.before_end in_window.is_sequence);
+      within = λ t vote h. let of : (s ≤ t) × (t < s + window) × (t ≤ last_sequence) = reported_within stored.votes s window t vote h in
+          record { from_base = of.0; before_end = of.1; is_sequence = of.2 };
     };
   }
 
@@ -144,7 +169,7 @@ module _ {V : Type 0} (n i : ℕ) (stored : DurableState V) (volatile : Volatile
   promise_to_facts s b is_open lower is_sent =
       let stands : Stands sent b = record { message = Prepare s b; was_sent = is_sent; is_in = inl refl } in
       let e : with_promise stored b ≡ with_record stored (Promised s b) = sym (is_promised stored s b) in
-      stores_facts n i stored sent volatile (Promised s b) (Promise i s b (reported s))
+      stores_facts n i stored sent volatile (Promised s b) (Promise i s b (reported s)) (promised-tried stored s b)
       (store_promised n i stored sent s b stands facts.stored)
       (subst (λ x. VolatileFacts n i x sent volatile) e (VolatileFacts-stored n i stored (with_promise stored b) sent refl refl volatile facts.volatile))
       tt (subst (λ x. MaySend n i x sent (Promise i s b (reported s))) e (promise_may s b is_open lower is_sent stands))
@@ -171,42 +196,47 @@ module _ {V : Type 0} (n i : ℕ) (stored : DurableState V) (volatile : Volatile
 
   -- ---- a vote
 
-  -- no promise of this node is above a ballot that its present one isn't above
-  kept_order : (b : Ballot) → is_rejected stored.promise b ≡ false → (t : ℕ) (c : Ballot) (votes : List (Option (Vote V))) → IsIn (Promise i t c votes) sent → below b c ≡ false
-  kept_order b lower t c votes is_in = accepted_order stored.promise b c lower (facts.stored.promised t c votes is_in)
+  -- no promise of this node for an open sequence is above a ballot that its present one isn't above
+  kept_order : (s : ℕ) (b : Ballot) → published stored < s → is_rejected stored.promise b ≡ false → (t : ℕ) (c : Ballot) (votes : List (Option (Vote V))) →
+      IsIn (Promise i t c votes) sent → IsInWindow t s → below b c ≡ false
+  kept_order s b is_open lower t c votes is_in in_window = accepted_order stored.promise b c lower (facts.stored.promised t c votes is_in s in_window is_open)
 
   accept_known : (s : ℕ) (b : Ballot) (d : V) (kept : DurableState V) → IsIn (Accept s b d) sent → (c : Ballot) → IsIn c (b ∷ []) → IsKnown i kept sent c
   accept_known s b d kept is_sent c (inl e) = inr (record { message = Accept s b d; was_sent = is_sent; is_in = inl e })
   accept_known s b d kept is_sent c (inr k) = absurd k
 
   -- the answer is sent again if the vote is at this ballot
-  again_facts : (s : ℕ) (b : Ballot) (d : V) (v : Vote V) → is_rejected (stored.promise) b ≡ false → stored.votes s ≡ Some v → v.ballot ≡ b →
+  again_facts : (s : ℕ) (b : Ballot) (d : V) (v : Vote V) → published stored < s → is_rejected (stored.promise) b ≡ false → stored.votes s ≡ Some v → v.ballot ≡ b →
       IsIn (Accept s b d) sent → TransitionFacts n i stored sent (only_sends volatile (Accepted i s b ∷ []))
-  again_facts s b d v lower vote same is_sent =
+  again_facts s b d v is_open lower vote same is_sent =
       let may : MaySend n i stored sent (Accepted i s b) = record {
         is_node = facts.is_node;
         known = accept_known s b d stored is_sent;
         meet = record {
           own = refl;
           promise = subst (NotBelow (stored.promise)) same (facts.stored.vote_within s v vote);
+          kept = lower;
           vote = subst (λ o. VoteNotBelow o b) (sym vote) (subst (λ c. below c b ≡ false) (sym same) (below-irreflexive b));
-          order = kept_order b lower;
+          order = kept_order s b is_open lower;
+          answered = record { definition = d; asked = is_sent };
         };
       } in
       sends_facts n i stored sent volatile (Accepted i s b ∷ []) facts.stored facts.volatile (tt, tt) (may, tt)
 
   -- A vote is sent after its record: the promise isn't below its ballot then, the vote is at it, and no promise of this node is
   -- above it.
-  vote_may : (s : ℕ) (b : Ballot) (d : V) → is_rejected (stored.promise) b ≡ false → IsIn (Accept s b d) sent →
+  vote_may : (s : ℕ) (b : Ballot) (d : V) → published stored < s → is_rejected (stored.promise) b ≡ false → IsIn (Accept s b d) sent →
       MaySend n i (with_vote stored s b d) sent (Accepted i s b)
-  vote_may s b d lower is_sent = record {
+  vote_may s b d is_open lower is_sent = record {
     is_node = facts.is_node;
     known = accept_known s b d (with_vote stored s b d) is_sent;
     meet = record {
       own = refl;
       promise = raised-reached stored.promise b;
+      kept = raised_not_rejected stored.promise b lower;
       vote = subst (λ o. VoteNotBelow o b) (sym (put-same stored.votes s (Some (record { ballot = b; definition = d })) s refl)) (below-irreflexive b);
-      order = kept_order b lower;
+      order = kept_order s b is_open lower;
+      answered = record { definition = d; asked = is_sent };
     };
   }
 
@@ -215,17 +245,17 @@ module _ {V : Type 0} (n i : ℕ) (stored : DurableState V) (volatile : Volatile
   unfolding published
   anew_facts s b d is_open lower is_sent =
       let e : with_vote stored s b d ≡ with_record stored (stored_part.Accepted s b d) = sym (is_accepted stored s b d is_open) in
-      stores_facts n i stored sent volatile (stored_part.Accepted s b d) (Accepted i s b)
+      stores_facts n i stored sent volatile (stored_part.Accepted s b d) (Accepted i s b) (accepted-tried stored s b d)
       (store_accepted n i stored sent s b d is_open lower is_sent facts.stored)
       (subst (λ x. VolatileFacts n i x sent volatile) e (VolatileFacts-stored n i stored (with_vote stored s b d) sent refl refl volatile facts.volatile))
-      tt (subst (λ x. MaySend n i x sent (Accepted i s b)) e (vote_may s b d lower is_sent))
+      tt (subst (λ x. MaySend n i x sent (Accepted i s b)) e (vote_may s b d is_open lower is_sent))
 
   voted_by : (s : ℕ) (b : Ballot) (d : V) (vote : Option (Vote V)) (again : Bool) → published stored < s → is_rejected (stored.promise) b ≡ false → IsIn (Accept s b d) sent →
       stored.votes s ≡ vote → votes_at vote b ≡ again → TransitionFacts n i stored sent (vote_for i stored volatile s b d)
   unfolding vote_for votes_at
   voted_by s b d None true is_open lower is_sent vote e = absurd (false≢true e)
   voted_by s b d (Some v) true is_open lower is_sent vote e =
-      rw (vote, e) (again_facts s b d v lower vote (same_ballot-true v.ballot b e) is_sent)
+      rw (vote, e) (again_facts s b d v is_open lower vote (same_ballot-true v.ballot b e) is_sent)
   voted_by s b d vote false is_open lower is_sent is_vote e = rw (is_vote, e) (anew_facts s b d is_open lower is_sent)
 
   vote_facts : (s : ℕ) (b : Ballot) (d : V) → published stored < s → is_rejected (stored.promise) b ≡ false → IsIn (Accept s b d) sent →

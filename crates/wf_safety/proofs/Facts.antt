@@ -9,9 +9,9 @@ use Rattle.wf_model.specs.Message.{Vote, Message, Prepare, Promise, Accept, Acce
 use Rattle.wf_model.specs.DurableState.{DurableState, published, next_sequence, definition_at}
 use Rattle.wf_model.specs.Fits.{NotBelow}
 use Rattle.wf_model.specs.VolatileState.{Phase, Preparing, Accepting, Proposal, Proposing, Idle, Running, Won, Overtaken, Leadership, VolatileState, proposed}
-use Rattle.wf_model.specs.Table.{Transition, store}
+use Rattle.wf_model.specs.Table.{Transition, store, is_rejected}
 use Rattle.wf_model.specs.Chosen.{IsIn, Reports, Reported, IsChosen}
-use Rattle.wf_safety.specs.Theorems.{ballots_of, VotesInOrder, VoteNotBelow, IsInWindow, HasPromised, BestIsReported, IsBacked}
+use Rattle.wf_safety.specs.Theorems.{ballots_of, VoteNotBelow, IsInWindow, HasPromised, BestIsReported, IsBacked}
 
 -- the ballot is in a message that was sent
 pub record Stands {V : Type 0} (sent : List (Message V)) (b : Ballot) : Type 0 where
@@ -27,10 +27,18 @@ IsAsked sent s vote = IsIn (Accept s vote.ballot vote.definition) sent
 abbrev pub IsWhole : {V : Type 0} → ℕ → List (Option (Vote V)) → Type 0
 IsWhole {V} base votes = (s : ℕ) → IsInWindow base s → (vote : Option (Vote V)) × Reports base votes s vote
 
+-- each sequence before this one is chosen
+pub record IsNext {V : Type 0} (n : ℕ) (sent : List (Message V)) (s : ℕ) : Type 0 where
+  pub earlier : (t : ℕ) → 1 ≤ t → t < s → (d : V) × IsChosen n sent t d
+
+-- some Accept was sent at the sequence and ballot
+pub record IsAskedAt {V : Type 0} (sent : List (Message V)) (s : ℕ) (b : Ballot) : Type 0 where
+  pub definition : V
+  pub asked : IsIn (Accept s b definition) sent
+
 -- ---- the messages alone
 
 pub record MessageFacts {V : Type 0} (n : ℕ) (sent : List (Message V)) : Type 0 where
-  pub one_base : (s t : ℕ) (b : Ballot) → IsIn (Prepare s b) sent → IsIn (Prepare t b) sent → s ≡ t
   pub requested : (i s : ℕ) (b : Ballot) (votes : List (Option (Vote V))) → IsIn (Promise i s b votes) sent → IsIn (Prepare s b) sent
   pub one_accept : (s : ℕ) (b : Ballot) (c d : V) → IsIn (Accept s b c) sent → IsIn (Accept s b d) sent → c ≡ d
   pub backed : (s : ℕ) (b : Ballot) (d : V) → IsIn (Accept s b d) sent → IsBacked n sent s b d
@@ -44,18 +52,25 @@ pub record MessageFacts {V : Type 0} (n : ℕ) (sent : List (Message V)) : Type 
   pub nodes : (message : Message V) (b : Ballot) → IsIn message sent → IsIn b (ballots_of message) → b.node < n
   pub senders : (i s : ℕ) (b : Ballot) (votes : List (Option (Vote V))) → IsIn (Promise i s b votes) sent → i < n
   pub voters : (i s : ℕ) (b : Ballot) → IsIn (Accepted i s b) sent → i < n
-  pub in_order : VotesInOrder sent
+  -- a Promise reports inside its window alone
+  pub within : (i base s : ℕ) (b : Ballot) (vote : Option (Vote V)) → Reported sent base s b vote i → IsInWindow base s
+  -- a Prepare and an Accept are for a sequence before which all are chosen, and a vote answers an Accept
+  pub prepared_next : (s : ℕ) (b : Ballot) → IsIn (Prepare s b) sent → IsNext n sent s
+  pub asked_next : (s : ℕ) (b : Ballot) (d : V) → IsIn (Accept s b d) sent → IsNext n sent s
+  pub answered : (i s : ℕ) (b : Ballot) → IsIn (Accepted i s b) sent → IsAskedAt sent s b
 
 -- ---- what node i stored
 
 pub record DurableFacts {V : Type 0} (n i : ℕ) (stored : DurableState V) (sent : List (Message V)) : Type 0 where
-  -- each ballot of node i in a message is of a round that it tried
-  pub tried : (message : Message V) (b : Ballot) → IsIn message sent → IsIn b (ballots_of message) → b.node ≡ i → b.round ≤ stored.tried
+  -- an Accept of node i for an open sequence is of a round that it tried
+  pub tried : (s : ℕ) (b : Ballot) (d : V) → IsIn (Accept s b d) sent → b.node ≡ i → published stored < s → b.round ≤ stored.tried
   -- votes are of open sequences alone
   pub open_votes : (s : ℕ) → s ≤ published stored → stored.votes s ≡ None
-  -- node i still has what it promised, or a higher promise, and at an open sequence the vote that it sent, or a later one
-  pub promised : (s : ℕ) (b : Ballot) (votes : List (Option (Vote V))) → IsIn (Promise i s b votes) sent → NotBelow stored.promise b
-  pub accepted : (s : ℕ) (b : Ballot) → IsIn (Accepted i s b) sent → NotBelow stored.promise b
+  -- While a sequence of a promise's window is open, node i still has that promise, or a higher one; and while a sequence is open
+  -- for which it sent a vote, its promise isn't below that, and it has that vote, or a later one.
+  pub promised : (s : ℕ) (b : Ballot) (votes : List (Option (Vote V))) → IsIn (Promise i s b votes) sent → (t : ℕ) → IsInWindow s t → published stored < t →
+      NotBelow stored.promise b
+  pub accepted : (s : ℕ) (b : Ballot) → IsIn (Accepted i s b) sent → published stored < s → NotBelow stored.promise b
   pub voted : (s : ℕ) (b : Ballot) → IsIn (Accepted i s b) sent → published stored < s → VoteNotBelow (stored.votes s) b
   -- an Accept was sent for a stored vote, which isn't above the promise, whose ballot is in a message
   pub vote_asked : (s : ℕ) (vote : Vote V) → stored.votes s ≡ Some vote → IsAsked sent s vote
@@ -66,7 +81,7 @@ pub record DurableFacts {V : Type 0} (n i : ℕ) (stored : DurableState V) (sent
 -- ---- the running proposal
 
 pub record PreparingFacts {V : Type 0} (sent : List (Message V)) (p : Proposal V) : Type 0 where
-  pub fresh : (s : ℕ) (d : V) → IsIn (Accept s p.ballot d) sent → ⊥
+  pub fresh : (s : ℕ) (d : V) → p.sequence ≤ s → IsIn (Accept s p.ballot d) sent → ⊥
   pub responders : (i s : ℕ) → p.responders i ≡ true → IsInWindow p.sequence s → HasPromised sent p.sequence s p.ballot (vote_of p.sequence p.best s) i
   pub reports : (s : ℕ) → BestIsReported sent p.sequence s p.ballot p.responders (vote_of p.sequence p.best s)
 
@@ -125,9 +140,6 @@ pub record VolatileFacts {V : Type 0} (n i : ℕ) (stored : DurableState V) (sen
 abbrev pub IsKnown : {V : Type 0} → ℕ → DurableState V → List (Message V) → Ballot → Type 0
 IsKnown i stored sent b = ((b.node ≡ i) × (b.round ≤ stored.tried)) ⊎ Stands sent b
 
-abbrev pub MayPrepare : {V : Type 0} → List (Message V) → Ballot → Type 0
-MayPrepare sent b = (s : ℕ) → IsIn (Prepare s b) sent → ⊥
-
 pub record MayPromise {V : Type 0} (i : ℕ) (stored : DurableState V) (sent : List (Message V)) (sender s : ℕ) (b : Ballot) (votes : List (Option (Vote V))) : Type 0 where
   pub own : sender ≡ i
   pub promise : NotBelow stored.promise b
@@ -136,23 +148,28 @@ pub record MayPromise {V : Type 0} (i : ℕ) (stored : DurableState V) (sent : L
   pub asked : (t : ℕ) (v : Vote V) → Reports s votes t (Some v) → IsAsked sent t v
   pub lower : (t : ℕ) (v : Vote V) → Reports s votes t (Some v) → below v.ballot b ≡ true
   pub whole : IsWhole s votes
+  pub within : (t : ℕ) (vote : Option (Vote V)) → Reports s votes t vote → IsInWindow s t
 
-pub record MayAsk {V : Type 0} (n i : ℕ) (sent : List (Message V)) (s : ℕ) (b : Ballot) (d : V) : Type 0 where
+pub record MayAsk {V : Type 0} (n i : ℕ) (stored : DurableState V) (sent : List (Message V)) (s : ℕ) (b : Ballot) (d : V) : Type 0 where
   pub own : b.node ≡ i
+  pub tried : b.round ≤ stored.tried
+  pub next : IsNext n sent s
   pub fresh : (e : V) → IsIn (Accept s b e) sent → ⊥
   pub backed : IsBacked n sent s b d
 
 pub record MayVote {V : Type 0} (i : ℕ) (stored : DurableState V) (sent : List (Message V)) (sender s : ℕ) (b : Ballot) : Type 0 where
   pub own : sender ≡ i
   pub promise : NotBelow stored.promise b
+  pub kept : is_rejected stored.promise b ≡ false
   pub vote : VoteNotBelow (stored.votes s) b
-  pub order : (t : ℕ) (c : Ballot) (votes : List (Option (Vote V))) → IsIn (Promise i t c votes) sent → below b c ≡ false
+  pub order : (t : ℕ) (c : Ballot) (votes : List (Option (Vote V))) → IsIn (Promise i t c votes) sent → IsInWindow t s → below b c ≡ false
+  pub answered : IsAskedAt sent s b
 
 -- what a message of each kind must satisfy
 abbrev pub IsMeet : {V : Type 0} → ℕ → ℕ → DurableState V → List (Message V) → Message V → Type 0
-IsMeet n i stored sent (Prepare s b) = MayPrepare sent b
+IsMeet n i stored sent (Prepare s b) = IsNext n sent s
 IsMeet n i stored sent (Promise sender s b votes) = MayPromise i stored sent sender s b votes
-IsMeet n i stored sent (Accept s b d) = MayAsk n i sent s b d
+IsMeet n i stored sent (Accept s b d) = MayAsk n i stored sent s b d
 IsMeet n i stored sent (Accepted sender s b) = MayVote i stored sent sender s b
 IsMeet n i stored sent (Nack sender s b promise) = ⊤
 IsMeet n i stored sent (Chosen s d) = IsChosen n sent s d
@@ -200,3 +217,6 @@ pub record TransitionFacts {V : Type 0} (n i : ℕ) (before : DurableState V) (s
   pub sends : Sends n i (store before transition.entry) sent transition.messages
   pub volatile : VolatileFacts n i (store before transition.entry) (sent ++ transition.messages) transition.volatile
   pub asks : (message : Message V) → IsIn message transition.messages → IsOwnAsk i transition.volatile message
+  -- the round never falls, and a Prepare is of a round that wasn't tried before
+  pub rounds : before.tried ≤ (store before transition.entry).tried
+  pub prepares : (s : ℕ) (b : Ballot) → IsIn (Prepare s b) transition.messages → before.tried < b.round

@@ -4,7 +4,6 @@ use Rattle.std.proofs.lemmas.Bool.{cases_eq}
 use Rattle.wf_ballot.specs.Ballot.{Ballot}
 use Rattle.wf_model.specs.DurableState.{DurableState, Record, Tried, Promised, Accepted, Published, published, with_record}
 use Rattle.wf_model.specs.VolatileState.{VolatileState, at_start}
-use Rattle.wf_model.specs.Table as table
 use Rattle.wf_model.specs.Table.{store}
 use Rattle.wf_model.specs.World.{Node, World, Event, Act, Stop, Restart, Torn, Kept, Before, After, Turn, stored_after, kept_part, with_node, after_turn, after_torn, stop_running, after_stop, restart_stopped, after_restart, turn, happens, steps, start, after}
 use Rattle.wf_model.specs.Chosen.{history_of, history}
@@ -14,10 +13,10 @@ use Rattle.wf_safety.proofs.Worlds.{get-set_same, get-set_other, WorldFacts, Som
 
 -- ---- prefixes of lists
 
-begins_itself : {A : Type 0} (xs : List A) → IsBeginning xs xs
+pub begins_itself : {A : Type 0} (xs : List A) → IsBeginning xs xs
 begins_itself xs = ([], append-nil xs)
 
-begins_through : {A : Type 0} (xs ys zs : List A) → IsBeginning xs ys → IsBeginning ys zs → IsBeginning xs zs
+pub begins_through : {A : Type 0} (xs ys zs : List A) → IsBeginning xs ys → IsBeginning ys zs → IsBeginning xs zs
 begins_through xs ys zs (rest, e) (more, h) =
     (rest ++ more, sym (append_assoc xs rest more) ∙ subst (λ k. k ++ more ≡ zs) (sym e) h)
 
@@ -45,7 +44,7 @@ module _ {V : Type 0} (stored : DurableState V) where
 
 module _ {V : Type 0} (w : World V) (i : ℕ) where
   -- a node's list grows, and every other list stays
-  set_grows : (old new : Node V) → slice_get w.nodes i ≡ Some old → IsBeginning old.stored.history new.stored.history → (j : ℕ) →
+  pub set_grows : (old new : Node V) → slice_get w.nodes i ≡ Some old → IsBeginning old.stored.history new.stored.history → (j : ℕ) →
       IsBeginning (history_of (slice_get w.nodes j)) (history_of (slice_get (slice_set w.nodes i new) j))
   unfolding history_of
   set_grows old new is_there grows j = elim (cases_eq j i) [
@@ -98,7 +97,7 @@ module _ {V : Type 0} (w : World V) (i : ℕ) where
 -- ---- a run
 
 module _ {V : Type 0} (same : V → V → Bool) (n : ℕ) where
-  happens_grows : (w : World V) (event : Event V) → WorldFacts n w → (j : ℕ) → IsBeginning (history w j) (history (happens same w event) j)
+  pub happens_grows : (w : World V) (event : Event V) → WorldFacts n w → (j : ℕ) → IsBeginning (history w j) (history (happens same w event) j)
   unfolding happens
   happens_grows w (Act i action) facts = turn_grows w i n (turn same w i action) (turn_facts same n w facts i action)
   happens_grows w (Stop i) facts = after_stop_grows w i (slice_get w.nodes i) refl

@@ -5,7 +5,7 @@ use Rattle.wf_model.specs.Message.{Vote, Message, Promise, Accept, Accepted}
 use Rattle.wf_model.specs.Chosen.{Reported, Voted, IsChosen}
 use Rattle.wf_safety.specs.Theorems.{HasPromised, BestIsReported, IsBacked}
 use Rattle.wf_safety.proofs.Members.{member-before}
-use Rattle.wf_safety.proofs.Facts.{Stands}
+use Rattle.wf_safety.proofs.Facts.{Stands, IsNext, IsAskedAt}
 
 module _ {V : Type 0} (sent new : List (Message V)) where
   pub Stands-longer : {b : Ballot} → Stands sent b → Stands (sent ++ new) b
@@ -24,6 +24,12 @@ module _ {V : Type 0} (sent new : List (Message V)) where
       };
     };
   }
+
+  pub IsNext-longer : {n s : ℕ} → IsNext n sent s → IsNext n (sent ++ new) s
+  IsNext-longer {n} {s} h = record { earlier = λ t from before. let it = h.earlier t from before in (it.0, IsChosen-longer it.1) }
+
+  pub IsAskedAt-longer : {s : ℕ} {b : Ballot} → IsAskedAt sent s b → IsAskedAt (sent ++ new) s b
+  IsAskedAt-longer {s} {b} h = record { definition = h.definition; asked = member-before (Accept s b h.definition) sent new h.asked }
 
   pub Reported-longer : {base s : ℕ} {b : Ballot} {vote : Option (Vote V)} {i : ℕ} → Reported sent base s b vote i → Reported (sent ++ new) base s b vote i
   Reported-longer {base} {s} {b} {vote} {i} h = record { votes = h.votes; stated = member-before (Promise i base b h.votes) sent new h.stated; reported = h.reported }

@@ -1,7 +1,7 @@
 -- The transitions of a node that proposes or leads, and those for a chosen definition; and the whole table.
 use Rattle.std.proofs.Common.{◌≡◌, ℕ, ◌+◌, ◌<◌, ◌≤◌, ◌==◌, nat_lt, nat_le, max, cond, Bool, true, false, is_some, List, [], ◌∷◌, ◌++◌, Option, Some, None, refl, sym, ap, subst, ◌∙◌, inl, inr, arith, le_refl, append-nil, eqb-true, leb-true, leb-false, ltb-true}
 use Rattle.std.specs.Prelude.{⊤}
-use Rattle.std.proofs.lemmas.Bool.{false≢true, true≢false, and_parts}
+use Rattle.std.proofs.lemmas.Bool.{false≢true, true≢false, and_parts, cases_lt}
 use Rattle.std.proofs.lemmas.Option.{none-some, same_Some}
 use Rattle.wf_ballot.specs.Ballot.{Ballot, below}
 use Rattle.wf_ballot.specs.Majority.{count_nodes, is_majority_of}
@@ -15,8 +15,8 @@ use Rattle.wf_model.specs.Chosen.{IsIn, Reported, IsChosen}
 use Rattle.wf_model.specs.VotesTheorems.{reports_vote, IsItsVote, reported_vote, first_vote-of, vote_of-better}
 use Rattle.wf_safety.specs.Theorems.{IsWithin, IsInWindow, HasPromised, IsReported, BestIsReported, IsCarried, IsBacked}
 use Rattle.wf_safety.proofs.Members.{member-split, member-last}
-use Rattle.wf_safety.proofs.Facts.{DurableFacts, PreparingFacts, AcceptingFacts, PhaseFacts, ProposalFacts, ProposingFacts, LeadershipFacts, LeadingFacts, last_asked, IsWhole, VolatileFacts, IsKnown, MaySend, NodeFacts, IsOwnAsk, TransitionFacts}
-use Rattle.wf_safety.proofs.RecordFacts.{store_tried, published-more, store_published}
+use Rattle.wf_safety.proofs.Facts.{IsNext, DurableFacts, PreparingFacts, AcceptingFacts, PhaseFacts, ProposalFacts, ProposingFacts, LeadershipFacts, LeadingFacts, last_asked, IsWhole, VolatileFacts, IsKnown, MaySend, NodeFacts, IsOwnAsk, TransitionFacts}
+use Rattle.wf_safety.proofs.RecordFacts.{store_tried, published-more, published-tried, next_is_next, store_published}
 use Rattle.wf_safety.proofs.TransitionMessages.{led_longer, LeadingFacts-stored}
 use Rattle.wf_safety.proofs.Acceptor.{quiet_facts, sends_facts, stores_facts, prepare_facts, accept_facts, ask_facts}
 use Rattle.wf_safety.proofs.Ballots.{and_node-true, and_node-self, and_node-old, IsNewResponse, is_new_response-true}
@@ -121,18 +121,13 @@ module _ {V : Type 0} (n i : ℕ) (stored : DurableState V) (sent : List (Messag
     leadership = None;
   }
 
-  -- no Prepare and no Accept was sent at a ballot of a round that its node hasn't tried
-  unprepared : DurableFacts n i stored sent → (round t : ℕ) → stored.tried < round → IsIn (Prepare t (record { round = round; node = i })) sent → ⊥
-  unprepared facts round t higher h =
-      let b : Ballot = record { round = round; node = i } in
-      let tried : round ≤ stored.tried = facts.tried (Prepare t b) b h (inl refl) refl in absurd (omega arith)
-
-  untried : DurableFacts n i stored sent → (round t : ℕ) (d : V) → stored.tried < round →
+  -- no Accept for an open sequence was sent at a ballot of a round that its node hasn't tried
+  untried : DurableFacts n i stored sent → (round t : ℕ) (d : V) → stored.tried < round → published stored < t →
       IsIn (Accept t (record { round = round; node = i }) d) (sent ++ Prepare (next_sequence stored) (record { round = round; node = i }) ∷ []) → ⊥
-  untried facts round t d higher h =
+  untried facts round t d higher is_open h =
       let b : Ballot = record { round = round; node = i } in
       elim (member-split (Accept t b d) sent (Prepare (next_sequence stored) b) h) [
-        | inl old ↦ (let tried : round ≤ stored.tried = facts.tried (Accept t b d) b old (inl refl) refl in absurd (omega arith))
+        | inl old ↦ (let tried : round ≤ stored.tried = facts.tried t b d old refl is_open in absurd (omega arith))
         | inr e ↦ cc
       ]
 
@@ -141,8 +136,8 @@ module _ {V : Type 0} (n i : ℕ) (stored : DurableState V) (sent : List (Messag
   unfolding first_vote from_sequence
   nothing_reported b all s t = tt
 
-  -- The round is stored before the Prepare is sent, so this node has tried the ballot's round; no Prepare and no Accept of it was
-  -- sent, since it tried no such round before; and no answer is counted yet.
+  -- The round is stored before the Prepare is sent, so this node has tried the ballot's round; no Accept of it for an open sequence
+  -- was sent, since it tried no such round before; and no answer is counted yet.
   begin_facts : (own : V) (round : ℕ) → i < n → stored.tried < round → next_sequence stored ≤ last_sequence → DurableFacts n i stored sent → TransitionFacts n i stored sent (begin_at i stored own round)
   unfolding begin_at stores store with_record published next_sequence nobody
   begin_facts own round is_node higher is_sequence facts =
@@ -156,7 +151,7 @@ module _ {V : Type 0} (n i : ℕ) (stored : DurableState V) (sent : List (Messag
               | inl e ↦ subst (IsKnown i (with_record stored (Tried round)) sent) (sym e) (inl (refl, le_refl round))
               | inr k ↦ absurd k
             ];
-            meet = λ t h. unprepared facts round t higher h;
+            meet = next_is_next n i stored sent facts;
           },
           tt,
         );
@@ -167,7 +162,7 @@ module _ {V : Type 0} (n i : ℕ) (stored : DurableState V) (sent : List (Messag
             next = refl;
             is_sequence = is_sequence;
             phase = record {
-              fresh = λ t d h. untried facts round t d higher h;
+              fresh = λ t d from h. untried facts round t d higher (omega arith) h;
               responders = λ j t h in_window. absurd (false≢true h);
               reports = λ t. nothing_reported b (sent ++ Prepare (next_sequence stored) b ∷ []) (next_sequence stored) t;
             };
@@ -176,6 +171,11 @@ module _ {V : Type 0} (n i : ℕ) (stored : DurableState V) (sent : List (Messag
         };
         asks = λ m is_in. elim is_in [
           | inl e ↦ subst (IsOwnAsk i (begun own round)) (sym e) (refl, (refl, refl))
+          | inr k ↦ absurd k
+        ];
+        rounds = omega arith;
+        prepares = λ t c is_in. elim is_in [
+          | inl e ↦ (let same : c ≡ b = cc in subst (λ (x : Ballot). stored.tried < x.round) (sym same) higher)
           | inr k ↦ absurd k
         ];
       }
@@ -211,6 +211,8 @@ module _ {V : Type 0} (n i : ℕ) (stored : DurableState V) (sent : List (Messag
             ];
             meet = record {
               own = own;
+              tried = tried;
+              next = subst (IsNext n sent) (sym next) (next_is_next n i stored sent facts);
               fresh = λ e h. fresh e (subst (λ (b : Ballot). IsIn (Accept p.sequence b e) sent) at_ballot h);
               backed = subst (λ (b : Ballot). IsBacked n sent p.sequence b d) (sym at_ballot) backed;
             };
@@ -238,6 +240,8 @@ module _ {V : Type 0} (n i : ℕ) (stored : DurableState V) (sent : List (Messag
           | inl e ↦ subst (IsOwnAsk i (record { proposing = Running p; leadership = Some l })) (sym e) (own, (refl, refl))
           | inr k ↦ absurd k
         ];
+        rounds = le_refl stored.tried;
+        prepares = λ t c is_in. elim is_in [ inl e ↦ cc | inr k ↦ absurd k ];
       }
 
   -- ---- a promise is received
@@ -269,22 +273,33 @@ module _ {V : Type 0} (n i : ℕ) (stored : DurableState V) (sent : List (Messag
         (λ vote e. record { votes = votes; stated = stated; reported = reports_vote p.sequence votes t vote e }));
   }
 
+  last_below : published stored ≤ next_sequence stored
+  unfolding next_sequence
+  last_below = omega arith
+
+  before_next : (t s : ℕ) → s ≡ next_sequence stored → t < s → t ≤ published stored
+  unfolding next_sequence
+  before_next t s next earlier = omega arith
+
   -- A majority promised: its node leads, and asks for votes.
   asking_facts : (p : Proposal V) → i < n → DurableFacts n i stored sent → ProposalFacts i stored sent p → PreparingFacts sent p →
       is_majority_of (count_nodes n p.responders) n ≡ true → TransitionFacts n i stored sent (ask_votes (leadership_of p) (asking_votes p))
   unfolding leadership_of asking_votes
   asking_facts p is_node facts proposal preparing is_majority =
-      let led : LeadershipFacts n i stored sent 0 (leadership_of p) = record {
+      let led : LeadershipFacts n i stored sent (published stored) (leadership_of p) = record {
         own = proposal.own;
         tried = proposal.tried;
-        asked = λ t d h. absurd (preparing.fresh t d h);
+        asked = λ t d h. elim (cases_lt t p.sequence) [
+          | inl earlier ↦ before_next t p.sequence proposal.next earlier
+          | inr later ↦ absurd (preparing.fresh t d later h)
+        ];
         nodes = p.responders;
         is_majority = is_majority;
         responders = preparing.responders;
         reports = preparing.reports;
       } in
-      ask_votes_facts (leadership_of p) (asking_votes p) 0 is_node facts led refl proposal.next refl refl (sym (first_vote-of p.sequence p.best))
-      (record { from_base = le_refl p.sequence; before_end = omega arith; is_sequence = proposal.is_sequence }) (omega arith) (λ d h. preparing.fresh p.sequence d h)
+      ask_votes_facts (leadership_of p) (asking_votes p) (published stored) is_node facts led refl proposal.next refl refl (sym (first_vote-of p.sequence p.best))
+      (record { from_base = le_refl p.sequence; before_end = omega arith; is_sequence = proposal.is_sequence }) last_below (λ d h. preparing.fresh p.sequence d (le_refl p.sequence) h)
 
   promised_by : (volatile : VolatileState V) (p q : Proposal V) (is_majority : Bool) → i < n → DurableFacts n i stored sent → volatile.proposing ≡ Running p → VolatileFacts n i stored sent volatile →
       ProposalFacts i stored sent q → PreparingFacts sent q → is_majority_of (count_nodes n q.responders) n ≡ is_majority → TransitionFacts n i stored sent (promised n volatile q)
@@ -370,10 +385,6 @@ module _ {V : Type 0} (n i : ℕ) (stored : DurableState V) (sent : List (Messag
   may_propose leadership (Running p) h = absurd (true≢false h)
   may_propose leadership (Won s) h = (refl, not_full _ (nat_le last_sequence (published stored)) refl h)
   may_propose leadership (Overtaken s) h = (refl, not_full _ (nat_le last_sequence (published stored)) refl h)
-
-  last_below : published stored ≤ next_sequence stored
-  unfolding next_sequence
-  last_below = omega arith
 
   next_above : next_sequence stored ≤ published stored → ⊥
   unfolding next_sequence
@@ -472,10 +483,6 @@ module _ {V : Type 0} (n i : ℕ) (stored : DurableState V) (sent : List (Messag
     ends_last (Won s) d after = refl
     ends_last (Overtaken s) d after = refl
 
-    published-tried : (s : ℕ) (d : V) → stored.tried ≡ (with_record stored (Published s d)).tried
-    unfolding with_record
-    published-tried s d = refl
-
     -- the volatile state when a definition is published
     after_publishing_facts : (volatile : VolatileState V) (s : ℕ) (d e : V) → VolatileFacts n i stored sent volatile →
         VolatileFacts n i (with_record stored (Published s d)) sent (after_publishing same volatile e)
@@ -487,7 +494,7 @@ module _ {V : Type 0} (n i : ℕ) (stored : DurableState V) (sent : List (Messag
         let last : last_asked after (ends same volatile.proposing e) ≡ published after = ends_last volatile.proposing e after in
         record {
           proposing = ends_facts after sent volatile.proposing e;
-          leading = LeadingFacts-stored n i stored after sent (published-tried s d) (last_asked stored volatile.proposing) (last_asked after (ends same volatile.proposing e))
+          leading = LeadingFacts-stored n i stored after sent (published-tried stored s d) (last_asked stored volatile.proposing) (last_asked after (ends same volatile.proposing e))
               volatile.leadership (omega arith) facts.leading;
         }
 
@@ -498,6 +505,9 @@ module _ {V : Type 0} (n i : ℕ) (stored : DurableState V) (sent : List (Messag
 
     chosen_may : (s : ℕ) (d : V) (kept : DurableState V) → i < n → IsChosen n sent s d → MaySend n i kept sent (Chosen s d)
     chosen_may s d kept is_node chosen = record { is_node = is_node; known = λ c is_in. absurd is_in; meet = chosen }
+
+    tried_on : (s : ℕ) (d : V) → stored.tried ≤ (with_record stored (Published s d)).tried
+    tried_on s d = subst (λ r. stored.tried ≤ r) (published-tried stored s d) (le_refl stored.tried)
 
     -- A majority voted: the definition is chosen, stored and sent.
     voted_facts : (volatile : VolatileState V) (p q : Proposal V) → i < n → DurableFacts n i stored sent → volatile.proposing ≡ Running p → VolatileFacts n i stored sent volatile →
@@ -516,7 +526,7 @@ module _ {V : Type 0} (n i : ℕ) (stored : DurableState V) (sent : List (Messag
         } in
         let ends : after_publishing same volatile d ≡ record volatile { proposing = ended same q d } =
         ended_volatile volatile p d is_it ∙ ap (λ (x : Proposing V). record volatile { proposing = x }) same_end in
-        stores_facts n i stored sent (record volatile { proposing = ended same q d }) (Published q.sequence d) (Chosen q.sequence d)
+        stores_facts n i stored sent (record volatile { proposing = ended same q d }) (Published q.sequence d) (Chosen q.sequence d) (tried_on q.sequence d)
         (store_published n i stored sent q.sequence d proposal.next chosen facts)
         (subst (VolatileFacts n i (with_record stored (Published q.sequence d)) sent) ends (after_publishing_facts volatile q.sequence d d at_work)) tt
         (chosen_may q.sequence d (with_record stored (Published q.sequence d)) is_node chosen)
@@ -579,6 +589,8 @@ module _ {V : Type 0} (n i : ℕ) (stored : DurableState V) (sent : List (Messag
       volatile = subst (λ (x : List (Message V)). VolatileFacts n i (with_record stored (Published s d)) x (after_publishing same volatile d)) (sym (append-nil sent))
           (after_publishing_facts volatile s d d facts.volatile);
       asks = λ m is_in. absurd is_in;
+      rounds = tried_on s d;
+      prepares = λ t b is_in. absurd is_in;
     }
 
     chosen_by : (volatile : VolatileState V) (s : ℕ) (d : V) (is_next is_later : Bool) → NodeFacts n i stored volatile sent → (s == next_sequence stored) ≡ is_next →

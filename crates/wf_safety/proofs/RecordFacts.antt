@@ -1,17 +1,17 @@
 -- A record is stored, no message is sent, and what its node stored keeps its facts. This is a crash within a step too.
-use Rattle.std.proofs.Common.{◌≡◌, ◌⊎◌, ℕ, zero, suc, ◌+◌, ◌<◌, ◌≤◌, false, List, [], ◌∷◌, ◌++◌, length, slice_get, Option, Some, None, refl, sym, ap, subst, inl, inr, arith, length-append, lt-ltb}
+use Rattle.std.proofs.Common.{◌≡◌, ◌⊎◌, ℕ, zero, suc, ◌+◌, ◌<◌, ◌≤◌, Bool, true, false, cond, nat_lt, le_refl, List, [], ◌∷◌, ◌++◌, length, slice_get, Option, Some, None, refl, sym, ap, subst, inl, inr, arith, length-append, lt-ltb}
 use Rattle.std.proofs.lemmas.Option.{none-some, same_Some}
 use Rattle.wf_ballot.specs.Ballot.{Ballot, below}
-use Rattle.wf_ballot.specs.OrderTheorems.{not_below-transitive}
+use Rattle.wf_ballot.specs.OrderTheorems.{below-irreflexive, not_below-transitive}
 use Rattle.wf_model.specs.Message.{Vote, Message, Accept}
-use Rattle.wf_model.specs.DurableState.{DurableState, Tried, Promised, Accepted, Published, published, definition_at, put, raised, with_record}
+use Rattle.wf_model.specs.DurableState.{DurableState, Record, Tried, Promised, Accepted, Published, published, next_sequence, definition_at, put, raised, with_record}
 use Rattle.wf_model.specs.Fits.{NotBelow}
 use Rattle.wf_model.specs.Table.{is_rejected}
 use Rattle.wf_model.specs.Chosen.{IsIn, IsChosen}
 use Rattle.wf_model.specs.PutTheorems.{at_put}
 use Rattle.wf_model.specs.RaisedTheorems.{raised-reached, raised-kept, raised-either}
 use Rattle.wf_safety.specs.Theorems.{VoteNotBelow}
-use Rattle.wf_safety.proofs.Facts.{Stands, IsAsked, DurableFacts}
+use Rattle.wf_safety.proofs.Facts.{Stands, IsAsked, IsNext, DurableFacts}
 
 -- ---- promises rise
 
@@ -63,6 +63,65 @@ pub published-more : {V : Type 0} (stored : DurableState V) (s : ℕ) (d : V) �
 unfolding published with_record
 published-more stored s d = length-append stored.history (d ∷ [])
 
+-- ---- rounds and promises never fall
+
+-- a promise that the ballot isn't below is raised to that ballot, which isn't below itself
+pub raised_not_rejected : (promise : Option Ballot) (b : Ballot) → is_rejected promise b ≡ false → is_rejected (raised promise b) b ≡ false
+unfolding raised
+raised_not_rejected None b h = below-irreflexive b
+raised_not_rejected (Some q) b h = by_below (below q b) refl
+  where
+    by_below : (is_below : Bool) → below q b ≡ is_below → is_rejected (cond is_below (Some b) (Some q)) b ≡ false
+    by_below true e = below-irreflexive b
+    by_below false e = h
+
+module _ {V : Type 0} (stored : DurableState V) where
+  accepted_record : (s : ℕ) (b : Ballot) (d : V) (P : DurableState V → Type 0) → P (with_vote stored s b d) → P stored → P (with_record stored (Accepted s b d))
+  unfolding with_record
+  accepted_record s b d P voted same = by_open (nat_lt (published stored) s)
+    where
+      by_open : (is_open : Bool) → P (cond is_open (with_vote stored s b d) stored)
+      by_open true = voted
+      by_open false = same
+
+  -- a record other than Tried leaves the round
+  pub promised-tried : (s : ℕ) (b : Ballot) → stored.tried ≤ (with_record stored (Promised s b)).tried
+  unfolding with_record
+  promised-tried s b = omega arith
+
+  pub accepted-tried : (s : ℕ) (b : Ballot) (d : V) → stored.tried ≤ (with_record stored (Accepted s b d)).tried
+  accepted-tried s b d = accepted_record s b d (λ x. stored.tried ≤ x.tried) (le_refl stored.tried) (le_refl stored.tried)
+
+  pub published-tried : (s : ℕ) (d : V) → stored.tried ≡ (with_record stored (Published s d)).tried
+  unfolding with_record
+  published-tried s d = refl
+
+  -- what the promise wasn't below, it isn't below after any record
+  pub promise_kept : (r : Record V) (c : Ballot) → NotBelow stored.promise c → NotBelow (with_record stored r).promise c
+  unfolding with_record
+  promise_kept (Tried r) c h = h
+  promise_kept (Promised s b) c h = raised-kept stored.promise b c h
+  promise_kept (Accepted s b d) c h = accepted_record s b d (λ x. NotBelow x.promise c) (raised-kept stored.promise b c h) h
+  promise_kept (Published s d) c h = h
+
+-- ---- the next sequence
+
+found : {A : Type 0} (xs : List A) (i : ℕ) → i < length xs → (x : A) × (slice_get xs i ≡ Some x)
+found [] i h = absurd (omega arith)
+found (x ∷ xs) zero h = (x, refl)
+found (x ∷ xs) (suc i) h = found xs i (omega arith)
+
+module _ {V : Type 0} (n i : ℕ) (stored : DurableState V) (sent : List (Message V)) (facts : DurableFacts n i stored sent) where
+  pub published_chosen : (t : ℕ) → 1 ≤ t → t < length stored.history + 1 → (d : V) × IsChosen n sent t d
+  unfolding definition_at
+  published_chosen zero from before = absurd (omega arith)
+  published_chosen (suc k) from before = let it = found stored.history k (omega arith) in (it.0, facts.chosen (suc k) it.0 it.1)
+
+  -- all sequences before the next one are chosen, since they are published
+  pub next_is_next : IsNext n sent (next_sequence stored)
+  unfolding next_sequence published
+  next_is_next = record { earlier = λ t from before. published_chosen t from before }
+
 -- ---- the four records
 
 module _ {V : Type 0} (n i : ℕ) (stored : DurableState V) (sent : List (Message V)) where
@@ -70,7 +129,7 @@ module _ {V : Type 0} (n i : ℕ) (stored : DurableState V) (sent : List (Messag
   pub store_tried : (r : ℕ) → stored.tried ≤ r → DurableFacts n i stored sent → DurableFacts n i (with_record stored (Tried r)) sent
   unfolding with_record published
   store_tried r higher facts = record {
-    tried = λ message b is_in in_message of_i. let old : b.round ≤ stored.tried = facts.tried message b is_in in_message of_i in omega arith;
+    tried = λ s b d is_in of_i is_open. let old : b.round ≤ stored.tried = facts.tried s b d is_in of_i is_open in omega arith;
     open_votes = facts.open_votes;
     promised = facts.promised;
     accepted = facts.accepted;
@@ -87,8 +146,8 @@ module _ {V : Type 0} (n i : ℕ) (stored : DurableState V) (sent : List (Messag
   promised_facts b stands facts = record {
     tried = facts.tried;
     open_votes = facts.open_votes;
-    promised = λ t c votes is_in. raised-kept stored.promise b c (facts.promised t c votes is_in);
-    accepted = λ t c is_in. raised-kept stored.promise b c (facts.accepted t c is_in);
+    promised = λ t c votes is_in u in_window is_open. raised-kept stored.promise b c (facts.promised t c votes is_in u in_window is_open);
+    accepted = λ t c is_in is_open. raised-kept stored.promise b c (facts.accepted t c is_in is_open);
     voted = facts.voted;
     vote_asked = facts.vote_asked;
     vote_within = λ t vote h. raised-kept stored.promise b vote.ballot (facts.vote_within t vote h);
@@ -111,10 +170,10 @@ module _ {V : Type 0} (n i : ℕ) (stored : DurableState V) (sent : List (Messag
       record {
         tried = facts.tried;
         open_votes = λ t closed. at_put (λ o. o ≡ None) stored.votes s (Some vote) t (λ e. absurd (omega arith)) (λ _. facts.open_votes t closed);
-        promised = λ t c votes is_in. raised-kept stored.promise b c (facts.promised t c votes is_in);
-        accepted = λ t c is_in. raised-kept stored.promise b c (facts.accepted t c is_in);
+        promised = λ t c votes is_in u in_window still. raised-kept stored.promise b c (facts.promised t c votes is_in u in_window still);
+        accepted = λ t c is_in still. raised-kept stored.promise b c (facts.accepted t c is_in still);
         voted = λ t c is_in opened.
-            at_put (λ o. VoteNotBelow o c) stored.votes s (Some vote) t (λ _. accepted_order stored.promise b c lower (facts.accepted t c is_in)) (λ _. facts.voted t c is_in opened);
+            at_put (λ o. VoteNotBelow o c) stored.votes s (Some vote) t (λ _. accepted_order stored.promise b c lower (facts.accepted t c is_in opened)) (λ _. facts.voted t c is_in opened);
         vote_asked = λ t v.
             at_put (λ o. o ≡ Some v → IsAsked sent t v) stored.votes s (Some vote) t
             (λ e h. subst (IsAsked sent t) (same_Some vote v h) (subst (λ x. IsIn (Accept x b d) sent) (sym e) asked)) (λ _. facts.vote_asked t v);
@@ -145,10 +204,10 @@ module _ {V : Type 0} (n i : ℕ) (stored : DurableState V) (sent : List (Messag
   store_published s d is_next is_chosen facts =
       let more : published (with_record stored (Published s d)) ≡ published stored + 1 = published-more stored s d in
       record {
-        tried = facts.tried;
+        tried = λ t c e is_in of_i opened. facts.tried t c e is_in of_i (omega arith);
         open_votes = λ t closed. at_put (λ o. o ≡ None) stored.votes s None t (λ e. refl) (λ differs. facts.open_votes t (omega arith));
-        promised = facts.promised;
-        accepted = facts.accepted;
+        promised = λ t c votes is_in u in_window opened. facts.promised t c votes is_in u in_window (omega arith);
+        accepted = λ t c is_in opened. facts.accepted t c is_in (omega arith);
         voted = λ t c is_in opened.
             at_put (λ o. VoteNotBelow o c) stored.votes s None t (λ e. absurd (omega arith)) (λ _. facts.voted t c is_in (omega arith));
         vote_asked = λ t v. at_put (λ o. o ≡ Some v → IsAsked sent t v) stored.votes s None t (λ e h. absurd (none-some v h)) (λ _. facts.vote_asked t v);

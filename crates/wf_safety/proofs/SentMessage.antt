@@ -1,58 +1,14 @@
 -- One message is sent, and all facts stay: those of the messages, of the sending node, of every other node.
-use Rattle.std.proofs.Common.{◌≡◌, ℕ, ◌<◌, false, List, [], ◌∷◌, ◌++◌, Option, refl, sym, subst, inl, inr}
-use Rattle.std.specs.Prelude.{⊤}
+use Rattle.std.proofs.Common.{◌≡◌, ℕ, ◌<◌, List, [], ◌∷◌, ◌++◌, Option, sym, subst, inl, inr}
 use Rattle.std.proofs.lemmas.Bool.{both_ways}
 use Rattle.wf_ballot.specs.Ballot.{Ballot, below}
-use Rattle.wf_model.specs.Message.{Vote, Message, Prepare, Promise, Accept, Accepted, Nack, Chosen, Ask}
+use Rattle.wf_model.specs.Message.{Vote, Message, Prepare, Promise, Accept, Accepted, Chosen}
 use Rattle.wf_model.specs.DurableState.{DurableState}
 use Rattle.wf_model.specs.Chosen.{IsIn, Reported, IsChosen}
-use Rattle.wf_safety.specs.Theorems.{ballots_of, NoVoteBelow, VotesInOrder}
+use Rattle.wf_safety.specs.Theorems.{ballots_of}
 use Rattle.wf_safety.proofs.Members.{member-before, member-split}
-use Rattle.wf_safety.proofs.Facts.{MessageFacts, DurableFacts, MayPrepare, MayPromise, MayAsk, MayVote, IsMeet, MaySend}
-use Rattle.wf_safety.proofs.Monotonicity.{Stands-longer, IsChosen-longer, IsBacked-longer}
-
--- ---- the order of votes
-
--- the last message is no vote below a promise among those before it
-abbrev pub NoneBelowLast : {V : Type 0} → Message V → Message V → Type 0
-NoneBelowLast (Promise i s b votes) last = (t : ℕ) (c : Ballot) → Accepted i t c ≡ last → below c b ≡ false
-NoneBelowLast message last = ⊤
-
-one_later : {V : Type 0} (message : Message V) (later : List (Message V)) (last : Message V) →
-    NoVoteBelow message later → NoneBelowLast message last → NoVoteBelow message (later ++ last ∷ [])
-one_later (Prepare s b) later last h k = tt
-one_later (Promise i s b votes) later last h k = λ t c is_in. elim (member-split (Accepted i t c) later last is_in) [ inl old ↦ h t c old | inr new ↦ k t c new ]
-one_later (Accept s b d) later last h k = tt
-one_later (Accepted i s b) later last h k = tt
-one_later (Nack i s b q) later last h k = tt
-one_later (Chosen s d) later last h k = tt
-one_later (Ask s) later last h k = tt
-
--- Each message keeps that no vote below it follows, since the last one is none.
-VotesInOrder-last : {V : Type 0} (sent : List (Message V)) (last : Message V) → VotesInOrder sent →
-    ((message : Message V) → IsIn message sent → NoneBelowLast message last) → VotesInOrder (sent ++ last ∷ [])
-VotesInOrder-last [] (Prepare s b) h k = (tt, tt)
-VotesInOrder-last [] (Promise i s b votes) h k = ((λ t c is_in. absurd is_in), tt)
-VotesInOrder-last [] (Accept s b d) h k = (tt, tt)
-VotesInOrder-last [] (Accepted i s b) h k = (tt, tt)
-VotesInOrder-last [] (Nack i s b q) h k = (tt, tt)
-VotesInOrder-last [] (Chosen s d) h k = (tt, tt)
-VotesInOrder-last [] (Ask s) h k = (tt, tt)
-VotesInOrder-last (message ∷ later) last h k =
-    (one_later message later last h.0 (k message (inl refl)), VotesInOrder-last later last h.1 (λ m is_in. k m (inr is_in)))
-
--- Of the messages before it only a Promise forbids a vote, and a vote may be sent only if it is below none of those.
-none_below : {V : Type 0} (n i : ℕ) (stored : DurableState V) (sent : List (Message V)) (last : Message V) → IsMeet n i stored sent last →
-    (message : Message V) → IsIn message sent → NoneBelowLast message last
-none_below n i stored sent last meet (Prepare s b) is_in = tt
-none_below n i stored sent last meet (Promise j s b votes) is_in = λ t c e.
-    let may : MayVote i stored sent j t c = subst (IsMeet n i stored sent) (sym e) meet in
-    may.order s b votes (subst (λ k. IsIn (Promise k s b votes) sent) may.own is_in)
-none_below n i stored sent last meet (Accept s b d) is_in = tt
-none_below n i stored sent last meet (Accepted j s b) is_in = tt
-none_below n i stored sent last meet (Nack j s b q) is_in = tt
-none_below n i stored sent last meet (Chosen s d) is_in = tt
-none_below n i stored sent last meet (Ask s) is_in = tt
+use Rattle.wf_safety.proofs.Facts.{IsNext, MessageFacts, DurableFacts, MayPromise, MayAsk, MayVote, IsMeet, MaySend}
+use Rattle.wf_safety.proofs.Monotonicity.{Stands-longer, IsChosen-longer, IsNext-longer, IsAskedAt-longer, IsBacked-longer}
 
 -- ---- the messages' facts
 
@@ -75,33 +31,26 @@ module _ {V : Type 0} (n i : ℕ) (stored : DurableState V) (sent : List (Messag
   -- are of different kinds.
   pub send_messages : MessageFacts n sent → MaySend n i stored sent last → MessageFacts n (sent ++ last ∷ [])
   send_messages facts may = record {
-    one_base = λ s t b first second.
-        by_index (Prepare s b)
-        (λ h. by_index (Prepare t b) (λ k. facts.one_base s t b h k)
-        (λ e. let fresh : MayPrepare sent b = meets (Prepare t b) e may in absurd (fresh s h)) second)
-        (λ e. by_index (Prepare t b)
-        (λ k. let fresh : MayPrepare sent b = meets (Prepare s b) e may in absurd (fresh t k))
-        (λ g. let same : ◌≡◌ {A = Message V} (Prepare s b) (Prepare t b) = cc in let ss : s ≡ t = cc in ss) second)
-        first;
     requested = λ j s b votes.
         by_index (Promise j s b votes) (λ h. member-before (Prepare s b) sent (last ∷ []) (facts.requested j s b votes h))
         (λ e. let m : MayPromise i stored sent j s b votes = meets (Promise j s b votes) e may in member-before (Prepare s b) sent (last ∷ []) m.requested);
     one_accept = λ s b c d first second.
         by_index (Accept s b c)
         (λ h. by_index (Accept s b d) (λ k. facts.one_accept s b c d h k)
-        (λ e. let ask : MayAsk n i sent s b d = meets (Accept s b d) e may in absurd (ask.fresh c h)) second)
+        (λ e. let ask : MayAsk n i stored sent s b d = meets (Accept s b d) e may in absurd (ask.fresh c h)) second)
         (λ e. by_index (Accept s b d)
-        (λ k. let ask : MayAsk n i sent s b c = meets (Accept s b c) e may in absurd (ask.fresh d k))
+        (λ k. let ask : MayAsk n i stored sent s b c = meets (Accept s b c) e may in absurd (ask.fresh d k))
         (λ g. let same : Accept s b c ≡ Accept s b d = cc in let cs : c ≡ d = cc in cs) second)
         first;
     backed = λ s b d.
         by_index (Accept s b d) (λ h. IsBacked-longer sent (last ∷ []) (facts.backed s b d h))
-        (λ e. let ask : MayAsk n i sent s b d = meets (Accept s b d) e may in IsBacked-longer sent (last ∷ []) ask.backed);
+        (λ e. let ask : MayAsk n i stored sent s b d = meets (Accept s b d) e may in IsBacked-longer sent (last ∷ []) ask.backed);
     reports = λ j base s b c vote promise vote_below lower.
         by_index (Promise j base b promise.votes)
         (λ h. by_index (Accepted j s c) (λ k. facts.reports j base s b c vote (still_reported promise h) k lower)
         (λ e. let m : MayVote i stored sent j s c = meets (Accepted j s c) e may in
-        absurd (both_ways (below c b) (m.order base b promise.votes (subst (λ x. IsIn (Promise x base b promise.votes) sent) m.own h)) lower)) vote_below)
+        absurd (both_ways (below c b)
+        (m.order base b promise.votes (subst (λ x. IsIn (Promise x base b promise.votes) sent) m.own h) (facts.within j base s b vote (still_reported promise h))) lower)) vote_below)
         (λ e. let m : MayPromise i stored sent j base b promise.votes = meets (Promise j base b promise.votes) e may in
         by_index (Accepted j s c) (λ k. m.reports s vote promise.reported c (subst (λ x. IsIn (Accepted x s c) sent) m.own k)) (λ g. cc) vote_below)
         promise.stated;
@@ -131,7 +80,18 @@ module _ {V : Type 0} (n i : ℕ) (stored : DurableState V) (sent : List (Messag
     voters = λ j s b.
         by_index (Accepted j s b) (facts.voters j s b)
         (λ e. let m : MayVote i stored sent j s b = meets (Accepted j s b) e may in subst (λ x. x < n) (sym m.own) may.is_node);
-    in_order = VotesInOrder-last sent last facts.in_order (none_below n i stored sent last may.meet);
+    within = λ j base s b vote promise.
+        by_index (Promise j base b promise.votes) (λ h. facts.within j base s b vote (still_reported promise h))
+        (λ e. let m : MayPromise i stored sent j base b promise.votes = meets (Promise j base b promise.votes) e may in m.within s vote promise.reported) promise.stated;
+    prepared_next = λ s b.
+        by_index (Prepare s b) (λ h. IsNext-longer sent (last ∷ []) (facts.prepared_next s b h))
+        (λ e. let next : IsNext n sent s = meets (Prepare s b) e may in IsNext-longer sent (last ∷ []) next);
+    asked_next = λ s b d.
+        by_index (Accept s b d) (λ h. IsNext-longer sent (last ∷ []) (facts.asked_next s b d h))
+        (λ e. let ask : MayAsk n i stored sent s b d = meets (Accept s b d) e may in IsNext-longer sent (last ∷ []) ask.next);
+    answered = λ j s b.
+        by_index (Accepted j s b) (λ h. IsAskedAt-longer sent (last ∷ []) (facts.answered j s b h))
+        (λ e. let m : MayVote i stored sent j s b = meets (Accepted j s b) e may in IsAskedAt-longer sent (last ∷ []) m.answered);
   }
 
   -- ---- the node that sends
@@ -139,19 +99,16 @@ module _ {V : Type 0} (n i : ℕ) (stored : DurableState V) (sent : List (Messag
   -- What this node must still have, of old messages it is known to have; of the last one it is what that must meet.
   pub send_own : DurableFacts n i stored sent → MaySend n i stored sent last → DurableFacts n i stored (sent ++ last ∷ [])
   send_own facts may = record {
-    tried = λ message b is_in in_message of_i.
-        by_index message (λ h. facts.tried message b h in_message of_i)
-        (λ e. elim (may.known b (subst (λ m. IsIn b (ballots_of m)) e in_message)) [
-          | inl own ↦ own.1
-          | inr stands ↦ facts.tried stands.message b stands.was_sent stands.is_in of_i
-        ]) is_in;
+    tried = λ s b d is_in of_i is_open.
+        by_index (Accept s b d) (λ h. facts.tried s b d h of_i is_open)
+        (λ e. let ask : MayAsk n i stored sent s b d = meets (Accept s b d) e may in ask.tried) is_in;
     open_votes = facts.open_votes;
-    promised = λ s b votes.
-        by_index (Promise i s b votes) (facts.promised s b votes)
-        (λ e. let m : MayPromise i stored sent i s b votes = meets (Promise i s b votes) e may in m.promise);
-    accepted = λ s b.
-        by_index (Accepted i s b) (facts.accepted s b)
-        (λ e. let m : MayVote i stored sent i s b = meets (Accepted i s b) e may in m.promise);
+    promised = λ s b votes is_in t in_window is_open.
+        by_index (Promise i s b votes) (λ h. facts.promised s b votes h t in_window is_open)
+        (λ e. let m : MayPromise i stored sent i s b votes = meets (Promise i s b votes) e may in m.promise) is_in;
+    accepted = λ s b is_in is_open.
+        by_index (Accepted i s b) (λ h. facts.accepted s b h is_open)
+        (λ e. let m : MayVote i stored sent i s b = meets (Accepted i s b) e may in m.promise) is_in;
     voted = λ s b is_in is_open.
         by_index (Accepted i s b) (λ h. facts.voted s b h is_open)
         (λ e. let m : MayVote i stored sent i s b = meets (Accepted i s b) e may in m.vote) is_in;
@@ -167,19 +124,16 @@ module _ {V : Type 0} (n i : ℕ) (stored : DurableState V) (sent : List (Messag
   -- message before.
   pub send_other : (j : ℕ) (other : DurableState V) → (j ≡ i → ⊥) → DurableFacts n j other sent → MaySend n i stored sent last → DurableFacts n j other (sent ++ last ∷ [])
   send_other j other differs facts may = record {
-    tried = λ message b is_in in_message of_j.
-        by_index message (λ h. facts.tried message b h in_message of_j)
-        (λ e. elim (may.known b (subst (λ m. IsIn b (ballots_of m)) e in_message)) [
-          | inl own ↦ (let same : j ≡ i = cc (own.0, of_j) in absurd (differs same))
-          | inr stands ↦ facts.tried stands.message b stands.was_sent stands.is_in of_j
-        ]) is_in;
+    tried = λ s b d is_in of_j is_open.
+        by_index (Accept s b d) (λ h. facts.tried s b d h of_j is_open)
+        (λ e. let ask : MayAsk n i stored sent s b d = meets (Accept s b d) e may in let same : j ≡ i = cc (ask.own, of_j) in absurd (differs same)) is_in;
     open_votes = facts.open_votes;
-    promised = λ s b votes.
-        by_index (Promise j s b votes) (facts.promised s b votes)
-        (λ e. let m : MayPromise i stored sent j s b votes = meets (Promise j s b votes) e may in absurd (differs m.own));
-    accepted = λ s b.
-        by_index (Accepted j s b) (facts.accepted s b)
-        (λ e. let m : MayVote i stored sent j s b = meets (Accepted j s b) e may in absurd (differs m.own));
+    promised = λ s b votes is_in t in_window is_open.
+        by_index (Promise j s b votes) (λ h. facts.promised s b votes h t in_window is_open)
+        (λ e. let m : MayPromise i stored sent j s b votes = meets (Promise j s b votes) e may in absurd (differs m.own)) is_in;
+    accepted = λ s b is_in is_open.
+        by_index (Accepted j s b) (λ h. facts.accepted s b h is_open)
+        (λ e. let m : MayVote i stored sent j s b = meets (Accepted j s b) e may in absurd (differs m.own)) is_in;
     voted = λ s b is_in is_open.
         by_index (Accepted j s b) (λ h. facts.voted s b h is_open)
         (λ e. let m : MayVote i stored sent j s b = meets (Accepted j s b) e may in absurd (differs m.own)) is_in;

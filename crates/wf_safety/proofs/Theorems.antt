@@ -6,13 +6,13 @@ use Rattle.wf_model.specs.Message.{Message, Prepare, Promise, Accept, Accepted, 
 use Rattle.wf_model.specs.DurableState.{DurableState, definition_at}
 use Rattle.wf_model.specs.Fits.{NotBelow}
 use Rattle.wf_model.specs.VolatileState.{Proposing, Idle, Running, Won, Overtaken, VolatileState}
-use Rattle.wf_model.specs.Table as table
 use Rattle.wf_model.specs.Table.{store}
 use Rattle.wf_model.specs.World.{Node, World, Event, Act, Stop, Restart, Torn, Kept, Turn, stored_after, with_node, after_turn, after_torn, stop_running, after_stop, restart_stopped, after_restart, turn, happens, after}
 use Rattle.wf_model.specs.Chosen.{IsIn, IsChosen, history_of, history, definition}
 use Rattle.wf_safety.specs.Theorems.{ballots_of, IsTried, Proposes, node_of, AsksForItself, OwnBallotsIn, OwnBallots, IsBound, KeptPromisesIn, KeptPromises, PromisedMajorityIn, PromisedMajority, AgreementIn, Agreement}
-use Rattle.wf_safety.proofs.Facts.{MessageFacts, DurableFacts, IsRunningAt, IsOwnAsk}
+use Rattle.wf_safety.proofs.Facts.{MessageFacts, IsRunningAt, IsOwnAsk}
 use Rattle.wf_safety.proofs.Worlds.{get-set_same, MemberFacts, WorldFacts, SomeTurnFacts, turn_facts, after_facts}
+use Rattle.wf_safety.proofs.Lossless.{NodeMemory, Memory, after_memory}
 use Rattle.wf_safety.proofs.Core.{carries, one_chosen}
 use Rattle.wf_safety.proofs.Growth.{history_grows}
 
@@ -34,22 +34,21 @@ drop-itself (x ∷ xs) = drop-itself xs
 
 -- ---- ballots belong to their nodes
 
-module _ {V : Type 0} (n : ℕ) (w : World V) (facts : WorldFacts n w) where
+module _ {V : Type 0} (n : ℕ) (w : World V) (facts : WorldFacts n w) (memory : Memory w) where
   tried_facts : (b : Ballot) (message : Message V) → IsIn message w.sent → IsIn b (ballots_of message) → IsTried w b
   tried_facts b message is_sent is_in =
       let is_node : b.node < length w.nodes = subst (λ k. b.node < k) (sym facts.size) (facts.messages.nodes message b is_sent is_in) in
       let (node, is_there) = found w.nodes b.node is_node in
-      let member : MemberFacts n b.node w.sent node = facts.nodes b.node node is_there in
       record {
         stored = node.stored;
         node = record { volatile = node.volatile; is_there = is_there };
-        tried = member.stored.tried message b is_sent is_in refl;
+        tried = (memory.nodes b.node node is_there).tried message b is_sent is_in refl;
       }
 
   own_ballots_in : OwnBallotsIn w
   own_ballots_in = record {
     tried = λ message b. tried_facts b message;
-    one_base = facts.messages.one_base;
+    one_base = memory.one_base;
     requested = facts.messages.requested;
     one_accept = facts.messages.one_accept;
   }
@@ -92,7 +91,7 @@ module _ {V : Type 0} (w : World V) (i : ℕ) where
       (get-set_same w.nodes i new (record { stored = t.stored; volatile = Some known.volatile }) known.is_there) (known.step.asks m is_sent)
 
   -- a crash within a step, a stop and a restart send nothing
-  torn_sends : (kept : Kept) (t : Option (Turn V)) → (after_torn w i kept t).sent ≡ w.sent
+  pub torn_sends : (kept : Kept) (t : Option (Turn V)) → (after_torn w i kept t).sent ≡ w.sent
   unfolding after_torn with_node
   torn_sends kept None = refl
   torn_sends kept (Some t) = refl
@@ -102,7 +101,7 @@ module _ {V : Type 0} (w : World V) (i : ℕ) where
   stop_sends stored None = refl
   stop_sends stored (Some volatile) = refl
 
-  after_stop_sends : (node : Option (Node V)) → (after_stop w i node).sent ≡ w.sent
+  pub after_stop_sends : (node : Option (Node V)) → (after_stop w i node).sent ≡ w.sent
   unfolding after_stop
   after_stop_sends None = refl
   after_stop_sends (Some node) = stop_sends node.stored node.volatile
@@ -112,7 +111,7 @@ module _ {V : Type 0} (w : World V) (i : ℕ) where
   restart_sends stored None = refl
   restart_sends stored (Some volatile) = refl
 
-  after_restart_sends : (node : Option (Node V)) → (after_restart w i node).sent ≡ w.sent
+  pub after_restart_sends : (node : Option (Node V)) → (after_restart w i node).sent ≡ w.sent
   unfolding after_restart
   after_restart_sends None = refl
   after_restart_sends (Some node) = restart_sends node.stored node.volatile
@@ -127,23 +126,22 @@ module _ {V : Type 0} (same : V → V → Bool) (n : ℕ) (w : World V) (facts :
 
 pub own_ballots : (V : Type 0) → OwnBallots V
 own_ballots V = record {
-  facts = λ same n events. own_ballots_in n (after same n events) (after_facts same n events);
+  facts = λ same n events. own_ballots_in n (after same n events) (after_facts same n events) (after_memory same n events);
   asked = λ same n events event message. asked_by same n (after same n events) (after_facts same n events) event message;
 }
 
 -- ---- promises are kept
 
-module _ {V : Type 0} (n : ℕ) (w : World V) (facts : WorldFacts n w) where
+module _ {V : Type 0} (n : ℕ) (w : World V) (facts : WorldFacts n w) (memory : Memory w) where
   -- a node of the farm is bound
-  bound : (i : ℕ) (b : Ballot) → i < n → ((stored : DurableState V) → DurableFacts n i stored w.sent → NotBelow stored.promise b) → IsBound w i b
+  bound : (i : ℕ) (b : Ballot) → i < n → ((stored : DurableState V) → NodeMemory i stored w.sent → NotBelow stored.promise b) → IsBound w i b
   bound i b is_node kept =
       let within : i < length w.nodes = subst (λ k. i < k) (sym facts.size) is_node in
       let (node, is_there) = found w.nodes i within in
-      let member : MemberFacts n i w.sent node = facts.nodes i node is_there in
       record {
         stored = node.stored;
         node = record { volatile = node.volatile; is_there = is_there };
-        bound = kept node.stored member.stored;
+        bound = kept node.stored (memory.nodes i node is_there);
       }
 
   -- Each field is a fact of the world: of its messages, or of the node that sent or stored.
@@ -151,7 +149,7 @@ module _ {V : Type 0} (n : ℕ) (w : World V) (facts : WorldFacts n w) where
   kept_promises_in = record {
     promised = λ i s b votes is_sent. bound i b (facts.messages.senders i s b votes is_sent) (λ stored known. known.promised s b votes is_sent);
     accepted = λ i s b is_sent. bound i b (facts.messages.voters i s b is_sent) (λ stored known. known.accepted s b is_sent);
-    in_order = facts.messages.in_order;
+    in_order = memory.in_order;
     stored_vote = λ i s stored vote node e.
         let member : MemberFacts n i w.sent (record { stored = stored; volatile = node.volatile }) =
         facts.nodes i (record { stored = stored; volatile = node.volatile }) node.is_there in
@@ -160,7 +158,7 @@ module _ {V : Type 0} (n : ℕ) (w : World V) (facts : WorldFacts n w) where
   }
 
 pub kept_promises : (V : Type 0) → KeptPromises V
-kept_promises V = λ same n events. kept_promises_in n (after same n events) (after_facts same n events)
+kept_promises V = λ same n events. kept_promises_in n (after same n events) (after_facts same n events) (after_memory same n events)
 
 -- ---- a majority promised
 
@@ -205,7 +203,7 @@ module _ {V : Type 0} (n : ℕ) (w : World V) (facts : WorldFacts n w) where
   same_definition empty i j (suc k) c d e h =
       one_chosen n w.sent facts.messages (suc k) c d (definition_chosen empty i k c e) (definition_chosen empty j k d h)
 
-  agreement_in : AgreementIn n w
+  pub agreement_in : AgreementIn n w
   agreement_in = record {
     one_chosen = one_chosen n w.sent facts.messages;
     published_is_chosen = published_chosen;

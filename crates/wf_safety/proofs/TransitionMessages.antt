@@ -36,7 +36,7 @@ module _ {V : Type 0} (n i : ℕ) (stored : DurableState V) where
   asks_own : (sent new : List (Message V)) (t : ℕ) (b : Ballot) (d : V) → Sends n i stored sent new → IsIn (Accept t b d) new → b.node ≡ i
   asks_own sent [] t b d sends h = absurd h
   asks_own sent (m ∷ rest) t b d sends (inl e) =
-      let ask : MayAsk n i sent t b d = subst (IsMeet n i stored sent) (sym e) sends.0.meet in ask.own
+      let ask : MayAsk n i stored sent t b d = subst (IsMeet n i stored sent) (sym e) sends.0.meet in ask.own
   asks_own sent (m ∷ rest) t b d sends (inr h) = asks_own (sent ++ m ∷ []) rest t b d sends.1 h
 
 -- ---- running proposals
@@ -48,7 +48,7 @@ IsUnasked {V} new b = (t : ℕ) (d : V) → IsIn (Accept t b d) new → ⊥
 module _ {V : Type 0} (sent new : List (Message V)) where
   pub PreparingFacts-longer : (p : Proposal V) → IsUnasked new p.ballot → PreparingFacts sent p → PreparingFacts (sent ++ new) p
   PreparingFacts-longer p unasked facts = record {
-    fresh = λ t d h. elim (member-parts (Accept t p.ballot d) sent new h) [ inl old ↦ facts.fresh t d old | inr k ↦ unasked t d k ];
+    fresh = λ t d from h. elim (member-parts (Accept t p.ballot d) sent new h) [ inl old ↦ facts.fresh t d from old | inr k ↦ unasked t d k ];
     responders = λ j s is_in in_window. HasPromised-longer sent new (facts.responders j s is_in in_window);
     reports = λ s. BestIsReported-longer sent new p.sequence s p.ballot p.responders (vote_of p.sequence p.best s) (facts.reports s);
   }
@@ -174,6 +174,11 @@ pub answers_unasked : {V : Type 0} (new : List (Message V)) (b : Ballot) → Are
 answers_unasked [] b answers t d h = absurd h
 answers_unasked (m ∷ rest) b answers t d (inl e) = absurd (subst IsAnswer (sym e) answers.0)
 answers_unasked (m ∷ rest) b answers t d (inr h) = answers_unasked rest b answers.1 t d h
+
+pub answers_unprepared : {V : Type 0} (new : List (Message V)) (s : ℕ) (b : Ballot) → AreAnswers new → IsIn (Prepare s b) new → ⊥
+answers_unprepared [] s b answers h = absurd h
+answers_unprepared (m ∷ rest) s b answers (inl e) = absurd (subst IsAnswer (sym e) answers.0)
+answers_unprepared (m ∷ rest) s b answers (inr h) = answers_unprepared rest s b answers.1 h
 
 answer_asks : {V : Type 0} (i : ℕ) (volatile : VolatileState V) (m : Message V) → IsAnswer m → IsOwnAsk i volatile m
 answer_asks i volatile (Prepare s b) h = absurd h

@@ -70,10 +70,10 @@ nothing_at (suc k) d e = none-some d e
 nothing_facts : {V : Type 0} (n i : ℕ) → DurableFacts {V = V} n i nothing_stored []
 unfolding nothing_stored
 nothing_facts n i = record {
-  tried = λ message b is_in in_message of_i. absurd is_in;
+  tried = λ s b d is_in of_i is_open. absurd is_in;
   open_votes = λ s closed. refl;
-  promised = λ s b votes is_in. absurd is_in;
-  accepted = λ s b is_in. absurd is_in;
+  promised = λ s b votes is_in t in_window is_open. absurd is_in;
+  accepted = λ s b is_in is_open. absurd is_in;
   voted = λ s b is_in is_open. absurd is_in;
   vote_asked = λ s vote e. absurd (none-some vote e);
   vote_within = λ s vote e. absurd (none-some vote e);
@@ -87,7 +87,6 @@ unfolding start
 start_facts {V} n = record {
   size = length-replicate n (record { stored = nothing_stored; volatile = Some at_start });
   messages = record {
-    one_base = λ s t b h k. absurd h;
     requested = λ i s b votes h. absurd h;
     one_accept = λ s b c d h k. absurd h;
     backed = λ s b d h. absurd h;
@@ -99,7 +98,10 @@ start_facts {V} n = record {
     nodes = λ message b h k. absurd h;
     senders = λ i s b votes h. absurd h;
     voters = λ i s b h. absurd h;
-    in_order = tt;
+    within = λ i base s b vote h. absurd h.stated;
+    prepared_next = λ s b h. absurd h;
+    asked_next = λ s b d h. absurd h;
+    answered = λ i s b h. absurd h;
   };
   nodes = λ i node e.
       let new : Node V = record { stored = nothing_stored; volatile = Some at_start } in
@@ -121,7 +123,7 @@ running_other {V} n w i stored volatile old facts is_there of_stored of_volatile
       | inr differs ↦ facts.nodes j node (sym (get-set_other w.nodes i j new differs) ∙ e)
     ]
 
-with_node_facts : {V : Type 0} (n : ℕ) (w : World V) (i : ℕ) (stored : DurableState V) (volatile : Option (VolatileState V)) (old : Node V) → WorldFacts n w → slice_get w.nodes i ≡ Some old →
+pub with_node_facts : {V : Type 0} (n : ℕ) (w : World V) (i : ℕ) (stored : DurableState V) (volatile : Option (VolatileState V)) (old : Node V) → WorldFacts n w → slice_get w.nodes i ≡ Some old →
     DurableFacts n i stored w.sent → RunningFacts n i stored w.sent volatile → WorldFacts n (with_node w i stored volatile)
 unfolding with_node
 with_node_facts n w i stored volatile old facts is_there of_stored of_volatile = record {

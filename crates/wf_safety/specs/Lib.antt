@@ -1,2 +1,4 @@
 pub mod Earlier
 pub mod Theorems
+pub mod Replacement
+pub mod Examples

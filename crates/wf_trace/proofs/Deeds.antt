@@ -1,5 +1,6 @@
 -- A deed of a process is an event of the model, or none.
 use Rattle.std.proofs.Common.{◌≡◌, ℕ, zero, suc, Bool, List, [], ◌∷◌, ◌++◌, length, slice_get, slice_set, Option, Some, None, refl, sym, ap, ◌∙◌, inl, inr, append-nil}
+use Rattle.std.specs.Prelude.{⊤}
 use Rattle.wf_model.specs.Message.{Message}
 use Rattle.wf_model.specs.DurableState.{DurableState}
 use Rattle.wf_model.specs.VolatileState.{VolatileState}
@@ -7,6 +8,7 @@ use Rattle.wf_model.specs.Table as table
 use Rattle.wf_model.specs.Table.{Action, Input}
 use Rattle.wf_model.specs.World.{Node, World, Event, Act, Stop, Restart, Torn, Kept, Turn, delivered, input_of, with_node, after_turn, after_torn, stop_running, after_stop, restart_stopped, after_restart, turn_of, turn, happens, steps}
 use Rattle.wf_model.specs.Chosen.{IsIn}
+use Rattle.wf_safety.specs.Theorems.{node_of}
 use Rattle.wf_trace.specs.Deed.{Deed, Takes, Crashes, Stops, Restarts, Steps, Tears, IsUnchanged, IsStopped, IsRestarted, IsDone}
 use Rattle.wf_trace.specs.Trace.{IsInputOf, IsReceived}
 use Rattle.wf_trace.proofs.Nodes.{set_itself}
@@ -36,9 +38,15 @@ action_of {V} sent (table.Deliver message) received =
 
 -- ---- the world after a deed
 
+-- the events are about node i
+abbrev pub AreEventsOf : {V : Type 0} → ℕ → List (Event V) → Type 0
+AreEventsOf i [] = ⊤
+AreEventsOf i (event ∷ events) = (node_of event ≡ i) × AreEventsOf i events
+
 -- some events lead to the world where node i is this one, and these messages were sent too
 pub record Becomes {V : Type 0} (same : V → V → Bool) (w : World V) (i : ℕ) (node : Node V) (outputs : List (Message V)) : Type 0 where
   pub events : List (Event V)
+  pub own : AreEventsOf i events
   pub world : steps same w events ≡ world_of (slice_set w.nodes i node) (w.sent ++ outputs)
 
 module _ {V : Type 0} (same : V → V → Bool) (w : World V) (i : ℕ) (before : Node V) (there : slice_get w.nodes i ≡ Some before) where
@@ -53,6 +61,7 @@ module _ {V : Type 0} (same : V → V → Bool) (w : World V) (i : ℕ) (before 
   unfolding steps
   stays outputs node is = record {
     events = [];
+    own = tt;
     world = world_eq w.nodes (slice_set w.nodes i node) w.sent (w.sent ++ outputs)
         (sym (ap (slice_set w.nodes i) is.same_node ∙ set_itself w.nodes i before there)) (sym (ap (λ ms. w.sent ++ ms) is.silent ∙ append-nil w.sent));
   }
@@ -63,6 +72,7 @@ module _ {V : Type 0} (same : V → V → Bool) (w : World V) (i : ℕ) (before 
       let action = action_of w.sent input received in
       record {
         events = Act i action.0 ∷ [];
+        own = (refl, tt);
         world = ap (after_turn w i) (turn_is action.0 input step.turn action.1 step.effect)
             ∙ world_eq (slice_set w.nodes i _) (slice_set w.nodes i node) (w.sent ++ step.turn.transition.messages) (w.sent ++ outputs)
             (sym (ap (slice_set w.nodes i) step.node)) (sym (ap (λ ms. w.sent ++ ms) step.messages));
@@ -74,6 +84,7 @@ module _ {V : Type 0} (same : V → V → Bool) (w : World V) (i : ℕ) (before 
       let action = action_of w.sent input received in
       record {
         events = Torn i action.0 kept ∷ [];
+        own = (refl, tt);
         world = ap (after_torn w i kept) (turn_is action.0 input tear.turn action.1 tear.effect)
             ∙ world_eq (slice_set w.nodes i _) (slice_set w.nodes i node) w.sent (w.sent ++ outputs)
             (sym (ap (slice_set w.nodes i) tear.node)) (sym (ap (λ ms. w.sent ++ ms) tear.silent ∙ append-nil w.sent));
@@ -90,6 +101,7 @@ module _ {V : Type 0} (same : V → V → Bool) (w : World V) (i : ℕ) (before 
   unfolding steps happens after_stop
   stops outputs node is = record {
     events = Stop i ∷ [];
+    own = (refl, tt);
     world = ap (after_stop w i) there ∙ stop_parts before.stored before.volatile there
         ∙ world_eq (slice_set w.nodes i _) (slice_set w.nodes i node) w.sent (w.sent ++ outputs)
         (sym (ap (slice_set w.nodes i) is.node)) (sym (ap (λ ms. w.sent ++ ms) is.silent ∙ append-nil w.sent));
@@ -99,6 +111,7 @@ module _ {V : Type 0} (same : V → V → Bool) (w : World V) (i : ℕ) (before 
   unfolding steps happens after_restart restart_stopped with_node
   restarts outputs node is = record {
     events = Restart i ∷ [];
+    own = (refl, tt);
     world = ap (after_restart w i) there ∙ ap (restart_stopped w i before.stored) is.stopped
         ∙ world_eq (slice_set w.nodes i _) (slice_set w.nodes i node) w.sent (w.sent ++ outputs)
         (sym (ap (slice_set w.nodes i) is.node)) (sym (ap (λ ms. w.sent ++ ms) is.silent ∙ append-nil w.sent));

@@ -25,7 +25,7 @@ other_first i entry entries differs = rw (ne_eqb entry.process i differs) refl
 
 -- ---- the nodes, one of them changed
 
-put_node : {V : Type 0} → (ℕ → Node V) → ℕ → Node V → ℕ → Node V
+unfoldable pub put_node : {V : Type 0} → (ℕ → Node V) → ℕ → Node V → ℕ → Node V
 put_node nodes i node j = if j == i then node else nodes j
 
 put_own : {V : Type 0} (nodes : ℕ → Node V) (i j : ℕ) (node : Node V) → j ≡ i → put_node nodes i node j ≡ node
@@ -40,10 +40,10 @@ put_other nodes i j node differs = rw (ne_eqb j i differs) refl
 
 module _ {V : Type 0} (same : V → V → Bool) (n : ℕ) (sent : List (Message V)) (nodes nodes_after : ℕ → Node V) (entry : Entry V) (entries : List (Entry V)) (go : GoOn same n sent nodes (entry ∷ entries) nodes_after) where
   -- the life of the process that it is of
-  own_life : IsLife same n entry.process (nodes entry.process) (entry ∷ of_process entry.process entries) (nodes_after entry.process)
+  pub own_life : IsLife same n entry.process (nodes entry.process) (entry ∷ of_process entry.process entries) (nodes_after entry.process)
   own_life = subst (λ (es : List (Entry V)). IsLife same n entry.process (nodes entry.process) es (nodes_after entry.process)) (own_first entry.process entry entries refl) (go.lives entry.process go.members.0)
 
-  abbrev middle : Node V
+  abbrev pub middle : Node V
   middle = own_life.0
 
   -- the lives from then on
@@ -55,7 +55,7 @@ module _ {V : Type 0} (same : V → V → Bool) (n : ℕ) (sent : List (Message 
         (subst (λ (es : List (Entry V)). IsLife same n j (nodes j) es (nodes_after j)) (other_first j entry entries (λ e. other (sym e))) (go.lives j less))
   ]
 
-  rest_goes_on : GoOn same n (sent ++ entry.outputs) (put_node nodes entry.process middle) entries nodes_after
+  pub rest_goes_on : GoOn same n (sent ++ entry.outputs) (put_node nodes entry.process middle) entries nodes_after
   rest_goes_on = record { members = go.members.1; lives = later_life; received = go.received.1 }
 
   module _ (w : World V) (refines : Refines n nodes sent w) where

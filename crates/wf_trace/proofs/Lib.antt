@@ -2,6 +2,10 @@ mod Nodes
 mod Deeds
 mod Entries
 mod Growth
+mod History
 mod Agreement
 mod Merge
 mod Example
+mod Course
+mod Moves
+mod CourseAgreement

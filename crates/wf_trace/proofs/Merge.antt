@@ -6,7 +6,7 @@ use Rattle.wf_model.specs.Message.{Message}
 use Rattle.wf_model.specs.World.{Node}
 use Rattle.wf_trace.specs.Deed.{Deed, Takes, Crashes, Stops, Restarts, IsDone, new_node}
 use Rattle.wf_trace.specs.Trace.{Entry, of_process, outputs_by, IsLife, IsInputOf, IsReceived, AreReceived, AreMembers}
-use Rattle.wf_trace.specs.Order.{Item, seen_of, seen, items_of, outputs_in, AreTaken, AreOf, LivesAreOneTrace}
+use Rattle.wf_trace.specs.Order.{Item, seen_of, seen, items_of, outputs_in, AreTaken, AreOf, LivesAreOneTrace, AreLivesFrom, GoOnAsOne, LivesGoOn}
 use Rattle.wf_trace.proofs.Entries.{own_first, other_first}
 
 -- ---- entries of which nothing is seen
@@ -332,21 +332,30 @@ merge n [] sent lives are taken = merge_last n lives are sent
 merge n (item ∷ items) sent lives are taken =
     merge_one n sent lives item items are taken (merge n items (sent ++ item.outputs) (left n sent lives item items are taken) (left_seen n sent lives item items are taken) taken.2)
 
+module _ {V : Type 0} (same : V → V → Bool) (n : ℕ) (sent : List (Message V)) (nodes after : ℕ → Node V) (items : List (Item V)) (lives : ℕ → List (Entry V)) (are : AreLivesFrom same n nodes items lives after) (taken : AreTaken n sent items) where
+  merged_lives : Merged n sent lives items
+  merged_lives = merge n items sent lives (record {
+    own = are.own;
+    quiet = λ i less. life_quiet same n i (nodes i) (after i) (lives i) (are.life i less);
+    shown = are.shown;
+  }) taken
+
+  go_on : GoOnAsOne same n sent nodes items lives after
+  go_on = record {
+    entries = merged_lives.entries;
+    goes_on = record {
+      members = merged_lives.members;
+      lives = λ i less. subst (λ (es : List (Entry V)). IsLife same n i (nodes i) es (after i)) (sym (merged_lives.each i less)) (are.life i less);
+      received = merged_lives.received;
+    };
+    each = merged_lives.each;
+    messages = merged_lives.messages;
+  }
+
+pub lives_go_on : (V : Type 0) → LivesGoOn V
+lives_go_on V = λ same n sent nodes after items lives are taken. go_on same n sent nodes after items lives are taken
+
 pub lives_are_one_trace : (V : Type 0) → LivesAreOneTrace V
 lives_are_one_trace V = λ same n items lives nodes are taken.
-    let seen_each : AreSeen n lives items = record {
-      own = are.own;
-      quiet = λ i less. life_quiet same n i new_node (nodes i) (lives i) (are.life i less);
-      shown = are.shown;
-    } in
-    let merged = merge n items [] lives seen_each taken in
-    record {
-      entries = merged.entries;
-      trace = record {
-        members = merged.members;
-        lives = λ i less. subst (λ (es : List (Entry V)). IsLife same n i new_node es (nodes i)) (sym (merged.each i less)) (are.life i less);
-        received = merged.received;
-      };
-      each = merged.each;
-      messages = merged.messages;
-    }
+    let one = go_on same n [] (λ i. new_node) nodes items lives (record { own = are.own; life = are.life; shown = are.shown }) taken in
+    record { entries = one.entries; trace = one.goes_on; each = one.each; messages = one.messages }

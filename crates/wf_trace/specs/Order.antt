@@ -5,7 +5,7 @@ use Rattle.wf_model.specs.Message.{Message}
 use Rattle.wf_model.specs.Table.{Input}
 use Rattle.wf_model.specs.World.{Node}
 use Rattle.wf_trace.specs.Deed.{Deed, Takes, Crashes, Stops, Restarts, new_node}
-use Rattle.wf_trace.specs.Trace.{Entry, of_process, outputs_by, IsLife, IsInputOf, IsTrace}
+use Rattle.wf_trace.specs.Trace.{Entry, of_process, outputs_by, IsLife, IsInputOf, GoOn, IsTrace}
 
 -- the process of that number took this input, and sent these messages by it
 pub record Item (V : Type 0) : Type 0 where
@@ -61,3 +61,25 @@ pub record AreOneTrace {V : Type 0} (same : V → V → Bool) (n : ℕ) (items :
 abbrev pub LivesAreOneTrace : Type 0 → Type 0
 LivesAreOneTrace V = (same : V → V → Bool) (n : ℕ) (items : List (Item V)) (lives : ℕ → List (Entry V)) (nodes : ℕ → Node V) →
     AreLives same n items lives nodes → AreTaken n [] items → AreOneTrace same n items lives nodes
+
+-- ---- from any nodes on
+
+-- Each process's entries are its life, from one of these nodes on, and what is seen of them are its items.
+pub record AreLivesFrom {V : Type 0} (same : V → V → Bool) (n : ℕ) (nodes : ℕ → Node V) (items : List (Item V)) (lives : ℕ → List (Entry V)) (after : ℕ → Node V) : Type 0 where
+  pub own : (i : ℕ) → i < n → AreOf i (lives i)
+  pub life : (i : ℕ) → i < n → IsLife same n i (nodes i) (lives i) (after i)
+  pub shown : (i : ℕ) → i < n → seen (lives i) ≡ items_of i items
+
+-- One list of entries goes on from these nodes and messages: it has each process's entries in their order, and the messages of the
+-- items in theirs.
+pub record GoOnAsOne {V : Type 0} (same : V → V → Bool) (n : ℕ) (sent : List (Message V)) (nodes : ℕ → Node V) (items : List (Item V)) (lives : ℕ → List (Entry V)) (after : ℕ → Node V) : Type 0 where
+  pub entries : List (Entry V)
+  pub goes_on : GoOn same n sent nodes entries after
+  pub each : (i : ℕ) → i < n → of_process i entries ≡ lives i
+  pub messages : outputs_by entries ≡ outputs_in items
+
+-- Lives from any nodes on, where any messages were sent, go on as one list of entries, if one order of time has what is seen of them,
+-- and each message is delivered after it was sent.
+abbrev pub LivesGoOn : Type 0 → Type 0
+LivesGoOn V = (same : V → V → Bool) (n : ℕ) (sent : List (Message V)) (nodes after : ℕ → Node V) (items : List (Item V)) (lives : ℕ → List (Entry V)) →
+    AreLivesFrom same n nodes items lives after → AreTaken n sent items → GoOnAsOne same n sent nodes items lives after

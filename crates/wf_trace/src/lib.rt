@@ -18,16 +18,23 @@
 //! two moments, have published different definitions under one sequence, and there is one history of which each published list, at
 //! each moment, is a beginning ([`processes_agree`]).
 //!
+//! **Replacements.** A course (`specs/Course.antt`) is a list of moves: an entry with the node that it leaves, or the replacement of
+//! a stopped process that lost its disk. Where each replacement is allowed, a course is a run with guarded replacements
+//! ([`a_course_is_a_run`]), and the processes agree at any two moments, through replacements too ([`courses_agree`]). Lives between
+//! two replacements or questions go on as one list of entries ([`lives_go_on`]), these are moves ([`entries_are_moves`]), and parts of
+//! a course that follow one another are one ([`courses_are_one`]).
+//!
 //! **Doesn't.** The number of processes is fixed, each is one node, and their order of time is given. Nothing says that any process
 //! goes on, or that a message arrives.
 #![tactic(auto)]
 
 ghost use Rattle.wf_model.specs.Examples.{a};
 ghost use Rattle.wf_trace.specs.Examples.{three_publish, IsPublished};
-ghost use Rattle.wf_trace.specs.Order.{LivesAreOneTrace};
+ghost use Rattle.wf_trace.specs.Course.{CourseIsRun, CoursesAgree, CoursesAreOne, EntriesAreMoves};
+ghost use Rattle.wf_trace.specs.Order.{LivesAreOneTrace, LivesGoOn};
 ghost use Rattle.wf_trace.specs.Theorems.{EntriesAreEvents, ListsGrow, OneDefinition, OneHistory, PartsAreOne, TraceIsRun};
 
-use wf_safety::agreement;
+use wf_safety::{agreement, agreement_under_guard};
 
 /// From any world of the model that shows the processes' nodes, some events lead to one that shows their nodes after the entries,
 /// and has all messages that the entries sent appended, in order.
@@ -50,6 +57,39 @@ pub fn parts_are_one<V>()
 /// message is delivered after it was sent. Where in this order a process stopped or started again need not be known.
 pub fn lives_are_one_trace<V>()
     ensures { LivesAreOneTrace V }
+{}
+
+/// Lives of processes from any nodes on, where any messages were sent, go on as one list of entries, if there is one order of time of
+/// what is seen of them, and in it each message is delivered after it was sent.
+pub fn lives_go_on<V>()
+    ensures { LivesGoOn V }
+{}
+
+/// A course is a run of the model with replacements: some changes lead from its start to exactly the nodes at the course's end, and to
+/// all messages that were sent, in order. Where each of its replacements is allowed, each is guarded; so `wf_safety`'s theorem of
+/// agreement under the guard holds of these nodes and messages.
+pub fn a_course_is_a_run<V>()
+    ensures { CourseIsRun V }
+{}
+
+/// Agreement of a course's processes at any moments, where each replacement is allowed: there is one history of which each published
+/// list is a beginning; no two have different definitions under one sequence; and no process loses a published definition.
+pub fn courses_agree<V>()
+    ensures { CoursesAgree V }
+{
+    // The theorem of the model's runs with guarded replacements, of which such a course is one.
+    agreement_under_guard::<V>();
+}
+
+/// Entries that go on from some nodes and messages are moves without a replacement, which lead to the same nodes. So what holds of
+/// courses holds of traces.
+pub fn entries_are_moves<V>()
+    ensures { EntriesAreMoves V }
+{}
+
+/// Two parts of a course, one after the other, are one.
+pub fn courses_are_one<V>()
+    ensures { CoursesAreOne V }
 {}
 
 /// No process ever loses a published definition: what it has published at one moment is a beginning of what it has at each later
