@@ -9,9 +9,10 @@ the whole extent on 1,024 pixels). A class that draws something becomes a class 
 the importer makes; a layer with more than 16 becomes several. The map is written in its own system if that is EPSG:4326
 or EPSG:3857, else in that of --crs.
 
-Symbols, hatches, fonts, halos, dashes, opacity, joins and raster layers are lost. What was lost is told on standard
-error, and in the file of --report, by layer and by name, with a count. --fit finds the least simplification at which the
-map is within the limits of wfarm. Borders that shapes share stay shared.
+Symbols, hatches, fonts, halos, dashes, opacity, joins and raster layers are lost. Every keyword that is changed or left
+out is a line on standard error, and in the file of --report, with its layer and its place; the last line counts keywords
+and shapes. With --strict a change ends the tool with status 1, and no map is written. --fit finds the least
+simplification at which the map is within the limits of wfarm. Borders that shapes share stay shared.
 
 It needs Debian's python3-mapscript and python3-shapely.
 """
@@ -22,15 +23,25 @@ import sys
 from dataclasses import replace
 from pathlib import Path
 
-from maps import fitting, options, texts
+from maps import account, fitting, mapfile, options, texts
+from maps.account import Teller, drop_block
+from maps.cutting import cut
 from maps.errors import MapError, Notes, library
 from maps.geometry import DIGITS, checked, on_grid, whole_extent
-from maps.model import MOST_CLASSES, MOST_PIXELS, Feature, Layer, Map
-from maps.query import picture_query
-from maps.symbology import Symbology, lost_keywords
+from maps.model import EXTENT_DIGITS, MOST_CLASSES, MOST_PIXELS, Feature, Layer, Map
+from maps.preview import MapServer, Painter
+from maps.preview import write as write_preview
+from maps.query import picture_query, size_of
+from maps.symbology import Symbology
 
 OWN = {"4326": "init=epsg:4326", "3857": "init=epsg:3857"}
+OFFERED = {"4326": {"CRS:84", "EPSG:4326"}, "3857": {"EPSG:3857"}}  # the systems in which a farm answers
 TITLES = ("wms_title", "ows_title")
+ABSTRACTS = ("wms_abstract", "ows_abstract")
+ADDRESSES = ("wms_onlineresource", "ows_onlineresource")
+SYSTEMS = ("wms_srs", "ows_srs")
+ANYWHERE = 1e8  # half a side of a box around the data of a layer that doesn't tell its extent
+READ_BY_LIBRARY = ("ITEMS=", "NATIVE_FILTER=", "CLOSE_CONNECTION=")  # of PROCESSING
 
 
 def arguments():
@@ -42,8 +53,9 @@ def arguments():
     parser.add_argument("--extent", type=options.extent, metavar="MINX,MINY,MAXX,MAXY", help="in the units of --crs (that of the map); a negative one as --extent=-3,51,-2,52")
     parser.add_argument("--layers", type=lambda text: text.split(","), metavar="NAME,..", help="these layers alone")
     parser.add_argument("--keep", type=lambda text: text.split(","), default=[], metavar="ITEM,..", help="attributes to keep (none)")
-    parser.add_argument("--address", help="the address that clients will use (the map's wms_onlineresource)")
-    parser.add_argument("--report", type=Path, metavar="FILE", help="where to write, too, what was lost")
+    parser.add_argument("--address", metavar="URL", help="the address that clients will use (the map's wms_onlineresource, with a warning)")
+    parser.add_argument("--report", type=Path, metavar="FILE", help="where to write, too, what was changed and left out")
+    parser.add_argument("--strict", action="store_true", help="status 1, and no map, if anything was changed or left out")
     options.add_common(parser)
     return parser.parse_args()
 
@@ -56,6 +68,9 @@ class Importer:
         self.script = library("mapscript", "python3-mapscript")
         self.errors = (OSError, EOFError, TypeError, MemoryError, self.script.MapServerError, self.script.MapServerChildError)
         self.map = self.opened(asked.mapfile)
+        self.written = mapfile.written(asked.mapfile)
+        self.teller = Teller(notes, "map")
+        self.shapes_read = self.shapes_drawn = 0
         self.own = self.map.getProjection()
         self.crs = asked.crs or self.own_crs()
         self.target = self.script.projectionObj(OWN[self.crs])
@@ -134,47 +149,77 @@ class Importer:
     # ---- layers
 
     def imported(self):
-        chosen = self.chosen_layers()
-        self.tell_lost_of_map()
+        self.tell_of_map()
         layers = []
-        for place, layer in enumerate(chosen, 1):
-            layers += self.layers_of(layer, layer.name or f"layer{place}")
+        for name, layer, block in self.chosen_layers():
+            layers += self.layers_of(layer, block, name)
         if not layers:
-            raise MapError(f"{self.asked.mapfile}: nothing is drawn: {'; '.join(self.notes.lines()) or 'it has no layers'}")
+            why = [line for line in self.notes.lines() if line.startswith("layer ")]
+            raise MapError(f"{self.asked.mapfile}: nothing is drawn: {'; '.join(why) or 'it has no layers'}")
         for item in self.asked.keep:
             if not any(item in items for items in self.kept.values()):
                 raise MapError(f"{self.asked.mapfile}: no layer has the attribute {item!r} of --keep")
-        own_texts = [texts.plain(text, self.notes, "the map's texts") for text in self.map_texts()]
-        return Map(*own_texts, self.crs, self.digits, whole_extent(self.extent, self.digits), with_own_names(layers, self.notes))
+        own_texts = [texts.plain(text, self.teller, "the map's texts") for text in self.map_texts()]
+        whole = Map(*own_texts, self.crs, self.digits, whole_extent(self.extent, self.digits), with_own_names(layers, self.notes))
+        return self.cut(whole) if self.asked.extent else whole
+
+    def cut(self, whole):
+        """The map, cut at --extent."""
+        result = cut(whole, self.teller)
+        self.shapes_drawn -= sum(len(layer.features) for layer in whole.layers) - sum(len(layer.features) for layer in result.layers)
+        return result
 
     def map_texts(self):
         """Name, title, abstract and address."""
         metadata = self.map.web.metadata
         name = self.map.name or "map"
         title = first_of(metadata, TITLES) or name
-        abstract = first_of(metadata, ("wms_abstract", "ows_abstract"))
-        address = self.asked.address or first_of(metadata, ("wms_onlineresource", "ows_onlineresource")) or "http://localhost/wms?"
-        return name, title, abstract, address
+        return name, title, first_of(metadata, ABSTRACTS), self.asked.address or first_of(metadata, ADDRESSES) or "http://localhost/wms?"
 
     def chosen_layers(self):
-        layers = [self.map.getLayer(i) for i in range(self.map.numlayers)]
-        if self.asked.layers is None:
-            return layers
-        names = [layer.name for layer in layers]
-        for name in self.asked.layers:
+        """(name, layer, its block) of the layers that are asked for; the others aren't counted."""
+        layers, blocks = [self.map.getLayer(i) for i in range(self.map.numlayers)], self.written.all("LAYER")
+        same = len(layers) == len(blocks) and all(layer.numclasses == len(block.all("CLASS")) for layer, block in zip(layers, blocks))
+        if not same:
+            raise MapError(f"{self.asked.mapfile}: its LAYER and CLASS blocks aren't those that MapServer reads")
+        names = [layer.name or f"layer{place}" for place, layer in enumerate(layers, 1)]
+        wanted = names if self.asked.layers is None else self.asked.layers
+        for name in wanted:
             if name not in names:
-                raise MapError(f"{self.asked.mapfile}: it has no layer {name!r}: it has {', '.join(filter(None, names))}")
-        return [layer for layer in layers if layer.name in self.asked.layers]
+                raise MapError(f"{self.asked.mapfile}: it has no layer {name!r}: it has {', '.join(names)}")
+        others = [block for name, block in zip(names, blocks) if name not in wanted]
+        self.written.blocks = [block for block in self.written.blocks if block not in others]
+        return [entry for entry in zip(names, layers, blocks) if entry[0] in wanted]
 
-    def tell_lost_of_map(self):
+    # ---- what becomes of the map's keywords
+
+    def tell_of_map(self):
+        """Tells of all that isn't of a layer."""
         color = self.map.imagecolor
         if (color.red, color.green, color.blue) not in ((255, 255, 255), (-1, -1, -1)):
-            self.notes.add(f"map: lost: IMAGECOLOR {color.red} {color.green} {color.blue}: the background is white")
-        for name, part in (("LEGEND", self.map.legend), ("SCALEBAR", self.map.scalebar)):
-            if part.status == self.script.MS_EMBED:
-                self.notes.add(f"map: lost: {name} in the picture")
-        if self.map.getRotation():
-            self.notes.add(f"map: lost: ANGLE {self.map.getRotation():g}")
+            self.teller.drop(self.written.keyword("IMAGECOLOR"), ": the background is white")
+        if not self.is_target(self.own):
+            self.teller.change(self.written.keyword("PROJECTION"), f": a farm answers in {' and '.join(sorted(OFFERED[self.crs]))}")
+        metadata = {keyword.name.lower(): keyword for web in self.written.all("WEB") for block in web.all("METADATA") for keyword in block.keywords}
+        self.tell_of_address(metadata)
+        self.tell_of_systems(metadata)
+        account.tell(self.written, self.teller, self.scale)
+
+    def tell_of_address(self, metadata):
+        keyword = next((metadata[key] for key in ADDRESSES if key in metadata), None)
+        if keyword is not None and self.asked.address:
+            self.notes.add(f"map: {keyword} became {self.asked.address}, by --address", keyword.place)
+        elif keyword is not None:
+            self.notes.add(f"map: warning: clients are sent to {keyword.words[0]}, the address of the mapfile: write --address", keyword.place)
+        elif not self.asked.address:
+            self.notes.add("map: warning: clients are sent to http://localhost/wms?: write --address")
+
+    def tell_of_systems(self, metadata):
+        for keyword in filter(None, map(metadata.get, SYSTEMS)):
+            others = sorted(set(keyword.words[0].upper().split()) - OFFERED[self.crs])
+            if others:
+                self.teller.change(keyword, f": a farm doesn't answer in {', '.join(others)}")
+            self.teller.told.add((keyword, None))
 
     def kind_of(self, layer):
         kinds = {self.script.MS_LAYER_POINT: "POINT", self.script.MS_LAYER_LINE: "LINE", self.script.MS_LAYER_POLYGON: "POLYGON"}
@@ -185,6 +230,8 @@ class Importer:
         least, most = layer.minscaledenom, layer.maxscaledenom
         if self.kind_of(layer) is None:
             return "it isn't of points, lines or polygons (raster, chart, query or tile index)"
+        if layer.transform != self.script.MS_TRUE:
+            return "its coordinates are pixels (TRANSFORM)"
         if layer.connectiontype == self.script.MS_WMS:
             return "it is another server's picture"
         if (least > 0 and self.scale < least) or (most > 0 and self.scale >= most):
@@ -195,79 +242,131 @@ class Importer:
             return "it has no CLASS" + (", and STYLEITEM isn't supported" if layer.styleitem else "")
         return None
 
-    def layers_of(self, layer, name):
+    def layers_of(self, layer, block, name):
         """What the layer draws, as one layer, or as several where it has too many classes."""
-        lose = self.loser(name)
+        teller = Teller(self.notes, f"layer {name}")
         why = self.why_not_drawn(layer)
         if why is not None:
-            self.notes.add(f"layer {name}: lost: all of it: {why}")
+            teller.lost(f"all of it: {why}", block.place)
+            account.mark(block.whole(), account.LEFT_OUT)
             return []
-        self.tell_lost_of_layer(layer, lose)
-        self.drop_other_groups(layer)
-        drawn = self.drawn_features(layer, name, lose)
+        if not layer.name:
+            teller.add(f"it has no NAME, and became {name}", block.place)
+        classes = self.chosen_classes(layer, block, teller)
+        drawn = self.drawn_features(layer, block, classes, name, teller)
+        self.tell_of_layer(layer, block, classes, {index for index, _, _ in drawn}, teller)
         if not drawn:
-            self.notes.add(f"layer {name}: nothing of it is drawn in the extent at 1:{self.scale:,.0f}")
+            teller.lost(f"all of it: nothing is drawn in the extent at 1:{self.scale:,.0f}", block.place)
+            account.mark(block.whole(), account.LEFT_OUT)
             return []
         title = first_of(layer.metadata, TITLES) or name
-        return list(self.in_sixteens(name, title, self.kind_of(layer), drawn))
+        return list(self.in_sixteens(name, title, self.kind_of(layer), drawn, teller))
 
-    def loser(self, name):
-        return lambda what, count=1: self.notes.add(f"layer {name}: lost: {what}", count=count)
-
-    def tell_lost_of_layer(self, layer, lose):
-        for keyword in lost_keywords("LAYER", layer.convertToString()):
-            lose(keyword)
+    def tell_of_layer(self, layer, block, classes, used, teller):
+        for index, group in enumerate(classes):
+            if index not in used:
+                drop_block(group, teller, ": no shape is drawn by it")
         if layer.styleitem:
-            lose(f"STYLEITEM {layer.styleitem}")
-        if layer.getProjection().upper().lstrip("+") == "AUTO":
-            lose("the datum of PROJECTION AUTO (MapServer takes none; name the system to be exact)")
-        keys, key = [], layer.metadata.nextKey(None)
-        while key is not None:
-            keys.append(key)
-            key = layer.metadata.nextKey(key)
-        others = sorted(set(keys) - set(TITLES))
-        if others:
-            lose(f"METADATA {', '.join(others)}", len(others))
+            teller.drop(block.keyword("STYLEITEM"))
+        projection = block.keyword("PROJECTION")
+        if projection is not None and [word.upper() for word in projection.words] == ["AUTO"]:
+            teller.change(projection, ": its datum is left out, since MapServer takes none; name the system to be exact")
+        if layer.status == self.script.MS_DEFAULT:
+            teller.change(block.keyword("STATUS"), ": it is drawn where a request lists it")
+        for keyword in block.keywords:
+            if keyword.name == "PROCESSING" and not keyword.words[0].upper().startswith(READ_BY_LIBRARY):
+                teller.drop(keyword)
+            elif keyword.name == "LABELITEM" and not any(group.all("LABEL") for group in classes):
+                account.mark([keyword], account.IDLE)
+        for inner in block.blocks:
+            if inner.name in ("CLUSTER", "GRID", "SCALETOKEN"):
+                teller.told.add(inner)
+                teller.add(f"{inner}: as at 1:{self.scale:,.0f}", inner.place)
+                account.mark(inner.whole(), account.CHANGED)
+        account.tell(block, teller, self.scale)
 
-    def drop_other_groups(self, layer):
-        """Leaves the classes of CLASSGROUP alone, which getClassIndex doesn't look at."""
-        if layer.classgroup:
-            for i in reversed(range(layer.numclasses)):
-                if layer.getClass(i).group != layer.classgroup:
-                    layer.removeClass(i)
+    def chosen_classes(self, layer, block, teller):
+        """The blocks of the layer's classes, without those of another CLASSGROUP, which getClassIndex doesn't look at."""
+        classes = block.all("CLASS")
+        for i in reversed(range(layer.numclasses)):
+            if layer.classgroup and layer.getClass(i).group != layer.classgroup:
+                layer.removeClass(i)
+                drop_block(classes.pop(i), teller, f", which isn't in CLASSGROUP {layer.classgroup}")
+        return classes
 
-    def drawn_features(self, layer, name, lose):
+    def drawn_features(self, layer, block, classes, name, teller):
         """(index of its class, class as it is drawn, feature), in order."""
+        self.open(layer, name)
+        items = [] if layer.cluster.region else item_names(layer)  # a CLUSTER has those of its data later
+        own = layer.getProjection() or self.own
+        system, is_target = self.system(own, f"layer {name}"), self.is_target(own)
+        box, read = self.box_in(system, is_target), self.shapes_read
+        count = self.count_all(layer, block, name, box)
+        shapes = list(self.drawn_shapes(layer, name, box, teller))
+        if count is not None and count > self.shapes_read - read:
+            teller.lost("shapes outside of the extent", count=count - (self.shapes_read - read))
+            self.shapes_read = read + count
+        symbology = Symbology(layer, self.kind_of(layer), self.scale, classes, items or item_names(layer), teller)
+        self.kept[name] = [item for item in self.asked.keep if item in symbology.items]
+        lines = self.lines_of(shapes, None if is_target else system)
+        result = []
+        for (place, index, shape), parts in zip(shapes, lines):
+            how = symbology.drawn(index, shape)
+            feature = self.feature(symbology, index, shape, parts, self.kept[name], place)
+            if feature is not None and not how.styles and not feature.text:
+                teller.lost("shapes that nothing here draws", place)
+            elif feature is not None:
+                self.shapes_drawn += 1
+                result.append((index, how, feature))
+        layer.close()
+        return result
+
+    def drawn_shapes(self, layer, name, box, teller):
+        """(where, index of its class, shape) of the shapes that are drawn, in order."""
+        drawn = 0
+        for place, shape in enumerate(self.shapes(layer, name, box), 1):
+            self.shapes_read += 1
+            where = f"layer {name}: shape {place}"
+            index = self.class_of(layer, shape, where)
+            if index < 0:
+                teller.lost("shapes in no CLASS, which MapServer doesn't draw", where)
+            elif layer.getClass(index).status == self.script.MS_OFF:
+                teller.lost(f"shapes of CLASS {layer.getClass(index).name or index}, whose STATUS is OFF", where)
+            elif 0 <= layer.maxfeatures <= drawn:
+                teller.lost("shapes beyond MAXFEATURES", where)
+            else:
+                drawn += 1
+                yield where, index, shape
+
+    def count_all(self, layer, block, name, box):
+        """How many shapes the layer has, None where all lie in the extent. Only data that reach beyond it are read for it,
+        before they are read for the map."""
+        if layer.cluster.region:
+            return None
+        if layer.connectiontype == self.script.MS_INLINE:
+            return sum(feature.keyword("POINTS") is not None or feature.keyword("WKT") is not None for feature in block.all("FEATURE"))
+        whole = self.reach(layer)
+        if box.minx <= whole.minx and box.miny <= whole.miny and whole.maxx <= box.maxx and whole.maxy <= box.maxy:
+            return None
+        count = sum(1 for _ in self.shapes(layer, name, whole))
+        layer.close()
+        self.open(layer, name)
+        return count
+
+    def reach(self, layer):
+        """A box that has all of the layer's data."""
+        try:
+            if layer.connectiontype != self.script.MS_UNION:  # whose extent is made up
+                return layer.getExtent()
+        except self.errors:
+            pass
+        return self.script.rectObj(-ANYWHERE, -ANYWHERE, ANYWHERE, ANYWHERE)
+
+    def open(self, layer, name):
         try:
             layer.open()
         except self.errors as error:
             raise MapError(f"layer {name}: MapServer can't open its data: {error}: look at DATA and CONNECTION, or choose --layers") from error
-        symbology = Symbology(layer, self.kind_of(layer), self.scale, lose)
-        self.kept[name] = [item for item in self.asked.keep if item in symbology.items]
-        own = layer.getProjection() or self.own
-        system, is_target = self.system(own, f"layer {name}"), self.is_target(own)
-        shapes = list(self.drawn_shapes(layer, name, self.box_in(system, is_target), lose))
-        lines = self.lines_of(shapes, None if is_target else system)
-        result = []
-        for (place, index, shape), parts in zip(shapes, lines):
-            feature = self.feature(symbology, index, shape, parts, self.kept[name], place, lose)
-            if feature is not None:
-                result.append((index, symbology.drawn(index, shape), feature))
-        layer.close()
-        return result
-
-    def drawn_shapes(self, layer, name, box, lose):
-        """(where, index of its class, shape) of the shapes that are drawn, in order."""
-        for place, shape in enumerate(self.shapes(layer, name, box), 1):
-            if 0 < layer.maxfeatures < place:
-                break
-            index = self.class_of(layer, shape, f"layer {name}: shape {place}")
-            if index < 0:
-                lose("shapes in no CLASS, which aren't drawn")
-            elif layer.getClass(index).status == self.script.MS_OFF:
-                lose(f"shapes of CLASS {layer.getClass(index).name or index}, whose STATUS is OFF")
-            else:
-                yield f"layer {name}: shape {place}", index, shape
 
     def class_of(self, layer, shape, place):
         """The index of the shape's class, negative if it has none."""
@@ -308,28 +407,28 @@ class Importer:
                 return place
         return shapes[0][0]
 
-    def feature(self, symbology, index, shape, parts, kept, place, lose):
+    def feature(self, symbology, index, shape, parts, kept, place):
         """The shape in the map's system, None if nothing of it can be drawn."""
         kind = symbology.kind
         parts = [checked(part, self.crs, kind, place) for part in parts if part]
         grid = on_grid(parts, kind, self.digits)
         if len(grid) < len(parts) or not parts:
-            lose("parts without a place, or smaller than the last digit", max(1, len(parts) - len(grid)))
+            symbology.teller.lost("parts without a place, or smaller than the last digit", place, max(1, len(parts) - len(grid)))
         if not grid:
             return None
-        values = [texts.value(symbology.value(shape, item), self.notes, place) for item in kept]
-        text = texts.label(symbology.text(index, shape), self.asked.ascii, self.notes, place)
+        values = [texts.value(symbology.value(shape, item), symbology.teller, place) for item in kept]
+        text = texts.label(symbology.text(index, shape), self.asked.ascii, symbology.teller, place)
         return Feature(grid, 0, values, text)
 
-    def in_sixteens(self, name, title, kind, drawn):
+    def in_sixteens(self, name, title, kind, drawn, teller):
         """The layer, its classes in the mapfile's order; several layers if it has more than 16 classes."""
         classes = []
         for _, how, _ in sorted(drawn, key=lambda entry: entry[0]):
             if how not in classes:
                 classes.append(how)
         if len(classes) > MOST_CLASSES:
-            self.notes.add(f"layer {name}: its {len(classes)} classes became layers of {MOST_CLASSES} each ({name}, {name}_2, ..)")
-        items = [texts.plain(item, self.notes, "an attribute's name").replace(",", "_") for item in self.kept[name]]
+            teller.add(f"its {len(classes)} classes became layers of {MOST_CLASSES} each ({name}, {name}_2, ..)")
+        items = [texts.plain(item, teller, "an attribute's name").replace(",", "_") for item in self.kept[name]]
         for start in range(0, len(classes), MOST_CLASSES):
             some = classes[start : start + MOST_CLASSES]
             own = name if start == 0 else f"{name}_{start // MOST_CLASSES + 1}"
@@ -338,12 +437,27 @@ class Importer:
                 if how in some:
                     feature.group = some.index(how)
                     features.append(feature)
-            named = [replace(how, name=texts.plain(how.name, self.notes, f"layer {name}: the name of a class")) for how in some]
+            named = [replace(how, name=texts.plain(how.name, teller, f"layer {name}: the name of a class")) for how in some]
             yield Layer(own, title, kind, named, features, items)
+
+
+    def preview(self, the_map, written):
+        painter = Painter(self.asked.program, self.asked.side)
+        server = MapServer(self.asked.mapfile, self.asked.layers, self.crs, self.scale)
+
+        def source(extent):
+            sides = [side / 10**EXTENT_DIGITS for side in extent]
+            return painter.pixels(server.drawn(sides, *size_of(extent, self.asked.side)))
+
+        write_preview(self.asked.preview, painter, the_map, written, source)
 
 
 def points_of(line):
     return [(point.x, point.y) for point in map(line.get, range(line.numpoints))]
+
+
+def item_names(layer):
+    return [layer.getItem(i) for i in range(layer.numitems)]
 
 
 def first_of(metadata, keys):
@@ -355,15 +469,16 @@ def with_own_names(layers, notes):
     """The layers with names that a request can list: without commas, each unlike the others."""
     taken = set()
     for layer in layers:
-        name = texts.plain(layer.name, notes, "a layer's name").replace(",", "_")
+        teller = Teller(notes, f"layer {layer.name}")
+        name = texts.plain(layer.name, teller, "a layer's name").replace(",", "_")
         number = 2
         while name in taken:
             name = f"{layer.name}_{number}"
             number += 1
         if name != layer.name:
-            notes.add(f"layer {layer.name}: its name became {name}")
+            teller.add(f"its name became {name}")
         layer.name = name
-        layer.title = texts.plain(layer.title, notes, "a layer's title")
+        layer.title = texts.plain(layer.title, teller, "a layer's title")
         taken.add(name)
     return layers
 
@@ -376,23 +491,44 @@ def silenced_output():
     return kept
 
 
+def made(asked, notes):
+    """The map's text, after all notes were told; an error where --strict forbids a change."""
+    importer = Importer(asked, notes)
+    the_map = importer.imported()
+    written = fitting.finished(the_map, asked, importer.teller)
+    if asked.query is not None:
+        asked.query.write_text(picture_query(the_map, asked.side) + "\n", encoding="ascii")
+    tell(written, importer, notes, sys.stderr)
+    if asked.preview is not None:
+        importer.preview(the_map, written)
+    if asked.report is not None:
+        with asked.report.open("w", encoding="utf-8", errors="backslashreplace") as report:
+            tell(written, importer, notes, report)
+    if asked.strict and notes.changes:
+        raise MapError(f"{asked.mapfile}: something is changed or left out, as the notes say: no map is written, by --strict")
+    return written.text
+
+
+def tell(written, importer, notes, stream):
+    """Writes the notes and the map's size, and at the end how much was carried, changed and left out."""
+    idle = account.idle(importer.written)
+    if idle:
+        print(f"note: without effect on a farm's answers: {idle}", file=stream)
+    fitting.tell(written, notes, stream)
+    left_out = importer.shapes_read - importer.shapes_drawn + len(written.lost_features)
+    shapes = f"of {importer.shapes_read:,} shapes {importer.shapes_read - left_out:,} were carried, {left_out:,} left out"
+    print(f"note: {account.counted(importer.written)}; {shapes}", file=stream)
+
+
 def main():
     asked = arguments()
     output = silenced_output()
-    notes = Notes()
     try:
-        made = Importer(asked, notes).imported()
-        written = fitting.finished(made, asked, notes)
-        if asked.query is not None:
-            asked.query.write_text(picture_query(made, asked.side) + "\n", encoding="ascii")
-        if asked.report is not None:
-            with asked.report.open("w", encoding="utf-8") as report:
-                fitting.tell(written, notes, report)
+        text = made(asked, Notes())
     except (MapError, OSError) as error:
         print(f"error: {error}", file=sys.stderr)
         return 1
-    fitting.tell(written, notes)
-    output.write(written.text.encode())
+    output.write(text.encode())
     output.close()
     return 0
 

@@ -30,9 +30,13 @@ from dataclasses import dataclass, field
 from pathlib import Path
 
 from maps import fitting, options, texts
+from maps.cutting import cut
 from maps.errors import MapError, Notes, library
 from maps.geometry import DIGITS, checked, on_grid, whole_extent
+from maps.merging import bounds
 from maps.model import LABEL_SIZES, LEAST_POINTS, MOST_CLASSES, POSITIONS, Class, Feature, Label, Layer, Map, Style
+from maps.preview import Painter
+from maps.preview import write as write_preview
 from maps.query import picture_query
 
 KINDS = ("POINT", "LINE", "POLYGON")
@@ -224,17 +228,8 @@ class Source:
 
     def records(self, crs, skip):
         """The features, in the map's system."""
-        if self.asked.where:
-            try:
-                self.table.SetAttributeFilter(self.asked.where)
-            except RuntimeError as error:
-                raise MapError(f"{self.path}: --where {self.asked.where!r} isn't understood: {error}") from error
         change = self.transformation(crs)
-        try:
-            features = [feature for feature in self.table]  # no list(): it asks for a length, which OpenStreetMap's has none of
-        except RuntimeError as error:
-            raise MapError(f"{self.path}: {unread(self.gdal, self.path, error)}") from error
-        for place, feature in enumerate(features, 1):
+        for place, feature in enumerate(self.features(), 1):
             name = f"{self.path}: feature {place}"
             try:
                 parts = self.parts_of(feature, change, crs, name)
@@ -244,6 +239,31 @@ class Source:
                 self.notes.add("a feature that can't be drawn was left out", str(error))
                 continue
             yield Record(name, parts, self.values_of(feature, name))
+
+    def features(self):
+        """What of the table meets --where."""
+        where = self.asked.where
+        try:
+            self.table.SetAttributeFilter(where)
+            rows = [feature for feature in self.table]  # no list(): it asks for a length, which OpenStreetMap's has none of
+        except RuntimeError as error:
+            if where and self.is_readable():
+                raise MapError(f"{self.path}: --where {where!r} isn't understood: {error}: it has {', '.join(self.fields) or 'no attributes'}") from error
+            raise MapError(f"{self.path}: {unread(self.gdal, self.path, error)}") from error
+        if not rows:
+            table = f"{self.path}: table {self.table.GetName()}"
+            raise MapError(f"{table}: no feature meets --where {where!r}" if where else f"{table}: it has no feature to draw: look at --table")
+        return rows
+
+    def is_readable(self):
+        """Whether the table can be read without --where."""
+        try:
+            self.table.SetAttributeFilter(None)
+            self.table.ResetReading()
+            self.table.GetNextFeature()
+            return True
+        except RuntimeError:
+            return False
 
     def parts_of(self, feature, change, crs, place):
         geometry = feature.GetGeometryRef()
@@ -454,7 +474,7 @@ def layers_of(gdal, asked, common, notes):
     source = Source(gdal, asked, notes)
     records = list(source.records(common.crs, common.skip))
     if not records:
-        raise MapError(f"{asked.path}: no feature is left to draw: look at --where and --table")
+        raise MapError(f"{asked.path}: no feature is left to draw: --skip left out all of them")
     classes = Classes(asked, records, notes)
     name = asked.layer_name or (Path(asked.path).stem if asked.table is None else asked.table)
     name = texts.plain(name, notes, "a layer's name").replace(",", "_")
@@ -477,10 +497,21 @@ def features_of(kind, records, classes, common, notes):
         if len(grid) < len(parts):
             notes.add("a part is smaller than the last digit and was left out", record.place, len(parts) - len(grid))
         if grid:
-            text = texts.label(record.values[asked.label], common.ascii, notes, record.place) if asked.label else ""
-            values = [texts.value(record.values[item], notes, record.place) for item in asked.items]
+            told = notes if is_near(grid, common) else Notes()
+            text = texts.label(record.values[asked.label], common.ascii, told, record.place) if asked.label else ""
+            values = [texts.value(record.values[item], told, record.place) for item in asked.items]
             features.append(Feature(grid, classes.group(record), values, text))
     return features
+
+
+def is_near(grid, common):
+    """Whether the feature may be in --extent or its margin, which is less than the extent."""
+    if common.extent is None:
+        return True
+    minx, miny, maxx, maxy = (side * 10**common.last_digit for side in common.extent)
+    margin = max(maxx - minx, maxy - miny) / 7
+    left, low, right, high = bounds(grid)
+    return left <= maxx + margin and right >= minx - margin and low <= maxy + margin and high >= miny - margin
 
 
 def sides_of(layers, common):
@@ -505,7 +536,14 @@ def the_map(common, notes):
         texts.plain(text, notes, "the map's texts") for text in (common.name, common.title or common.name, common.abstract, common.address)
     )
     extent = whole_extent(sides_of(layers, common), common.last_digit)
-    return Map(name, title, abstract, address, common.crs, common.last_digit, extent, layers)
+    made = Map(name, title, abstract, address, common.crs, common.last_digit, extent, layers)
+    return cut(made, notes) if common.extent else made
+
+
+def preview(made, written, common):
+    painter = Painter(common.program, common.side)
+    whole = fitting.Fitting(made, argparse.Namespace(apart=True, by_class=False))
+    write_preview(common.preview, painter, made, written, lambda extent: painter.source(whole, extent))
 
 
 def main():
@@ -516,6 +554,8 @@ def main():
         written = fitting.finished(made, common, notes)
         if common.query is not None:
             common.query.write_text(picture_query(made, common.side) + "\n", encoding="ascii")
+        if common.preview is not None:
+            preview(made, written, common)
     except (MapError, OSError) as error:
         print(f"error: {error}", file=sys.stderr)
         return 1

@@ -30,11 +30,11 @@ def arguments():
 
 def tried(asked):
     """How many were tried, and how many of them were wrong."""
-    from maps_test import checks, odd_data, odd_mapfiles
+    from maps_test import checks, constructs, odd_data, odd_mapfiles
     from maps_test.case import fault
 
     program = str(asked.program.resolve())
-    cases = [("make_map.py", case) for case in odd_data.CASES] + [("import_mapfile.py", case) for case in odd_mapfiles.CASES]
+    cases = [("make_map.py", case) for case in odd_data.CASES] + [("import_mapfile.py", case) for case in odd_mapfiles.CASES + constructs.CASES]
     ways = [(case.name, lambda folder, tool=tool, case=case: fault(tool, case, folder, program)) for tool, case in cases]
     ways += [(name, lambda folder, check=check: check(folder, program, asked.keep)) for name, check in checks.CHECKS.items()]
     ways = [(name, way) for name, way in ways if not asked.names or any(wanted in name for wanted in asked.names)]

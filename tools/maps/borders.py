@@ -56,12 +56,23 @@ class Arc:
     def weights(self):
         return weights(self.points)
 
-    def kept(self, tolerance):
-        """The points that are left at the distance (None: all of them)."""
+    def places(self, tolerance):
+        """The indices of the points that are left at the distance (None: all of them)."""
         if tolerance is None or self.halvings > MOST_REFINEMENTS:
-            return self.points
+            return range(len(self.points))
         least = tolerance / 2**self.halvings
-        return [point for point, weight in zip(self.points, self.weights) if weight > least]
+        return [i for i, weight in enumerate(self.weights) if weight > least]
+
+    def kept(self, tolerance):
+        """The points that are left at the distance."""
+        return [self.points[i] for i in self.places(tolerance)]
+
+    def displacements(self, tolerance):
+        """(how far it lies from the line that is left, point) of each point that isn't left at the distance."""
+        places = self.places(tolerance)
+        for first, last in zip(places, places[1:]):
+            for point in self.points[first + 1 : last]:
+                yield distance(point, self.points[first], self.points[last]), point
 
 
 class Borders:
@@ -115,6 +126,10 @@ class Borders:
     def distances(self):
         """All distances at which something changes, ascending."""
         return sorted({weight for arc in self.arcs for weight in arc.weights if weight < math.inf})
+
+    def displacement(self, tolerance):
+        """The largest one at the distance, and its point; 0 and None where nothing is displaced."""
+        return max((found for arc in self.arcs for found in arc.displacements(tolerance)), default=(0.0, None))
 
     def refine(self, tolerance):
         """Has borders that would cross at this distance keep more points."""

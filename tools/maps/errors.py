@@ -18,10 +18,14 @@ class Notes:
     def __init__(self):
         self.counts = {}
         self.places = {}
+        self.changes = 0  # by which a map differs from its mapfile, as an importer counts them
 
     def add(self, what, place="", count=1):
         self.counts[what] = self.counts.get(what, 0) + count
         self.places.setdefault(what, place)
+
+    def lost(self, what, place="", count=1):
+        self.add(f"left out: {what}", place, count)
 
     def lines(self):
         for what, count in self.counts.items():

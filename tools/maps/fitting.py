@@ -10,7 +10,22 @@ from .geometry import metres_a_unit, on_grid
 from .merging import merged
 from .model import EXTENT_DIGITS, LEAST_POINTS, MOST_PIXELS, canonical_text, measure
 
+ROUNDING = math.sqrt(0.5)  # of the last digit, by which rounding displaces a point at most
 STEP = 1.03  # by which a distance grows where borders that would cross kept too many points
+
+
+@dataclass
+class Largest:
+    """The largest displacement, rounding included: in metres, in pixels, and where (in millionths of a unit; None where points
+    were rounded alone)."""
+
+    metres: float
+    pixels: float
+    place: tuple
+
+    def __str__(self):
+        metres = f"{self.metres:,.0f}" if self.metres >= 100 else f"{self.metres:.3g}"
+        return f"{metres} m, {self.pixels:.2g} pixels of {MOST_PIXELS:,}"
 
 
 @dataclass
@@ -21,6 +36,7 @@ class Written:
     measure: object
     lost_parts: int
     lost_features: list
+    largest: Largest = None
 
 
 class Fitting:
@@ -43,7 +59,13 @@ class Fitting:
                 self.cuts[id(part)] = self.borders.cut(part, layer.kind == "POLYGON")
 
     def written(self, tolerance):
-        """The map at the distance, in units of its coordinates (None: as it is)."""
+        """The map at the distance, in units of its coordinates (None: as it is), as text."""
+        simpler, lost_parts, lost_features = self.map_at(tolerance)
+        text = canonical_text(simpler)
+        return Written(text, measure(simpler, text), lost_parts, lost_features)
+
+    def map_at(self, tolerance):
+        """The map at the distance, how many parts are too small to draw, and which features."""
         layers, lost_parts, lost_features = [], 0, []
         for layer in self.map.layers:
             features = []
@@ -55,9 +77,7 @@ class Fitting:
                 else:
                     lost_features.append(feature)
             layers.append(replace(layer, features=features))
-        simpler = replace(self.map, layers=layers)
-        text = canonical_text(simpler)
-        return Written(text, measure(simpler, text), lost_parts, lost_features)
+        return replace(self.map, layers=layers), lost_parts, lost_features
 
     def parts_at(self, kind, feature, tolerance):
         if kind == "POINT" or tolerance is None:
@@ -79,8 +99,8 @@ class Fitting:
         if not distances or self.written(distances[-1]).measure.excess() is not None:
             excess = (self.written(distances[-1]) if distances else whole).measure.excess()
             raise MapError(
-                f"even with the simplest shapes the map has {excess}: leave out layers or small features, write --by-class or fewer "
-                "labels, or make two maps (docs/MAPFILES.md, \"Two maps\")"
+                f"even with the simplest shapes the map has {excess}: take a part by --extent, leave out layers or small features, write "
+                "--by-class or fewer labels, or make two maps (docs/MAPFILES.md, \"Two maps\")"
             )
         low, high = 0, len(distances) - 1
         while low < high:
@@ -101,11 +121,21 @@ class Fitting:
                 raise MapError(f"with borders that don't cross the map has {written.measure.excess()}: make two maps (docs/MAPFILES.md)")
             tolerance *= STEP
 
+    def pixels(self, distance):
+        """A distance on the largest picture of the extent."""
+        minx, miny, maxx, maxy = self.extent
+        return distance / self.unit * MOST_PIXELS / max(maxx - minx, maxy - miny)
+
     def distance(self, tolerance):
         """The distance in words: in metres on the ground and in pixels."""
-        minx, miny, maxx, maxy = self.extent
-        pixels = tolerance / self.unit * MOST_PIXELS / max(maxx - minx, maxy - miny)
-        return f"{tolerance / self.unit * self.metres:,.4g} m on the ground, {pixels:.2g} pixels of a picture {MOST_PIXELS:,} pixels wide"
+        metres = tolerance / self.unit * self.metres
+        return f"{metres:,.4g} m on the ground, {self.pixels(tolerance):.2g} pixels of a picture {MOST_PIXELS:,} pixels wide"
+
+    def largest(self, tolerance):
+        distance, point = self.borders.displacement(tolerance)
+        place = point and tuple(side * 10**EXTENT_DIGITS // self.unit for side in point)
+        whole = distance + ROUNDING
+        return Largest(whole / self.unit * self.metres, self.pixels(whole), place)
 
 
 def features_of(layer, options):
@@ -131,7 +161,7 @@ def tell_lost(features, place, notes):
     if features:
         labels = [feature.text for feature in features if feature.text]
         named = f", {len(labels)} of them with a label ({', '.join(labels[:5])}{', ..' if len(labels) > 5 else ''})" if labels else ""
-        notes.add(f"{place}{len(features)} features became too small to draw and were left out{named}")
+        notes.lost(f"{place}{len(features)} features that became too small to draw{named}")
 
 
 def fitted(the_map, options, notes):
@@ -158,11 +188,12 @@ def finished(the_map, options, notes):
     excess = written.measure.excess()
     if excess is not None:
         remedy = "write --fit" if not options.simplify else "simplify more, or write --fit"
-        raise MapError(f"the map has {excess}: {remedy}, leave out layers or features, or make two maps (docs/MAPFILES.md)")
+        raise MapError(f"the map has {excess}: {remedy}, take a part by --extent, leave out layers or features, or make two maps (docs/MAPFILES.md)")
+    written.largest = fitting.largest(tolerance)
     if tolerance is not None:
         notes.add(f"simplified by {fitting.distance(tolerance)}")
     if written.lost_parts:
-        notes.add(f"{written.lost_parts} parts of shapes became too small to draw and were left out")
+        notes.lost(f"{written.lost_parts} parts of shapes that became too small to draw")
     tell_lost(written.lost_features, "", notes)
     return written
 
@@ -172,4 +203,4 @@ def tell(written, notes, stream=sys.stderr):
     for line in notes.lines():
         print(f"note: {line}", file=stream)
     size = written.measure
-    print(f"note: {size.size:,} bytes, {size.features:,} features, {size.points:,} points", file=stream)
+    print(f"note: {size.size:,} bytes, {size.features:,} features, {size.points:,} points; the largest displacement is {written.largest}", file=stream)

@@ -54,11 +54,15 @@ def on_grid(parts, kind, digits):
             points.append(points[0])
         if len(points) >= LEAST_POINTS[kind]:
             result.append(points)
-    if kind != "POINT" and len(result) > 1:
-        extent = ring_area if kind == "POLYGON" else length
-        greatest = max(result, key=extent)
-        result = [greatest] + [part for part in result if part is not greatest]
-    return result
+    return greatest_first(result, kind)
+
+
+def greatest_first(parts, kind):
+    """The parts, the greatest first."""
+    if kind == "POINT" or len(parts) < 2:
+        return parts
+    greatest = max(parts, key=ring_area if kind == "POLYGON" else length)
+    return [greatest] + [part for part in parts if part is not greatest]
 
 
 def ring_area(ring):

@@ -79,19 +79,21 @@ def lie_apart(one, other):
     return one.relate_pattern(other, "F********")
 
 
-def dissolved(rings):
-    """Rings of the sides that are there once. Sides in both directions are one."""
-    sides = {}
+def dissolved(rings, may_go=lambda side: True):
+    """Rings of the sides that are there once, and of those that may not go. Sides in both directions are one."""
+    sides, places = [], {}
     for side in (side for ring in rings for side in zip(ring, ring[1:])):
         key = min(side), max(side)
-        if key in sides:
-            del sides[key]
+        if key in places and may_go(key):
+            sides[places.pop(key)] = None
         else:
-            sides[key] = None
-    if len(sides) == sum(len(ring) - 1 for ring in rings):
+            places[key] = len(sides)
+            sides.append(key)
+    left = [side for side in sides if side is not None]
+    if len(left) == len(sides):
         return rings
     ends = {}
-    for one, other in sides:
+    for one, other in left:
         ends.setdefault(one, []).append(other)
         ends.setdefault(other, []).append(one)
     result = []

@@ -56,4 +56,6 @@ def add_common(parser):
     parser.add_argument("--apart", action="store_true", help="write each feature by itself, also where several could be one shape")
     parser.add_argument("--ascii", action="store_true", help="write labels in letters that are drawn (é as e, ß as ss, ø as o)")
     parser.add_argument("--query", type=Path, metavar="FILE", help="where to write the query of a picture of the whole map")
-    parser.add_argument("--side", type=whole(1, MOST_PIXELS), default=400, metavar="PIXELS", help="the longer side of that picture (400)")
+    parser.add_argument("--preview", type=Path, metavar="FILE.png", help="where to draw the source beside the map, at one scale, with the largest displacement")
+    parser.add_argument("--program", metavar="WFARM", help="the program that draws the preview (wfarm)")
+    parser.add_argument("--side", type=whole(1, MOST_PIXELS), default=400, metavar="PIXELS", help="the longer side of these pictures (400)")

@@ -94,7 +94,8 @@ def boxes(text):
 def label(text, in_ascii, notes, place):
     """The text as a label, in letters that are drawn if asked. Labels with characters that are drawn as boxes are noted."""
     text = plain(text, notes, place)
-    if in_ascii:
+    if in_ascii and ascii_letters(text) != text:
+        notes.add("a label is in other letters, by --ascii", f"{place}: {text}")
         text = ascii_letters(text)
     if boxes(text):
         cure = "" if in_ascii else "; --ascii writes é as e, ß as ss, and so on"

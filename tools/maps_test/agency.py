@@ -87,7 +87,8 @@ def write_table(path, driver, table, kind, fields, rows, epsg=2056, options=()):
     layer.StartTransaction()
     for geometry, values in rows:
         feature = ogr.Feature(layer.GetLayerDefn())
-        feature.SetGeometry(geometry)
+        if geometry is not None:
+            feature.SetGeometry(geometry)
         for (name, _), value in zip(fields, values):
             feature[name] = value
         layer.CreateFeature(feature)

@@ -11,8 +11,8 @@ TOOLS = Path(__file__).resolve().parent.parent
 
 @dataclass
 class Case:
-    """`error` is a pattern of the one line with which the tool ends; else a map is wanted. `notes` are patterns of its
-    notes, `lines` and `absent` lines that its map has and hasn't."""
+    """`error` is a pattern of the one line, behind notes if some are wanted, with which the tool ends; else a map is wanted. `notes` and `silent` are
+    patterns of notes that it writes and doesn't, `lines` and `absent` lines that its map has and hasn't."""
 
     name: str
     words: list
@@ -21,6 +21,7 @@ class Case:
     error: str = None
     status: int = 1
     notes: tuple = ()
+    silent: tuple = ()
     lines: tuple = ()
     absent: tuple = ()
 
@@ -58,11 +59,12 @@ def wrong_error(case, done, said):
     lines = said.strip().splitlines()
     if done.returncode != case.status or done.stdout:
         return f"status {done.returncode}, {len(done.stdout)} bytes written: {said.strip()}"
-    if case.status == 1 and (len(lines) != 1 or not lines[0].startswith("error: ")):
+    errors = [line for line in lines if not (case.notes and line.startswith("note: "))]
+    if case.status == 1 and (len(errors) != 1 or not errors[0].startswith("error: ")):
         return f"more than a line: {said.strip()}"
     if not re.search(case.error, lines[-1]):
         return f"another error: {lines[-1]}"
-    return None
+    return wrong_notes(case, said)
 
 
 def wrong_map(case, done, said, program):
@@ -72,9 +74,6 @@ def wrong_map(case, done, said, program):
     own = canonical(program, done.stdout)
     if own.stdout != done.stdout:
         return f"wfarm canon has another text: {own.stderr.decode().strip()}"
-    for note in case.notes:
-        if not re.search(f"^note: .*{note}", said, re.MULTILINE):
-            return f"no note {note!r}: {said.strip()}"
     present = text.splitlines()
     for line in case.lines:
         if line not in present:
@@ -82,4 +81,14 @@ def wrong_map(case, done, said, program):
     for line in case.absent:
         if line in present:
             return f"a line {line!r}"
+    return wrong_notes(case, said)
+
+
+def wrong_notes(case, said):
+    for note in case.notes:
+        if not re.search(f"^note: .*{note}", said, re.MULTILINE):
+            return f"no note {note!r}: {said.strip()}"
+    for note in case.silent:
+        if re.search(f"^note: .*{note}", said, re.MULTILINE):
+            return f"a note {note!r}: {said.strip()}"
     return None

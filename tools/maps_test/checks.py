@@ -2,16 +2,19 @@
 
 import re
 import time
+from pathlib import Path
 
 from osgeo import ogr
 from shapely.geometry import Polygon
 from shapely.ops import unary_union
 
 from maps.borders import weights
+from maps.preview import CAPTION, GAP
 from maps.texts import number
 
 from . import agency, pictures
 from .case import TOOLS, canonical, run
+from .constructs import table_of_the_page
 
 EXAMPLES = TOOLS.parent / "examples"
 DATA = TOOLS / "geojson"
@@ -127,10 +130,15 @@ def neighbours_as_one_look_alike(folder, program, keep):
 def own_maps_stay(folder, program, keep):
     """Maps of wfarm go through MapServer's library and back with every pixel."""
     for name in ("roads", "parcels", "lakes", "towns"):
-        done = run("import_mapfile.py", ["--digits", "6", str(EXAMPLES / f"{name}.map")], folder)
+        strict = ["--strict"] if name == "roads" else []  # the others have points without symbols, double quotes, other metadata
+        done = run("import_mapfile.py", [*strict, "--digits", "6", str(EXAMPLES / f"{name}.map")], folder)
         if done.returncode != 0:
             return f"{name}: {said(done)}"
         own = canonical(program, (EXAMPLES / f"{name}.map").read_bytes()).stdout.decode()
+        (folder / "own.map").write_text(own)
+        again = run("import_mapfile.py", [*strict, "--digits", "6", "own.map"], folder)
+        if again.returncode != 0:
+            return f"{name}: {said(again)}"
         before, after = (pictures.drawn_by_wfarm(program, text, 1024) for text in (own, done.stdout.decode()))
         if before != after:
             return f"{name}: {pictures.share_equal(pictures.pixels_of(before), pictures.pixels_of(after)):.4%} of the pixels are equal"
@@ -144,14 +152,14 @@ def shown(folder, program, keep, name, words, least, layers=None):
     if done.returncode != 0:
         return said(done)
     text = done.stdout.decode()
-    png = pictures.drawn_by_mapserver(folder / "agency.map", text, 1024, layers)
-    theirs, ours = pictures.pixels_of_png(png), pictures.pixels_of(pictures.drawn_by_wfarm(program, text, 1024))
+    original = pictures.drawn_by_mapserver(folder / "agency.map", text, 1024, layers)
+    theirs, ours = pictures.pixels_of(original), pictures.pixels_of(pictures.drawn_by_wfarm(program, text, 1024))
     colors = set(pictures.pixels(ours))
     plain, share = pictures.share_equal(ours, theirs), pictures.share_equal(ours, pictures.nearest(theirs, colors))
     print(f"{name}: {plain:.2%} of the pixels are equal, {share:.2%} without MapServer's smoothing; {said(done).splitlines()[-1]}")
     if keep is not None:
         keep.mkdir(parents=True, exist_ok=True)
-        (keep / f"{name}-mapserver.png").write_bytes(png)
+        (keep / f"{name}-mapserver.ppm").write_bytes(original)
         (keep / f"{name}.ppm").write_bytes(pictures.drawn_by_wfarm(program, text, 1024))
         (keep / f"{name}.map").write_text(text)
     return None if plain >= least else f"{plain:.2%} of the pixels are equal, and {least:.0%} are wanted"
@@ -169,6 +177,104 @@ def whole_map_beside_mapserver(folder, program, keep):
     agency.write_data(folder)
     agency.write_mapfile(folder)
     return shown(folder, program, keep, "agency", ["--crs", "3857", "--fit", "--by-class", "--ascii"], 0.75)
+
+
+# ---- parts and previews
+
+
+def largest(done):
+    """The largest displacement that a tool tells, in metres."""
+    return float(re.search(r"the largest displacement is ([\d.,]+) m", said(done))[1].replace(",", ""))
+
+
+PART = "--extent=880000,5960000,930000,5985000"  # a ninth of the agency's area
+COMMUNES = ["--name", "a", "--crs", "3857", "--layer", "communes.shp", "--label", "NAME", "--ascii"]
+
+
+def cut_borders_stay_shared(folder, program, keep):
+    """Communes cut at an extent and simplified: no overlap, no gap, and they fill the extent and its margin."""
+    agency.write_data(folder, depth=5, roads=1, towns=1)
+    done = run("make_map.py", [PART, "--simplify", "100", *COMMUNES], folder)
+    if done.returncode != 0:
+        return said(done)
+    polygons = [Polygon(ring) for rings in rings_of(done.stdout.decode()) for ring in rings]
+    union = unary_union(polygons)
+    overlap, gaps = sum(polygon.area for polygon in polygons) - union.area, union.envelope.area - union.area
+    wide = union.bounds[2] - union.bounds[0]
+    return None if abs(overlap) < 1 and gaps < 1 and 50_400 < wide < 51_000 else f"overlap {overlap:,.1f} m², gaps {gaps:,.1f} m², {wide:,.0f} m wide"
+
+
+def a_part_has_more_detail(folder, program, keep):
+    """A ninth of the area is simplified by a third of the whole's distance, or less."""
+    agency.write_data(folder, depth=7, roads=1, towns=1)
+    whole, part = run("make_map.py", ["--fit", *COMMUNES], folder), run("make_map.py", [PART, "--fit", *COMMUNES], folder)
+    if whole.returncode or part.returncode:
+        return f"{said(whole)} {said(part)}"
+    print(f"a ninth of the area: displaced by {largest(part):,.1f} m at most, the whole by {largest(whole):,.1f} m")
+    return None if largest(part) < largest(whole) / 3 else "less than three times the detail"
+
+
+def panels(path, width, height):
+    """The two pictures at the top of a preview."""
+    _, _, rows = pictures.size_and_pixels(path)
+    rows = rows[CAPTION : CAPTION + height]
+    return b"".join(row[: 3 * width] for row in rows), b"".join(row[3 * (width + GAP) : 3 * (2 * width + GAP)] for row in rows)
+
+
+def preview_of_data(folder, program, keep):
+    """Where nothing is simplified, both sides are the map's own picture; else the right one is, with the red frame."""
+    words = ["--name", "a", "--preview", str(folder / "p.png"), "--program", program, "--layer", "wards.geojson", "--class-by", "party", "--label", "ward"]
+    done = run("make_map.py", words, DATA)
+    if done.returncode != 0:
+        return said(done)
+    ours = pictures.pixels_of(pictures.drawn_by_wfarm(program, done.stdout.decode(), 400))
+    source, right = panels(folder / "p.png", 400, 267)
+    return None if source == right == ours else "the preview has another picture"
+
+
+def preview_of_many_points(folder, program, keep):
+    """50,000 points: the map's side is its picture but for the frame, the source's nearly."""
+    rows = [(agency.polygon(ring), (f"Ö{i}", i % 7)) for i, ring in enumerate(agency.coverage(20, 10, 6))]
+    agency.write_table(folder / "a.gpkg", "GPKG", "a", ogr.wkbPolygon, [("name", ogr.OFTString), ("use", ogr.OFTInteger)], rows)
+    words = ["--name", "a", "--crs", "3857", "--fit", "--preview", "p.png", "--program", program, "--layer", "a.gpkg", "--class-by", "use"]
+    took, done = seconds_of("make_map.py", words, folder)
+    if done.returncode != 0:
+        return said(done)
+    text = done.stdout.decode()
+    width, height, _ = pictures.size_and_pixels(folder / "p.png")
+    tall = pictures.height_of(pictures.extent_of(text), 400)
+    ours = pictures.pixels_of(pictures.drawn_by_wfarm(program, text, 400))
+    shares = [pictures.share_equal(side, ours) for side in panels(folder / "p.png", 400, tall)]
+    print(f"preview of 51,200 points: {took:.1f} seconds, {shares[0]:.2%} of the source's pixels are the map's; {said(done).splitlines()[-1]}")
+    size = (width, height) == (2 * 400 + GAP, 2 * tall + 2 * CAPTION)
+    return None if size and shares[1] > 0.995 and 0.95 < shares[0] < shares[1] else f"{width} by {height}, {shares}"
+
+
+def preview_of_a_mapfile(folder, program, keep):
+    """MapServer's picture on one side and the map's on the other."""
+    agency.write_data(folder, columns=4, rows=2, depth=6, roads=9, towns=5)
+    agency.write_mapfile(folder)
+    done = run("import_mapfile.py", ["--crs", "3857", "--simplify", "900", "--preview", "p.png", "--program", program, "agency.map"], folder)
+    if done.returncode != 0:
+        return said(done)
+    if keep is not None:
+        keep.mkdir(parents=True, exist_ok=True)
+        (keep / "preview.png").write_bytes((folder / "p.png").read_bytes())
+    tall = pictures.height_of(pictures.extent_of(done.stdout.decode()), 400)
+    ours = pictures.pixels_of(pictures.drawn_by_wfarm(program, done.stdout.decode(), 400))
+    shares = [pictures.share_equal(side, ours) for side in panels(folder / "p.png", 400, tall)]
+    return None if shares[1] > 0.99 and 0.6 < shares[0] < shares[1] else f"{shares} of the pixels are the map's"
+
+
+def own_map_of_mapserver(folder, program, keep):
+    """The mapfile of MapServer's own tests, where its source package is unpacked in /usr/src, as by apt-get source."""
+    path = next(Path("/usr/src").glob("mapserver-*/tests/test.map"), None)
+    if path is None:
+        print("MapServer's own test.map isn't in /usr/src: not tried")
+        return None
+    done = run("import_mapfile.py", [str(path)], folder)
+    wanted = ("layer RASTER: left out: all of it", "layer POINT: left out: FONT Vera of LABEL", "layer POINT: changed: SYMBOL 1 of STYLE")
+    return None if done.returncode == 0 and all(line in said(done) for line in wanted) else said(done)
 
 
 # ---- speed, and the whole way
@@ -207,7 +313,7 @@ def report_of_what_is_lost(folder, program, keep):
     agency.write_mapfile(folder)
     done = run("import_mapfile.py", ["--crs", "4326", "--report", "lost.txt", "agency.map"], folder)
     report = (folder / "lost.txt").read_text()
-    return None if report.strip() == said(done) and "layer roads: lost: PATTERN of STYLE" in report else report
+    return None if report.strip() == said(done) and "layer roads: left out: PATTERN 4 2 of STYLE (net.inc, line 10)" in report else report
 
 
 CHECKS = {
@@ -215,6 +321,7 @@ CHECKS = {
     for check in (
         borders_stay_shared, borders_do_not_cross, weights_of_a_line, numbers_as_written, one_shape_looks_alike,
         neighbours_as_one_look_alike, own_maps_stay, polygons_beside_mapserver, whole_map_beside_mapserver, fast_enough,
-        query_of_the_map, report_of_what_is_lost,
+        cut_borders_stay_shared, a_part_has_more_detail, preview_of_data, preview_of_many_points, preview_of_a_mapfile, own_map_of_mapserver,
+        query_of_the_map, report_of_what_is_lost, table_of_the_page,
     )
 }  # fmt: skip

@@ -88,7 +88,7 @@ FILES = [
     made("JSON of something else", [], text='{"a": 1}', error=r"made.geojson: GDAL can't read it"),
     made("a JSON list", [], text="[1, 2]", error=r"made.geojson: GDAL can't read it"),
     made("features that are null", [], text='{"type": "FeatureCollection", "features": null}', error=r"made.geojson"),
-    made("no features", [], error=r"made.geojson: no feature is left to draw"),
+    made("no features", [], error=r"made.geojson: table made: it has no feature to draw: look at --table"),
     made("a feature alone", [], text=json.dumps(feature("LineString", [[1, 1], [2, 3]])), lines=("2 3",)),
     made("a geometry alone", [], text=json.dumps({"type": "LineString", "coordinates": [[1, 1], [2, 3]]}), lines=("2 3",)),
     made("a byte order mark", [], text="\ufeff" + collection(*TWO), lines=("2 3",)),
@@ -123,7 +123,7 @@ TEXTS = [
     made("an unknown class item", TWO, ["--class-by", "nme"], error=r"it has no attribute 'nme'"),
     made("quotes in the title", TWO, ["--title", "\"a\" and 'b'"], lines=("\"wms_title\" \"'a' and 'b'\"",)),
     made("a condition that isn't SQL", TWO, ["--where", "name ="], error=r"--where 'name =' isn't understood"),
-    made("a condition that nothing meets", TWO, ["--where", "name = 'x'"], error=r"no feature is left to draw: look at --where"),
+    made("a condition that nothing meets", TWO, ["--where", "name = 'x'"], error=r"made.geojson: table made: no feature meets --where \"name = 'x'\""),
     made("an unknown system", TWO, ["--source", "here"], error=r"here is no system: write --source EPSG:"),
     made("a system without a number", TWO, ["--source", "EPSG:99999"], error=r"EPSG:99999 is no system"),
 ]  # fmt: skip
@@ -145,6 +145,23 @@ CLASSES = [
 
 def wavy(points):
     return [[i / 1000, (i * i % 7) / 1000] for i in range(points)]
+
+
+FRAME = feature("Polygon", [[[0, 0], [9, 0], [9, 9], [0, 9], [0, 0]], [[3, 3], [3, 6], [6, 6], [6, 3], [3, 3]]])
+COMB = feature("Polygon", [[[0, 0], [8, 0], [8, 1], [2, 1], [2, 2], [8, 2], [8, 3], [0, 3], [0, 0]]])
+EXTENTS = [
+    made("a hole", [FRAME], lines=("6 6",)),
+    made("cut at the extent, with a margin", [FRAME, *TWO], ["--extent=1,1,5,5", "--width", "5", "--outline", "1,2,3"], lines=("0.945312 0.945312", "5.054688 3", "3 5.054688", "1 1"), absent=("9 9", "6 6"),
+         notes=()),
+    made("nothing in the extent", [FRAME], ["--extent=20,20,30,30"], error=r"--extent holds none of the data: they reach over 0,0,9,9"),
+    made("the extent in a hole", [FRAME], ["--extent=4,4,5,5"], error=r"--extent holds none of the data: they reach over 0,0,9,9"),
+    made("the extent within a polygon", [FRAME], ["--extent=7,7,8,8"], lines=("6.994140 6.994140".replace("40", "4"), "8.00586 8.00586")),
+    made("one layer of two in the extent", [FRAME, feature("Point", [20, 20])], ["--extent=0,0,9,9"], notes=("left out: layer made_point: all 1 features, outside of --extent",), lines=('NAME "made_point"',), absent=("20 20",)),
+    made("some features outside", [*TWO, feature("Point", [20, 20])], ["--extent=0,0,4,4"], notes=("left out: layer made: 1 features outside of --extent",), absent=("20 20",)),
+    made("a line that leaves and comes back", [feature("LineString", [[1, 1], [9, 2], [1, 3]])], ["--extent=0,0,4,4"], lines=("4.023438 1.37793", "4.023438 2.62207"), absent=("9 2",)),
+    made("a comb in two pieces", [COMB], ["--extent=4,-1,7,4"], lines=("3.970703 0", "3.970703 2", "3.970703 3"), absent=("2 1", "8 0")),
+    made("a preview without a program", TWO, ["--preview", "p.png", "--program", "./nix"], error=r"--program ./nix: .*No such file"),
+]  # fmt: skip
 
 
 LIMITS = [
@@ -196,6 +213,14 @@ def cut_shapefile(folder):
     (folder / "a.shp").write_bytes(whole[:110])
 
 
+HOLED = ogr.CreateGeometryFromWkt("POLYGON Z ((0 0 7,9 0 7,9 9 7,0 9 7,0 0 7),(3 3 7,3 6 7,6 6 7,6 3 7,3 3 7))")
+
+
+def odd_rows(folder, driver="GPKG", path="a.gpkg"):
+    """A polygon with a hole and heights, then one without a geometry."""
+    write_table(folder / path, driver, "a", ogr.wkbPolygon25D, [("name", ogr.OFTString)], [(HOLED, ("Zürich",)), (None, ("nowhere",))], epsg=4326)
+
+
 OSM = """<?xml version="1.0"?><osm version="0.6">
 <node id="1" lat="47" lon="7" version="1"/><node id="2" lat="47.1" lon="7.2" version="1"/>
 <way id="9" version="1"><nd ref="1"/><nd ref="2"/><tag k="highway" v="primary"/><tag k="name" v="Ring"/></way></osm>"""
@@ -205,6 +230,13 @@ FORMATS = [
     Case("two tables", GPKG, make=two_tables, error=r"a.gpkg: it has several tables: write --table and one of one, two"),
     Case("one of two tables", [*GPKG, "--table", "two", "--label", "name"], make=two_tables, lines=('NAME "two"', 'TEXT "b"')),
     Case("no such table", [*GPKG, "--table", "three"], make=two_tables, error=r"it has no table three"),
+    Case("no such attribute in --where", [*GPKG, "--table", "two", "--where", "nix = 3"], make=two_tables, error=r"a.gpkg: --where 'nix = 3' isn't understood: .*: it has name"),
+    Case("nothing meets --where", [*GPKG, "--table", "two", "--where", "name = 'q'"], make=two_tables, error=r"a.gpkg: table two: no feature meets --where \"name = 'q'\""),
+    Case("a hole, heights, no geometry in a GeoPackage", [*GPKG, "--label", "name", "--skip", "--color", "1,2,3"], make=odd_rows, lines=("6 6", 'TEXT "Zürich"'),
+         notes=("heights were left out", "left out .a.gpkg: feature 2: it has no geometry")),
+    Case("no geometry in a GeoPackage", GPKG, make=odd_rows, error=r"a.gpkg: feature 2: it has no geometry.*--skip"),
+    Case("a hole, heights, no geometry in a shapefile", [*SHP, "--skip"], make=lambda folder: odd_rows(folder, "ESRI Shapefile", "a.shp"), lines=("6 6",),
+         notes=("heights were left out", "left out .a.shp: feature 2: it has no geometry")),
     Case("a shapefile in Latin-1", [*SHP, "--label", "name"], make=shapefile, lines=('TEXT "Genève"', "7.438632 46.951083")),
     Case("a shapefile that names no encoding", [*SHP, "--label", "name"], make=lambda folder: shapefile(folder, beside=(".prj",)),
          error=r"a.shp: feature 1: attribute name isn't UTF-8: write its --encoding"),
@@ -221,4 +253,4 @@ FORMATS = [
 ]  # fmt: skip
 
 gdal.UseExceptions()
-CASES = GEOMETRY + FILES + TEXTS + CLASSES + LIMITS + FORMATS
+CASES = GEOMETRY + FILES + TEXTS + CLASSES + EXTENTS + LIMITS + FORMATS

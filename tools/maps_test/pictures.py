@@ -2,8 +2,9 @@
 
 import threading
 
-import mapscript
 from osgeo import gdal
+
+from maps.preview import MapServer
 
 from .case import picture
 
@@ -47,31 +48,17 @@ def pixels_of(pixmap):
 
 
 def drawn_by_mapserver(path, text, width, layers=None):
-    """The picture of the mapfile in the system and extent of the map that was made of it, as PNG."""
+    """The picture of the mapfile in the system and extent of the map that was made of it, as a pixmap."""
+    extent = extent_of(text)
     with ONE_AT_A_TIME:
-        the_map = mapscript.mapObj(str(path))
-        the_map.applyDefaultSubstitutions()
-        own, target = the_map.getProjection(), f"init=epsg:{crs_of(text)}"
-        for i in range(the_map.numlayers):
-            layer = the_map.getLayer(i)
-            layer.status = mapscript.MS_ON if layers is None or layer.name in layers else mapscript.MS_OFF
-            if not layer.getProjection():
-                layer.setProjection(own)
-        the_map.setProjection(target)
-        the_map.units = mapscript.projectionObj(target).getUnits()
-        extent = extent_of(text)
-        half = (extent[2] - extent[0]) / width / 2  # MapServer's extent ends in the middle of a pixel
-        height = height_of(extent, width)
-        half_up = (extent[3] - extent[1]) / height / 2
-        the_map.setSize(width, height)
-        the_map.setExtent(extent[0] + half, extent[1] + half_up, extent[2] - half, extent[3] - half_up)
-        return the_map.draw().getBytes()
+        return MapServer(path, layers, crs_of(text), None).drawn(extent, width, height_of(extent, width))
 
 
-def pixels_of_png(png):
-    gdal.FileFromMemBuffer("/vsimem/picture.png", png)
-    data = gdal.Open("/vsimem/picture.png")
-    return bytes(data.ReadRaster(band_list=[1, 2, 3], buf_pixel_space=3, buf_line_space=3 * data.RasterXSize, buf_band_space=1))
+def size_and_pixels(png):
+    """Of a PNG: width, height, and a list of rows."""
+    data = gdal.Open(str(png))
+    rows = [data.ReadRaster(0, row, data.RasterXSize, 1, band_list=[1, 2, 3], buf_pixel_space=3, buf_band_space=1) for row in range(data.RasterYSize)]
+    return data.RasterXSize, data.RasterYSize, [bytes(row) for row in rows]
 
 
 def pixels(data):

@@ -1,0 +1,162 @@
+"""Cuts a map's shapes at an extent, with a margin in which the cut edges and their outlines lie unseen.
+
+A side is cut at the same point whichever way it runs, so borders that shapes share stay shared. What a ring has twice along
+the edge of the cut is left out, so a shape that leaves the extent and comes back has its parts apart.
+"""
+
+import math
+from dataclasses import replace
+
+from .errors import MapError
+from .geometry import greatest_first
+from .merging import bounds, dissolved
+from .model import EXTENT_DIGITS, LEAST_POINTS
+from .texts import number
+
+LEAST_PICTURE = 256  # pixels of the longer side of a picture in which no cut edge shows
+
+
+def cut(the_map, notes):
+    """The map with its shapes cut at its extent and margin, and without those outside."""
+    box = box_of(the_map)
+    layers = [replace(layer, features=list(cut_features(layer, box))) for layer in the_map.layers]
+    if not any(layer.features for layer in layers):
+        raise MapError(f"--extent holds none of the data: they reach over {reach(the_map)}")
+    for before, layer in zip(the_map.layers, layers):
+        outside = len(before.features) - len(layer.features)
+        if before.features and not layer.features:
+            notes.lost(f"layer {layer.name}: all {outside} features, outside of --extent")
+        elif outside:
+            notes.lost(f"layer {layer.name}: {outside} features outside of --extent")
+    return replace(the_map, layers=layers)
+
+
+def reach(the_map):
+    """The extent of all shapes, as --extent takes it."""
+    points = [point for layer in the_map.layers for feature in layer.features for part in feature.parts for point in part]
+    xs, ys = zip(*points) if points else ((0,), (0,))
+    return ",".join(number(side, the_map.digits) for side in (min(xs), min(ys), max(xs), max(ys)))
+
+
+def box_of(the_map):
+    """The extent and its margin, in units of the coordinates."""
+    minx, miny, maxx, maxy = (side / 10 ** (EXTENT_DIGITS - the_map.digits) for side in the_map.extent)
+    styles = [style for layer in the_map.layers for group in layer.classes for style in group.styles]
+    widest = max((max(style.width, style.size) for style in styles), default=1)
+    margin = (widest / 2 + 1) * max(maxx - minx, maxy - miny) / LEAST_PICTURE
+    return math.floor(minx - margin), math.floor(miny - margin), math.ceil(maxx + margin), math.ceil(maxy + margin)
+
+
+def cut_features(layer, box):
+    ways = {"POINT": cut_points, "LINE": cut_line, "POLYGON": cut_ring}
+    for feature in layer.features:
+        if all(is_inside(part, box) for part in feature.parts):
+            yield feature
+            continue
+        parts = [piece for part in feature.parts for piece in pieces(part, box, ways[layer.kind])]
+        if layer.kind == "POLYGON":
+            parts = without_twice(parts, box)
+        parts = [part for part in parts if len(part) >= LEAST_POINTS[layer.kind]]
+        if parts:
+            yield replace(feature, parts=greatest_first(parts, layer.kind))
+
+
+def is_inside(part, box):
+    minx, miny, maxx, maxy = bounds([part])
+    return box[0] <= minx and box[1] <= miny and maxx <= box[2] and maxy <= box[3]
+
+
+def pieces(part, box, way):
+    """What of the part is in the box."""
+    minx, miny, maxx, maxy = bounds([part])
+    if maxx < box[0] or minx > box[2] or maxy < box[1] or miny > box[3]:
+        return []
+    return [part] if is_inside(part, box) else way(part, box)
+
+
+def sides_of(box):
+    """(axis, where, whether what is greater is kept) of each side."""
+    return (0, box[0], True), (0, box[2], False), (1, box[1], True), (1, box[3], False)
+
+
+def is_kept(point, side):
+    axis, where, greater = side
+    return point[axis] >= where if greater else point[axis] <= where
+
+
+def crossing(one, other, side):
+    """The point, in whole numbers, where the line between two points meets the side; the same both ways."""
+    axis, where, _ = side
+    first, last = sorted((one, other))
+    rise, run = last[1 - axis] - first[1 - axis], last[axis] - first[axis]
+    if run < 0:
+        rise, run = -rise, -run
+        first = last
+    across = first[1 - axis] + (2 * rise * (where - first[axis]) + run) // (2 * run)
+    return (where, across) if axis == 0 else (across, where)
+
+
+def cut_points(part, box):
+    return [[point for point in part if all(is_kept(point, side) for side in sides_of(box))]]
+
+
+def cut_line(line, box):
+    lines = [line]
+    for side in sides_of(box):
+        lines = [piece for one in lines for piece in cut_line_at(one, side)]
+    return lines
+
+
+def cut_line_at(line, side):
+    """The pieces of the line on the kept side."""
+    result, piece = [], [line[0]] if is_kept(line[0], side) else []
+    for before, point in zip(line, line[1:]):
+        if is_kept(before, side) != is_kept(point, side):
+            add(piece, crossing(before, point, side))
+        if is_kept(point, side):
+            add(piece, point)
+        elif piece:
+            result.append(piece)
+            piece = []
+    return [piece for piece in [*result, piece] if len(piece) > 1]
+
+
+def add(piece, point):
+    if not piece or piece[-1] != point:
+        piece.append(point)
+
+
+def cut_ring(ring, box):
+    """The ring within the box, by Sutherland and Hodgman's method: parts of it hang together along the edges."""
+    for side in sides_of(box):
+        piece = []
+        for before, point in zip(ring, ring[1:]):
+            if is_kept(before, side) != is_kept(point, side):
+                add(piece, crossing(before, point, side))
+            if is_kept(point, side):
+                add(piece, point)
+        if len(piece) < 3:
+            return []
+        ring = piece if piece[0] == piece[-1] else [*piece, piece[0]]
+    return [ring]
+
+
+def without_twice(rings, box):
+    """The rings of a polygon without what they have twice along the edges of the box."""
+    points = {point for ring in rings for point in ring}
+    on_edges = [(axis, where, [point for point in points if point[axis] == where]) for axis, where, _ in sides_of(box)]
+    whole = [along_edges(ring, on_edges) for ring in rings]
+    return dissolved(whole, lambda side: any(side[0][axis] == where == side[1][axis] for axis, where, _ in sides_of(box)))
+
+
+def along_edges(ring, on_edges):
+    """The ring with each of its sides along an edge cut where another point lies on it."""
+    result = ring[:1]
+    for before, point in zip(ring, ring[1:]):
+        for axis, where, points in on_edges:
+            if before[axis] == where == point[axis]:
+                low, high = sorted((before, point))
+                between = sorted(other for other in points if low < other < high)
+                result += between if before < point else between[::-1]
+        result.append(point)
+    return result

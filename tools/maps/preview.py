@@ -1,0 +1,242 @@
+"""A picture of the source and the map side by side at one scale, and below it the surroundings of the largest displacement.
+
+The map is drawn by the program, as every node will draw it. Data are drawn by it too, in pieces that are within the
+limits, one over another; a mapfile is drawn by MapServer.
+"""
+
+import re
+import shutil
+import subprocess
+import tempfile
+from dataclasses import replace
+from pathlib import Path
+
+from pixmap_to_png import png
+
+from .errors import MapError, library
+from .merging import bounds
+from .model import EXTENT_DIGITS, Class, Feature, Label, Layer, Map, canonical_text
+from .query import picture_query, size_of
+from .texts import ascii_letters
+
+BUILT = Path(__file__).resolve().parents[2] / "crates/wfarm/out/wfarm"
+MOST_PIECE = 4_000  # points of a piece, so that it is within all limits
+MOST_FEATURES = 1_000  # of a piece
+UNSEEN = 0.1  # of a pixel
+CLOSER = 8  # times the scale below
+GAP = 8  # pixels between pictures
+CAPTION = 16  # pixels of a caption's height
+RED = (220, 0, 0)
+GREY = 190
+WHITE = 0xFFFFFF
+
+
+class Painter:
+    """Draws maps by the program, as arrays of numpy of height, width and 3."""
+
+    def __init__(self, program, side):
+        self.program = program or shutil.which("wfarm") or (str(BUILT) if BUILT.exists() else None)
+        if self.program is None:
+            raise MapError("--preview draws by the program: write --program and where wfarm is")
+        self.side = side
+        self.numpy = library("numpy", "python3-numpy")
+
+    def drawn(self, text, query):
+        try:
+            done = subprocess.run([self.program, "draw", query], input=text.encode(), capture_output=True)
+        except OSError as error:
+            raise MapError(f"--program {self.program}: {error}") from error
+        if done.returncode != 0 or not done.stdout.startswith(b"P6"):
+            raise MapError(f"{self.program} draw doesn't draw the map: {(done.stderr or done.stdout).decode().strip()}")
+        return self.pixels(done.stdout)
+
+    def pixels(self, pixmap):
+        """The pixels of a P6 pixmap."""
+        head = re.match(rb"P6\s+(?:#[^\n]*\s+)?(\d+) (\d+)\s+255\n", pixmap)
+        return self.numpy.frombuffer(pixmap, "uint8", offset=head.end()).reshape(int(head[2]), int(head[1]), 3)
+
+    def map(self, the_map, text, extent):
+        return self.drawn(text, picture_query(the_map, self.side, extent))
+
+    def source(self, fitting, extent):
+        """A map of any size, the points of which that no picture shows are left out: its shapes in pieces, then its labels.
+        Each piece has colours of its own, so that what it paints is known, white too."""
+        codes = {}
+        picture = self.numpy.full(size_of(extent, self.side)[::-1], WHITE, "uint32")
+        the_map = seen(fitting, extent, self.side)
+        for piece in [*pieces(the_map, extent), *labels(the_map)]:
+            coded = replace(piece, layers=[replace(layer, classes=[coded_class(group, codes) for group in layer.classes]) for layer in piece.layers])
+            drawn = self.map(coded, canonical_text(coded), extent).astype("uint32")
+            drawn = drawn[:, :, 0] << 16 | drawn[:, :, 1] << 8 | drawn[:, :, 2]
+            picture = self.numpy.where(drawn == WHITE, picture, drawn)
+        result = self.numpy.full((*picture.shape, 3), 255, "uint8")
+        for color, code in codes.items():
+            result[picture == code] = color
+        return result
+
+    def caption(self, text, width):
+        """A line of letters that labels have."""
+        text = ascii_letters(text.replace(",", ""))
+        label = Class("", [], Label(size="TINY", position="CR"))
+        line = Layer("a", "a", "POINT", [label], [Feature([[(0, CAPTION // 2)]], 0, [], text)])
+        size = tuple(side * 10**EXTENT_DIGITS for side in (0, 0, width, CAPTION))
+        the_map = Map("a", "a", "", "", "3857", 0, size, [line])
+        return self.drawn(canonical_text(the_map), picture_query(the_map, width, size))
+
+
+def coded_class(group, codes):
+    """The class in colours that stand for its own: 1, 2, 3, .."""
+
+    def coded(color):
+        if color is None:
+            return None
+        code = codes.setdefault(color, len(codes) + 1)
+        return code >> 16, code >> 8 & 255, code & 255
+
+    styles = [replace(style, color=coded(style.color), outline=coded(style.outline)) for style in group.styles]
+    return replace(group, styles=styles, label=group.label and replace(group.label, color=coded(group.label.color)))
+
+
+def seen(fitting, extent, side):
+    """The map with points as far apart as a picture of the extent shows, at least, and no shape with more than a piece has."""
+    tolerance = UNSEEN * max(extent[2] - extent[0], extent[3] - extent[1]) / side / 10 ** (EXTENT_DIGITS - fitting.map.digits)
+    while True:
+        the_map = fitting.map_at(tolerance)[0]
+        if all(sum(map(len, feature.parts)) <= MOST_PIECE for layer in the_map.layers for feature in layer.features if layer.kind == "POLYGON"):
+            return the_map
+        tolerance *= 2
+
+
+def near(feature, extent, digits):
+    """Whether something of the feature may be seen in a picture of the extent."""
+    scale = 10 ** (EXTENT_DIGITS - digits)
+    minx, miny, maxx, maxy = (side * scale for side in bounds(feature.parts))
+    margin = max(extent[2] - extent[0], extent[3] - extent[1]) // 8
+    return minx <= extent[2] + margin and maxx >= extent[0] - margin and miny <= extent[3] + margin and maxy >= extent[1] - margin
+
+
+def pieces(the_map, extent):
+    """Maps of some of the features each, without their labels, that paint the extent one after another."""
+    for layer in the_map.layers:
+        plain = replace(layer, items=[], classes=[replace(group, label=None) for group in layer.classes])
+        some, points = [], 0
+        for feature in [*(feature for feature in layer.features if near(feature, extent, the_map.digits)), None]:
+            count = sum(map(len, feature.parts)) if feature else MOST_PIECE
+            if some and (points + count > MOST_PIECE or len(some) == MOST_FEATURES):
+                yield replace(the_map, layers=[replace(plain, features=some)])
+                some, points = [], 0
+            if feature:
+                some.append(replace(feature, values=[], text=""))
+                points += count
+
+
+def labels(the_map):
+    """A map of all labels: at the middle of the box around a feature's first part, as they stand in the map."""
+    layers = []
+    for layer in the_map.layers:
+        classes = [replace(group, styles=[]) for group in layer.classes]
+        features = [Feature([middle(feature.parts[0])], feature.group, [], feature.text) for feature in layer.features if feature.text]
+        layers.append(replace(layer, kind="POINT", items=[], classes=classes, features=features))
+    whole = replace(the_map, layers=layers)
+    if sum(len(layer.features) for layer in layers) <= 2 * MOST_FEATURES and len(canonical_text(whole)) <= 131_072:
+        yield whole
+
+
+def middle(part):
+    xs, ys = [x for x, _ in part], [y for _, y in part]
+    return [((min(xs) + max(xs)) // 2, (min(ys) + max(ys)) // 2)]
+
+
+class MapServer:
+    """Draws a mapfile by MapServer's library, in the system of the map that is made of it."""
+
+    def __init__(self, path, names, crs, scale):
+        self.path, self.names, self.crs, self.scale = path, names, crs, scale
+        self.script = library("mapscript", "python3-mapscript")
+
+    def drawn(self, extent, width, height):
+        """A P6 pixmap of the extent, in units. Layers are on or off, and symbols as large, as at the scale."""
+        script = self.script
+        try:
+            the_map = script.mapObj(str(self.path))
+            the_map.applyDefaultSubstitutions()
+            self.set_layers(the_map)
+            the_map.setProjection(f"init=epsg:{self.crs}")
+            the_map.units = script.projectionObj(f"init=epsg:{self.crs}").getUnits()
+            half, half_up = (extent[2] - extent[0]) / width / 2, (extent[3] - extent[1]) / height / 2  # its extent ends in a pixel's middle
+            the_map.setSize(width, height)
+            the_map.setExtent(extent[0] + half, extent[1] + half_up, extent[2] - half, extent[3] - half_up)
+            if self.scale:
+                dots = self.scale / the_map.scaledenom
+                the_map.resolution, the_map.defresolution = the_map.resolution * dots, the_map.defresolution * dots
+            return pixmap_of(script, the_map)
+        except (OSError, script.MapServerError, script.MapServerChildError) as error:
+            raise MapError(f"{self.path}: MapServer can't draw it for --preview: {error}") from error
+
+    def set_layers(self, the_map):
+        own = the_map.getProjection()
+        for layer in map(the_map.getLayer, range(the_map.numlayers)):
+            layer.status = self.script.MS_ON if self.names is None or layer.name in self.names else self.script.MS_OFF
+            if not layer.getProjection():
+                layer.setProjection(own)
+
+
+def pixmap_of(script, the_map):
+    image = script.outputFormatObj("GDAL/PNM", "pixmap")
+    image.imagemode, image.transparent = script.MS_IMAGEMODE_RGB, script.MS_OFF
+    the_map.appendOutputFormat(image)
+    the_map.selectOutputFormat("pixmap")
+    with tempfile.NamedTemporaryFile(suffix=".ppm") as file:
+        the_map.draw().save(file.name)
+        return Path(file.name).read_bytes()
+
+
+# ---- the whole picture
+
+
+def write(path, painter, the_map, written, source):
+    """Writes the preview. The source is a function of an extent, in millionths of a unit, to pixels."""
+    numpy = painter.numpy
+    rows = [painter_row(painter, the_map, written, source, the_map.extent)]
+    captions = ["SOURCE", "MAP"]
+    largest = written.largest
+    if largest.place is not None:
+        near = surroundings(the_map.extent, largest.place)
+        for picture in rows[0]:
+            frame(picture, the_map.extent, near)
+        rows.append(painter_row(painter, the_map, written, source, near))
+    width = rows[0][0].shape[1]
+    lines = [beside(numpy, [painter.caption(text, width) for text in captions]), beside(numpy, rows[0])]
+    lines.append(painter.caption(f"LARGEST DISPLACEMENT {largest}".upper(), 2 * width + GAP))
+    lines += [beside(numpy, row) for row in rows[1:]]
+    whole = numpy.concatenate(lines)
+    pixmap = b"P6\n%d %d\n255\n" % (whole.shape[1], whole.shape[0]) + whole.tobytes()
+    path.write_bytes(png(pixmap))
+
+
+def painter_row(painter, the_map, written, source, extent):
+    return [source(extent).copy(), painter.map(the_map, written.text, extent).copy()]
+
+
+def beside(numpy, pictures):
+    gap = numpy.full((pictures[0].shape[0], GAP, 3), GREY, "uint8")
+    return numpy.concatenate([pictures[0], gap, pictures[1]], axis=1)
+
+
+def surroundings(extent, place):
+    """The part of the extent around the place, in its proportions."""
+    sides = []
+    for low, high, at in ((extent[0], extent[2], place[0]), (extent[1], extent[3], place[1])):
+        width = (high - low) // CLOSER
+        start = min(max(at - width // 2, low), high - width)
+        sides.append((start, start + width))
+    return sides[0][0], sides[1][0], sides[0][1], sides[1][1]
+
+
+def frame(picture, extent, near):
+    """Draws the sides of the part into the picture of the extent."""
+    height, width = picture.shape[:2]
+    left, right = (min(width - 1, (x - extent[0]) * width // (extent[2] - extent[0])) for x in (near[0], near[2]))
+    top, bottom = (min(height - 1, (extent[3] - y) * height // (extent[3] - extent[1])) for y in (near[3], near[1]))
+    picture[top, left : right + 1] = picture[bottom, left : right + 1] = RED
+    picture[top : bottom + 1, left] = picture[top : bottom + 1, right] = RED
