@@ -2,7 +2,8 @@
 """Writes docs/DEFINITIONS.md, an index of crates/*/specs/, from the comments that stand there: each definition is said once.
 
     python3 tools/definitions.py              writes the index
-    python3 tools/definitions.py --check      says whether the index is what the comments say, and which words of public clauses no comment explains
+    python3 tools/definitions.py --check      says whether the index is what the comments say, which words of public clauses no comment explains, and which
+                                              names in docs/PROVED.md, ARCHITECTURE.md and CHANGES.md aren't there (tools/document_names.py)
     python3 tools/definitions.py --all [WORD] prints each definition with its comment, or those whose name holds WORD
 
 A comment line `-- ..` above a definition says what it is; the comment at the top of a file says what the file is about.
@@ -12,6 +13,7 @@ import argparse
 import re
 import sys
 
+from document_names import missing
 from kit import TOP, dependencies
 
 DOCUMENT = TOP / "docs" / "DEFINITIONS.md"
@@ -155,7 +157,10 @@ def main():
     bare = unexplained()
     for (file, word), cited in sorted(bare.items()):
         print(f"crates/{file}: no comment explains {word}, which {cited} cites")
-    return 0 if is_same and not bare else 1
+    gone = list(missing())
+    for document, line, name, why in gone:
+        print(f"docs/{document}.md{f', line {line}' if line else ''}: {name} {why}")
+    return 0 if is_same and not bare and not gone else 1
 
 
 if __name__ == "__main__":

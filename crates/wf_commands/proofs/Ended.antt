@@ -17,10 +17,11 @@ use Rattle.wf_stream.specs.Effects.{TakesUpTo}
 use Rattle.wf_tape.specs.declared.tape.Tape.{Ghosts as Tape}
 use Rattle.wf_commands.specs.FailureCount.{CountsReads, CountsWrites}
 use Rattle.wf_commands.specs.ProgramEnd.{left_to_report, rejection_status, reported, run_status, unreadable_status}
-use Rattle.wf_commands.specs.Folder.{Contents, HasFolderListing, IsTapeDone}
+use Rattle.wf_commands.specs.Contents.{Contents}
+use Rattle.wf_commands.specs.Folder.{HasFolderListing, IsTapeDone}
 use Rattle.wf_commands.specs.Program.{IsFarmProcess, IsProcess, IsDone, IsRun, IsRunOf, Serves}
 use Rattle.wf_commands.specs.Run.{HasListing, HasMap, IsTapeWriting, IsWhyUnlisted, IsWhyUnwritten, most_read}
-use Rattle.wf_commands.specs.ServeRun.{IsMachineServing, run_outcome}
+use Rattle.wf_commands.specs.ServeRun.{IsLineServed, IsMachineServing, IsServing, run_outcome}
 use Rattle.wf_commands.specs.declared.program.Ending.{Ending}
 use Rattle.wf_commands.specs.declared.fault.RunFault.{RunFault}
 use Rattle.wf_commands.specs.declared.fault.RunFault.TheVariants as faults
@@ -57,10 +58,10 @@ writing_reads_nothing HasOutput why old new (Err faults.Wire) count writes = abs
 pub listing_reads_nothing : (contents : Contents) (path : List ℕ) (map : Option ℕ) (old new : Option (List ℕ)) (result : Result (Unit {0}) RunFault) (count : ℕ) →
     IsTapeDone contents path map old new result → CountsReads result count count
 listing_reads_nothing contents path (Some sequence) old new result count done =
-    writing_reads_nothing (HasMap (contents path) sequence) (IsWhyUnwritten (contents path) sequence) old new result count done
+    writing_reads_nothing (HasMap (contents.file path) sequence) (IsWhyUnwritten (contents.file path) sequence) old new result count done
 listing_reads_nothing contents path None old new result count done = elim done [
-  | inl file ↦ writing_reads_nothing (HasListing (contents path)) (IsWhyUnlisted (contents path)) old new result count file
-  | inr folder ↦ writing_reads_nothing (HasFolderListing contents path) (λ fault. Unit {0}) old new result count folder.1
+  | inl file ↦ writing_reads_nothing (HasListing (contents.file path)) (IsWhyUnlisted (contents.file path)) old new result count file
+  | inr folder ↦ writing_reads_nothing (HasFolderListing contents path folder.tapes) (λ fault. Unit {0}) old new result count folder.listed
 ]
 
 module _ (serves : Serves) (contents : Contents) (input left old new : Option (List ℕ)) (reads reads_after writes writes_after : ℕ) (ending : Ending) where
@@ -69,14 +70,57 @@ module _ (serves : Serves) (contents : Contents) (input left old new : Option (L
       IsRunOf serves contents line input left old new reads reads_after writes writes_after ending
   run_ended line result done most read written reported_as status = record { result = result; done = done; most = most; read = read; written = written; reported_as = reported_as; status = status }
 
+-- serving nodes, no read of standard input fails
+serving_reads_nothing : (serves : Option (List ℕ) → Option (List ℕ) → Result (Unit {0}) ServeFault → Type 0) (old new : Option (List ℕ)) (result : Result (Unit {0}) RunFault) (count : ℕ) →
+    IsServing serves old new result → CountsReads result count count
+serving_reads_nothing serves old new (Ok done) count is = refl
+serving_reads_nothing serves old new (Err faults.Write) count is = refl
+serving_reads_nothing serves old new (Err faults.Serve) count is = refl
+serving_reads_nothing serves old new (Err (faults.Map fault)) count is = absurd is
+serving_reads_nothing serves old new (Err (faults.Canon fault)) count is = absurd is
+serving_reads_nothing serves old new (Err (faults.Script fault)) count is = absurd is
+serving_reads_nothing serves old new (Err (faults.Tape fault)) count is = absurd is
+serving_reads_nothing serves old new (Err faults.Read) count is = absurd is
+serving_reads_nothing serves old new (Err faults.Wire) count is = absurd is
+
+-- what was served, by the server's result
+outcome_served : (serves : Option (List ℕ) → Option (List ℕ) → Result (Unit {0}) ServeFault → Type 0) (old new : Option (List ℕ)) (outcome : Result (Unit {0}) ServeFault) →
+    serves old new outcome → IsServing serves old new (run_outcome outcome)
+outcome_served serves old new (Ok done) is = is
+outcome_served serves old new (Err serve.Start) is = is
+outcome_served serves old new (Err serve.Write) is = is
+
+pub line_served : (serves : Serves) (line : Line) (service : Service) (old new : Option (List ℕ)) (outcome : Result (Unit {0}) ServeFault) (result : Result (Unit {0}) RunFault) →
+    line ≡ lines.Serve service → result ≡ run_outcome outcome → serves service old new outcome → IsLineServed serves line old new result
+line_served serves line service old new outcome result is same served =
+    subst (λ (l : Line). IsLineServed serves l old new result) (sym is)
+    (subst (λ (r : Result (Unit {0}) RunFault). IsServing (serves service) old new r) (sym same) (outcome_served (serves service) old new outcome served))
+
+counts_outcome : (outcome : Result (Unit {0}) ServeFault) (writes writes_after : ℕ) → serving.CountsWrites outcome writes writes_after → CountsWrites (run_outcome outcome) writes writes_after
+counts_outcome (Ok done) writes writes_after counts = counts
+counts_outcome (Err serve.Start) writes writes_after counts = counts
+counts_outcome (Err serve.Write) writes writes_after counts = counts
+
+pub outcome_counts : (outcome : Result (Unit {0}) ServeFault) (result : Result (Unit {0}) RunFault) (writes writes_after : ℕ) → result ≡ run_outcome outcome →
+    serving.CountsWrites outcome writes writes_after → CountsWrites result writes writes_after
+outcome_counts outcome result writes writes_after same counts =
+    subst (λ (r : Result (Unit {0}) RunFault). CountsWrites r writes writes_after) (sym same) (counts_outcome outcome writes writes_after counts)
+
 module _ (serves : Serves) (contents : Contents) (input old new : Option (List ℕ)) (reads writes writes_after : ℕ) (ending : Ending) where
-  -- of `serve`, by the server's result
-  pub serving_ended : (service : Service) (outcome : Result (Unit {0}) ServeFault) → serves service old new outcome → serving.CountsWrites outcome writes writes_after →
-      ending.reported ≡ left_to_report (lines.Serve service) (reported (run_outcome outcome)) → ending.status ≡ run_status (run_outcome outcome) →
-      IsRunOf serves contents (lines.Serve service) input input old new reads reads writes writes_after ending
-  serving_ended service (Ok done) is counts reported_as status = run_ended serves contents input input old new reads reads writes writes_after ending (lines.Serve service) (Ok done) is (nothing_read input) refl counts reported_as status
-  serving_ended service (Err serve.Start) is counts reported_as status = run_ended serves contents input input old new reads reads writes writes_after ending (lines.Serve service) (Err faults.Serve) is (nothing_read input) refl counts reported_as status
-  serving_ended service (Err serve.Write) is counts reported_as status = run_ended serves contents input input old new reads reads writes writes_after ending (lines.Serve service) (Err faults.Write) is (nothing_read input) refl counts reported_as status
+  -- of `serve`
+  pub service_ended : (line : Line) (result : Result (Unit {0}) RunFault) → IsLineServed serves line old new result → CountsWrites result writes writes_after →
+      ending.reported ≡ left_to_report line (reported result) → ending.status ≡ run_status result →
+      IsRunOf serves contents line input input old new reads reads writes writes_after ending
+  service_ended (lines.Serve service) result done counts reported_as status =
+      run_ended serves contents input input old new reads reads writes writes_after ending (lines.Serve service) result done (nothing_read input)
+      (serving_reads_nothing (serves service) old new result reads done) counts reported_as status
+  service_ended (lines.Caps seq query) result done counts reported_as status = absurd done
+  service_ended (lines.Draw query) result done counts reported_as status = absurd done
+  service_ended lines.Canon result done counts reported_as status = absurd done
+  service_ended lines.Check result done counts reported_as status = absurd done
+  service_ended (lines.Tape file map) result done counts reported_as status = absurd done
+  service_ended lines.Run result done counts reported_as status = absurd done
+  service_ended lines.Wire result done counts reported_as status = absurd done
 
   -- of `tape`
   pub listing_ended : (file : Bor (List ℕ)) (map : Option ℕ) (result : Result (Unit {0}) RunFault) → IsTapeDone contents file.now map old new result → CountsWrites result writes writes_after →
@@ -86,17 +130,8 @@ module _ (serves : Serves) (contents : Contents) (input old new : Option (List �
       run_ended serves contents input input old new reads reads writes writes_after ending (lines.Tape file map) result done (nothing_read input)
       (listing_reads_nothing contents file.now map old new result reads done) counts reported_as status
 
--- a run whose line is one of these
+-- a run whose line is `tape`
 module _ (serves : Serves) (contents : Contents) (input old new : Option (List ℕ)) (reads writes writes_after : ℕ) (ending : Ending) (line : Line) where
-  pub served_line : (service : Service) → line ≡ lines.Serve service → (outcome : Result (Unit {0}) ServeFault) (result : Result (Unit {0}) RunFault) → result ≡ run_outcome outcome →
-      serves service old new outcome → serving.CountsWrites outcome writes writes_after → ending.reported ≡ left_to_report (lines.Serve service) (reported result) → ending.status ≡ run_status result →
-      IsRunOf serves contents line input input old new reads reads writes writes_after ending
-  served_line service is outcome result same done counts reported_as status =
-      subst (λ (l : Line). IsRunOf serves contents l input input old new reads reads writes writes_after ending) (sym is)
-      (serving_ended serves contents input old new reads writes writes_after ending service outcome done counts
-      (reported_as ∙ ap (λ (r : Result (Unit {0}) RunFault). left_to_report (lines.Serve service) (reported r)) same)
-      (status ∙ ap (λ (r : Result (Unit {0}) RunFault). run_status r) same))
-
   pub listed_line : (file : Bor (List ℕ)) (map : Option ℕ) → line ≡ lines.Tape file map → (result : Result (Unit {0}) RunFault) → IsTapeDone contents file.now map old new result →
       CountsWrites result writes writes_after → ending.reported ≡ left_to_report (lines.Tape file map) (reported result) → ending.status ≡ run_status result →
       IsRunOf serves contents line input input old new reads reads writes writes_after ending

@@ -9,7 +9,10 @@ use Rattle.wf_listing.specs.TapeBytes.{most_tape_bytes}
 use Rattle.wf_listing.specs.declared.fault.TapeReadFault.{TapeReadFault}
 use Rattle.wf_listing.specs.declared.fault.TapeReadFault.TheVariants as tapes
 use Rattle.wf_stream.specs.KnownTheorems.{keeps_same}
-use Rattle.wf_commands.specs.Folder.{Contents, IsFolderListed, IsTapeDone}
+use Rattle.wf_folder.specs.declared.presence.Presence.{Presence}
+use Rattle.wf_serve.specs.declared.survey.Survey.{Survey}
+use Rattle.wf_commands.specs.Contents.{Contents}
+use Rattle.wf_commands.specs.Folder.{IsFolderListed, IsTapeDone}
 use Rattle.wf_commands.specs.Run.{HasListing, HasMap, IsListed, IsMapWritten, IsWhyUnlisted, IsWhyUnwritten}
 use Rattle.wf_commands.specs.declared.fault.RunFault.{RunFault}
 use Rattle.wf_commands.specs.declared.fault.RunFault.TheVariants as faults
@@ -110,7 +113,7 @@ known_written content bytes read sequence old new result same is written =
 
 -- ---- a file or a folder
 
-pub file_done : (contents : Contents) (path : List ℕ) (old new : Option (List ℕ)) (result : Result (Unit {0}) RunFault) → IsListed (contents path) old new result →
+pub file_done : (contents : Contents) (path : List ℕ) (old new : Option (List ℕ)) (result : Result (Unit {0}) RunFault) → IsListed (contents.file path) old new result →
     IsTapeDone contents path None old new result
 file_done contents path old new result listed = inl listed
 
@@ -119,6 +122,13 @@ no_content : {A : Type 0} (content : Option (List ℕ)) (found : Option A) (ther
 no_content None found there is none = refl
 no_content (Some known) found there is none = let clash : Some there ≡ None = sym is ∙ none in cc
 
-pub folder_done : {A : Type 0} (contents : Contents) (path : List ℕ) (found : Option A) (there : A) (old new : Option (List ℕ)) (result : Result (Unit {0}) RunFault) → found ≡ Some there →
-    IfSome (contents path) (λ _. found ≡ None) → IsFolderListed contents path old new result → IsTapeDone contents path None old new result
-folder_done contents path found there old new result is none listed = inr (no_content (contents path) found there is none, listed)
+pub folder_done : (contents : Contents) (path : List ℕ) (found : Option Survey) (there : Survey) (old new : Option (List ℕ)) (result : Result (Unit {0}) RunFault) → found ≡ Some there →
+    IfSome (contents.file path) (λ _. found ≡ None) → length there.tapes ≡ 64 → IfSome (contents.tapes path) (λ known. there.tapes ≡ known) →
+    IsFolderListed contents path there.tapes old new result → IsTapeDone contents path None old new result
+folder_done contents path found there old new result is none size known listed = inr (record {
+  no_file = no_content (contents.file path) found there is none;
+  tapes = there.tapes;
+  size = size;
+  known = known;
+  listed = listed;
+})

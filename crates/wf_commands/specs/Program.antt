@@ -11,7 +11,8 @@ use Rattle.wf_stream.specs.Effects.{TakesUpTo}
 use Rattle.wf_line.specs.CommandLine.{Asks, IsRejection, program}
 use Rattle.wf_commands.specs.FailureCount.{CountsReads, CountsWrites}
 use Rattle.wf_commands.specs.ProgramEnd.{left_to_report, rejection_status, reported, run_status, unreadable_status}
-use Rattle.wf_commands.specs.Folder.{Contents, IsTapeDone}
+use Rattle.wf_commands.specs.Contents.{Contents}
+use Rattle.wf_commands.specs.Folder.{IsTapeDone}
 use Rattle.wf_commands.specs.Run.{IsOutcomeOf, most_read}
 use Rattle.wf_commands.specs.ServeRun.{IsServing}
 use Rattle.wf_commands.specs.declared.program.Ending.{Ending}

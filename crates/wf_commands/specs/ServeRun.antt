@@ -5,6 +5,8 @@ use Rattle.wf_serve.specs.Served.{HasServed}
 use Rattle.wf_serve.specs.declared.fault.ServeFault.{ServeFault}
 use Rattle.wf_serve.specs.declared.fault.ServeFault.TheVariants as serving
 use Rattle.wf_service.specs.declared.service.Service.{Service}
+use Rattle.wf_line.specs.declared.command_line.Line.{Line}
+use Rattle.wf_line.specs.declared.command_line.Line.TheVariants as lines
 use Rattle.wf_tape.specs.declared.tape.Tape.{Ghosts as Tape}
 use Rattle.wf_commands.specs.declared.fault.RunFault.{RunFault}
 use Rattle.wf_commands.specs.declared.fault.RunFault.TheVariants as faults
@@ -28,6 +30,29 @@ IsServing serves old new (Err (faults.Script fault)) = ⊥
 IsServing serves old new (Err (faults.Tape fault)) = ⊥
 IsServing serves old new (Err faults.Read) = ⊥
 IsServing serves old new (Err faults.Wire) = ⊥
+
+-- the line is `serve`
+abbrev pub IsOfService : Line → Type 0
+IsOfService (lines.Serve service) = Unit {0}
+IsOfService (lines.Caps seq query) = ⊥
+IsOfService (lines.Draw query) = ⊥
+IsOfService lines.Canon = ⊥
+IsOfService lines.Check = ⊥
+IsOfService (lines.Tape file map) = ⊥
+IsOfService lines.Run = ⊥
+IsOfService lines.Wire = ⊥
+
+-- The nodes of a `serve` line were served, by the program's result. `serves` is what that means of a service.
+abbrev pub IsLineServed : (Service → Option (List ℕ) → Option (List ℕ) → Result (Unit {0}) ServeFault → Type 0) → Line → Option (List ℕ) → Option (List ℕ)
+    → Result (Unit {0}) RunFault → Type 0
+IsLineServed serves (lines.Serve service) old new result = IsServing (serves service) old new result
+IsLineServed serves (lines.Caps seq query) old new result = ⊥
+IsLineServed serves (lines.Draw query) old new result = ⊥
+IsLineServed serves lines.Canon old new result = ⊥
+IsLineServed serves lines.Check old new result = ⊥
+IsLineServed serves (lines.Tape file map) old new result = ⊥
+IsLineServed serves lines.Run old new result = ⊥
+IsLineServed serves lines.Wire old new result = ⊥
 
 -- What the machine's serving of a service is, on tapes in memory and in files: the line with the port is written, or a prefix of it; and
 -- if the nodes were served, these are as many as the service has, and they served its number of connections, as `HasServed` says.

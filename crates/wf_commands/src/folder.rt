@@ -1,14 +1,16 @@
 //! The listing of a folder's tapes.
 ghost use Rattle.std.specs.Prelude.{◌≡◌, ◌++◌, [], IfOk, OnOk, length, string_bytes};
 ghost use Rattle.wf_commands.specs.FailureCount.{CountsWrites, FailsLast};
-ghost use Rattle.wf_commands.specs.Folder.{HasListingAppended, IsAppended, IsExtended, IsFolderListed, IsFolderListing, IsFront, IsNamedListing, tape_line};
+ghost use Rattle.wf_commands.specs.Folder.{AreListed, HasListingAppended, IsAppended, IsEnded, IsFolderListed, IsFolderListing, IsNamedListing, IsRejected, tape_line};
+ghost use Rattle.wf_commands.specs.FolderEnd.{node_line, own_line, rejection_line, taken_over_line};
 ghost use Rattle.wf_serve.specs.Folder.{tape_path};
 
 use crate::fault::RunFault;
+use crate::folder_state::FolderState;
 use crate::tapes::Tapes;
 use std::alloc::{AllocError, Global};
 use std::fmt::Write;
-use wf_folder::{Beginning, Start};
+use wf_folder::{Beginning, NodeRejection, Start};
 use wf_listing::{TapeReadFault, list};
 use wf_serve::{Cause, StartFault, Survey};
 use wf_stream::{Sink, write_all};
@@ -24,8 +26,8 @@ pub(crate) fn run_folder<K: Sink, V: Tapes>(
     tapes: &V,
 ) -> Result<(), RunFault>
     requires { length survey.now.tapes ≡ 64 }
-    ensures listed { IsFolderListed (V.content tapes.now) path.now (K.written sink.old)
-        (K.written sink.new) result }
+    ensures listed { IsFolderListed (V.content tapes.now) path.now survey.now.tapes
+        (K.written sink.old) (K.written sink.new) result }
     ensures writes { CountsWrites result (K.failures sink.old) (K.failures sink.new) }
     ensures last { FailsLast K.Sink sink.old sink.new }
 {
@@ -49,8 +51,8 @@ fn text_of<V: Tapes>(
     tapes: &V,
 ) -> Result<String, TapeReadFault>
     requires { length survey.now.tapes ≡ 64 }
-    ensures { IfOk result
-        (λ text. IsFolderListing (V.content tapes.now) path.now (string_bytes text)) }
+    ensures { IfOk result (λ text.
+        IsFolderListing (V.content tapes.now) path.now survey.now.tapes (string_bytes text)) }
 {
     let mut text = String::new(alloc);
     let pushed = push_all(alloc, &mut text, path, survey, tapes);
@@ -74,20 +76,19 @@ fn push_all<V: Tapes>(
 ) -> Result<(), TapeReadFault>
     requires tapes { length survey.now.tapes ≡ 64 }
     requires empty { string_bytes text.old ≡ [] }
-    ensures { OnOk result
-        (IsFolderListing (V.content tapes.now) path.now (string_bytes text.new)) }
+    ensures { OnOk result (IsFolderListing (V.content tapes.now) path.now survey.now.tapes
+        (string_bytes text.new)) }
 {
     match push_tapes(alloc, text, path, survey, tapes) {
-        Ok(()) => match push_end(alloc, text, path, tapes.examine(path, survey)) {
+        Ok(()) => match push_end(alloc, text, path, &tapes.examine(path, survey)) {
             Ok(()) => Ok(()),
-            Err(fault) => Err(fault),
+            Err(AllocError) => Err(TapeReadFault::Memory),
         },
         Err(fault) => Err(fault),
     }
 }
 
 /// Appends the listing of each tape that is there.
-#[tactic(auto, using(crate::proofs::Folders::no_tapes, crate::proofs::Folders::one_more))]
 fn push_tapes<V: Tapes>(
     alloc: Global,
     text: &mut String,
@@ -95,8 +96,10 @@ fn push_tapes<V: Tapes>(
     survey: &Survey,
     tapes: &V,
 ) -> Result<(), TapeReadFault>
-    requires { string_bytes text.old ≡ [] }
-    ensures { OnOk result (IsFront (V.content tapes.now) path.now (string_bytes text.new)) }
+    requires size { length survey.now.tapes ≡ 64 }
+    requires empty { string_bytes text.old ≡ [] }
+    ensures { OnOk result (AreListed (V.content tapes.now) path.now survey.now.tapes
+        (length survey.now.tapes) (string_bytes text.new)) }
 {
     for (number, tape) in survey.tapes.iter().enumerate() {
         if tape.is_there() {
@@ -185,51 +188,103 @@ fn push_listing(alloc: Global, text: &mut String, bytes: &[u8]) -> Result<(), Al
     }
 }
 
-/// Appends the last line.
-#[tactic(auto, using(crate::proofs::Folders::ended))]
+/// Appends the last line, that of a state of the folder at a path.
+#[tactic(auto, using(crate::proofs::Folders::cause_ended, crate::proofs::Folders::node_ended, crate::proofs::Folders::rejection_ended))]
 fn push_end(
     alloc: Global,
     text: &mut String,
     path: &str,
-    examined: Result<(u8, Start), Cause>,
-) -> Result<(), TapeReadFault>
-    ensures { OnOk result (IsExtended (string_bytes text.old) (string_bytes text.new)) }
+    state: &FolderState,
+) -> Result<(), AllocError>
+    ensures { OnOk result (IsEnded state.now (string_bytes text.old) (string_bytes text.new)) }
 {
-    let Ok(line) = end_of(alloc, path, examined) else {
-        return Err(TapeReadFault::Memory);
-    };
-    let pushed = text.push_str(line.as_str());
-    drop(line);
-    match pushed {
-        Ok(()) => Ok(()),
-        Err(_) => Err(TapeReadFault::Memory),
+    match state {
+        FolderState::Farm(nodes, start) => push_farm(text, *nodes, start),
+        FolderState::Node(file) => push_node(text, file.node),
+        FolderState::Rejected(cause) => push_cause(alloc, text, path, cause),
+        FolderState::NodeRejected(rejection) => push_node_rejection(alloc, text, rejection),
     }
 }
 
-/// The last line: whether the nodes of a folder's farm would start on it.
-fn end_of(
-    alloc: Global,
-    path: &str,
-    examined: Result<(u8, Start), Cause>,
-) -> Result<String, AllocError> {
-    match examined {
-        Ok((_, Start::New)) => format!(in alloc; "new, no tape has a byte\n"),
-        Ok((nodes, Start::TakenOver)) => {
-            format!(in alloc; "whole, {nodes} tapes, no file farm\n")
-        }
-        Ok((nodes, Start::Own(file))) => {
-            let began = match file.beginning {
-                Beginning::Empty => "empty",
-                Beginning::Found => "found",
-            };
-            format!(in alloc; "whole, {nodes} tapes of one farm, began {began}\n")
-        }
-        Err(cause) => {
-            let fault = StartFault {
-                cause,
-                folder: Some(path),
-            };
-            format!(in alloc; "not whole, {fault}\n")
-        }
+/// Appends the last line of a folder on which so many nodes of a farm would start.
+#[tactic(auto, using(crate::proofs::Folders::new_ended, crate::proofs::Folders::taken_over_ended, crate::proofs::Folders::own_ended))]
+fn push_farm(text: &mut String, nodes: u8, start: &Start) -> Result<(), AllocError>
+    ensures { OnOk result (IsEnded (FolderState.Farm nodes start.now)
+        (string_bytes text.old) (string_bytes text.new)) }
+{
+    match start {
+        Start::New => text.push_str("new, no tape has a byte\n"),
+        Start::TakenOver => push_taken_over(text, nodes),
+        Start::Own(file) => push_own(text, nodes, file.beginning),
     }
+}
+
+/// Appends the line of a folder that nodes would take over.
+fn push_taken_over(text: &mut String, nodes: u8) -> Result<(), AllocError>
+    ensures { OnOk result
+        (string_bytes text.new ≡ string_bytes text.old ++ taken_over_line nodes) }
+{
+    writeln!(text, "whole, {nodes} tapes, no file farm")
+}
+
+/// Appends the line of a folder that is the farm's own.
+fn push_own(text: &mut String, nodes: u8, beginning: Beginning) -> Result<(), AllocError>
+    ensures { OnOk result
+        (string_bytes text.new ≡ string_bytes text.old ++ own_line nodes beginning) }
+{
+    match beginning {
+        Beginning::Empty => writeln!(text, "whole, {nodes} tapes of one farm, began empty"),
+        Beginning::Found => writeln!(text, "whole, {nodes} tapes of one farm, began found"),
+    }
+}
+
+/// Appends the line of a node's own folder.
+fn push_node(text: &mut String, node: u8) -> Result<(), AllocError>
+    ensures { OnOk result (string_bytes text.new ≡ string_bytes text.old ++ node_line node) }
+{
+    writeln!(text, "whole, the tape of node {node}")
+}
+
+/// Appends the line of a start that is rejected for a cause.
+#[tactic(auto, using(crate::proofs::Folders::rejected))]
+fn push_cause(alloc: Global, text: &mut String, path: &str, cause: &Cause) -> Result<(), AllocError>
+    ensures { OnOk result (IsRejected (string_bytes text.old) (string_bytes text.new)) }
+{
+    let fault = StartFault {
+        cause: *cause,
+        folder: Some(path),
+    };
+    let why = format!(in alloc; "{fault}")?;
+    let pushed = push_rejection(text, why.as_str());
+    drop(why);
+    match pushed {
+        Ok(()) => Ok(()),
+        Err(error) => Err(error),
+    }
+}
+
+/// Appends the line of a node's start that is rejected.
+#[tactic(auto, using(crate::proofs::Folders::rejected))]
+fn push_node_rejection(
+    alloc: Global,
+    text: &mut String,
+    rejection: &NodeRejection,
+) -> Result<(), AllocError>
+    ensures { OnOk result (IsRejected (string_bytes text.old) (string_bytes text.new)) }
+{
+    let why = format!(in alloc; "{rejection}")?;
+    let pushed = push_rejection(text, why.as_str());
+    drop(why);
+    match pushed {
+        Ok(()) => Ok(()),
+        Err(error) => Err(error),
+    }
+}
+
+/// Appends the line of a rejected start, which says why.
+fn push_rejection(text: &mut String, why: &str) -> Result<(), AllocError>
+    ensures { OnOk result
+        (string_bytes text.new ≡ string_bytes text.old ++ rejection_line why.now) }
+{
+    writeln!(text, "not whole, {why}")
 }

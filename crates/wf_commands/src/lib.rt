@@ -2,9 +2,9 @@
 //! script of a farm of servers, also with its messages crossing a connection, list what a node's tape holds, and serve a farm's
 //! nodes over HTTP; and they run the processes of a farm, nodes and replicas.
 //!
-//! The crate is thin. [`wf_line::line`] parses the command line's arguments to a [`wf_line::Line`];
+//! The crate is thin. [`line`] of `wf_line` parses the command line's arguments to a [`Line`];
 //! [`run_line`] runs the commands about standard input, over any reader and writer; [`run_tape`] lists the tape in a file or the tapes in a folder, which a [`Tapes`] reads, or writes a map on a tape;
-//! a [`NodeServer`] serves nodes. [`Host`] is both: the machine's files, and its nodes over HTTP.
+//! [`run_serve`] runs `serve` by a [`NodeServer`], which serves nodes. [`Host`] is both: the machine's files, and its nodes over HTTP.
 //! A [`wf_farm::Carrier`] brings the messages of `wire` to their nodes: [`wf_link::Connection`], over a connection of the machine.
 //! [`run_words`] is the program over any words, reader, writer, server and carrier, and [`run_process`] connects it
 //! to the process. A [`RunFault`] is the error of a run, an [`Ending`] what is left to print, with the exit
@@ -33,7 +33,8 @@
 //! of the writer, so that no text is written once more.
 //!
 //! [`run_tape`] promises: after Ok exactly the listing of the file's bytes is written (wf_listing defines it), or of a
-//! folder those of its tapes, each after its name, and a last line; or the text of the map that the tape has as published. Before a write error
+//! folder those of exactly the tapes in it, in order, each after its name, and one last line of what a start on it would do; or the
+//! text of the map that the tape has as published. Before a write error
 //! a prefix of it is written, before any other error nothing. A file with known content is listed unless it is too long or an
 //! allocation fails.
 //!
@@ -52,16 +53,22 @@
 
 mod fault;
 mod folder;
+mod folder_state;
 mod map_check;
+mod node_folder;
 mod program;
 mod run;
 mod server;
 mod tapes;
 
 pub use fault::RunFault;
+pub use folder_state::FolderState;
 pub use map_check::run_check;
-pub use program::{Ending, rejection_status, run_process, run_words};
-pub use run::{limits_are_as_defined, run_canon, run_caps, run_line};
+pub use program::{Ending, rejection_status, run_process, run_serve, run_words};
+pub use run::{
+    limits_are_as_defined, run_canon, run_caps, run_draw, run_line, run_script, wire_script,
+};
 pub use server::{Host, NodeServer};
 pub use tapes::{Tapes, run_tape};
+pub use wf_line::{Line, line};
 pub use wf_serve::ServeFault;

@@ -1,16 +1,18 @@
 //! The program: from the command line to the exit status.
-ghost use Rattle.std.specs.Prelude.{◌≡◌, ◌≤◌, Bool, true, None, IfErr, IfOk, OnErr, map};
+ghost use Rattle.std.specs.Prelude.{◌≡◌, ◌≤◌, Bool, true, IfErr, IfOk, OnErr, map};
 ghost use Rattle.std.specs.IoError.{error_kind};
 ghost use Rattle.clap.specs.Values.{kind_of};
 ghost use Rattle.std.specs.Process.{exit_status};
 ghost use Rattle.wf_line.specs.CommandLine.{IsRejection, IsWhyRejected};
-ghost use Rattle.wf_commands.specs.FailureCount.{FailsLast};
+ghost use Rattle.wf_line.specs.Line.{IsInRange};
+ghost use Rattle.wf_commands.specs.FailureCount.{CountsWrites, FailsLast};
+ghost use Rattle.wf_commands.specs.Contents.{nothing_known};
 ghost use Rattle.wf_commands.specs.ProgramEnd.{is_found, is_written, left_to_report, run_status, reported, rejection_status, unreadable_status};
 ghost use Rattle.wf_commands.specs.Program.{IsFarmProcess, IsProcess, IsRun};
 ghost use Rattle.wf_line.specs.ProcessCommandLine.{names_process_command};
 ghost use Rattle.wf_node_command.specs.Done.{command_status};
 ghost use Rattle.wf_replica_command.specs.Done.{replica_status};
-ghost use Rattle.wf_commands.specs.ServeRun.{IsMachineServing, run_outcome};
+ghost use Rattle.wf_commands.specs.ServeRun.{IsLineServed, IsMachineServing, IsOfService, run_outcome};
 
 use crate::fault::RunFault;
 use crate::run::run_line;
@@ -60,6 +62,26 @@ fn serve_result(outcome: Result<(), ServeFault>) -> Result<(), RunFault>
         Ok(()) => Ok(()),
         Err(ServeFault::Start) => Err(RunFault::Serve),
         Err(ServeFault::Write) => Err(RunFault::Write),
+    }
+}
+
+/// Runs a `serve` line: the server serves the nodes of its service, and writes the line with their port. [`run_words`] runs any line.
+#[tactic(auto, using(crate::proofs::Ended::line_served, crate::proofs::Ended::outcome_counts))]
+pub fn run_serve<K: Sink, V: NodeServer>(
+    server: &V,
+    line: Line<'_>,
+    sink: &mut K,
+) -> Result<(), RunFault>
+    requires range { IsInRange line }
+    requires service { IsOfService line }
+    ensures served { IsLineServed (V.serves server.now) line.entry (K.written sink.old)
+        (K.written sink.new) result }
+    ensures writes { CountsWrites result (K.failures sink.old) (K.failures sink.new) }
+    ensures last { FailsLast K.Sink sink.old sink.new }
+{
+    match line {
+        Line::Serve(service) => serve_result(server.serve(service, sink)),
+        _ => unreachable!(),
     }
 }
 
@@ -136,7 +158,7 @@ fn end(line: Line<'_>, outcome: Result<(), RunFault>) -> Ending
 ///
 /// Err: no command was run, and nothing was read or written. The error's text is for the user: it is help or the version, if the
 /// words ask for these.
-#[tactic(auto, using(crate::proofs::Last::none_failed, crate::proofs::Ended::run_ended, crate::proofs::Ended::serving_ended, crate::proofs::Ended::listing_ended))]
+#[tactic(auto, using(crate::proofs::Last::none_failed, crate::proofs::Ended::run_ended, crate::proofs::Ended::listing_ended))]
 pub fn run_words<'a, S: AsStr, I: Source, K: Sink, V: NodeServer + Tapes, C: Carrier>(
     alloc: Global,
     words: &'a [S],
@@ -164,7 +186,7 @@ pub fn run_words<'a, S: AsStr, I: Source, K: Sink, V: NodeServer + Tapes, C: Car
 {
     match line(alloc, words) {
         Ok(line) => match line {
-            Line::Serve(service) => Ok(end(line, serve_result(server.serve(service, sink)))),
+            Line::Serve(_) => Ok(end(line, run_serve(server, line, sink))),
             Line::Tape { file, map } => Ok(end(line, run_tape(alloc, file, map, sink, server))),
             Line::Caps { .. }
             | Line::Draw { .. }
@@ -300,7 +322,7 @@ pub fn run_process<
     // What the process did: of `serve` what was served, by nodes on tapes in memory or in files; of `node` how its node lived; of `replica`
     // what it heard, and whom it answered what.
     ensures ended { IsProcess (λ service old new outcome. IsMachineServing ⟦<MemoryTape as Tape>⟧
-        ⟦<FileTape<&'a R> as Tape>⟧ service old new outcome) (λ _. None)
+        ⟦<FileTape<&'a R> as Tape>⟧ service old new outcome) nothing_known
         ⟦<FileTape<&'a R> as Tape>⟧ (exit_status result) }
 {
     let words = match words(rt) {

@@ -1,48 +1,52 @@
 //! Where the tapes of a `tape` line are read from, and the command that lists them.
-ghost use Rattle.std.specs.Prelude.{◌≡◌, ◌<◌, ℕ, List, None, Option, Some, IfOk, IfSome, IsErrOf, length};
+ghost use Rattle.std.specs.Prelude.{◌≡◌, ◌<◌, None, Some, IfOk, IfSome, IsErrOf, length};
 ghost use Rattle.wf_commands.specs.FailureCount.{CountsWrites, FailsLast};
+ghost use Rattle.wf_commands.specs.Contents.{Contents, nothing_known};
 ghost use Rattle.wf_commands.specs.Folder.{IsTapeDone};
 ghost use Rattle.wf_commands.specs.Run.{IsListed, IsMapWritten};
 ghost use Rattle.wf_listing.specs.TapeBytes.{most_tape_bytes};
 
 use crate::fault::RunFault;
 use crate::folder::run_folder;
+use crate::folder_state::FolderState;
+use crate::node_folder::{examine_node, node_file};
 use crate::server::Host;
 use std::alloc::Global;
 use std::fs;
 use std::rt::Files;
-use wf_folder::Start;
 use wf_listing::{TapeReadFault, list, read_tape, text_of_map};
-use wf_serve::{Cause, Survey, examine, inspect};
+use wf_serve::{Survey, examine, inspect};
 use wf_stream::{Sink, Stream, write_all};
 
 /// What reads tapes: the machine's files, or in a test what stands for them.
 pub trait Tapes {
-    /// The content of the file at a path, if it is known.
-    ghost content: { Self → List ℕ → Option (List ℕ) };
+    /// The files and folders, as far as they are known.
+    ghost content: { Self → Contents };
 
     /// Reads the file at a path to its end, and changes nothing. Returns `Failed` if it can't be read or is longer than the longest
     /// tape, `Memory` if an allocation fails.
     fn read(&self, alloc: Global, path: &str) -> Result<Vec<u8>, TapeReadFault>
         ensures whole { IfOk result
-            (λ bytes. IfSome (content self.now path.now) (λ known. bytes.items ≡ known)) }
+            (λ bytes. IfSome ((content self.now).file path.now) (λ known. bytes.items ≡ known)) }
         ensures failed { IsErrOf result TapeReadFault.Failed →
-            IfSome (content self.now path.now) (λ known. most_tape_bytes < length known) }
+            IfSome ((content self.now).file path.now) (λ known. most_tape_bytes < length known) }
         ensures read { IsErrOf result TapeReadFault.NoMap → ⊥ };
 
     /// What is in the folder at a path. None if there is no folder, or what is in it can't be seen.
     fn folder(&self, path: &str) -> Option<Survey>
-        ensures file { IfSome (content self.now path.now) (λ _. result ≡ None) }
-        ensures tapes { IfSome result (λ survey. length survey.tapes ≡ 64) };
+        ensures file { IfSome ((content self.now).file path.now) (λ _. result ≡ None) }
+        ensures tapes { IfSome result (λ survey. length survey.tapes ≡ 64) }
+        ensures known { IfSome result (λ survey.
+            IfSome ((content self.now).tapes path.now) (λ known. survey.tapes ≡ known)) };
 
-    /// On what the nodes of the farm of a folder with this in it would start, and how many they are; or why they wouldn't.
-    fn examine(&self, path: &str, survey: &Survey) -> Result<(u8, Start), Cause>
+    /// What a start on the folder at a path with this in it would do.
+    fn examine(&self, path: &str, survey: &Survey) -> FolderState
         requires { length survey.now.tapes ≡ 64 };
 }
 
 /// Reads the machine's files, whose content is in no contract. The files are opened to be read and for nothing else.
 impl<'a, R: Files + AllocGlobal> Tapes for Host<'a, R> {
-    ghost content = { λ _ _. None };
+    ghost content = { λ _. nothing_known };
 
     fn read(&self, alloc: Global, path: &str) -> Result<Vec<u8>, TapeReadFault> {
         match fs::open(self.0, path) {
@@ -63,8 +67,21 @@ impl<'a, R: Files + AllocGlobal> Tapes for Host<'a, R> {
         }
     }
 
-    fn examine(&self, path: &str, survey: &Survey) -> Result<(u8, Start), Cause> {
-        examine(self.0, path, survey)
+    fn examine(&self, path: &str, survey: &Survey) -> FolderState {
+        match node_file(self.0, path) {
+            Some(file) => examine_node(self.0, path, &file, survey),
+            None => examine_farm(self.0, path, survey),
+        }
+    }
+}
+
+/// What a start of the nodes of a farm would do on the folder at a path with this in it.
+fn examine_farm<R: Files + AllocGlobal>(rt: &R, path: &str, survey: &Survey) -> FolderState
+    requires { length survey.now.tapes ≡ 64 }
+{
+    match examine(rt, path, survey) {
+        Ok((nodes, start)) => FolderState::Farm(nodes, start),
+        Err(cause) => FolderState::Rejected(cause),
     }
 }
 
@@ -124,7 +141,7 @@ fn run_file<K: Sink, V: Tapes>(
     sink: &mut K,
     tapes: &V,
 ) -> Result<(), RunFault>
-    ensures listed { IsListed (V.content tapes.now path.now) (K.written sink.old)
+    ensures listed { IsListed ((V.content tapes.now).file path.now) (K.written sink.old)
         (K.written sink.new) result }
     ensures writes { CountsWrites result (K.failures sink.old) (K.failures sink.new) }
     ensures last { FailsLast K.Sink sink.old sink.new }
@@ -166,8 +183,8 @@ fn run_map<K: Sink, V: Tapes>(
     sink: &mut K,
     tapes: &V,
 ) -> Result<(), RunFault>
-    ensures written { IsMapWritten (V.content tapes.now path.now) sequence (K.written sink.old)
-        (K.written sink.new) result }
+    ensures written { IsMapWritten ((V.content tapes.now).file path.now) sequence
+        (K.written sink.old) (K.written sink.new) result }
     ensures writes { CountsWrites result (K.failures sink.old) (K.failures sink.new) }
     ensures last { FailsLast K.Sink sink.old sink.new }
 {

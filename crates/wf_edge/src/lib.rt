@@ -72,3 +72,5 @@ pub use status::Status;
 pub use theorem::{
     each_query_has_one_page, equal_requests_have_equal_responses, only_these_are_unavailable,
 };
+pub use wf_mail::{Inbox, InboxFault};
+pub use wf_stream::{Bytes, Output, Sink, Source, Stream};

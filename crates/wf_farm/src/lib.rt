@@ -78,4 +78,7 @@ pub use fused::{
 };
 pub use publication::{a_proposal_is_published, a_pump_delivers_alike};
 pub use rejection::Rejection;
+pub use wf_delivery::{
+    Pumped, agreement, deliver_all, kept_promises, own_ballots, promised_majority,
+};
 pub use wf_model::{Action, Kept};

@@ -15,7 +15,7 @@ use Rattle.wf_label.specs.Label.{at_anchor, class_label, entry_labels, feature_l
 use Rattle.wf_label.specs.Placed.{PlacedValue, placed_value, placed_values}
 use Rattle.wf_label.specs.Walk.{CandidateValue, candidate_of, candidate_value, candidate_values, chosen, entry_candidates, if_of_priority, layer_candidates, walk, with_priority}
 use Rattle.wf_label.specs.declared.feature_anchor.Anchor.{Anchor}
-use Rattle.wf_label.specs.declared.candidates.Candidate.{Candidate}
+use Rattle.wf_label.specs.declared.label_order.Candidate.{Candidate}
 use Rattle.wf_label.specs.declared.placed.Placed.{Placed}
 
 -- ---- one feature

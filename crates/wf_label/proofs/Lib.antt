@@ -11,3 +11,4 @@ pub mod MeaningLemmas
 pub mod SortedLemmas
 pub mod OrderLemmas
 pub mod LetterLemmas
+pub mod MarkLemmas

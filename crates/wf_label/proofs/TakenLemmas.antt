@@ -1,11 +1,10 @@
 -- Boxes of labels overlap exactly where they have a pixel of the view in common.
-use Rattle.std.proofs.Common.{◌≡◌, ℕ, zero, suc, ◌+◌, ◌-◌, ◌*◌, ◌<◌, ◌≤◌, ◌==◌, max, Bool, true, false, not, ◌&&◌, ◌||◌, List, [], ◌∷◌, ◌++◌, length, get_or, ℤ, pos, nat_abs, inl, inr, refl, sym, ap, ◌∙◌, arith}
+use Rattle.std.proofs.Common.{◌≡◌, ℕ, ◌+◌, ◌-◌, ◌*◌, ◌<◌, ◌≤◌, ◌==◌, max, Bool, true, false, not, ◌&&◌, ◌||◌, List, [], ◌∷◌, ◌++◌, length, ℤ, pos, nat_abs, inl, inr, refl, sym, ap, ◌∙◌, arith}
 use Rattle.std.specs.Prelude.{nat_le, nat_lt}
-use Rattle.std.proofs.Common.{set, ◌⊎◌, replicate, take}
-use Rattle.std.proofs.Math.Nat.{mul-le-mul, mul_comm}
-use Rattle.std.proofs.lemmas.List.{get_or-set_same, get_or-set_other, length-replicate, map_push, take_at}
-use Rattle.wf_label.proofs.ColoredLemmas.{same_width, in_rows, run_in_row, between_cuts}
-use Rattle.std.proofs.lemmas.Bool.{cases_eq, cases_lt, leb-true, ltb-true, le-leb, lt-ltb, and_from, and_parts, or_cases, or_left, or_right, or_parts, or_from, both_ways, not-true, false≢true}
+use Rattle.std.proofs.Common.{◌⊎◌, replicate, take}
+use Rattle.std.proofs.lemmas.List.{length-replicate, map_push, take_at}
+use Rattle.wf_label.proofs.ColoredLemmas.{in_rows, run_in_row, between_cuts}
+use Rattle.std.proofs.lemmas.Bool.{cases_eq, leb-true, ltb-true, le-leb, lt-ltb, and_from, and_parts, or_cases, or_left, or_right, or_parts, or_from, both_ways, not-true, false≢true}
 use Rattle.std.proofs.lemmas.Bool.Decides.{nat_tests}
 use Rattle.std.proofs.lemmas.Int.{ints}
 use Rattle.std.proofs.lemmas.List.Elements.{All-head, All-tail, All-push}
@@ -16,7 +15,8 @@ use Rattle.wf_label.specs.Colored.{IsCut, is_between, is_in}
 use Rattle.wf_label.specs.PixelBox.{box_of, is_whole_in, overlap, spans_overlap, widen}
 use Rattle.wf_label.specs.Placed.{PlacedValue, placed_value, placed_values}
 use Rattle.wf_label.specs.declared.placed.Placed.{Placed}
-use Rattle.wf_label.specs.Taken.{IsSolid, IsShown, IsTaken, IsMet, IsMarkedWithin, is_taken, is_marked}
+use Rattle.wf_label.specs.Taken.{IsSolid, IsShown, IsTaken, IsMet, IsMarkedWithin, is_taken, is_marked, words_for}
+use Rattle.wf_label.proofs.MarkLemmas.{none_at}
 use Rattle.wf_label.specs.declared.placed.PixelBox.{PixelBox}
 
 -- ---- two boxes
@@ -136,51 +136,7 @@ module _ (view : ViewValue) (f : PixelBox) (placed : List PlacedValue) (marks : 
 
 -- ---- indices marked
 
-module _ (marks old : List ℕ) (start index n : ℕ) (some : start ≤ index) (within : index < length marks) where
-  -- one index more
-  pub marked_more : is_marked marks n ≡ ((nat_le start n && nat_lt n index) || is_marked old n) → is_marked (set marks index 1) n ≡ ((nat_le start n && nat_lt n (index + 1)) || is_marked old n)
-  unfolding is_marked
-  marked_more so_far = elim (cases_eq n index) [
-    | inl same ↦
-        let one : get_or (set marks index 1) n 0 ≡ 1 = ap (λ (i : ℕ). get_or (set marks index 1) i 0) same ∙ get_or-set_same marks index 1 0 within in
-        let in_it : (nat_le start n && nat_lt n (index + 1)) ≡ true = grind (arith, nat_tests) in
-        rw (one, in_it) refl
-    | inr apart ↦
-        let other : get_or (set marks index 1) n 0 ≡ get_or marks n 0 = get_or-set_other marks index n 1 0 apart in
-        let alike : (nat_le start n && nat_lt n (index + 1)) ≡ (nat_le start n && nat_lt n index) = grind (arith, nat_tests) in
-        rw (other, alike) so_far
-  ]
-
-unmarked : (marks : List ℕ) (n : ℕ) → get_or marks n 0 ≡ 0 → is_marked marks n ≡ false
-unfolding is_marked
-unmarked marks n none = rw none refl
-
-marked : (marks : List ℕ) (n : ℕ) → 0 < get_or marks n 0 → is_marked marks n ≡ true
-unfolding is_marked
-marked marks n some = grind (arith, nat_tests)
-
-pub greatest_none : (marks : List ℕ) (start index most : ℕ) → (most ≡ 0 → (n : ℕ) → start ≤ n → n < index → is_marked marks n ≡ false) →
-    max (get_or marks index 0) most ≡ 0 → (n : ℕ) → start ≤ n → n < index + 1 → is_marked marks n ≡ false
-greatest_none marks start index most so_far none n from before = elim (cases_eq n index) [
-  | inl same ↦ let zero_here : get_or marks n 0 ≡ 0 = ap (λ (i : ℕ). get_or marks i 0) same ∙ omega (arith, none) in unmarked marks n zero_here
-  | inr apart ↦ so_far (omega (arith, none)) n from (omega arith)
-]
-
-pub greatest_some : (marks : List ℕ) (start index most : ℕ) → start ≤ index → (0 < most → IsMarkedWithin marks start index) → 0 < max (get_or marks index 0) most → IsMarkedWithin marks start (index + 1)
-greatest_some marks start index most from so_far some = elim (cases_lt 0 (get_or marks index 0)) [
-  | inl here ↦ record { index = index; from = from; before = omega arith; marked = marked marks index here }
-  | inr none ↦
-      let earlier = so_far (omega (arith, some, none)) in
-      record { index = earlier.index; from = earlier.from; before = omega (arith, earlier.before); marked = earlier.marked }
-]
-
 -- ---- rows marked
-
-pub row_within : (row height width end size : ℕ) → row < height → end ≤ width → size ≡ width * height → row * width + end ≤ size
-row_within row height width end size here most whole =
-    let below : row + 1 ≤ height = omega arith in
-    let all : (row + 1) * width ≤ height * width = mul-le-mul below (same_width width) in
-    omega (arith, mul_comm height width)
 
 module _ (f : PixelBox) (left right bottom top width height : ℕ) (begins : IsCut width left f.left) (ends : IsCut width right f.right) (most : right ≤ width) where
   -- one row more is marked
@@ -247,17 +203,12 @@ row_met view f marks left right bottom top row begins ends low high wide tall ab
 -- ---- labels placed
 
 -- no label takes a pixel
-zero_at : (n i : ℕ) → get_or (replicate n zero) i zero ≡ zero
-zero_at zero i = refl
-zero_at (suc n) zero = refl
-zero_at (suc n) (suc i) = zero_at n i
-
-pub IsTaken-none : (view : ViewValue) (marks : List ℕ) → marks ≡ replicate (view.width * view.height) 0 → IsTaken view [] marks
+pub IsTaken-none : (view : ViewValue) (marks : List ℕ) → marks ≡ replicate (words_for (view.width * view.height)) 0 → IsTaken view [] marks
 unfolding is_taken
 IsTaken-none view marks zeros = record {
-  size = ap length zeros ∙ length-replicate (view.width * view.height) 0;
+  size = ap length zeros ∙ length-replicate (words_for (view.width * view.height)) 0;
   shown = λ k d within. absurd (omega arith);
-  each = λ k m wide high. rw zeros (unmarked (replicate (view.width * view.height) 0) (m * view.width + k) (zero_at (view.width * view.height) (m * view.width + k)));
+  each = λ k m wide high. none_at marks (words_for (view.width * view.height)) (m * view.width + k) zeros;
 }
 
 taken-push : (placed : List PlacedValue) (label : PlacedValue) (k m : ℕ) → is_taken (placed ++ label ∷ []) k m ≡ (is_in (box_of label) k m || is_taken placed k m)
@@ -279,11 +230,7 @@ IsTaken-more view placed label old new one taken same marked_too = record {
       marked_too k m wide high ∙ ap (λ (t : Bool). is_in (box_of label) k m || t) (taken.each k m wide high) ∙ sym (taken-push placed label k m);
 }
 
--- what the greatest of all bytes means
-pub greatest_within : (marks : List ℕ) (start end index : ℕ) → index ≡ max end start → IsMarkedWithin marks start index → IsMarkedWithin marks start end
-greatest_within marks start end index last at = record { index = at.index; from = at.from; before = omega (arith, at.before, at.from); marked = at.marked }
-
--- the same by the code's labels and its bytes, which were lent out of a list of this length
+-- the same by the code's labels and its words, which were lent out of a list of this length
 pub taken_lent : (view : ViewValue) (placed after : List Placed) (label : Placed) (old new : List ℕ) (n : ℕ) (rest : List ℕ) → after ≡ placed ++ label ∷ [] → length new ≡ n → length new ≡ length old →
     IsShown view (placed_value label) → IsTaken view (placed_values placed) old →
     ((k m : ℕ) → k < view.width → m < view.height → is_marked new (m * view.width + k) ≡ (is_in (box_of (placed_value label)) k m || is_marked old (m * view.width + k))) →

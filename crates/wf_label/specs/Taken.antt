@@ -1,5 +1,6 @@
 -- Which pixels of a view the boxes of placed labels take.
-use Rattle.std.specs.Prelude.{◌≡◌, ℕ, ◌+◌, ◌*◌, ◌<◌, ◌≤◌, ◌==◌, Bool, true, not, List, length, slice_index}
+use Rattle.std.specs.Prelude.{◌≡◌, ℕ, ◌+◌, ◌*◌, ◌/◌, ◌%◌, ◌<◌, ◌≤◌, ◌==◌, Bool, true, List, length, slice_index}
+use Rattle.std.specs.Int.{bit_at}
 use Rattle.std.specs.List.{All, list_any}
 use Rattle.wf_geometry.specs.Exact.{is_less}
 use Rattle.wf_geometry.specs.View.{ViewValue}
@@ -22,13 +23,17 @@ pub record IsShown (view : ViewValue) (label : PlacedValue) : Type 0 where
 unfoldable pub is_taken : List PlacedValue → ℕ → ℕ → Bool
 is_taken placed column row = list_any (λ other. is_in (box_of other) column row) placed
 
--- the pixel at this index is marked: its byte isn't 0
+-- the pixel at this index is marked: its bit is set, of 64 in each word from the lowest on
 unfoldable pub is_marked : List ℕ → ℕ → Bool
-is_marked marks index = not (slice_index marks index == 0)
+is_marked marks index = bit_at (slice_index marks (index / 64)) (index % 64) == 1
 
--- the pixels that the labels take are marked, and no others; a byte a pixel, row by row from the bottom
+-- words with a bit for each of so many pixels
+abbrev pub words_for : ℕ → ℕ
+words_for area = area / 64 + 1
+
+-- the pixels that the labels take are marked, and no others; a bit a pixel, row by row from the bottom
 pub record IsTaken (view : ViewValue) (placed : List PlacedValue) (marks : List ℕ) : Type 0 where
-  pub size : length marks ≡ view.width * view.height
+  pub size : length marks ≡ words_for (view.width * view.height)
   pub shown : All (IsShown view) placed
   pub each : (column row : ℕ) → column < view.width → row < view.height → is_marked marks (row * view.width + column) ≡ is_taken placed column row
 

@@ -9,7 +9,7 @@ use Rattle.wf_label.specs.Anchor.{anchor_of}
 use Rattle.wf_label.specs.Label.{at_anchor, class_label, text_of}
 use Rattle.wf_label.specs.Placed.{PlacedValue, placed_value}
 use Rattle.wf_label.specs.declared.feature_anchor.Anchor.{Anchor}
-use Rattle.wf_label.specs.declared.candidates.Candidate.{Candidate}
+use Rattle.wf_label.specs.declared.label_order.Candidate.{Candidate}
 
 pub record CandidateValue : Type 0 where
   pub priority : ℕ

@@ -6,7 +6,7 @@ ghost use Rattle.wf_label.specs.Ink.{IsInked, inks};
 ghost use Rattle.wf_label.specs.Placed.{placed_value, placed_values};
 
 use crate::fill::fill;
-use crate::glyph::glyph;
+use crate::glyphs::glyph;
 use crate::ink::{has_bit, row_up};
 use crate::limits::{CELL_HEIGHT, CELL_WIDTH, GLYPH_WIDTH};
 use crate::overlap::plus;

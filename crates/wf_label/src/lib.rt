@@ -6,10 +6,10 @@
 //! label as the record of `specs/Placed.antt` and a picture as `wf_paint` does; the placed labels are the one set of
 //! `specs/LabelLayout.antt`.
 //!
-//! - `candidates` returns all labels in label order, unless allocation fails.
-//! - `place` returns the placed set in that order, unless allocation fails.
-//! - `glyph` returns the rows of the table.
-//! - `draw_labels` changes exactly the pixels that a letter inks. Where letters of two labels overlap, the label that comes first
+//! - [`candidates`] returns all labels in label order, unless allocation fails.
+//! - [`place`] returns the placed set in that order, unless allocation fails.
+//! - [`glyph`] returns the rows of the table.
+//! - [`draw_labels`] changes exactly the pixels that a letter inks. Where letters of two labels overlap, the label that comes first
 //!   in the order shows.
 //!
 //! Labels are placed in the whole view, never in a part of it. The crate has one alphabet of capitals, digits and three marks,
@@ -20,12 +20,12 @@
 //! that its characters' glyphs set, all of them in its box.
 #![tactic(auto)]
 
-mod candidates;
 mod draw;
 mod feature_anchor;
 mod fill;
-mod glyph;
+mod glyphs;
 mod ink;
+mod label_order;
 mod limits;
 mod overlap;
 mod placed;
@@ -37,7 +37,10 @@ mod text;
 mod theorem;
 
 pub use draw::draw_labels;
+pub use glyphs::glyph;
+pub use label_order::candidates;
 pub use limits::constants_are_the_limits;
+pub use placed::Placed;
 pub use placement::place;
 pub use theorem::{
     boxes_overlap_where_they_share, candidates_are_sorted, letters_ink_their_set_bits,

@@ -7,7 +7,7 @@ ghost use Rattle.wf_label.specs.Placed.{placed_value, placed_values};
 ghost use Rattle.wf_label.specs.LabelLayout.{IsLayout, joined, stands};
 ghost use Rattle.wf_label.specs.Taken.{IsShown, IsSolid, IsTaken};
 
-use crate::candidates::candidates;
+use crate::label_order::candidates;
 use crate::overlap::{box_of, is_whole_in, widen};
 use crate::placed::{PixelBox, Placed};
 use crate::taken::{mark, meets_marked};
@@ -32,11 +32,11 @@ pub fn place<'a>(
     place_among(alloc, &labels, view)
 }
 
-/// The labels placed so far, and which pixels of the view their boxes take.
+/// The labels placed so far, and which pixels of the view their boxes take: a bit a pixel.
 #[derive(Drop)]
 struct LabelLayout<'a> {
     placed: Vec<Placed<'a>>,
-    marks: Vec<u8>,
+    marks: Vec<u64>,
 }
 
 /// The placed ones of some labels, which are given in label order.
@@ -63,7 +63,7 @@ fn none_placed<'a>(alloc: Global, view: &View) -> Result<LabelLayout<'a>, AllocE
     ensures none { IfOk result (λ layout. layout.placed.items ≡ []) }
     ensures taken { IfOk result (λ layout. IsTaken view.now [] layout.marks.items) }
 {
-    let marks = vec![in alloc; 0; (view.width() * view.height()) as usize]?;
+    let marks = vec![in alloc; 0; (view.width() * view.height() / 64 + 1) as usize]?;
     Ok(LabelLayout {
         placed: Vec::new(alloc),
         marks,

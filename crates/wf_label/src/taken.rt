@@ -1,12 +1,13 @@
 //! Which pixels of a view are taken by the boxes of placed labels.
-ghost use Rattle.std.specs.Prelude.{◌≡◌, ◌≤◌, ◌<◌, ◌*◌, ◌+◌, ℕ, ◌&&◌, ◌||◌, false, true, length, nat_le, nat_lt};
+ghost use Rattle.std.specs.Prelude.{◌≡◌, ◌≤◌, ◌<◌, ◌*◌, ◌+◌, ◌/◌, ◌^◌, ℕ, ◌&&◌, ◌||◌, false, true, length, nat_le, nat_lt};
 ghost use Rattle.wf_label.specs.Colored.{IsCut, is_in};
 ghost use Rattle.wf_geometry.specs.View.{IsView};
-ghost use Rattle.wf_label.specs.Taken.{IsMarkedWithin, IsMet, is_marked};
+ghost use Rattle.wf_label.specs.Taken.{IsMarkedWithin, IsMet, is_marked, words_for};
 
 use crate::fill::cut;
 use crate::placed::PixelBox;
 use wf_geometry::View;
+use wf_paint::ones;
 
 /// The columns and rows of a view that a box covers: `left` to before `right`, `bottom` to before `top`.
 #[derive(Clone, Copy)]
@@ -40,10 +41,10 @@ fn block_of(view: &View, pixel_box: &PixelBox) -> CoveredBox
     }
 }
 
-/// Marks the pixels of the view that lie in the box. `marks` has a byte a pixel, row by row from the bottom; a marked pixel's
-/// byte isn't 0.
-pub(crate) fn mark(marks: &mut [u8], view: &View, pixel_box: &PixelBox)
-    requires { length marks.old ≡ view.now.width * view.now.height }
+/// Marks the pixels of the view that lie in the box. `marks` has a bit a pixel, row by row from the bottom, 64 in each word from the
+/// lowest on; a marked pixel's is set.
+pub(crate) fn mark(marks: &mut [u64], view: &View, pixel_box: &PixelBox)
+    requires { length marks.old ≡ words_for (view.now.width * view.now.height) }
     ensures { (column row : ℕ) → column < view.now.width →
         row < view.now.height → is_marked marks.new (row * view.now.width + column)
         ≡ (is_in pixel_box.now column row || is_marked marks.old (row * view.now.width + column)) }
@@ -55,20 +56,38 @@ pub(crate) fn mark(marks: &mut [u8], view: &View, pixel_box: &PixelBox)
     }
 }
 
-/// Marks the indices from `start` to before `end`.
-fn mark_run(marks: &mut [u8], start: usize, end: usize)
-    requires { end ≤ length marks.old }
+/// Marks the indices from `start` to before `end`, word by word.
+fn mark_run(marks: &mut [u64], start: usize, end: usize)
+    requires within { end ≤ 64 * length marks.old }
+    requires most { end ≤ 2 ^ 20 }
     ensures { (index : ℕ) → is_marked marks.new index
         ≡ ((nat_le start index && nat_lt index end) || is_marked marks.old index) }
 {
-    for index in start..end.max(start) {
-        marks[index] = 1;
+    let mut here = start;
+    while here < end {
+        let next = end.min(64 * (here / 64 + 1));
+        mark_word(marks, here, next);
+        here = next;
     }
 }
 
+/// Marks the indices from `start` to before `end`, which are of one word.
+fn mark_word(marks: &mut [u64], start: usize, end: usize)
+    requires order { start < end }
+    requires one { end ≤ 64 * (start / 64 + 1) }
+    requires within { end ≤ 64 * length marks.old }
+    ensures { (index : ℕ) → is_marked marks.new index
+        ≡ ((nat_le start index && nat_lt index end) || is_marked marks.old index) }
+{
+    let word = start / 64;
+    let mask = ones((start % 64) as u32, (end - 64 * word) as u32);
+    let old = marks[word];
+    marks[word] = old | mask;
+}
+
 /// Whether a marked pixel of the view lies in the box.
-pub(crate) fn meets_marked(marks: &[u8], view: &View, pixel_box: &PixelBox) -> bool
-    requires { length marks.now ≡ view.now.width * view.now.height }
+pub(crate) fn meets_marked(marks: &[u64], view: &View, pixel_box: &PixelBox) -> bool
+    requires { length marks.now ≡ words_for (view.now.width * view.now.height) }
     ensures free { result ≡ false → (column row : ℕ) →
         column < view.now.width → row < view.now.height → is_in pixel_box.now column row ≡ true →
         is_marked marks.now (row * view.now.width + column) ≡ false }
@@ -77,24 +96,42 @@ pub(crate) fn meets_marked(marks: &[u8], view: &View, pixel_box: &PixelBox) -> b
     let width = view.width() as usize;
     let block = block_of(view, pixel_box);
     for row in block.bottom..block.top.max(block.bottom) {
-        if greatest(marks, row * width + block.left, row * width + block.right) > 0 {
+        if has_mark(marks, row * width + block.left, row * width + block.right) {
             return true;
         }
     }
     false
 }
 
-/// The greatest of the bytes at indices `start` to before `end`; 0 where there is none. It reads every byte, so that a processor
-/// can do many at once.
-fn greatest(marks: &[u8], start: usize, end: usize) -> u8
-    requires { end ≤ length marks.now }
-    ensures none { result ≡ 0 →
+/// Whether one of the indices from `start` to before `end` is marked.
+fn has_mark(marks: &[u64], start: usize, end: usize) -> bool
+    requires within { end ≤ 64 * length marks.now }
+    requires most { end ≤ 2 ^ 20 }
+    ensures free { result ≡ false →
         (index : ℕ) → start ≤ index → index < end → is_marked marks.now index ≡ false }
-    ensures some { 0 < result → IsMarkedWithin marks.now start end }
+    ensures some { result ≡ true → IsMarkedWithin marks.now start end }
 {
-    let mut most = 0;
-    for index in start..end.max(start) {
-        most = marks[index].max(most);
+    let mut here = start;
+    while here < end {
+        let next = end.min(64 * (here / 64 + 1));
+        if is_word_marked(marks, here, next) {
+            return true;
+        }
+        here = next;
     }
-    most
+    false
+}
+
+/// Whether one of the indices from `start` to before `end`, which are of one word, is marked.
+fn is_word_marked(marks: &[u64], start: usize, end: usize) -> bool
+    requires order { start < end }
+    requires one { end ≤ 64 * (start / 64 + 1) }
+    requires within { end ≤ 64 * length marks.now }
+    ensures free { result ≡ false →
+        (index : ℕ) → start ≤ index → index < end → is_marked marks.now index ≡ false }
+    ensures some { result ≡ true → IsMarkedWithin marks.now start end }
+{
+    let word = start / 64;
+    let mask = ones((start % 64) as u32, (end - 64 * word) as u32);
+    marks[word] & mask != 0
 }

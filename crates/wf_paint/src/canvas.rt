@@ -299,9 +299,9 @@ fn word_at(free: &Vec<u64>, index: u32) -> u64
     free[index as usize]
 }
 
-/// The word with the bits from `from` on and before `to` set.
+/// The word with the bits from `from` on and before `to` set, counted from the lowest.
 #[inline(always)]
-fn ones(from: u32, to: u32) -> u64
+pub fn ones(from: u32, to: u32) -> u64
     requires from { from < 64 }
     requires least { 1 ≤ to }
     requires most { to ≤ 64 }

@@ -25,5 +25,7 @@ mod pixmap;
 mod segments;
 mod strip;
 
+pub use canvas::ones;
 pub use painter::{paint, paint_after};
 pub use pixmap::Pixmap;
+pub use wf_geometry::{GridCell, View, covers};

@@ -1,6 +1,9 @@
--- The files that stand for the machine's: three, with one content.
-use Rattle.std.specs.Prelude.{ℕ, List, Bool, true, Option, Some, None, codes, if◌then◌else◌}
+-- The files that stand for the machine's: three, with one content, two of them in a folder.
+use Rattle.std.specs.Prelude.{ℕ, List, Bool, true, Option, Some, None, codes, if◌then◌else◌, replicate, slice_set}
 use Rattle.std.specs.Str.{bytes_eq}
+use Rattle.wf_folder.specs.declared.presence.Presence.{Presence}
+use Rattle.wf_folder.specs.declared.presence.Presence.TheVariants.{Absent, Written}
+use Rattle.wf_commands.specs.Contents.{Contents}
 
 -- whether a file is at the path
 unfoldable pub is_file : List ℕ → Bool
@@ -9,3 +12,11 @@ is_file path = if bytes_eq path (codes "node-0.tape") then true else if bytes_eq
 -- the content of the file at the path, if one is there
 abbrev pub content_at : List ℕ → List ℕ → Option (List ℕ)
 content_at tape path = if is_file path then Some tape else None
+
+-- the tapes in the folder: the first two
+abbrev pub two_tapes : List Presence
+two_tapes = slice_set (slice_set (replicate 64 Absent) 0 Written) 1 Written
+
+-- what stands for the machine's files and its one folder
+abbrev pub files_of : List ℕ → Contents
+files_of tape = record { file = λ path. content_at tape path; tapes = λ _. Some two_tapes }

@@ -60,6 +60,37 @@ impl Carrier for Losing {
     }
 }
 
+/// Copies messages, and cuts one off after so many bytes, and after no other number.
+#[derive(Drop)]
+struct Cutting {
+    bytes: usize,
+}
+
+impl Carrier for Cutting {
+    fn carry(&mut self, alloc: Global, message: &Message) -> Result<Message, CarrierFault> {
+        Copies.carry(alloc, message)
+    }
+
+    fn cut(
+        &mut self,
+        _alloc: Global,
+        _message: &Message,
+        bytes: usize,
+    ) -> Result<(), CarrierFault> {
+        if bytes == self.bytes {
+            Ok(())
+        } else {
+            Err(CarrierFault::Lost)
+        }
+    }
+}
+
+/// `script_cut N`: what the script writes by a carrier that cuts messages off after N bytes alone.
+pub(crate) fn script_cut(mut asked: CaseInput<'_>, answer: &mut Transcript) -> Answered {
+    let bytes = asked.words.count()?;
+    script(asked, &mut Cutting { bytes }, answer)
+}
+
 /// `script_losing N`: what the script writes by a carrier whose call N, counted from 0, fails.
 pub(crate) fn script_losing(mut asked: CaseInput<'_>, answer: &mut Transcript) -> Answered {
     let failing = asked.words.number()?;

@@ -28,6 +28,7 @@ impl<'r, R: Files<File = File> + Net<Listener = TcpListener, Stream = TcpStream>
             "program" => process::program_of(self.0, asked, answer),
             "run" => lines::run(asked, &mut Connection::new(self.0), answer),
             "script" => played::script(asked, &mut Copies, answer),
+            "script_cut" => played::script_cut(asked, answer),
             "script_losing" => played::script_losing(asked, answer),
             "script_wired" => played::script(asked, &mut Connection::new(self.0), answer),
             _ => Err(Unanswered::UnknownQuestion),

@@ -2,10 +2,10 @@
 ghost use Rattle.std.specs.Prelude.{◌≡◌, length};
 ghost use Rattle.wf_commands.specs.FailureCount.{FailsLast};
 ghost use Rattle.wf_serve.specs.StartFault.{CountsWrites};
-ghost use Rattle.wf_test_commands.specs.Files.{content_at, is_file};
+ghost use Rattle.wf_test_commands.specs.Files.{files_of, is_file, two_tapes};
 
 use std::alloc::Global;
-use wf_commands::{NodeServer, ServeFault, Tapes};
+use wf_commands::{FolderState, NodeServer, ServeFault, Tapes};
 use wf_folder::{FoundFile, Presence, Start};
 use wf_line::Service;
 use wf_listing::TapeReadFault;
@@ -34,7 +34,7 @@ pub(crate) struct Recorder<'a> {
 }
 
 impl<'a> Tapes for Recorder<'a> {
-    ghost content = { λ recorder path. content_at recorder.tape.now path };
+    ghost content = { λ recorder. files_of recorder.tape.now };
 
     fn read(&self, alloc: Global, path: &str) -> Result<Vec<u8>, TapeReadFault> {
         if !is_file(path) {
@@ -54,11 +54,11 @@ impl<'a> Tapes for Recorder<'a> {
         }
     }
 
-    fn examine(&self, _: &str, _: &Survey) -> Result<(u8, Start), Cause> {
+    fn examine(&self, _: &str, _: &Survey) -> FolderState {
         if self.tape.is_empty() {
-            return Err(Cause::TapeMissing(2));
+            return FolderState::Rejected(Cause::TapeMissing(2));
         }
-        Ok((2, Start::TakenOver))
+        FolderState::Farm(2, Start::TakenOver)
     }
 }
 
@@ -72,7 +72,8 @@ fn is_file(path: &str) -> bool
 
 /// What is in the folder `farm`: two tapes, and no file `farm`.
 fn two_tapes() -> Survey
-    ensures { length result.tapes ≡ 64 }
+    ensures size { length result.tapes ≡ 64 }
+    ensures tapes { result.tapes ≡ two_tapes }
 {
     let mut tapes = [Presence::Absent; 64];
     tapes[0] = Presence::Written;

@@ -6,7 +6,9 @@ ghost use Rattle.wf_service.specs.Service.{IsService};
 
 use crate::machine::TestMachine;
 use crate::serve::{client, is_read};
+use crate::tape::new_folder;
 use std::alloc::Global;
+use std::fs;
 use std::net::{Net, TcpListener, TcpStream};
 use std::process::Abort;
 use std::time::{Duration, Instant};
@@ -15,7 +17,7 @@ use wf_stream::Output;
 
 const STATUS: &[u8] = b"GET /status HTTP/1.1\r\n\r\n";
 
-/// The responses of nodes 0, 1 and 2 before a map is published.
+/// The responses of nodes 0 to 4 before a map is published.
 const STATUS_0: &[u8] =
     b"HTTP/1.1 200 OK\r\nContent-Type: text/plain\r\nContent-Length: 33\r\nConnection: close\r\n\r\nnode 0 published 0 proposal none\n";
 
@@ -24,6 +26,12 @@ const STATUS_1: &[u8] =
 
 const STATUS_2: &[u8] =
     b"HTTP/1.1 200 OK\r\nContent-Type: text/plain\r\nContent-Length: 33\r\nConnection: close\r\n\r\nnode 2 published 0 proposal none\n";
+
+const STATUS_3: &[u8] =
+    b"HTTP/1.1 200 OK\r\nContent-Type: text/plain\r\nContent-Length: 33\r\nConnection: close\r\n\r\nnode 3 published 0 proposal none\n";
+
+const STATUS_4: &[u8] =
+    b"HTTP/1.1 200 OK\r\nContent-Type: text/plain\r\nContent-Length: 33\r\nConnection: close\r\n\r\nnode 4 published 0 proposal none\n";
 
 /// The head of a response with a tile, and its length with the tile.
 const TILE: &[u8] =
@@ -42,8 +50,8 @@ const ON_WHITE: &[u8] =
 const ON_BLACK: &[u8] =
     b"GET /wms?VERSION=1.3.0&REQUEST=GetMap&LAYERS=a,a,a,a,a,a,a,a,a,a,a,a,a,a,a,a,a,a,a,a,a,a,a,a,a,a,a,a,a,a,a,a,a,a,a,a,a,a,a,a,a,a,a,a,a,a,a,a,a,a,a,a,a,a,a,a,a,a,a,a,a,a,a,a&STYLES=&CRS=EPSG:3857&BBOX=0,0,4,4&WIDTH=256&HEIGHT=256&BGCOLOR=0x000000&FORMAT=image/x-portable-pixmap HTTP/1.1\r\n\r\n";
 
-/// This many nodes in memory, for this many connections, with this many pictures cached for each.
-fn service<'a>(nodes: u8, requests: u32, cache: u8) -> Service<'a>
+/// This many nodes in memory or in a folder, for this many connections, with this many pictures cached for each.
+fn service(nodes: u8, requests: u32, cache: u8, state: Option<&str>) -> Service<'_>
     requires some { 1 ≤ nodes }
     requires most { nodes ≤ 64 }
     requires requests { requests ≤ 100 }
@@ -56,7 +64,7 @@ fn service<'a>(nodes: u8, requests: u32, cache: u8) -> Service<'a>
         port: 0,
         requests,
         cache,
-        state: None,
+        state,
         log: false,
     }
 }
@@ -108,33 +116,61 @@ fn is_answered(alloc: Global, client: TcpStream, expected: &[u8]) -> bool {
     is_expected
 }
 
-/// What client `number` gets of three nodes, for forty connections.
-fn status_of(number: usize) -> &'static [u8] {
+/// What client `number` gets of so many nodes, five at most, for forty connections.
+fn status_of(number: usize, nodes: u8) -> &'static [u8]
+    requires { 1 ≤ nodes }
+{
     if number >= 40 {
         return b"";
     }
-    match number % 3 {
+    match number % usize::from(nodes) {
         0 => STATUS_0,
         1 => STATUS_1,
-        _ => STATUS_2,
+        2 => STATUS_2,
+        3 => STATUS_3,
+        _ => STATUS_4,
     }
 }
 
-/// Whether three nodes answer the first forty clients in turn, and not one more.
-fn are_forty_answered(rt: &HostRuntime, crowd: Crowd) -> bool {
+/// Whether so many nodes on tapes in a folder answer the first forty clients in turn, and not one more.
+fn are_forty_answered(rt: &HostRuntime, nodes: u8, folder: &str, crowd: Crowd) -> bool
+    requires some { 1 ≤ nodes }
+    requires most { nodes ≤ 64 }
+{
     let Crowd { listener, clients } = crowd;
-    let mut are_answered = are_served(rt, listener, service(3, 40, 1));
+    let mut are_answered = are_served(rt, listener, service(nodes, 40, 1, Some(folder)));
     for (number, client) in clients.into_iter().enumerate() {
-        are_answered = is_answered(rt.alloc(), client, status_of(number)) && are_answered;
+        are_answered = is_answered(rt.alloc(), client, status_of(number, nodes)) && are_answered;
     }
     are_answered
 }
 
+/// Whether a file is at a path.
+fn is_there(rt: &HostRuntime, path: &str) -> bool {
+    fs::metadata(rt, path).is_ok()
+}
+
 #[test]
-fn forty_connections_are_answered_and_not_one_more(rt: HostRuntime) {
+fn forty_connections_to_four_nodes_are_answered_and_not_one_more(rt: HostRuntime) {
+    new_folder(&rt, "four");
+    new_folder(&rt, "four-again");
     assert!(&rt;
-        are_forty_answered(&rt, gather(&rt, STATUS, &[STATUS], 40))
-            || are_forty_answered(&rt, gather(&rt, STATUS, &[STATUS], 40))
+        are_forty_answered(&rt, 4, "four", gather(&rt, STATUS, &[STATUS], 40))
+            && is_there(&rt, "four/node-3.tape")
+            || are_forty_answered(&rt, 4, "four-again", gather(&rt, STATUS, &[STATUS], 40))
+                && is_there(&rt, "four-again/node-3.tape")
+    );
+}
+
+#[test]
+fn forty_connections_to_five_nodes_are_answered(rt: HostRuntime) {
+    new_folder(&rt, "five");
+    new_folder(&rt, "five-again");
+    assert!(&rt;
+        are_forty_answered(&rt, 5, "five", gather(&rt, STATUS, &[STATUS], 40))
+            && is_there(&rt, "five/node-4.tape")
+            || are_forty_answered(&rt, 5, "five-again", gather(&rt, STATUS, &[STATUS], 40))
+                && is_there(&rt, "five-again/node-4.tape")
     );
 }
 
@@ -154,7 +190,7 @@ fn time_of(rt: &HostRuntime, cache: u8, crowd: Crowd) -> Option<Duration>
 {
     let Crowd { listener, clients } = crowd;
     let start = Instant::now(rt).ok()?;
-    let mut are_answered = are_served(rt, listener, service(1, 17, cache));
+    let mut are_answered = are_served(rt, listener, service(1, 17, cache, None));
     let time = start.elapsed(rt).ok()?;
     for (number, client) in clients.into_iter().enumerate() {
         are_answered = (is_tile(rt.alloc(), client) || number == 0) && are_answered;

@@ -1,13 +1,12 @@
 -- The run of the line that the words ask for.
-use Rattle.wf_commands.proofs.Ended.{listed_line, served_line}
+use Rattle.wf_commands.proofs.Ended.{listed_line, service_ended}
 use Rattle.wf_commands.proofs.program.run_words.Goals as goal
 
 pub returns-in-Serve-clause-run : goal.returns-in-Serve-clause-run
 returns-in-Serve-clause-run g c = (
   c.in-Ok.line,
   c.in-Ok.ensures.asked,
-  served_line _ _ _ _ _ _ _ _ _ c.in-Ok.line c.in-Serve.service c.in-Serve.is c.serve.result c.serve_result.result c.serve_result.ensures
-      c.serve.ensures.served c.serve.ensures.writes c.end.ensures.reported_as c.end.ensures.status,
+  service_ended _ _ _ _ _ _ _ _ _ c.in-Ok.line c.run_serve.result c.run_serve.ensures.served c.run_serve.ensures.writes c.end.ensures.reported_as c.end.ensures.status,
 )
 
 pub returns-in-Tape-clause-run : goal.returns-in-Tape-clause-run

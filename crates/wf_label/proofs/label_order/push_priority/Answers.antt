@@ -2,8 +2,8 @@ use Rattle.std.proofs.Common.{arith}
 use Rattle.std.proofs.lemmas.List.{take_all}
 use Rattle.wf_label.specs.Placed.{placed_values}
 use Rattle.wf_label.proofs.LabelLemmas.{candidate_pushed, candidate_skipped, chosen_values}
-use Rattle.wf_label.proofs.candidates.push_priority.Goals as goal
-use Rattle.wf_label.proofs.candidates.push_priority.Goals.{then-candidate-priority+in_ok-push, else-candidate-priority}
+use Rattle.wf_label.proofs.label_order.push_priority.Goals as goal
+use Rattle.wf_label.proofs.label_order.push_priority.Goals.{then-candidate-priority+in_ok-push, else-candidate-priority}
 
 pub loop-candidate-preserved : goal.loop-candidate-preserved
 loop-candidate-preserved c =

@@ -1,7 +1,7 @@
 use Rattle.std.proofs.Common.{◌≡◌, ◌<◌, length, rules, sym, ◌∙◌}
 use Rattle.wf_label.specs.Walk.{candidate_of}
 use Rattle.wf_label.proofs.LabelLemmas.{with_priority-at, with_priority-nowhere, with_priority-empty}
-use Rattle.wf_label.proofs.candidates.candidate_of.Goals as goal
+use Rattle.wf_label.proofs.label_order.candidate_of.Goals as goal
 
 pub returns-then-is_empty : goal.returns-then-is_empty
 unfolding candidate_of

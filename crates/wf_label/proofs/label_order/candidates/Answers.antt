@@ -5,7 +5,7 @@ use Rattle.wf_label.specs.Label.{candidates, labels_up_to}
 use Rattle.wf_label.specs.Placed.{PlacedValue, placed_values}
 use Rattle.wf_label.specs.Walk.{candidate_values, chosen, walk}
 use Rattle.wf_label.proofs.LabelLemmas.{labels_up_to-none, priority_chosen, priority_pushed}
-use Rattle.wf_label.proofs.candidates.candidates.Goals as goal
+use Rattle.wf_label.proofs.label_order.candidates.Goals as goal
 
 pub loop-lower-preserved : goal.loop-lower-preserved
 loop-lower-preserved c =

@@ -1,7 +1,7 @@
 use Rattle.std.proofs.Common.{[], slice_get, arith}
 use Rattle.wf_label.specs.Walk.{candidate_values, entry_candidates}
 use Rattle.wf_label.proofs.LabelLemmas.{layer_pushed}
-use Rattle.wf_label.proofs.candidates.walk.Goals as goal
+use Rattle.wf_label.proofs.label_order.walk.Goals as goal
 
 pub loop-index-preserved : goal.loop-index-preserved
 loop-index-preserved c =

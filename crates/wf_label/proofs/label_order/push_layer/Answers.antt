@@ -2,8 +2,8 @@ use Rattle.std.proofs.Common.{sym, ap, ◌∙◌, arith}
 use Rattle.std.specs.Option.{option_map}
 use Rattle.wf_label.specs.Walk.{candidate_of, candidate_value, candidate_values}
 use Rattle.wf_label.proofs.LabelLemmas.{item_pushed, item_skipped}
-use Rattle.wf_label.proofs.candidates.push_layer.Goals as goal
-use Rattle.wf_label.proofs.candidates.push_layer.Goals.{in-Some+in_ok-push-in-Some, in-None}
+use Rattle.wf_label.proofs.label_order.push_layer.Goals as goal
+use Rattle.wf_label.proofs.label_order.push_layer.Goals.{in-Some+in_ok-push-in-Some, in-None}
 
 pub loop-feature-preserved : goal.loop-feature-preserved
 loop-feature-preserved c =

@@ -1,7 +1,7 @@
 use Rattle.std.proofs.Common.{◌≡◌, ◌++◌, take}
 use Rattle.std.specs.List.{filter_map}
 use Rattle.wf_label.specs.Walk.{candidate_of, candidate_values}
-use Rattle.wf_label.proofs.candidates.push_layer.Given as goal
+use Rattle.wf_label.proofs.label_order.push_layer.Given as goal
 
 abbrev pub invariant-loop-feature : goal.invariant-loop-feature
 invariant-loop-feature l = candidate_values l.walked.items

@@ -1,0 +1,143 @@
+"""Which names in code marks of the documents are there: `tools/definitions.py --check` prints those that aren't.
+
+In the tables of docs/PROVED.md a call or a theorem has to be reachable: a function or a type stands at its crate's root, a method
+is one of such a type. Elsewhere a name has to be defined in some crate, and a path has to be a file or a folder. PROVED names each
+crate, and each crate of the kit that one uses.
+"""
+
+import itertools
+import re
+
+from kit import TOP, dependencies
+
+DOCUMENTS = ("PROVED", "ARCHITECTURE", "CHANGES")
+
+MARK = re.compile(r"`([^`\n]+)`")
+CRATE = re.compile(r"wf_\w+|wfarm")
+NAME = re.compile(r"\w+(?:::\w+)*!?")
+PATH = re.compile(r"[\w./{},-]+\.(?:rt|antt|md|txt|py|conf|script)|[\w./{},*-]+/[\w./{},*-]*")
+EXPORT = re.compile(r"^pub use ((?:\w+::)*)(?:\{([^}]*)\}|(\w+(?: as \w+)?));", re.MULTILINE)
+OWNER = re.compile(r"^(?:impl\b.*?|pub trait )(\w+)(?:<[^{]*)? (?:where .*)?\{|^impl\b.* for (\w+)")
+METHOD = re.compile(r"^    (?:pub )?fn (\w+)")
+DEFINED = (
+    re.compile(r"(?:fn|struct|enum|trait|type|const|mod|macro_rules!|ensures|requires|ghost|let|record|data|case) (\w+)"),
+    re.compile(r"^\s+(?:pub )?(\w+)(?:[,({:]| \{| :|$)", re.MULTILINE),
+    re.compile(r"^\s*(?:(?:unfoldable|abbrev) )?(?:pub )?(\w+) :", re.MULTILINE),
+    re.compile(r'"(\w+)"'),
+)
+# A word in capitals stands for any of a kind, as in `specs/BLOCK.antt`.
+PLACEHOLDERS = ("BLOCK", "NAME")
+# Words of the command line, of HTTP and of the kit, which no crate here defines.
+OUTER = {"main", "xmllint", "src", "specs", "proofs", "text"}
+
+
+class Crate:
+    """What a crate defines, and what of it others can name."""
+
+    def __init__(self, name):
+        self.name, self.folder = name, TOP / "crates" / name
+        library = self.folder / "src" / "lib.rt"
+        code = re.sub(r"//[^\n]*", "", library.read_text(encoding="utf-8")) if library.exists() else ""
+        self.roots = {}
+        for path, several, one in EXPORT.findall(code):
+            for it in (several or one).split(","):
+                if it.strip():
+                    self.roots[it.split(" as ")[-1].strip()] = path.partition("::")[0]
+        self.roots |= {it: "" for it in re.findall(r"^pub (?:fn|const|struct|enum|trait|type) (\w+)", code, re.MULTILINE)}
+        self.methods, self.words, self.theorems, self.aliases = {}, set(), set(), {}
+        for file in sorted([*self.folder.glob("src/**/*.rt"), *self.folder.glob("specs/**/*.antt"), *self.folder.glob("proofs/*.antt")]):
+            text = file.read_text(encoding="utf-8")
+            self.words |= set(itertools.chain.from_iterable(it.findall(text) for it in DEFINED))
+            if file.suffix == ".rt":
+                self.note_methods(text)
+                self.aliases |= dict(re.findall(r"^pub type (\w+)(?:<[^=]*>)? = (\w+)", text, re.MULTILINE))
+            elif "specs" in file.parts:
+                self.theorems |= set(re.findall(r"^\s*pub (\w+) :", text, re.MULTILINE))
+
+    def note_methods(self, text):
+        """Notes the methods of each type and trait of a file, by the type's name."""
+        owner = None
+        for line in re.sub(r"<[^<>\n]*(?:<[^<>\n]*(?:<[^<>\n]*>[^<>\n]*)*>[^<>\n]*)*>", "", text).split("\n"):
+            found = OWNER.match(line)
+            if found:
+                owner = found[2] or found[1]
+            elif owner and METHOD.match(line):
+                self.methods.setdefault(owner, set()).add(METHOD.match(line)[1])
+
+    def has_call(self, name, every):
+        """Whether a call, a theorem or a type of this name can be reached from another crate."""
+        owner, _, method = name.rpartition("::")
+        types = [owner] if owner else [it for it in self.roots if it[0].isupper()]
+        if not owner and (name in self.roots or name in self.theorems):
+            return True
+        return any(method in crate.methods.get(crate.aliases.get(it, it), ()) for it in types if it in self.roots
+                   for crate in (self, *(every[at] for at in every if at == self.roots[it])))
+
+
+def unreachable(line, every):
+    """The names of calls in a row of a table of PROVED that can't be reached."""
+    cells = line.split("|")
+    crates = [every[it] for it in CRATE.findall(cells[1]) if it in every]
+    for found in MARK.finditer(cells[3]):
+        if found[1] in every:
+            crates = [every[found[1]]]
+        elif cells[3][found.start() - 1] == "(":
+            if not any(found[1] in it.words for it in crates):
+                yield found[1]
+        elif not any(it.has_call(found[1], every) for it in crates):
+            yield found[1]
+
+
+def expanded(path):
+    """The paths that a path with words in braces stands for."""
+    several = re.match(r"(.*)\{([^}]*)\}(.*)", path)
+    return [it for word in several[2].split(",") for it in expanded(several[1] + word + several[3])] if several else [path]
+
+
+def is_there(path, crates):
+    """Whether a file or a folder is there: from the top, or in one of the crates that the line names, or in any if it names none."""
+    places = [TOP, *(TOP / "crates" / it for it in crates or dependencies())]
+    return all(any(any(place.glob(it.strip("/"))) or "/" not in it and any(place.rglob(it)) for place in places)
+               for it in expanded(path))
+
+
+def undefined(line, crates, words):
+    """The names and paths of a line that nothing defines. Its crates are added to those of the lines above it."""
+    marks = MARK.findall(line)
+    crates += [it for mark in marks for it in CRATE.findall(mark) if it not in crates]
+    for mark in marks:
+        if any(it in mark for it in PLACEHOLDERS):
+            continue
+        if PATH.fullmatch(mark):
+            if not is_there(mark, crates):
+                yield mark
+        elif NAME.fullmatch(mark) and not all(it in words for it in mark.rstrip("!").split("::")):
+            yield mark
+
+
+def missing():
+    """Each name in the documents that isn't there, with the document and the line."""
+    every = {it: Crate(it) for it in dependencies()}
+    words = OUTER | set(every) | {it for names in dependencies().values() for it in names}
+    words |= {low for line in (TOP / "crates.txt").read_text().splitlines() for low in re.findall(r"\w+", line)}
+    words = words.union(*(it.words for it in every.values()))
+    proved = (TOP / "docs" / "PROVED.md").read_text(encoding="utf-8")
+    named = set(re.findall(r"\w+", " ".join(MARK.findall(proved))))
+    for name in sorted((set(every) | {it for names in dependencies().values() for it in names}) - named):
+        if not name.startswith("wf_test_"):
+            yield "PROVED", 0, name, "isn't named there"
+    for document in DOCUMENTS:
+        calls, crates, is_code = False, [], False
+        for number, line in enumerate((TOP / "docs" / f"{document}.md").read_text(encoding="utf-8").splitlines(), 1):
+            is_code ^= line.startswith("```")
+            if is_code or line.startswith("#"):
+                crates = []
+                continue
+            if line.startswith("|") and "Calls; theorems" in line:
+                calls = True
+            elif not line.startswith("|"):
+                calls, crates = False, []
+            for name in (unreachable(line, every) if calls and CRATE.search(line.split("|")[1]) else ()):
+                yield document, number, name, "can't be reached"
+            for name in undefined(line, crates, words):
+                yield document, number, name, "isn't there"
