@@ -12,7 +12,7 @@ import time
 
 from farm import CAPABILITIES, want
 from kill_nodes import map_of, records
-from nodes import NODES, PICTURE, a_map, is_so_within, until
+from nodes import KEPT, NODES, PICTURE, a_map, is_so_within, until
 
 # more bytes than the last page of a tape may have left
 LONG_MAP = map_of(1, 9_000)
@@ -25,7 +25,8 @@ SOON = 8
 
 
 def fail_tape(nodes, i):
-    """Lets a node's files grow no more and gives it a map, so that its tape fails."""
+    """Lets a node's files grow no more and gives it a map, so that its tape fails, and not another file of its folder first."""
+    time.sleep(KEPT)
     nodes.limit(i, 0)
     nodes.publish(i, a_map("unstored"))
     until(lambda: nodes.health(i)[0] == 503)
@@ -164,6 +165,7 @@ def unmounted(nodes, _):
         nodes.wait(1)
         nodes.publish_whole(0, a_map("x"))
         until(lambda: nodes.published(1) == 1)
+        time.sleep(KEPT)
         its.fill()
         want("no publish", nodes.publish(0, LONG_MAP) == 202)
         until(lambda: nodes.health(1)[0] == 503)
@@ -231,6 +233,7 @@ def room(nodes, _):
         nodes.publish_whole(0, a_map("first"))
         nodes.level()
         starts = nodes.starts(2)
+        time.sleep(KEPT)
         its.fill()
         nodes.publish_whole(0, LONG_MAP)
         until(lambda: nodes.health(2)[0] == 503)
@@ -348,11 +351,13 @@ def rewritten(nodes, _):
 def completed(nodes, _):
     """The record of the step that failed is whole on the tape, as a failed sync may leave it: its node goes on with it, and has counted one
     start more."""
-    nodes.publish_whole(0, a_map("first"))
+    # a tape that is longer than the other files of the folder, which stay as long as they are
+    nodes.publish_whole(0, a_map("first", "x" * 900))
     nodes.level()
     nodes.kill(1)
     nodes.start_limitable(1)
     nodes.level()
+    time.sleep(KEPT)
     text = subprocess.run([str(nodes.program), "canon"], input=a_map("second"), capture_output=True, check=True).stdout
     # room for a vote (its frame has six bytes, its sequence two, its ballot five) and a promise, not for the publication
     nodes.limit(1, nodes.tape(1).stat().st_size + len(text) + 13 + 50)

@@ -1,4 +1,4 @@
-"""Hosts on one machine: network namespaces on a bridge, each with a program, whose links are cut and whose traffic is redirected.
+"""Hosts on one machine: network namespaces on a bridge, each with a program, whose links are cut or silent, and whose traffic is redirected.
 
 Wants root, iproute2 and nftables.
 """
@@ -39,6 +39,18 @@ class Network:
             run("ip", "netns", "delete", f"wfarm{self.number}-{each}", check=False)
             run("ip", "link", "delete", f"wfarm{self.number}-{each}", check=False)
         run("ip", "link", "delete", self.bridge, check=False)
+        run("nft", f"delete table bridge {self.bridge}", check=False)
+
+    def silence(self, pairs):
+        """The bridge forwards nothing more from the first to the second host of each pair: nothing is reset, no carrier is lost, and no
+        address is resolved. This side reaches all hosts all the same."""
+        run("nft", f"add table bridge {self.bridge}; add chain bridge {self.bridge} silent {{ type filter hook forward priority 0; }}")
+        for one, other in pairs:
+            run("nft", f"add rule bridge {self.bridge} silent iifname {one.name} oifname {other.name} drop")
+
+    def heal(self):
+        """The bridge forwards everything again."""
+        run("nft", f"flush chain bridge {self.bridge} silent")
 
     def stop(self):
         for host in self.hosts:

@@ -21,6 +21,8 @@ LAYER NAME it TYPE POLYGON CLASS STYLE COLOR {color} END END FEATURE POINTS -9 -
 """
 NODES = 3
 PATIENCE = 30
+# seconds until what a node has, and what it heard of its peers, is in its folder
+KEPT = 2
 PICTURE = ("/wms?VERSION=1.3.0&REQUEST=GetMap&LAYERS=it&STYLES=&CRS=EPSG:3857&BBOX=0,0,4,4&WIDTH=8&HEIGHT=8"
            "&FORMAT=image/x-portable-pixmap&MAPSEQ=%d")
 
@@ -88,7 +90,10 @@ class Nodes:
         return self.run(*words)
 
     def run(self, *words):
-        return subprocess.run([str(self.program), *map(str, words)], capture_output=True, text=True, timeout=PATIENCE)
+        try:
+            return subprocess.run([str(self.program), *map(str, words)], capture_output=True, text=True, timeout=PATIENCE)
+        except subprocess.TimeoutExpired as late:
+            raise Wrong(f"{' '.join(map(str, words))}: not in time") from late
 
     def words(self, i, place=None, http=None, listen=None):
         peers = ",".join(f"127.0.0.1:{port}" for port in self.peer)
@@ -117,7 +122,7 @@ class Nodes:
         resource.prlimit(self.processes[i].pid, resource.RLIMIT_FSIZE, (greatest if most is None else most, greatest))
 
     def wait(self, i):
-        """Waits until a node answers."""
+        """Waits until a node answers: after a start not before each peer has answered it, has closed, or is silent for up to three seconds."""
         until(lambda: self.published(i) >= 0)
 
     def start_all(self):
@@ -176,6 +181,16 @@ class Nodes:
         """The status and the text of a node's health; 0 if it doesn't answer."""
         status, told = self.get(i, "/healthz", self.admin[i])
         return status, told.decode().strip()
+
+    def votes(self, i):
+        """The status and the text of whether a node can publish a map now; 0 if it doesn't answer."""
+        status, told = self.get(i, "/votez", self.admin[i])
+        return status, told.decode().strip()
+
+    def metrics(self, i):
+        """A node's metrics without labels, by name."""
+        lines = self.get(i, "/metrics", self.admin[i])[1].decode().splitlines()
+        return {name: float(value) for name, _, value in (line.partition(" ") for line in lines) if name.isidentifier()}
 
     def name(self, i, sequence):
         """The name of the map that a node has published under a sequence; None if it has none there."""

@@ -9,6 +9,7 @@ pictures with and without MAPSEQ. Faults:
     kill        SIGKILL, and a start some time later
     partition   a host is cut off, both ways
     one way     what a host sends to another one is lost
+    silent      the bridge forwards nothing between voters, or from or to one of them, for 2 to 12 seconds, one time in eight for a minute
     delay       every piece that a node sends is late
     stall       nothing that a node sends arrives, on connections that stay open
     cut         a connection breaks inside a message
@@ -23,10 +24,11 @@ pictures with and without MAPSEQ. Faults:
 
 Compared: no sequence has two pictures, two capabilities or two maps, whenever and from whichever process they come; no published
 sequence of a process goes back, but for a replica's that lost its folder; what a node reported as published stays and is the map that
-was sent; no process ends by itself; and five seconds after the last fault, once all answer, all have published equally many.
+was sent; no process ends by itself; and five seconds after the last fault, once all answer, a publish was made at each node, and all have
+published equally many.
 
 Usage: tools/rehearse.py [--program PROGRAM] [--faults N] [--seed S] [--seconds T] [--replicas N] [--plant init|replica]
-500 faults by default, in T seconds (1,800) at most; fewer in that time is an error. A line per kind of fault and per violation, and
+500 faults by default, in T seconds (2,400) at most; fewer in that time is an error. A line per kind of fault and per violation, and
 their number at the end; status 1 where there is one. It ends at the twentieth violation. To show that it finds what it is for,
 `--plant init` makes a voter anew at half time while its peers' memory of it is gone, and `--plant replica` gives a replica the folder
 of another farm of the same name. Two rehearsals may run at a time with another `--network`. Wants root, iproute2, nftables, FUSE, and
@@ -59,7 +61,7 @@ PEERS, READERS, CLIENTS, OPERATOR, RELAY, MARK = 7000, 7001, 8080, 9090, 7100, 7
 FARM = "rehearsal"
 DISK = 24 << 20
 KINDS = {"kill": "life", "power": "life", "all": "life", "full": "disk", "slow": "disk", "partition": "network", "one way": "network",
-         "delay": "network", "stall": "network", "cut": "network", "drop": "network", "repeat": "network", "reorder": "network",
+         "silent": "network", "delay": "network", "stall": "network", "cut": "network", "drop": "network", "repeat": "network", "reorder": "network",
          "replica": "renderer", "anew": "renderer", "alone": "renderer"}
 OFTEN = ("kill", "kill", "replica")
 READY = 0.6
@@ -370,7 +372,9 @@ class Rehearsal:
     def network_fault(self, kind, voter, pause):
         """Links that are cut, or connections that lose, repeat or hold back what goes over them."""
         others = [other for other in self.voters if other is not voter]
-        if kind in ("partition", "one way"):
+        if kind == "silent":
+            self.silence(voter, others)
+        elif kind in ("partition", "one way"):
             cut = [(voter, others)] + ([(other, [voter]) for other in others] if kind == "partition" else [])
             for one, from_these in cut:
                 one.host.cut([each.host for each in from_these])
@@ -384,6 +388,15 @@ class Rehearsal:
         else:
             voter.order(f"{kind} {self.draw.choice(others).host.address}")
             time.sleep(pause / 4)
+
+    def silence(self, voter, others):
+        """The bridge forwards nothing for a while: nothing between voters, or nothing from or to this one."""
+        pairs = {"from": [(voter, other) for other in others], "to": [(other, voter) for other in others],
+                 "all": [(one, other) for one in self.voters for other in self.voters if one is not other]}
+        chosen = pairs[self.draw.choice(list(pairs))]
+        self.network.silence([(one.host, other.host) for one, other in chosen])
+        time.sleep(self.draw.choice((60, *[self.draw.uniform(2, 12)] * 7)))
+        self.network.heal()
 
     def renderer_fault(self, kind, replica, pause):
         """A replica that is ended, with its folder or without it, or cut off."""
@@ -461,17 +474,31 @@ class Rehearsal:
             time.sleep(0.05)
 
     def settle(self):
-        """Whether all processes stand at one sequence in time, once all answer; what they told last."""
+        """Whether a publish is made at each voter and all processes stand at one sequence in time, once all answer; what they told last."""
         self.await_answers(self.voters + self.replicas)
-        begun = time.monotonic()
+        begun, waiting = time.monotonic(), list(self.voters)
         while True:
+            waiting = [voter for voter in waiting if not self.is_taken(voter)]
             told = [process.published(PATIENCE) for process in self.voters + self.replicas]
             took = time.monotonic() - begun
-            if None not in told and len(set(told)) == 1:
+            if not waiting and None not in told and len(set(told)) == 1 and not any(self.is_proposing(voter) for voter in self.voters):
                 return True, told, took
             if took > self.options.settled:
                 return False, told, took
             time.sleep(0.05)
+
+    def is_taken(self, voter):
+        """Whether a voter takes a map."""
+        number = next(self.numbers)
+        self.ledger.sent.add(picture_of(number))
+        answer = ask(voter.host.address, "/publish", map_of(number, 0))
+        return answer is not None and answer[0] == 202
+
+    def is_proposing(self, voter):
+        """Whether a voter's proposal is running, or the voter doesn't answer."""
+        answer = ask(voter.host.address, "/status")
+        line = answer and STATUS.fullmatch(answer[1])
+        return line is None or line[3] == b"running"
 
     def run(self):
         for voter in self.voters:
@@ -493,6 +520,9 @@ class Rehearsal:
         for thread in threads:
             thread.join()
         settled, told, took = self.settle()
+        for process, last in zip(self.voters + self.replicas, told):
+            if last is not None:
+                self.ledger.published(process.name, last)
         if not settled:
             self.ledger.violation(f"{took:.1f} seconds after the last fault the processes stand at {told}")
         else:
@@ -529,11 +559,11 @@ def main():
     parser.add_argument("--program", default=str(PROGRAM))
     parser.add_argument("--faults", type=int, default=500)
     parser.add_argument("--seed", type=int, default=1)
-    parser.add_argument("--seconds", type=float, default=1_800, help="how long the faults may take")
+    parser.add_argument("--seconds", type=float, default=2_400, help="how long the faults may take")
     parser.add_argument("--settled", type=float, default=5, help="seconds after the last fault until all stand at one sequence")
     parser.add_argument("--replicas", type=int, default=2, help="how many")
     parser.add_argument("--plant", choices=["init", "replica"])
-    parser.add_argument("--greeting", type=int, default=123, help="the length of a greeting in bytes")
+    parser.add_argument("--greeting", type=int, default=132, help="the length of a greeting in bytes")
     parser.add_argument("--network", type=int, default=0, help="the number of the network, 0 to 255")
     parser.add_argument("--keep", action="store_true", help="leave the processes' logs, and say where")
     options = parser.parse_args()

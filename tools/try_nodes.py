@@ -11,11 +11,15 @@ back. At its end all must stand at one sequence, with equal histories. Cases:
     pieces      a publish whose body comes in pieces, the last one short: the answer comes at once
     kill        SIGKILL of each node in turn, while the others publish
     stop        SIGSTOP of a node, 12 seconds or as --stopped says
+    unheard     SIGSTOP of two nodes: the third says that it hears no majority, and publishes once they go on
     clients     200 idle clients, and 20 that trickle
     strangers   at the peers' port garbage, half a greeting, another version, another farm, another address
+    unknown     many connections from two addresses that no peer has: a line of the log for each address
+    dual        nodes that listen at [::], and whose peers are listed by addresses of IPv4
     forged      at the peers' port a peer's own greeting, and behind it half a message, or ballots and votes of other nodes
-    forgot      a new folder, an old copy, and a clone of a node
+    forgot      an old copy, a new folder, and a clone of a node
     missed      a node that was away gets 1,000 maps, or as --missed says
+    used_up     a farm that has published all 4,096 maps keeps its connections and its health
     refused     bad command lines
     zeros       a tape with zeros behind its records, as a power cut may leave one, and with other bytes
     full        a start on files that can't grow
@@ -26,8 +30,17 @@ back. At its end all must stand at one sequence, with equal histories. Cases:
     exchanged   a tape that failed, and another one in its place
     rewritten   a tape that failed, and another file `farm` beside it
     completed   a tape that failed, and has the record of the step that failed
+    emptied     a start on an emptied tape, in a farm of three and in one of one
+    older       a start on the tape of two publishes ago
+    zeroed      a start on a tape with zeros where a vote or a publication was
+    restored    a folder is copied between two publishes of one leadership, and put back
+    promised    all are killed after a new promise, and a copy of a folder from before it is put back
+    suspended   an old copy that is started again and again, and once without peers
+    cleared     `wfarm clear`
+    unwritten   a node that can't write what it hears of its peers
+    taken       `wfarm init --from` with tapes of other nodes and farms
 
-A line says what each saw; the status is 0 where all went as they should. A run takes four minutes.
+A line says what each saw; the status is 0 where all went as they should. A run takes ten minutes.
 """
 
 import argparse
@@ -45,8 +58,16 @@ import threading
 import time
 
 import halted_nodes
+import returned_folders
 from farm import PROGRAM, Wrong, free_ports, want
 from nodes import NODES, PATIENCE, Nodes, Watch, a_map, until
+from returned_folders import suspension
+from try_replicas import MOST_MAPS, tape_of
+
+# the lengths of a greeting, and of a rejection that says nothing of what is remembered or says it
+GREETING_BYTES, REJECTION_BYTES = 132, (12, 66)
+# the state of a node that votes and serves
+SERVES = 1
 
 
 def publish(nodes, _):
@@ -121,6 +142,27 @@ def stop(nodes, options):
     return f"level after {nodes.level()} s at {nodes.published(0)}"
 
 
+def unheard(nodes, _):
+    """Two nodes are stopped, and their connections stay: the third says within ten seconds that it hears no majority. A publish that waits is
+    published within five seconds once they go on."""
+    nodes.publish_whole(0, a_map("before"))
+    until(lambda: all(nodes.votes(i) == (200, "votes") for i in range(NODES)))
+    for i in (1, 2):
+        nodes.processes[i].send_signal(signal.SIGSTOP)
+    noticed = until(lambda: nodes.votes(0) == (503, "no majority"), 10)
+    metrics = nodes.metrics(0)
+    counts = [metrics.get(name) for name in ("wfarm_peers_connected", "wfarm_majority_connected")]
+    want(f"connected peers, majority: {counts}", counts == [0, 0])
+    want(f"its health is {nodes.health(0)}", nodes.health(0)[0] == 200)
+    want("no publish", nodes.publish(0, a_map("waiting")) == 202)
+    time.sleep(5)
+    for i in (1, 2):
+        nodes.processes[i].send_signal(signal.SIGCONT)
+    published = until(lambda: nodes.published(0) == 2, 5)
+    votes = until(lambda: all(nodes.votes(i) == (200, "votes") for i in range(NODES)), 5)
+    return f"noticed after {noticed} s; published {published} s after they went on, all hear a majority {votes} s later"
+
+
 def median(nodes, count=40):
     """The median milliseconds of an answer."""
     times = []
@@ -165,17 +207,37 @@ def clients(nodes, _):
 
 def greeting(these, i, /, **changes):
     """The bytes by which a node greets node 0, by the file in its folder and what node 0 has heard of it, or with other fields."""
-    lines = dict(line.split(" ", 1) for line in (these.place(i) / "farm").read_text().splitlines())
+    lines = these.farm(i)
     file = these.place(0) / "heard"
     until(lambda: file.exists() and re.search("tried", file.read_text().splitlines()[1 + i]))  # written within a second
     heard = file.read_text().splitlines()[1 + i]
-    numbers = {word: int(number, 16) for word, number in re.findall(r"(tried|promised|of) ([0-9a-f]{8})", heard)}
-    told = {"magic": b"wf-node\n", "version": 1, "farm": lines["farm"], "nodes": int(lines["nodes"], 16), "node": i,
-            "starts": int(lines["starts"], 16) + 1, **changes}
-    return (told["magic"] + told["version"].to_bytes(2, "big") + told["farm"].encode().ljust(32, b"\0") + bytes([told["nodes"], told["node"]])
-            + bytes.fromhex(lines["mark"]) + told["starts"].to_bytes(4, "big") + b"forger of a life" + numbers["tried"].to_bytes(4, "big")
-            + numbers.get("promised", 0).to_bytes(4, "big") + bytes([numbers.get("of", 0)])
-            + these.published(0).to_bytes(2, "big") + these.digest())
+
+    def of(*words):
+        """The numbers behind these words of the line; zeros if they aren't there."""
+        found = re.search(" ".join(f"{word} ([0-9a-f]{{8}})" for word in words), heard)
+        return [int(number, 16) for number in found.groups()] if found else [0] * len(words)
+
+    published = these.published(0)
+    # (a vote at a sequence that is published needn't be there)
+    round_, node, sequence = of("voted", "of", "at")
+    vote = (round_, node, sequence) if sequence > published else (0, 0, 0)
+    fields = {"magic": b"wf-node\n", "version": 2, "farm": lines["farm"], "nodes": int(lines["nodes"], 16), "node": i,
+              "starts": int(lines["starts"], 16) + 1, "state": SERVES, **changes}
+    return (fields["magic"] + fields["version"].to_bytes(2, "big") + fields["farm"].encode().ljust(32, b"\0")
+            + bytes([fields["nodes"], fields["node"]]) + bytes.fromhex(lines["mark"]) + fields["starts"].to_bytes(4, "big")
+            + b"forger of a life" + of("tried")[0].to_bytes(4, "big") + in_bytes(of("promised", "of"), 4, 1) + in_bytes(vote, 4, 1, 2)
+            + published.to_bytes(2, "big") + these.digest() + bytes([fields["state"], 0]))
+
+
+def in_bytes(numbers, *sizes):
+    """The bytes of numbers, each of a size of its own."""
+    return b"".join(number.to_bytes(size, "big") for number, size in zip(numbers, sizes))
+
+
+def rejected_for(came):
+    """The number of the cause for which a greeting was rejected; None if these bytes are no rejection."""
+    is_one = came[:10] == b"wf-nope\n\0\2" and len(came) in REJECTION_BYTES and came[11] == (len(came) == max(REJECTION_BYTES))
+    return came[10] if is_one else None
 
 
 def frame(kind, body):
@@ -204,15 +266,48 @@ def strangers(nodes, _):
     for name, garbage in sent.items():
         came, waited[name] = told_to(nodes, 0, garbage)
         want(f"{name}: {came!r}", came == b"")
-    rejected = {"another version": (5, {"version": 2}), "another farm": (1, {"farm": "other"}), "another number of nodes": (2, {"nodes": 5})}
-    for name, (cause, changes) in rejected.items():
-        came, _ = told_to(nodes, 0, greeting(nodes, 1, **changes))
-        is_told = came[:8] == b"wf-nope\n" and (name == "another version" or came[-1] == cause)
-        want(f"{name}: {came!r}", came == b"" or is_told)
+    before = greeting(nodes, 1, version=1)
+    rejected = {"another version": (None, greeting(nodes, 1, version=3)), "version 1, as it was": (None, before[:89] + before[96:130]),
+                "another farm": (1, greeting(nodes, 1, farm="other")), "another number of nodes": (2, greeting(nodes, 1, nodes=5)),
+                "no state": (None, greeting(nodes, 1, state=0))}
+    for name, (cause, bad) in rejected.items():
+        came, waited[name] = told_to(nodes, 0, bad)
+        want(f"{name}: {came!r}", came == b"" or cause and rejected_for(came) == cause)
+        want(f"{name}: closed after {waited[name]} s", waited[name] < 2)
     came, waited["another address"] = told_to(nodes, 0, greeting(nodes, 1), "127.0.0.9")
     want(f"another address: {came!r}", came == b"" and waited["another address"] < 1)
     nodes.publish_whole(1, a_map("after"))
     return f"{len(sent) + len(rejected) + 1} kinds closed, the last after {max(waited.values())} s; level after {nodes.level()} s"
+
+
+def unknown(nodes, _):
+    """Connections from addresses that no peer has: the log has a line of each address, once in a minute."""
+    for _ in range(50):
+        for source in ("127.0.0.9", "127.0.0.10"):
+            told_to(nodes, 0, b"", source)
+        time.sleep(0.05)
+    lines = nodes.lines(0, "dropped")
+    found = {source: [line for line in lines if "unknown-address" in line and re.search(rf"\b{source}\b", line)] for source in ("127.0.0.9", "127.0.0.10")}
+    count = sum("unknown-address" in line for line in lines)
+    want(f"{count} lines: {lines[:3]}", count == 2 and all(len(each) == 1 for each in found.values()))
+    return f"100 connections from two addresses, two lines: {found['127.0.0.9'][0].split(' ', 1)[1]}"
+
+
+def dual(nodes, _):
+    """Nodes that listen at all addresses of IPv6 and IPv4 let peers in that are listed by addresses of IPv4, and nobody else."""
+    try:
+        socket.create_server(("::", 0), family=socket.AF_INET6, dualstack_ipv6=True).close()
+    except (OSError, ValueError):
+        return "left out: no IPv6 here"
+    nodes.kill_all()
+    for i in range(NODES):
+        nodes.start(i, "--listen", f"[::]:{nodes.peer[i]}")
+    until(lambda: all(nodes.metrics(i).get("wfarm_peers_connected") == NODES - 1 for i in range(NODES)))
+    for i in range(NODES):
+        nodes.publish_whole(i, a_map(f"dual{i}"))
+    came, seconds = told_to(nodes, 0, greeting(nodes, 1), "127.0.0.9")
+    want(f"another address: {came!r}", came == b"" and seconds < 1)
+    return f"level after {nodes.level()} s"
 
 
 def forged(nodes, _):
@@ -232,24 +327,33 @@ def forged(nodes, _):
              "no message": (frame(99, b"nothing"), "bad-message")}
     for starts, (name, (message, why)) in enumerate(cases.items(), 10):
         came, seconds = told_to(nodes, 0, greeting(nodes, 2, starts=starts) + message)
-        want(f"{name}: the greeting was answered by {came[:12]!r}", len(came) == 123 and came[:8] == b"wf-node\n")
+        want(f"{name}: the greeting was answered by {came[:12]!r}", len(came) == GREETING_BYTES and came[:10] == b"wf-node\n\0\2")
         want(f"{name}: closed after {seconds} s", seconds < (7 if why == "silent" else 2))
         dropped = [line for line in nodes.log(0).read_text().splitlines() if " dropped peer=2 " in line]
         want(f"{name}: {dropped[-1]}", dropped[-1].endswith("why=" + why))
     nodes.publish_whole(0, a_map("after"))
-    # what was told in its place counts, until it starts as often
+    # what was told in its place counts, until it starts as often: it is told that it is an older start, and isn't accused of it
     nodes.start(2)
-    ended = nodes.ended(2)
-    want(f"the node in whose place others told more: {ended}", ended[0] == 1)
+    wrong = suspension(nodes, 2)
+    want(f"the node in whose place others told more: {', '.join(wrong)}", not wrong)
+    nodes.kill(2)
     path = nodes.place(2) / "farm"
-    path.write_text(re.sub("starts .*", f"starts {starts:08x}", path.read_text()))
+    path.write_text(re.sub("(?m)^starts .*$", f"starts {starts:08x}", path.read_text()))
+    clear(nodes, 2)
     nodes.start(2)
     until(lambda: nodes.published(2) >= 0)
     return f"{len(cases)} kinds closed; level after {nodes.level()} s"
 
 
+def clear(nodes, i):
+    """Ends a suspension as an operator does, in a stopped node's folder."""
+    ran = nodes.run("clear", "--state", nodes.place(i))
+    want(f"clear of node {i}: {ran.returncode} {ran.stderr.strip()}", ran.returncode == 0)
+
+
 def forgot(nodes, _):
-    """A node that forgot ends: an old copy, a new folder; of a clone beside the original, the older start."""
+    """A node that forgot is suspended: an old copy, which its peers refuse from then on, so that the folder that has all is refused too until
+    an operator clears it; a new folder; of a clone beside the original, the older start."""
     for k in range(4):
         nodes.publish_whole(0, a_map(f"first{k}"))
     nodes.level()
@@ -262,29 +366,42 @@ def forgot(nodes, _):
     nodes.level()
     nodes.kill(2)
     shutil.copytree(nodes.place(2), nodes.folder / "sound")
-    nodes.put(2, nodes.folder / "old")
-    nodes.start(2)
-    old = nodes.ended(2)
+    said = [suspended_on(nodes, nodes.folder / "old", "an old copy")]
     nodes.put(2)
     want("init", nodes.init(2).returncode == 0)
-    nodes.start(2)
-    new = nodes.ended(2)
-    nodes.put(2, nodes.folder / "sound")
-    nodes.start(2)
-    until(lambda: nodes.published(2) >= 0)
+    said.append(suspended_on(nodes, None, "a new folder"))
+    said.append(suspended_on(nodes, nodes.folder / "sound", "the folder that has all, of which a copy was started"))
+    for i in range(2):
+        nodes.kill(i)
+    for i in range(NODES):
+        clear(nodes, i)
+        nodes.start(i)
+    until(lambda: all(nodes.health(i)[0] == 200 for i in range(NODES)))
     nodes.level()
     shutil.copytree(nodes.place(2), nodes.folder / "clone")
     http, listen = free_ports(2)
     words = nodes.words(2, nodes.folder / "clone", http, listen)
     clone = subprocess.Popen([str(nodes.program), *words], stderr=subprocess.DEVNULL)
     try:
-        original = nodes.ended(2)
+        wrong = suspension(nodes, 2, PATIENCE)
+        want(f"the original beside its clone: {', '.join(wrong)}", not wrong)
+        said.append(nodes.health(2)[1])
     finally:
         clone.kill()
         clone.wait()
-    want("a node that forgot went on", old[0] == new[0] == original[0] == 1)
+    return "; ".join(said)
+
+
+def suspended_on(nodes, folder, name):
+    """What node 2 says that is suspended on a copy of this folder, or on the one in its place; then it is ended."""
+    if folder:
+        nodes.put(2, folder)
     nodes.start(2)
-    return "; ".join(line for _, line in (old, new, original))
+    wrong = suspension(nodes, 2)
+    want(f"{name}: {', '.join(wrong)}", not wrong)
+    told = nodes.health(2)[1]
+    nodes.kill(2)
+    return told
 
 
 def missed(nodes, options):
@@ -296,6 +413,28 @@ def missed(nodes, options):
     start = time.time()
     until(lambda: nodes.published(2) == nodes.published(0))
     return f"{nodes.published(0)} maps in {time.time() - start:.2f} s; level after {nodes.level()} s"
+
+
+def used_up(nodes, _):
+    """All sequences are published, so that nobody asks for another: no connection is dialed anew, and each node hears a majority."""
+    nodes.kill_all()
+    tape = nodes.folder / "full.tape"
+    tape_of(nodes.program, tape, MOST_MAPS, 0)
+    for i in range(NODES):
+        nodes.put(i)
+        want("init", nodes.init(i).returncode == 0)
+        shutil.copy(tape, nodes.tape(i))
+        nodes.start(i)
+    until(lambda: all(nodes.published(i) == MOST_MAPS for i in range(NODES)), 10 * PATIENCE)
+    until(lambda: all(nodes.votes(i) == (200, "votes") for i in range(NODES)))
+    before = [nodes.lines(i, "connected") + nodes.lines(i, "lost") for i in range(NODES)]
+    time.sleep(12)
+    after = [nodes.lines(i, "connected") + nodes.lines(i, "lost") for i in range(NODES)]
+    want(f"connections are opened anew: {[len(each) for each in before]} lines, then {[len(each) for each in after]}", before == after)
+    told = [(nodes.votes(i), nodes.health(i)) for i in range(NODES)]
+    want(f"/votez and /healthz: {told}", all(each == ((200, "votes"), (200, "ok")) for each in told))
+    want("a further publish", nodes.publish(0, a_map("further")) == 409)
+    return f"{MOST_MAPS} maps"
 
 
 def refused(nodes, _):
@@ -390,9 +529,10 @@ def full(nodes, _):
     return f"{ran.stderr.strip()}; level after {nodes.level()} s"
 
 
-CASES = [publish, pieces, kill, stop, clients, strangers, forged, forgot, missed, refused, zeros, full, *halted_nodes.CASES]
+CASES = [publish, pieces, kill, stop, unheard, clients, strangers, unknown, dual, forged, forgot, missed, used_up, refused, zeros, full, *halted_nodes.CASES,
+         *returned_folders.CASES]
 # at the end of these not all nodes run
-UNEVEN = [forgot, *halted_nodes.CASES]
+UNEVEN = [forgot, *halted_nodes.CASES, *returned_folders.CASES]
 
 
 def attempt(case, options):

@@ -1,6 +1,6 @@
 #!/usr/bin/env python3
 """Tries each command of `tools/wfarmctl` over a real farm: three nodes in processes of their own, of which some are killed, stopped,
-given a disk that is full, or a tape that was changed.
+given an old copy of their folder, a disk that is full, or a tape that was changed.
 
 Usage: tools/try_wfarmctl.py [--program PROGRAM]
 A line for each thing that was seen; status 1 where one is not as it should be. About a minute.
@@ -8,7 +8,9 @@ A line for each thing that was seen; status 1 where one is not as it should be. 
 
 import argparse
 import pathlib
+import re
 import resource
+import shutil
 import signal
 import subprocess
 import sys
@@ -127,6 +129,10 @@ def try_failures(trial):
     third.process.send_signal(signal.SIGSTOP)
     code, told, error = trial.call("publish", trial.map("sixth"), seconds=3)
     trial.see("publish: one of three: it isn't known what will become of it", code == 1 and "it isn't known" in error, (told, error))
+    trial.wait("status: the one that is left hears no majority", lambda: trial.call("status")[1].splitlines()[2].endswith(" no majority"))
+    trial.see("status: so the farm isn't well", trial.call("status")[0] == 1)
+    code, told, error = trial.call("publish", trial.map("sixth"), seconds=1)
+    trial.see("publish: why the last node didn't", code == 1 and "node 1 still proposes another map: no majority" in error, (told, error))
     third.process.send_signal(signal.SIGCONT)
     trial.wait("the map is published once the majority is back", lambda: trial.all_at(6, trial.nodes[1:]))
     first.start()
@@ -138,6 +144,28 @@ def try_failures(trial):
     for node in trial.nodes:
         node.start()
     trial.wait("status: well again", lambda: trial.call("status")[0] == 0)
+
+
+def try_suspended(trial):
+    """A node on an old copy of its folder."""
+    node, kept = trial.nodes[2], trial.folder / "kept"
+    node.kill()
+    shutil.copytree(node.folder, kept)
+    node.start()
+    trial.wait("a node is started again", lambda: trial.call("status")[0] == 0)
+    node.kill()
+    shutil.rmtree(node.folder)
+    shutil.copytree(kept, node.folder)
+    node.start()
+    trial.wait("status: it is suspended, and which peer remembers what", lambda: re.search(
+        r" suspended: node \d at 127\.0\.0\.1:\d+ remembers \w+", trial.call("status")[1].splitlines()[3]))
+    trial.see("status: so the farm isn't well", trial.call("status")[0] == 1)
+    for each in trial.nodes:
+        each.kill()
+        ended = subprocess.run([trial.program, "clear", "--state", str(each.folder)], capture_output=True, text=True)
+        trial.see(f"clear of node {each.number}", ended.returncode == 0, ended.stderr)
+        each.start()
+    trial.wait("status: once all are cleared it is well", lambda: trial.call("status")[0] == 0)
 
 
 def try_full(trial):
@@ -195,13 +223,19 @@ def try_verify(trial):
 
 
 def try_changed(trial):
-    """A byte that changed on a disk: of two nodes whose histories differ the one that started last ends."""
+    """A byte that changed on a disk: its node doesn't start. Where its file `farm` doesn't know of the history, as one of version 1, of two nodes
+    whose histories differ the one that started last ends."""
     node = trial.nodes[2]
-    tape = node.folder / "node-2.tape"
+    tape, farm = node.folder / "node-2.tape", node.folder / "farm"
     tape.write_bytes(tape.read_bytes().replace(b"another title", b"Another title"))
     for each in trial.nodes[:2]:
         each.start()
     trial.wait("two of three nodes", lambda: trial.all_at(7, trial.nodes[:2]))
+    node.start()
+    trial.wait("a node whose tape was changed doesn't start", lambda: node.process.poll() == 1)
+    last = node.log.read_text().splitlines()[-1]
+    trial.see("its last line", last == "bad folder: the tape has another history up to 7", last)
+    farm.write_text(re.sub("(?m)^known .*\n", "", farm.read_text()).replace("wfarm folder 2", "wfarm folder 1"))
     node.start()
     trial.wait("status: a history differs, and from which sequence on", lambda: "history differs from node 2 at sequence 7" in trial.call("status")[1])
     trial.wait("and that node has ended", lambda: "unreachable" in trial.call("status")[1].splitlines()[3])
@@ -224,7 +258,7 @@ def main():
     with tempfile.TemporaryDirectory(prefix="wfarmctl-") as folder:
         trial = Trial(options.program.resolve(), pathlib.Path(folder))
         try:
-            for attempt in (try_well, try_replica, try_failures, try_full, try_copy, try_verify, try_changed, try_words):
+            for attempt in (try_well, try_replica, try_failures, try_suspended, try_full, try_copy, try_verify, try_changed, try_words):
                 attempt(trial)
         finally:
             for node in trial.nodes:

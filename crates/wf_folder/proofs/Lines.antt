@@ -1,10 +1,10 @@
 -- The lines of a node's file: what follows a line is determined, and so are its two digits.
-use Rattle.std.proofs.Common.{◌≡◌, ◌∙◌, ℕ, ◌+◌, ◌-◌, ◌/◌, ◌%◌, ◌≤◌, List, ◌++◌, length, length-append, take, drop, sym, ap, arith}
+use Rattle.std.proofs.Common.{◌≡◌, ◌∙◌, ℕ, ◌+◌, ◌/◌, ◌%◌, ◌≤◌, List, ◌++◌, length, length-append, take, drop, sym, ap, arith}
 use Rattle.std.specs.Prelude.{codes}
 use Rattle.std.proofs.lemmas.List.{append_cancel_left, take-append-drop, length-take}
 use Rattle.hex.specs.Hex.{encode_lower}
 use Rattle.wf_folder.specs.FarmFile.{mark_line, nodes_line}
-use Rattle.wf_folder.specs.NodeFile.{farm_and_mark, farm_line, node_line, starts_line}
+use Rattle.wf_folder.specs.NodeFile.{farm_and_mark, farm_line, node_line, numbers_then, starts_line}
 use Rattle.wf_folder.specs.Number.{number_digits}
 use Rattle.wf_folder.specs.NumberTheorems.{digits_of_mark, eight}
 use Rattle.wf_folder.proofs.Numbers.{same_ends, same_fronts}
@@ -34,6 +34,9 @@ pub after_starts : (n m : ℕ) (r s : List ℕ) → starts_line n ++ r ≡ start
 after_starts n m r s e =
     let digits : number_digits n ++ r ≡ number_digits m ++ s = append_cancel_left (codes "starts ") _ _ e in
     (same_fronts (number_digits n) (number_digits m) r s (eight n ∙ sym (eight m)) digits).1
+
+pub after_numbers : (n m a b p q : ℕ) (r s : List ℕ) → numbers_then n a p r ≡ numbers_then m b q s → r ≡ s
+after_numbers n m a b p q r s e = after_starts p q r s (after_nodes a b _ _ (after_node n m _ _ e))
 
 -- the name's line and the mark's, which has 38 bytes
 mark_line_length : (mark : List ℕ) → length mark ≡ 16 → length (mark_line mark) ≡ 38

@@ -1,16 +1,16 @@
 -- The digits of a number are read as it, and are eight.
 use Rattle.std.proofs.Common.{◌≡◌, ◌∙◌, ℕ, zero, suc, ◌<◌, ◌≤◌, ◌^◌, List, [], ◌∷◌, length, length-append, ◌++◌, take, sym, ap, subst, refl, arith}
-use Rattle.std.specs.Prelude.{MatchResult, Option, Some, None, IfNone, ◌≢◌, ◌-◌}
+use Rattle.std.specs.Prelude.{MatchResult, Option, Some, None, IfNone, ◌≢◌}
 use Rattle.std.specs.Int.{w32, to_be_bytes}
 use Rattle.std.proofs.Math.Seq.{take-append_seam}
 use Rattle.hex.specs.Hex.{IsBytes, decode_sized, encode_lower}
 use Rattle.hex.proofs.HexLemmas.{decode_sized-encode_lower}
 use Rattle.hex.specs.declared.error.FromHexError.{FromHexError}
 use Rattle.wf_folder.specs.Number.{number_digits}
-use Rattle.wf_folder.specs.NumberTheorems.{digits_of_mark, eight}
+use Rattle.wf_folder.specs.NumberTheorems.{digits_of_digest, digits_of_mark, eight}
 
 -- each byte of a number is one
-are_bytes : (n : ℕ) → IsBytes (to_be_bytes w32 n)
+pub are_bytes : (n : ℕ) → IsBytes (to_be_bytes w32 n)
 are_bytes n zero = omega arith
 are_bytes n (suc zero) = omega arith
 are_bytes n (suc (suc zero)) = omega arith
@@ -53,6 +53,13 @@ mark_fits mark bytes rest size e = omega (arith, ap length e, length-append (enc
 pub mark_front : (mark bytes rest : List ℕ) → length mark ≡ 16 → bytes ≡ encode_lower mark ++ rest → take 32 bytes ≡ encode_lower mark
 mark_front mark bytes rest size e =
     ap (take 32) e ∙ subst (λ (k : ℕ). take k (encode_lower mark ++ rest) ≡ encode_lower mark) (digits_of_mark mark size) (take-append_seam (encode_lower mark) rest)
+
+pub digest_fits : (digest bytes rest : List ℕ) → length digest ≡ 32 → bytes ≡ encode_lower digest ++ rest → 64 ≤ length bytes
+digest_fits digest bytes rest size e = omega (arith, ap length e, length-append (encode_lower digest) rest, digits_of_digest digest size)
+
+pub digest_front : (digest bytes rest : List ℕ) → length digest ≡ 32 → bytes ≡ encode_lower digest ++ rest → take 64 bytes ≡ encode_lower digest
+digest_front digest bytes rest size e =
+    ap (take 64) e ∙ subst (λ (k : ℕ). take k (encode_lower digest ++ rest) ≡ encode_lower digest) (digits_of_digest digest size) (take-append_seam (encode_lower digest) rest)
 
 -- where a text hasn't the digits of what it decodes to, it has those of no number
 pub of_no_number : (result : Option ℕ) (text : List ℕ) (found : ℕ) → IfNone result (text ≢ number_digits found) →

@@ -5,3 +5,6 @@ pub mod NodeAdmission
 pub mod NodeFile
 pub mod Number
 pub mod NumberTheorems
+pub mod Reach
+pub mod Suspension
+pub mod Words

@@ -15,7 +15,7 @@ use Rattle.clap.specs.declared.error.kind.ErrorKind.TheVariants.{OutOfMemory}
 use Rattle.clap.specs.declared.parser.matches.ArgMatches.{ArgMatches}
 use Rattle.wf_line.specs.NodeCommandLine.{IsNodeLineOf, IsNumberBy}
 use Rattle.wf_line.specs.NodeLine.{IsNodeInRange, most_clients}
-use Rattle.wf_line.specs.ProcessCommandLine.{AsksProcess, IsInitOf, IsNodeOf, IsProcessRejection, IsReplicaOf, process_program, process_rejections}
+use Rattle.wf_line.specs.ProcessCommandLine.{AsksProcess, IsClearOf, IsInitOf, IsNodeOf, IsProcessRejection, IsReplicaOf, process_program, process_rejections}
 use Rattle.wf_line.specs.ProcessLine.{IsProcessInRange, IsReplicaInRange}
 use Rattle.wf_line.specs.ReplicaCommandLine.{IsReplicaLineOf}
 use Rattle.wf_line.specs.declared.node_line.NodeCommand.TheVariants as commands
@@ -29,16 +29,25 @@ use Rattle.wf_service.specs.Service.{most_cached}
 init_asks_of : (p : Text × List Row) (rows : List Row) → p.1 ≡ rows → p.0 ≡ codes "init" → ((c : ProcessCommand) → ¬ (IsInitOf rows c)) → (c : ProcessCommand) → ¬ (AsksProcess (Some p) c)
 init_asks_of p rows has named none (processes.Node (commands.Init line)) asks = none (processes.Node (commands.Init line)) (rw has at asks.1)
 init_asks_of p rows has named none (processes.Node (commands.Node line)) asks = false≢true (sym (ap (bytes_eq (codes "init")) (sym named ∙ asks.0)))
+init_asks_of p rows has named none (processes.Node (commands.Clear line)) asks = false≢true (sym (ap (bytes_eq (codes "init")) (sym named ∙ asks.0)))
 init_asks_of p rows has named none (processes.Replica line) asks = false≢true (sym (ap (bytes_eq (codes "init")) (sym named ∙ asks.0)))
 
 node_asks_of : (p : Text × List Row) (rows : List Row) → p.1 ≡ rows → p.0 ≡ codes "node" → ((c : ProcessCommand) → ¬ (IsNodeOf rows c)) → (c : ProcessCommand) → ¬ (AsksProcess (Some p) c)
 node_asks_of p rows has named none (processes.Node (commands.Init line)) asks = false≢true (sym (ap (bytes_eq (codes "node")) (sym named ∙ asks.0)))
 node_asks_of p rows has named none (processes.Node (commands.Node line)) asks = none (processes.Node (commands.Node line)) (rw has at asks.1)
+node_asks_of p rows has named none (processes.Node (commands.Clear line)) asks = false≢true (sym (ap (bytes_eq (codes "node")) (sym named ∙ asks.0)))
 node_asks_of p rows has named none (processes.Replica line) asks = false≢true (sym (ap (bytes_eq (codes "node")) (sym named ∙ asks.0)))
+
+clear_asks_of : (p : Text × List Row) (rows : List Row) → p.1 ≡ rows → p.0 ≡ codes "clear" → ((c : ProcessCommand) → ¬ (IsClearOf rows c)) → (c : ProcessCommand) → ¬ (AsksProcess (Some p) c)
+clear_asks_of p rows has named none (processes.Node (commands.Init line)) asks = false≢true (sym (ap (bytes_eq (codes "clear")) (sym named ∙ asks.0)))
+clear_asks_of p rows has named none (processes.Node (commands.Node line)) asks = false≢true (sym (ap (bytes_eq (codes "clear")) (sym named ∙ asks.0)))
+clear_asks_of p rows has named none (processes.Node (commands.Clear line)) asks = none (processes.Node (commands.Clear line)) (rw has at asks.1)
+clear_asks_of p rows has named none (processes.Replica line) asks = false≢true (sym (ap (bytes_eq (codes "clear")) (sym named ∙ asks.0)))
 
 replica_asks_of : (p : Text × List Row) (rows : List Row) → p.1 ≡ rows → p.0 ≡ codes "replica" → ((c : ProcessCommand) → ¬ (IsReplicaOf rows c)) → (c : ProcessCommand) → ¬ (AsksProcess (Some p) c)
 replica_asks_of p rows has named none (processes.Node (commands.Init line)) asks = false≢true (sym (ap (bytes_eq (codes "replica")) (sym named ∙ asks.0)))
 replica_asks_of p rows has named none (processes.Node (commands.Node line)) asks = false≢true (sym (ap (bytes_eq (codes "replica")) (sym named ∙ asks.0)))
+replica_asks_of p rows has named none (processes.Node (commands.Clear line)) asks = false≢true (sym (ap (bytes_eq (codes "replica")) (sym named ∙ asks.0)))
 replica_asks_of p rows has named none (processes.Replica line) asks = none (processes.Replica line) (rw has at asks.1)
 
 pub none_made : (command : Option ProcessCommand) (met : Option (Text × List Row)) (rows : List Row) → option_map (λ p. p.1) met ≡ Some rows
@@ -52,6 +61,12 @@ pub none_served : (command : Option ProcessCommand) (met : Option (Text × List 
 none_served (Some command) met rows has named none = tt
 none_served None None rows has named none = λ c asks. asks
 none_served None (Some p) rows has named none = node_asks_of p rows (let is : p.1 ≡ rows = cc in is) (let is : p.0 ≡ codes "node" = cc in is) none
+
+pub none_cleared : (command : Option ProcessCommand) (met : Option (Text × List Row)) (rows : List Row) → option_map (λ p. p.1) met ≡ Some rows
+    → option_map (λ p. p.0) met ≡ Some (codes "clear") → IfNone command ((c : ProcessCommand) → ¬ (IsClearOf rows c)) → IfNone command ((c : ProcessCommand) → ¬ (AsksProcess met c))
+none_cleared (Some command) met rows has named none = tt
+none_cleared None None rows has named none = λ c asks. asks
+none_cleared None (Some p) rows has named none = clear_asks_of p rows (let is : p.1 ≡ rows = cc in is) (let is : p.0 ≡ codes "clear" = cc in is) none
 
 pub none_replicated : (command : Option ProcessCommand) (met : Option (Text × List Row)) (rows : List Row) → option_map (λ p. p.1) met ≡ Some rows
     → option_map (λ p. p.0) met ≡ Some (codes "replica") → IfNone command ((c : ProcessCommand) → ¬ (IsReplicaOf rows c)) → IfNone command ((c : ProcessCommand) → ¬ (AsksProcess met c))
@@ -79,6 +94,7 @@ pub command_in_range : (met : Option (Text × List Row)) (command : ProcessComma
 command_in_range None command asks = absurd asks
 command_in_range (Some named) (processes.Node (commands.Init line)) asks = record { id = asks.1.id.2.high; some = asks.1.nodes.2.low; most = asks.1.nodes.2.high }
 command_in_range (Some named) (processes.Node (commands.Node line)) asks = node_in_range named.1 line asks.1
+command_in_range (Some named) (processes.Node (commands.Clear line)) asks = tt
 command_in_range (Some named) (processes.Replica line) asks = replica_in_range named.1 line asks.1
 
 -- arguments that the parser accepts are rejected only if an allocation fails

@@ -1,4 +1,4 @@
--- What the arguments of `init` and `node` ask for, by the rules of `clap`.
+-- What the arguments of `init`, `node` and `clear` ask for, by the rules of `clap`.
 use Rattle.std.specs.Prelude.{◌≡◌, ℕ, option_map, Bool, List, [], ◌∷◌, Option, Some, None, false, true, codes, pos}
 use Rattle.clap.specs.Walk.{Row, Rule, Text, first_of}
 use Rattle.clap.specs.Simple.{Shape, new_rule, new_shape}
@@ -6,6 +6,7 @@ use Rattle.clap.specs.declared.builder.value_parser.ValueParser.TheVariants.{Sig
 use Rattle.wf_line.specs.CommandLine.{IsNumberOf, cache_rule, is_set, log_rule}
 use Rattle.wf_line.specs.Line.{IsNumber}
 use Rattle.wf_line.specs.NodeLine.{most_clients}
+use Rattle.wf_line.specs.declared.node_line.ClearLine.{ClearLine}
 use Rattle.wf_line.specs.declared.node_line.InitLine.{InitLine}
 use Rattle.wf_line.specs.declared.node_line.NodeLine.{NodeLine}
 use Rattle.wf_service.specs.Service.{most_cached, most_nodes}
@@ -50,6 +51,10 @@ node_shape = command_shape (codes "node")
     (text_rule (codes "state") true ∷ text_rule (codes "peers") true ∷ text_rule (codes "http") true ∷ text_rule (codes "listen") false
     ∷ text_rule (codes "admin") false ∷ text_rule (codes "readers") false ∷ cache_rule ∷ clients_rule ∷ log_rule ∷ [])
 
+-- `clear`
+abbrev pub clear_shape : Shape
+clear_shape = command_shape (codes "clear") (text_rule (codes "state") true ∷ [])
+
 -- a number by an argument, or the one where it is absent
 abbrev pub IsNumberBy : Option Text → ℕ → ℕ → ℕ → Type 0
 IsNumberBy None most absent number = number ≡ absent
@@ -77,3 +82,7 @@ pub record IsNodeLineOf (rows : List Row) (line : NodeLine) : Type 0 where
   pub cache : IsNumberOr rows (codes "cache") most_cached 16 line.cache
   pub clients : IsNumberOr rows (codes "clients") most_clients 128 line.clients
   pub log : line.log ≡ is_set (first_of (codes "log") rows)
+
+-- The line is that of the arguments parsed for `clear`.
+pub record IsClearLineOf (rows : List Row) (line : ClearLine) : Type 0 where
+  pub state : first_of (codes "state") rows ≡ Some line.state.now

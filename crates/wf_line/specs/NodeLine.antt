@@ -1,5 +1,5 @@
 -- The ranges of the numbers in a command line about a node in a process of its own.
-use Rattle.std.specs.Prelude.{◌≤◌, ℕ}
+use Rattle.std.specs.Prelude.{◌≤◌, ℕ, ⊤}
 use Rattle.wf_service.specs.Service.{most_cached, most_nodes}
 use Rattle.wf_line.specs.declared.node_line.InitLine.{InitLine}
 use Rattle.wf_line.specs.declared.node_line.NodeCommand.{NodeCommand}
@@ -24,3 +24,4 @@ pub record IsNodeInRange (line : NodeLine) : Type 0 where
 abbrev pub IsNodeCommandInRange : NodeCommand → Type 0
 IsNodeCommandInRange (commands.Init line) = IsInitInRange line
 IsNodeCommandInRange (commands.Node line) = IsNodeInRange line
+IsNodeCommandInRange (commands.Clear line) = ⊤

@@ -8,7 +8,7 @@ use Rattle.clap.specs.Takes.{takes}
 use Rattle.clap.specs.declared.error.kind.ErrorKind.{ErrorKind}
 use Rattle.clap.specs.declared.error.kind.ErrorKind.TheVariants.{OutOfMemory, ValueValidation}
 use Rattle.std.specs.Str.{bytes_eq}
-use Rattle.wf_line.specs.NodeCommandLine.{IsInitLineOf, IsNodeLineOf, init_shape, node_shape}
+use Rattle.wf_line.specs.NodeCommandLine.{IsClearLineOf, IsInitLineOf, IsNodeLineOf, clear_shape, init_shape, node_shape}
 use Rattle.wf_line.specs.ReplicaCommandLine.{IsReplicaLineOf, replica_shape}
 use Rattle.wf_line.specs.declared.node_line.NodeCommand.TheVariants as commands
 use Rattle.wf_line.specs.declared.process_line.ProcessCommand.{ProcessCommand}
@@ -17,13 +17,17 @@ use Rattle.wf_line.specs.declared.process_line.ProcessCommand.TheVariants as pro
 -- ---- which command lines these are
 
 abbrev pub is_process_command : Text → Bool
-is_process_command word = if bytes_eq word (codes "init") then true else if bytes_eq word (codes "node") then true else bytes_eq word (codes "replica")
+is_process_command word =
+    if bytes_eq word (codes "init") then true
+    else if bytes_eq word (codes "node") then true
+    else if bytes_eq word (codes "clear") then true
+    else bytes_eq word (codes "replica")
 
 abbrev pub begins_with_process_command : List Text → Bool
 begins_with_process_command [] = false
 begins_with_process_command (first ∷ rest) = is_process_command first
 
--- `init`, `node` or `replica` comes first, or first after `help`
+-- `init`, `node`, `clear` or `replica` comes first, or first after `help`
 abbrev pub names_process_command : List Text → Bool
 names_process_command [] = false
 names_process_command (first ∷ rest) = if bytes_eq first (codes "help") then begins_with_process_command rest else is_process_command first
@@ -40,19 +44,27 @@ program_of subs = record {
 }
 
 abbrev pub process_program : App
-process_program = program_of (init_shape ∷ node_shape ∷ replica_shape ∷ [])
+process_program = program_of (init_shape ∷ node_shape ∷ clear_shape ∷ replica_shape ∷ [])
 
 -- ---- the command that is asked for
 
 abbrev pub IsInitOf : List Row → ProcessCommand → Type 0
 IsInitOf rows (processes.Node (commands.Init line)) = IsInitLineOf rows line
 IsInitOf rows (processes.Node (commands.Node line)) = ⊥
+IsInitOf rows (processes.Node (commands.Clear line)) = ⊥
 IsInitOf rows (processes.Replica line) = ⊥
 
 abbrev pub IsNodeOf : List Row → ProcessCommand → Type 0
 IsNodeOf rows (processes.Node (commands.Init line)) = ⊥
 IsNodeOf rows (processes.Node (commands.Node line)) = IsNodeLineOf rows line
+IsNodeOf rows (processes.Node (commands.Clear line)) = ⊥
 IsNodeOf rows (processes.Replica line) = ⊥
+
+abbrev pub IsClearOf : List Row → ProcessCommand → Type 0
+IsClearOf rows (processes.Node (commands.Init line)) = ⊥
+IsClearOf rows (processes.Node (commands.Node line)) = ⊥
+IsClearOf rows (processes.Node (commands.Clear line)) = IsClearLineOf rows line
+IsClearOf rows (processes.Replica line) = ⊥
 
 abbrev pub IsReplicaOf : List Row → ProcessCommand → Type 0
 IsReplicaOf rows (processes.Node command) = ⊥
@@ -63,6 +75,7 @@ abbrev pub AsksProcess : Option (Text × List Row) → ProcessCommand → Type 0
 AsksProcess None command = ⊥
 AsksProcess (Some named) (processes.Node (commands.Init line)) = (named.0 ≡ codes "init") × IsInitLineOf named.1 line
 AsksProcess (Some named) (processes.Node (commands.Node line)) = (named.0 ≡ codes "node") × IsNodeLineOf named.1 line
+AsksProcess (Some named) (processes.Node (commands.Clear line)) = (named.0 ≡ codes "clear") × IsClearLineOf named.1 line
 AsksProcess (Some named) (processes.Replica line) = (named.0 ≡ codes "replica") × IsReplicaLineOf named.1 line
 
 -- why arguments are rejected: if the parser accepts them and they ask for a command, an allocation failed

@@ -93,8 +93,9 @@ const DEFAULT_CACHE: u32 = 16;
 const PROCESSES_HELP: &str = "A farm of processes:
   init      Makes the folder of a node
   node      Serves one node of a farm, whose other nodes are other processes
+  clear     Ends a suspension, and forgets what the node accused its peers of
   replica   Serves what a farm publishes, without a vote
-wfarm help init, wfarm help node and wfarm help replica tell of these";
+wfarm help init, wfarm help node, wfarm help clear and wfarm help replica tell of these";
 
 const SERVE_HELP: &str =
     "GET /wms?QUERY answers a WMS request, POST /publish proposes the mapfile in its body, GET /status reports a node.

@@ -5,7 +5,7 @@
 //! (`specs/Line.antt`). Arguments that ask for a line are rejected only if an allocation fails, and others by the parser's kind of
 //! error. Theorem: [`plain_words_are_taken`], plain arguments are taken as they are.
 //!
-//! [`process_command`] does so for the command lines about processes of a farm, `init`, `node` and `replica`
+//! [`process_command`] does so for the command lines about processes of a farm, `init`, `node`, `clear` and `replica`
 //! (`specs/ProcessCommandLine.antt`); [`names_process_command`] says which these are.
 //!
 //! Not here: what a command does (wf_commands), and the text that is printed for a rejected command line.
@@ -22,7 +22,7 @@ mod replica_line;
 
 pub use arguments::{line, plain_words_are_taken};
 pub use command_line::Line;
-pub use node_line::{InitLine, NodeCommand, NodeLine};
+pub use node_line::{ClearLine, InitLine, NodeCommand, NodeLine};
 pub use process_arguments::{names_process_command, process_command};
 pub use process_line::ProcessCommand;
 pub use replica_line::ReplicaLine;

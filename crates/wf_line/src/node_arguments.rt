@@ -1,13 +1,14 @@
-//! The arguments of the commands `init` and `node`.
+//! The arguments of the commands `init`, `node` and `clear`.
 ghost use Rattle.std.specs.Prelude.{◌≡◌, ℕ, IfNone, IfOk, IfSome, codes, false};
 ghost use Rattle.clap.specs.Walk.{rule_of};
 ghost use Rattle.wf_line.specs.CommandLine.{IsOfShape, rows_in};
-ghost use Rattle.wf_line.specs.NodeCommandLine.{IsInitLineOf, IsNodeLineOf, IsNumberOr, clients_rule, id_rule, init_shape, init_shape_start, node_shape, nodes_rule, node_shape_addresses, node_shape_start, text_rule};
+ghost use Rattle.wf_line.specs.NodeCommandLine.{IsClearLineOf, IsInitLineOf, IsNodeLineOf, IsNumberOr, clear_shape, clients_rule, id_rule, init_shape, init_shape_start, node_shape, nodes_rule, node_shape_addresses, node_shape_start, text_rule};
+ghost use Rattle.wf_line.specs.declared.node_line.ClearLine.{ClearLine};
 ghost use Rattle.wf_line.specs.declared.node_line.InitLine.{InitLine};
 ghost use Rattle.wf_line.specs.declared.node_line.NodeLine.{NodeLine};
 
 use crate::arguments::{cache_argument, is_set, log_argument, number, number_of};
-use crate::node_line::{InitLine, NodeLine};
+use crate::node_line::{ClearLine, InitLine, NodeLine};
 use clap::{Arg, ArgMatches, Command};
 use std::alloc::{AllocError, Global};
 
@@ -20,8 +21,10 @@ const DEFAULT_CLIENTS: u32 = 128;
 /// The most clients that a node may have at once.
 const MOST_CLIENTS: i64 = 1_024;
 
-const INIT_HELP: &str = "DIR must exist and be empty. It gets the file farm and the node's tape.
-With --from the tape begins as a copy of TAPE, the tape of the same node of a folder of wfarm serve that isn't used any more.
+const INIT_HELP: &str =
+    "DIR must be empty; it is made if its parent is there. It gets the file farm and the node's tape.
+With --from the tape begins as a copy of TAPE, the tape of the same node of a folder that isn't used any more: one of wfarm serve
+or of wfarm node, of as many nodes. Without a file farm beside TAPE it is taken with a warning.
 
 Errors: status 2 for a bad command line, else 1, with a line that names the cause";
 
@@ -29,6 +32,13 @@ const NODE_HELP: &str =
     "The list of --peers is the same on every machine, in the order of the nodes' numbers, with the address of each node for
 its peers. GET /wms?QUERY answers a WMS request, POST /publish proposes the mapfile in its body, GET /status reports the node.
 A kept picture takes 3 MB. With --log a line on standard error tells each event: TIME LEVEL EVENT KEY=VALUE ..
+
+Errors: status 2 for a bad command line, else 1, with a line that names the cause";
+
+const CLEAR_HELP: &str =
+    "A peer that remembers more of a node than the node has suspends it; only this command ends that, once the node is stopped.
+It is right on each stopped node's folder where the accuser is left over from an older farm of this name. Where a node was put
+back to an older copy it breaks what the farm promises: two maps may be published under one number.
 
 Errors: status 2 for a bad command line, else 1, with a line that names the cause";
 
@@ -183,6 +193,22 @@ pub(crate) fn node_arguments<'a>(alloc: Global) -> Result<Command<'a>, AllocErro
         .arg(log_argument(alloc))
 }
 
+// `clear`.
+pub(crate) fn clear_command<'a>(alloc: Global) -> Result<Command<'a>, AllocError>
+    ensures { IfOk result (IsOfShape clear_shape) }
+{
+    Command::new(alloc, "clear")
+        .about("Ends a suspension, and forgets what the node accused its peers of")
+        .after_help(CLEAR_HELP)
+        .arg(option(
+            alloc,
+            "state",
+            "DIR",
+            true,
+            "The folder of a node that is stopped",
+        ))
+}
+
 // The number parsed for an option, or the one where it is absent.
 #[tactic(auto, using(crate::proofs::Named::word_in_row))]
 pub(crate) fn number_or<'a>(found: &ArgMatches<'a>, id: &str, most: u32, absent: u32) -> Option<u32>
@@ -237,4 +263,14 @@ pub(crate) fn node_line<'a>(found: &ArgMatches<'a>) -> Option<NodeLine<'a>>
         clients: clients as u16,
         log: is_set(found, "log"),
     })
+}
+
+// The arguments parsed for `clear`.
+#[tactic(auto, using(crate::proofs::Named::word_in_row))]
+pub(crate) fn clear_line<'a>(found: &ArgMatches<'a>) -> Option<ClearLine<'a>>
+    ensures some { IfSome result (IsClearLineOf (rows_in found.now)) }
+    ensures none { IfNone result ((line : ClearLine) → ¬ (IsClearLineOf (rows_in found.now) line)) }
+{
+    let state = found.get_str("state")?;
+    Some(ClearLine { state })
 }

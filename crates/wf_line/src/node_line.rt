@@ -38,6 +38,13 @@ pub struct NodeLine<'a> {
     pub log: bool,
 }
 
+/// A command line of `clear`.
+#[derive(Clone, Copy)]
+pub struct ClearLine<'a> {
+    /// The node's folder.
+    pub state: &'a str,
+}
+
 /// A parsed command line about a node in a process of its own.
 #[derive(Clone, Copy)]
 pub enum NodeCommand<'a> {
@@ -45,4 +52,6 @@ pub enum NodeCommand<'a> {
     Init(InitLine<'a>),
     /// Serve the node.
     Node(NodeLine<'a>),
+    /// End the node's suspension, and forget what it accused others of.
+    Clear(ClearLine<'a>),
 }

@@ -3,12 +3,14 @@ ghost use Rattle.std.specs.Prelude.{◌≡◌, ◌∷◌, [], IfErr, IfNone, IfO
 ghost use Rattle.clap.specs.Simple.{app_of, subcommand_of, subcommand_rows_of};
 ghost use Rattle.clap.specs.Values.{kind_of};
 ghost use Rattle.wf_line.specs.CommandLine.{rows_in};
-ghost use Rattle.wf_line.specs.NodeCommandLine.{init_shape, node_shape};
-ghost use Rattle.wf_line.specs.ProcessCommandLine.{AsksProcess, IsInitOf, IsNodeOf, IsProcessRejection, IsReplicaOf, IsWhyProcessRejected, begins_with_process_command, is_process_command, names_process_command, process_program, program_of};
+ghost use Rattle.wf_line.specs.NodeCommandLine.{clear_shape, init_shape, node_shape};
+ghost use Rattle.wf_line.specs.ProcessCommandLine.{AsksProcess, IsClearOf, IsInitOf, IsNodeOf, IsProcessRejection, IsReplicaOf, IsWhyProcessRejected, begins_with_process_command, is_process_command, names_process_command, process_program, program_of};
 ghost use Rattle.wf_line.specs.ProcessLine.{IsProcessInRange};
 ghost use Rattle.wf_line.specs.declared.process_line.ProcessCommand.{ProcessCommand};
 
-use crate::node_arguments::{init_command, init_line, node_arguments, node_line};
+use crate::node_arguments::{
+    clear_command, clear_line, init_command, init_line, node_arguments, node_line,
+};
 use crate::node_line::NodeCommand;
 use crate::process_line::ProcessCommand;
 use crate::replica_arguments::{replica_arguments, replica_line};
@@ -19,8 +21,8 @@ use std::convert::AsStr;
 
 static NO_WORDS: [&str; 0] = [];
 
-// The program with the commands about nodes.
-fn node_program<'a>(alloc: Global) -> Result<Command<'a>, AllocError>
+// The program with the commands that make and serve a node.
+fn serving_program<'a>(alloc: Global) -> Result<Command<'a>, AllocError>
     ensures { IfOk result (λ command. app_of command ≡ program_of (init_shape ∷ node_shape ∷ [])) }
 {
     let init = init_command(alloc)?;
@@ -30,6 +32,15 @@ fn node_program<'a>(alloc: Global) -> Result<Command<'a>, AllocError>
         .subcommand_required(true)
         .subcommand(init)?
         .subcommand(node)
+}
+
+// The program with the commands about nodes.
+fn node_program<'a>(alloc: Global) -> Result<Command<'a>, AllocError>
+    ensures { IfOk result (λ command.
+        app_of command ≡ program_of (init_shape ∷ node_shape ∷ clear_shape ∷ [])) }
+{
+    let clear = clear_command(alloc)?;
+    serving_program(alloc)?.subcommand(clear)
 }
 
 // The program with all commands about processes.
@@ -74,6 +85,16 @@ fn node<'a>(found: &ArgMatches<'a>) -> Option<ProcessCommand<'a>>
     Some(ProcessCommand::Node(NodeCommand::Node(line)))
 }
 
+// The `clear` command of the parsed arguments.
+fn clear<'a>(found: &ArgMatches<'a>) -> Option<ProcessCommand<'a>>
+    ensures some { IfSome result (IsClearOf (rows_in found.now)) }
+    ensures none { IfNone result
+        ((command : ProcessCommand) → ¬ (IsClearOf (rows_in found.now) command)) }
+{
+    let line = clear_line(found)?;
+    Some(ProcessCommand::Node(NodeCommand::Clear(line)))
+}
+
 // The `replica` command of the parsed arguments.
 fn replica<'a>(found: &ArgMatches<'a>) -> Option<ProcessCommand<'a>>
     ensures some { IfSome result (IsReplicaOf (rows_in found.now)) }
@@ -93,12 +114,13 @@ fn command_of<'a>(matches: &ArgMatches<'a>) -> Option<ProcessCommand<'a>>
     match matches.subcommand() {
         Some(("init", found)) => init(found),
         Some(("node", found)) => node(found),
+        Some(("clear", found)) => clear(found),
         Some(("replica", found)) => replica(found),
         _ => None,
     }
 }
 
-/// Whether these are arguments, without the program's name, of `init`, `node` or `replica`, or ask for the help of one: then
+/// Whether these are arguments, without the program's name, of `init`, `node`, `clear` or `replica`, or ask for the help of one: then
 /// [`process_command`] parses them, else [`crate::arguments::line`].
 pub fn names_process_command<S: AsStr>(words: &[S]) -> bool
     ensures { result ≡ names_process_command (map S.text words.now) }
@@ -133,12 +155,14 @@ fn is_process_command(word: &str) -> bool
         true
     } else if word == "node" {
         true
+    } else if word == "clear" {
+        true
     } else {
         word == "replica"
     }
 }
 
-/// Parses the arguments of `init`, `node` or `replica`, without the program's name. An error's text is for the user.
+/// Parses the arguments of `init`, `node`, `clear` or `replica`, without the program's name. An error's text is for the user.
 #[tactic(auto, using(crate::proofs::ProcessNamed::command_in_range))]
 pub fn process_command<'a, S: AsStr>(
     alloc: Global,

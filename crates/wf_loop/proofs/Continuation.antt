@@ -17,7 +17,8 @@ use Rattle.wf_node.specs.declared.fault.NodeFault.{NodeFault}
 use Rattle.wf_tape.specs.declared.tape.Tape.{Ghosts as Tape}
 use Rattle.wf_codec.specs.declared.fault.DecodeFault.{DecodeFault}
 use Rattle.wf_loop.specs.Answer.{IsAnswer, IsResponse}
-use Rattle.wf_loop.specs.Continuation.{GoesOn, IsEarlier, IsLater, IsOfRuns, KeepsEarlier}
+use Rattle.wf_loop.specs.Continuation.{Continues, GoesOn, IsEarlier, IsLater, IsOfRuns, KeepsEarlier, StaysSuspended}
+use Rattle.wf_loop.specs.declared.gate.Gate.TheVariants as gates
 use Rattle.wf_loop.specs.declared.hub.Voter.{Voter}
 
 -- ---- beginnings of lists
@@ -68,21 +69,18 @@ module _ {T : Type 0} (tapes : Tape T) where
 
   -- ---- a process
 
-  pub still : (process : Process T tapes) → GoesOn tapes process process
-  still process = record { actor = later_same process.actor process.actor refl; among = refl; ended = refl }
+  goes_still : (process : Process T tapes) → GoesOn tapes process process
+  goes_still process = record { actor = later_same process.actor process.actor refl; among = refl; ended = refl }
 
-  pub twice : (one two three : Process T tapes) → GoesOn tapes one two → GoesOn tapes two three → GoesOn tapes one three
-  twice one two three first second = record {
+  goes_twice : (one two three : Process T tapes) → GoesOn tapes one two → GoesOn tapes two three → GoesOn tapes one three
+  goes_twice one two three first second = record {
     actor = later_twice one.actor two.actor three.actor first.actor second.actor;
     among = second.among ∙ first.among;
     ended = second.ended ∙ first.ended;
   }
 
-  pub thrice : (one two three four : Process T tapes) → GoesOn tapes one two → GoesOn tapes two three → GoesOn tapes three four → GoesOn tapes one four
-  thrice one two three four first second third = twice one two four first (twice two three four second third)
-
   pub unchanged : (before after : Process T tapes) → after ≡ before → GoesOn tapes before after
-  unchanged before after same = subst (λ (p : Process T tapes). GoesOn tapes before p) (sym same) (still before)
+  unchanged before after same = subst (λ (p : Process T tapes). GoesOn tapes before p) (sym same) (goes_still before)
 
   same_actor : (before after : Process T tapes) → IsSameActor before after → GoesOn tapes before after
   same_actor before after is = record { actor = later_same before.actor after.actor is.actor; among = is.among; ended = is.ended }
@@ -109,39 +107,86 @@ module _ {T : Type 0} (tapes : Tape T) where
   -- a message of its own, or of a peer
   pub own_received : {U : Type 0} (before : Process T tapes) (result : Option (Result U NodeFault)) (after : Process T tapes) → ReceivesOwn tapes before result after → GoesOn tapes before after
   own_received before None after is = unchanged before after is.1
-  own_received before (Some result) after is = twice before is.1 after (same_actor before is.1 is.2.rest) (going_on is.1 after _ is.3.goes_on is.3.emitted (grown _ _ _ is.3.given))
+  own_received before (Some result) after is = goes_twice before is.1 after (same_actor before is.1 is.2.rest) (going_on is.1 after _ is.3.goes_on is.3.emitted (grown _ _ _ is.3.given))
 
   pub received_from : {U : Type 0} (peer : ℕ) (before : Process T tapes) (result : Option (Result U NodeFault)) (after : Process T tapes) → ReceivesFrom tapes peer before result after → GoesOn tapes before after
   received_from peer before None after is = unchanged before after is.1
-  received_from peer before (Some result) after is = twice before is.1 after (same_actor before is.1 is.2.rest) (going_on is.1 after _ is.3.goes_on is.3.emitted (grown _ _ _ is.3.given))
+  received_from peer before (Some result) after is = goes_twice before is.1 after (same_actor before is.1 is.2.rest) (going_on is.1 after _ is.3.goes_on is.3.emitted (grown _ _ _ is.3.given))
+
+  -- ---- a voter
+
+  pub still : (voter : Voter T tapes) → Continues tapes voter voter
+  still voter = record { process = goes_still voter.process; suspended = λ is. record { gate = is; actor = refl } }
+
+  pub twice : (one two three : Voter T tapes) → Continues tapes one two → Continues tapes two three → Continues tapes one three
+  twice one two three first second = record {
+    process = goes_twice one.process two.process three.process first.process second.process;
+    suspended = λ is. let a = first.suspended is in let b = second.suspended a.gate in record { gate = b.gate; actor = b.actor ∙ a.actor };
+  }
+
+  pub thrice : (one two three four : Voter T tapes) → Continues tapes one two → Continues tapes two three → Continues tapes three four → Continues tapes one four
+  thrice one two three four first second third = twice one two four first (twice two three four second third)
+
+  pub same_voter : (before after : Voter T tapes) → after ≡ before → Continues tapes before after
+  same_voter before after same = subst (λ (v : Voter T tapes). Continues tapes before v) (sym same) (still before)
+
+  -- one that acts, or isn't suspended at least, goes on as its process does
+  pub awake : (before after : Voter T tapes) → ¬ (before.gate ≡ gates.Suspended) → GoesOn tapes before.process after.process → Continues tapes before after
+  awake before after not goes = record { process = goes; suspended = λ is. absurd (not is) }
+
+  pub acting : (before after : Voter T tapes) → before.gate ≡ gates.Open → GoesOn tapes before.process after.process → Continues tapes before after
+  acting before after acts goes = awake before after (λ is. let is_open = acts in cc) goes
+
+  -- the gate alone
+  pub gated : (before after : Voter T tapes) → ¬ (before.gate ≡ gates.Suspended) → after.process ≡ before.process → Continues tapes before after
+  gated before after not same = awake before after not (unchanged before.process after.process same)
 
   -- an end of a connection
-  pub relinked : (peer : ℕ) (change : Link → Link → Type 0) (before after : Process T tapes)
-      → (peer < length before.links.items → IsLinkChanged peer change before after) → (length before.links.items ≤ peer → after ≡ before) → GoesOn tapes before after
-  relinked peer change before after linked no_links =
-      by_order peer (length before.links.items) (λ below. same_actor before after (linked below).rest) (λ above. unchanged before after (no_links above))
+  same_node : (before after : Voter T tapes) → after.gate ≡ before.gate → IsSameActor before.process after.process → Continues tapes before after
+  same_node before after gate is = record { process = same_actor before.process after.process is; suspended = λ suspended. record { gate = gate ∙ suspended; actor = is.actor } }
 
-  pub written : {A B : Type 0} (peer : ℕ) (change : Link → Link → Type 0) (before after : Process T tapes)
-      → (peer < length before.links.items → IsLinkChanged peer change before after) → (length before.links.items ≤ peer → A × (after ≡ before) × B) → GoesOn tapes before after
-  written peer change before after linked no_links = relinked peer change before after linked (λ above. (no_links above).1)
+  same_process : (before after : Voter T tapes) → after.gate ≡ before.gate → after.process ≡ before.process → Continues tapes before after
+  same_process before after gate is = record {
+    process = unchanged before.process after.process is;
+    suspended = λ suspended. record { gate = gate ∙ suspended; actor = ap (λ (p : Process T tapes). p.actor) is };
+  }
 
-  pub received : {A : Type 0} (peer : ℕ) (piece : List ℕ) (before : Process T tapes) (result : Result ℕ DecodeFault) (after : Process T tapes)
-      → (is_peer before peer ≡ true → IsReception peer piece before result after) → (is_peer before peer ≡ false → A × (after ≡ before)) → GoesOn tapes before after
-  received peer piece before result after from other =
-      by_test (is_peer before peer)
-      (λ is. let took = from is in record { actor = later_same before.actor after.actor took.actor; among = took.among; ended = took.ended })
-      (λ is. unchanged before after (other is).1)
+  pub relinked : (peer : ℕ) (change : Link → Link → Type 0) (before after : Voter T tapes) → after.gate ≡ before.gate
+      → (peer < length before.process.links.items → IsLinkChanged peer change before.process after.process) → (length before.process.links.items ≤ peer → after.process ≡ before.process) → Continues tapes before after
+  relinked peer change before after gate linked no_links =
+      by_order peer (length before.process.links.items) (λ below. same_node before after gate (linked below).rest) (λ above. same_process before after gate (no_links above))
+
+  pub written : {A B : Type 0} (peer : ℕ) (change : Link → Link → Type 0) (before after : Voter T tapes) → after.gate ≡ before.gate
+      → (peer < length before.process.links.items → IsLinkChanged peer change before.process after.process) → (length before.process.links.items ≤ peer → A × (after.process ≡ before.process) × B)
+      → Continues tapes before after
+  written peer change before after gate linked no_links = relinked peer change before after gate linked (λ above. (no_links above).1)
+
+  pub received : {A : Type 0} (peer : ℕ) (piece : List ℕ) (before : Voter T tapes) (result : Result ℕ DecodeFault) (after : Voter T tapes) → after.gate ≡ before.gate
+      → (is_peer before.process peer ≡ true → IsReception peer piece before.process result after.process) → (is_peer before.process peer ≡ false → A × (after.process ≡ before.process))
+      → Continues tapes before after
+  received peer piece before result after gate from other =
+      by_test (is_peer before.process peer)
+      (λ is. let took = from is in record {
+        process = record { actor = later_same before.process.actor after.process.actor took.actor; among = took.among; ended = took.ended };
+        suspended = λ suspended. record { gate = gate ∙ suspended; actor = took.actor };
+      })
+      (λ is. same_process before after gate (other is).1)
 
   -- a client's request, which was answered, or wasn't
   pub answered : (before : Process T tapes) (came response : List ℕ) (outcome : Outcome) (after : Process T tapes) → IsAnswer tapes before came response outcome after → GoesOn tapes before after
   answered before came response outcome after is = going_on before after _ is.goes_on is.emitted (whole _ _ is.given)
 
-  pub responded : (before : Process T tapes) (came response : List ℕ) (after : Process T tapes) → IsResponse tapes before came response after → GoesOn tapes before after
-  responded before came response after is = answered before came response is.outcome after is.answer
+  pub responded : (before : Voter T tapes) (came response : List ℕ) (after : Voter T tapes) → ¬ (before.gate ≡ gates.Suspended) → IsResponse tapes before.process came response after.process → Continues tapes before after
+  responded before came response after not is = awake before after not (answered before.process came response is.outcome after.process is.answer)
 
-  pub stayed : (before after : Voter T tapes) → (after ≡ before) ⊎ GoesOn tapes before.process after.process → GoesOn tapes before.process after.process
-  stayed before after (inl same) = unchanged before.process after.process (ap (λ (v : Voter T tapes). v.process) same)
-  stayed before after (inr is) = is
+  pub stayed : (before after : Voter T tapes) → ¬ (before.gate ≡ gates.Suspended) → (after ≡ before) ⊎ GoesOn tapes before.process after.process → Continues tapes before after
+  stayed before after not (inl same) = same_voter before after same
+  stayed before after not (inr is) = awake before after not is
+
+  -- a turn: a wait, a decision, what is done, and what is kept
+  pub turned : (one two three four five : Voter T tapes) → two ≡ one → Continues tapes two three → Continues tapes three four → five ≡ four → Continues tapes one five
+  turned one two three four five waits decides does keeps =
+      twice one two five (same_voter one two waits) (twice two three five decides (twice three four five does (same_voter four five keeps)))
 
   -- ---- what is earlier stays so
 

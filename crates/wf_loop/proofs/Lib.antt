@@ -1,2 +1,3 @@
 pub mod Answered
 pub mod Continuation
+pub mod Reached

@@ -3,6 +3,8 @@ use Rattle.std.specs.Prelude.{◌≡◌, ◌⊎◌, ℕ, List, [], ◌∷◌}
 use Rattle.wf_actor.specs.Life.{logged}
 use Rattle.wf_actor.specs.declared.actor.Actor.{Actor}
 use Rattle.wf_actor.specs.declared.process.Process.{Process}
+use Rattle.wf_loop.specs.declared.gate.Gate.TheVariants as gates
+use Rattle.wf_loop.specs.declared.hub.Voter.{Voter}
 use Rattle.wf_mail.specs.Mail.{IsBeginning}
 use Rattle.wf_tape.specs.declared.tape.Tape.{Ghosts as Tape}
 
@@ -20,6 +22,16 @@ pub record GoesOn {T : Type 0} (tapes : Tape T) (before after : Process T tapes)
   pub actor : IsLater tapes before.actor after.actor
   pub among : after.n ≡ before.n
   pub ended : after.ended.items ≡ before.ended.items
+
+-- It is suspended, and the node is as it was: it was given nothing, and returned no message.
+pub record StaysSuspended {T : Type 0} {tapes : Tape T} (before after : Voter T tapes) : Type 0 where
+  pub gate : after.gate ≡ gates.Suspended
+  pub actor : after.process.actor ≡ before.process.actor
+
+-- The process goes on in its run. Nothing of a suspended node changes.
+pub record Continues {T : Type 0} (tapes : Tape T) (before after : Voter T tapes) : Type 0 where
+  pub process : GoesOn tapes before.process after.process
+  pub suspended : before.gate ≡ gates.Suspended → StaysSuspended before after
 
 -- one of these runs is a later moment of this one
 abbrev pub IsOfRuns : {T : Type 0} (tapes : Tape T) → Actor T tapes → List (Actor T tapes × ℕ) → Type 0

@@ -4,7 +4,12 @@ use Rattle.std.specs.declared.net.socket_addr.SocketAddr.{SocketAddr}
 use Rattle.wf_actor.specs.declared.process.Process.{Process}
 use Rattle.wf_digest.specs.Digest.{AreDigestsOf}
 use Rattle.wf_loop.specs.Answer.{AreAnswered}
+use Rattle.wf_loop.specs.declared.gate.Gate.TheVariants as gates
 use Rattle.wf_loop.specs.declared.hub.Hub.{Hub}
+use Rattle.wf_loop.specs.Reach.{IsReachOf}
+use Rattle.wf_node.specs.Node.{Node}
+use Rattle.wf_peer.specs.Progress.{reach_of}
+use Rattle.wf_peer.specs.declared.progress.Progress.{Progress}
 use Rattle.wf_tape.specs.declared.tape.Tape.{Ghosts as Tape}
 use Rattle.wf_timing.specs.declared.alarm.Alarm.{Alarm}
 use Rattle.wf_visitors.specs.Visitors.{responses_of}
@@ -20,15 +25,24 @@ address_of hub = hub.http
 abbrev pub time_of : {T : Type 0} {tapes : Tape T} → Hub T tapes → ℕ
 time_of hub = hub.time
 
+-- a peer remembers more of the node than it has
+abbrev pub IsSuspended : {T : Type 0} {tapes : Tape T} → Hub T tapes → Type 0
+IsSuspended hub = hub.voter.gate ≡ gates.Suspended
+
 -- Each client that was answered was sent the response of a process that had lived, as it was just before, to what had come of the request.
 abbrev pub HasAnswered : {T : Type 0} (tapes : Tape T) → Hub T tapes → Type 0
 HasAnswered tapes hub = ∥ AreAnswered tapes hub.clients.before.items (responses_of hub.clients.visitors) hub.clients.after.items ∥₁
 
--- The node greets by this start of its folder, as it is now: with its last round and its promise, and with digests that begin anew.
+-- What the node says of itself when it greets: this start of its folder, and how far it is now.
+pub record IsGreetedWith {T : Type 0} (start : Progress) (node : Node T) (said : Progress) : Type 0 where
+  pub mark : said.mark ≡ start.mark
+  pub starts : said.starts ≡ start.starts
+  pub life : said.life ≡ start.life
+  pub reach : IsReachOf node (reach_of said)
+
+-- The node greets by this start of its folder, and with digests that begin anew.
 pub record GreetsAsNow {T : Type 0} {tapes : Tape T} (count : ℕ) (hub : Hub T tapes) : Type 0 where
   pub starts : hub.parts.mesh.plan.start.starts ≡ count
-  pub round : hub.parts.mesh.plan.start.round ≡ (process_of hub).actor.node.parts.tried
-  pub promise : hub.parts.mesh.plan.start.promise ≡ (process_of hub).actor.node.parts.promise
   pub digests : AreDigestsOf [] hub.parts.mesh.notes.digests
 
 -- an alarm was set, and is due

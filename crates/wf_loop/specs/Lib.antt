@@ -2,4 +2,5 @@ pub mod Answer
 pub mod Continuation
 pub mod Hub
 pub mod Lived
+pub mod Reach
 pub mod StartErrors

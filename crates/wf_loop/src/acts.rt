@@ -1,7 +1,9 @@
-//! What is done to a process: by each of these its run goes on.
-ghost use Rattle.std.specs.Prelude.{◌≡◌, ◌++◌, ◌∷◌, []};
-ghost use Rattle.wf_loop.specs.Continuation.{GoesOn, KeepsEarlier};
+//! What is done to a process: by each of these its run goes on, and nothing of a suspended node changes.
+ghost use Rattle.std.specs.Prelude.{◌≡◌, ◌++◌, ◌∷◌, [], IsTrue};
+ghost use Rattle.wf_loop.specs.Continuation.{Continues, KeepsEarlier};
 
+use crate::gate::Gate;
+use crate::hub::Voter;
 use std::alloc::Global;
 use std::io;
 use std::mem::replace;
@@ -10,68 +12,133 @@ use wf_ballot::NodeId;
 use wf_stream::Sink;
 use wf_tape::Tape;
 
-/// Begins the running proposal again.
-pub(crate) fn retry<T: Tape>(alloc: Global, process: &mut Process<T>)
-    ensures { GoesOn T.Tape process.old process.new }
-{
-    let _ = process.retry(alloc);
+impl<T: Tape> Voter<T> {
+    /// Whether the node is given messages, and says what it has to.
+    pub(crate) fn acts(&self) -> bool
+        ensures { IsTrue result → self.now.gate ≡ Gate.Open }
+    {
+        self.gate == Gate::Open
+    }
+
+    /// Whether clients are answered: not before it acts, and not once it is suspended.
+    pub(crate) fn answers(&self) -> bool
+        ensures { IsTrue result → ¬ (self.now.gate ≡ Gate.Suspended) }
+    {
+        matches!(self.gate, Gate::Open | Gate::Unwritten)
+    }
+
+    /// Whether it has connections with its peers.
+    pub(crate) fn connects(&self) -> bool {
+        matches!(self.gate, Gate::Open | Gate::Starting)
+    }
+
+    /// From now on it acts so. A suspended one stays suspended.
+    pub(crate) fn set_gate(&mut self, gate: Gate)
+        ensures on { Continues T.Tape self.old self.new }
+        ensures process { self.new.process ≡ self.old.process }
+        ensures suspended { gate ≡ Gate.Suspended → self.new.gate ≡ Gate.Suspended }
+    {
+        if self.gate != Gate::Suspended {
+            self.gate = gate;
+        }
+    }
 }
 
-/// Delivers the first of its own messages that wait. Returns whether one waited.
-pub(crate) fn handle_own<T: Tape>(alloc: Global, process: &mut Process<T>) -> bool
-    ensures { GoesOn T.Tape process.old process.new }
+/// Begins the running proposal again, if the node acts.
+pub(crate) fn retry<T: Tape>(alloc: Global, voter: &mut Voter<T>)
+    ensures { Continues T.Tape voter.old voter.new }
 {
-    process.handle_own(alloc).is_some()
+    if voter.acts() {
+        let _ = voter.process.retry(alloc);
+    }
 }
 
-/// Delivers the first message that has arrived from a peer.
-pub(crate) fn handle<T: Tape>(alloc: Global, process: &mut Process<T>, peer: NodeId)
-    ensures { GoesOn T.Tape process.old process.new }
+/// Delivers the first of its own messages that wait, if the node acts. Returns whether one waited.
+pub(crate) fn handle_own<T: Tape>(alloc: Global, voter: &mut Voter<T>) -> bool
+    ensures { Continues T.Tape voter.old voter.new }
 {
-    let _ = process.handle(alloc, peer);
+    if voter.acts() {
+        voter.process.handle_own(alloc).is_some()
+    } else {
+        false
+    }
+}
+
+/// Delivers the first message that has arrived from a peer, if the node acts.
+pub(crate) fn handle<T: Tape>(alloc: Global, voter: &mut Voter<T>, peer: NodeId)
+    ensures { Continues T.Tape voter.old voter.new }
+{
+    if voter.acts() {
+        let _ = voter.process.handle(alloc, peer);
+    }
+}
+
+/// Asks a peer for the next definition, if the node acts.
+pub(crate) fn ask<T: Tape>(alloc: Global, voter: &mut Voter<T>, peer: NodeId)
+    ensures { Continues T.Tape voter.old voter.new }
+{
+    if voter.acts() {
+        let _ = voter.process.catch_up(alloc, peer);
+    }
 }
 
 /// Takes bytes that came from a peer. Returns how many messages they complete; None if they aren't messages.
-pub(crate) fn receive<T: Tape>(
-    process: &mut Process<T>,
-    peer: NodeId,
-    piece: &[u8],
-) -> Option<usize>
-    ensures { GoesOn T.Tape process.old process.new }
+pub(crate) fn receive<T: Tape>(voter: &mut Voter<T>, peer: NodeId, piece: &[u8]) -> Option<usize>
+    ensures { Continues T.Tape voter.old voter.new }
 {
-    process.receive(peer, piece).ok()
+    voter.process.receive(peer, piece).ok()
 }
 
 /// Begins to read a peer anew: of what came before nothing is left.
-pub(crate) fn open_receiver<T: Tape>(alloc: Global, process: &mut Process<T>, peer: NodeId)
-    ensures { GoesOn T.Tape process.old process.new }
+pub(crate) fn open_receiver<T: Tape>(alloc: Global, voter: &mut Voter<T>, peer: NodeId)
+    ensures { Continues T.Tape voter.old voter.new }
 {
-    process.open_receiver(alloc, peer);
+    voter.process.open_receiver(alloc, peer);
+}
+
+/// Begins with an empty outbox for a peer.
+pub(crate) fn open_outbox<T: Tape>(alloc: Global, voter: &mut Voter<T>, peer: NodeId)
+    ensures { Continues T.Tape voter.old voter.new }
+{
+    voter.process.open_outbox(alloc, peer);
 }
 
 /// Drops what waits for a peer, and what is for it from now on.
-pub(crate) fn close_outbox<T: Tape>(process: &mut Process<T>, peer: NodeId)
-    ensures { GoesOn T.Tape process.old process.new }
+pub(crate) fn close_outbox<T: Tape>(voter: &mut Voter<T>, peer: NodeId)
+    ensures { Continues T.Tape voter.old voter.new }
 {
-    process.close_outbox(peer);
+    voter.process.close_outbox(peer);
 }
 
 /// Writes what waits for a peer once. Returns how many bytes were written.
 pub(crate) fn write<T: Tape, S: Sink>(
-    process: &mut Process<T>,
+    voter: &mut Voter<T>,
     peer: NodeId,
     sink: &mut S,
 ) -> io::Result<usize>
-    ensures { GoesOn T.Tape process.old process.new }
+    ensures { Continues T.Tape voter.old voter.new }
 {
-    process.write_to(peer, sink)
+    voter.process.write_to(peer, sink)
 }
 
-/// Begins the process's next run, after which what it was is one of those that have ended.
-pub(crate) fn begin_run<T: Tape + Drop>(process: &mut Process<T>, next: Process<T>)
-    requires ended { next.ended.items ≡ process.old.ended.items ++ (process.old.actor, 0) ∷ [] }
-    ensures process { process.new ≡ next }
-    ensures earlier { KeepsEarlier T.Tape process.old process.new }
+/// Begins the process's next run, after which what it was is one of those that have ended. It doesn't act before its peers have answered.
+pub(crate) fn begin_run<T: Tape + Drop>(voter: &mut Voter<T>, next: Process<T>)
+    requires ended { next.ended.items ≡
+        voter.old.process.ended.items ++ (voter.old.process.actor, 0) ∷ [] }
+    ensures process { voter.new.process ≡ next }
+    ensures earlier { KeepsEarlier T.Tape voter.old.process voter.new.process }
+    ensures suspended { voter.old.gate ≡ Gate.Suspended → voter.new.gate ≡ Gate.Suspended }
 {
-    drop(replace(process, next));
+    voter.gate = gate_of_start(voter.gate);
+    drop(replace(&mut voter.process, next));
+}
+
+/// How a node acts once it was opened again, by how it did before.
+fn gate_of_start(before: Gate) -> Gate
+    ensures { before ≡ Gate.Suspended → result ≡ Gate.Suspended }
+{
+    match before {
+        Gate::Suspended => Gate::Suspended,
+        Gate::Open | Gate::Starting | Gate::Unwritten => Gate::Starting,
+    }
 }

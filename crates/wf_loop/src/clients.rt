@@ -2,9 +2,10 @@
 
 ghost use Rattle.std.specs.Prelude.{◌≡◌};
 ghost use Rattle.wf_loop.specs.Answer.{AreAnswered};
-ghost use Rattle.wf_loop.specs.Continuation.{GoesOn};
+ghost use Rattle.wf_loop.specs.Continuation.{Continues};
 ghost use Rattle.wf_visitors.specs.Visitors.{responses_of};
 
+use crate::gate::Gate;
 use crate::hub::Voter;
 use http_server::Log as Past;
 use std::time::Clock;
@@ -51,6 +52,13 @@ impl<T: Tape + Drop> Clients<T> {
         self.visitors.accept(context);
     }
 
+    /// Closes the port, and whoever is there.
+    pub(crate) fn close(&mut self)
+        ensures { self.new.before.items ≡ self.old.before.items }
+    {
+        self.visitors.close();
+    }
+
     /// What came for the client in a slot, or was taken by it.
     pub(crate) fn turn<R: AllocGlobal>(&mut self, context: &Context<'_, '_, R>, index: usize)
         ensures { self.new.before.items ≡ self.old.before.items }
@@ -73,8 +81,11 @@ impl<T: Tape + Drop> Clients<T> {
         context: &Context<'_, '_, R>,
         voter: &mut Voter<T>,
     ) -> Option<usize>
-        ensures { GoesOn T.Tape voter.old.process voter.new.process }
+        ensures { Continues T.Tape voter.old voter.new }
     {
+        if !voter.answers() {
+            return None;
+        }
         let Some(index) = self.visitors.next() else {
             return None;
         };
@@ -90,7 +101,8 @@ impl<T: Tape + Drop> Clients<T> {
         voter: &mut Voter<T>,
         index: usize,
     )
-        ensures { GoesOn T.Tape voter.old.process voter.new.process }
+        requires { ¬ (voter.old.gate ≡ Gate.Suspended) }
+        ensures { Continues T.Tape voter.old voter.new }
     {
         let before = self.before.and(&*voter, &0);
         if self.visitors.answer(context, voter, index) {

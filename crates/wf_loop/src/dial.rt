@@ -1,20 +1,20 @@
 //! The connection to a peer, on which this node sends.
-ghost use Rattle.wf_loop.specs.Continuation.{GoesOn};
+ghost use Rattle.wf_loop.specs.Continuation.{Continues};
 
 use crate::acts::write as write_to;
 use crate::event::PeerEnd;
+use crate::hub::Voter;
 use crate::token::Socket;
 use mio::net::TcpStream;
 use std::alloc::Global;
 use std::io::ErrorKind;
 use std::net::{Net, SocketAddr};
-use wf_actor::Process;
 use wf_ballot::NodeId;
 use wf_client::Outgoing;
 use wf_peer::{GREETING_BYTES, GreetingFault, GreetingReply, decode_reply};
 use wf_stream::{Sink, Stream};
 use wf_tape::Tape;
-use wf_timing::{Alarm, Backoff};
+use wf_timing::{Alarm, Backoff, is_silent};
 use wf_visitors::{Context, Done, read, register, write};
 
 /// The most reads of one turn.
@@ -30,7 +30,13 @@ const LEAST_WAIT: u64 = 50;
 const MOST_WAIT: u64 = 800;
 
 /// The time for a connection to open, in milliseconds.
-const OPENING_MILLIS: u64 = 3_000;
+const OPENING_MILLIS: u64 = 1_000;
+
+/// The time for the peer's reply to come after that, in milliseconds.
+const REPLY_MILLIS: u64 = 3_000;
+
+/// The time between two lines of the log for one cause, in milliseconds.
+const MINUTE: u64 = 60_000;
 
 /// The connection to a peer, open, in progress, or to be tried again.
 #[derive(Drop)]
@@ -39,8 +45,13 @@ pub(crate) struct Dial {
     stream: Option<TcpStream>,
     greeting: Outgoing,
     reply: Vec<u8>,
+    // whether bytes of the greeting were taken: the connection is there
+    is_established: bool,
     is_open: bool,
+    // since when it is being opened, is established, or is open
     since: u64,
+    // why it ended the last time that the log told of, and when
+    told: Option<(PeerEnd, u64)>,
     // how many bytes of messages were written to the peer
     written: u64,
     due: Alarm,
@@ -66,8 +77,10 @@ impl Dial {
             stream: None,
             greeting: Outgoing::new(alloc),
             reply: Vec::new(alloc),
+            is_established: false,
             is_open: false,
             since: 0,
+            told: None,
             written: 0,
             due: Alarm { due: 0 },
             backoff: Backoff::new(LEAST_WAIT, MOST_WAIT),
@@ -90,8 +103,27 @@ impl Dial {
     }
 
     /// It is open from now on.
-    pub(crate) fn open(&mut self) {
+    pub(crate) fn open(&mut self, now: u64) {
         self.is_open = true;
+        self.since = now;
+        self.told = None;
+        self.backoff.reset();
+    }
+
+    /// Whether the connection is there.
+    pub(crate) fn is_established(&self) -> bool {
+        self.stream.is_some() && self.is_established
+    }
+
+    /// Whether the log is to tell why it ended: once a minute for one cause, unless it was open.
+    pub(crate) fn is_to_be_told(&mut self, why: PeerEnd, now: u64) -> bool {
+        if let Some((told, since)) = self.told {
+            if told == why && now.saturating_sub(since) < MINUTE {
+                return false;
+            }
+        }
+        self.told = Some((why, now));
+        true
     }
 
     /// Whether there is no connection, and it is time to connect.
@@ -108,6 +140,7 @@ impl Dial {
     ) {
         self.greeting = Outgoing::new(context.alloc());
         self.reply = Vec::new(context.alloc());
+        self.is_established = false;
         self.is_open = false;
         self.since = context.time;
         let _ = self.greeting.write(greeting);
@@ -122,14 +155,28 @@ impl Dial {
         self.due = Alarm::after(now, self.backoff.wait());
     }
 
-    /// Whether it hasn't opened in time.
-    pub(crate) fn is_late(&self, now: u64) -> bool {
-        self.stream.is_some() && !self.is_open && OPENING_MILLIS <= now.saturating_sub(self.since)
+    /// Whether it takes too long: to open, to be replied to, or, once it is open, until the peer is heard, which was heard last at this
+    /// moment.
+    pub(crate) fn is_late(&self, heard: Option<u64>, now: u64) -> bool {
+        if self.stream.is_none() {
+            return false;
+        }
+        if self.is_open {
+            let last = heard.unwrap_or(0).max(self.since);
+            return is_silent(last, now);
+        }
+        let most = if self.is_established {
+            REPLY_MILLIS
+        } else {
+            OPENING_MILLIS
+        };
+        most <= now.saturating_sub(self.since)
     }
 
     /// Ends the connection.
     pub(crate) fn end(&mut self, now: u64) {
         self.stream = None;
+        self.is_established = false;
         self.is_open = false;
         self.postpone(now);
     }
@@ -138,15 +185,16 @@ impl Dial {
     #[tactic(auto, using(crate::proofs::Continuation::still))]
     pub(crate) fn turn<T: Tape + Drop>(
         &mut self,
-        process: &mut Process<T>,
+        voter: &mut Voter<T>,
         peer: NodeId,
+        now: u64,
     ) -> DialTurn
-        ensures { GoesOn T.Tape process.old process.new }
+        ensures { Continues T.Tape voter.old voter.new }
     {
         let Some(mut stream) = self.stream.take() else {
             return DialTurn::Same;
         };
-        let turned = self.turn_at(process, peer, &mut stream);
+        let turned = self.turn_at(voter, peer, &mut stream, now);
         self.stream = Some(stream);
         turned
     }
@@ -155,20 +203,21 @@ impl Dial {
     #[tactic(auto, using(crate::proofs::Continuation::still))]
     fn turn_at<T: Tape + Drop>(
         &mut self,
-        process: &mut Process<T>,
+        voter: &mut Voter<T>,
         peer: NodeId,
         stream: &mut TcpStream,
+        now: u64,
     ) -> DialTurn
-        ensures { GoesOn T.Tape process.old process.new }
+        ensures { Continues T.Tape voter.old voter.new }
     {
-        if let Some(why) = self.greet(stream) {
+        if let Some(why) = self.greet(stream, now) {
             return DialTurn::Ended(why);
         }
         let turned = self.handle(stream);
         if turned != DialTurn::Same || !self.is_open {
             return turned;
         }
-        match send(process, peer, stream, &mut self.written) {
+        match send(voter, peer, stream, &mut self.written) {
             Some(why) => DialTurn::Ended(why),
             None => DialTurn::Same,
         }
@@ -178,10 +227,10 @@ impl Dial {
     #[tactic(auto, using(crate::proofs::Continuation::still))]
     pub(crate) fn send<T: Tape + Drop>(
         &mut self,
-        process: &mut Process<T>,
+        voter: &mut Voter<T>,
         peer: NodeId,
     ) -> Option<PeerEnd>
-        ensures { GoesOn T.Tape process.old process.new }
+        ensures { Continues T.Tape voter.old voter.new }
     {
         if !self.is_open {
             return None;
@@ -192,20 +241,21 @@ impl Dial {
             ..
         } = self;
         match stream {
-            Some(stream) => send(process, peer, stream, written),
+            Some(stream) => send(voter, peer, stream, written),
             None => None,
         }
     }
 
     /// Writes the rest of the greeting.
-    fn greet(&mut self, stream: &mut TcpStream) -> Option<PeerEnd> {
+    fn greet(&mut self, stream: &mut TcpStream, now: u64) -> Option<PeerEnd> {
         for _ in 0..u64::MAX {
             if self.greeting.is_taken() {
                 return None;
             }
             match write(stream, self.greeting.rest()) {
                 Done::Bytes(count) => {
-                    self.backoff.reset();
+                    self.is_established = true;
+                    self.since = now;
                     let count = count.min(self.greeting.remaining());
                     self.greeting.advance(count);
                 }
@@ -270,19 +320,19 @@ fn begin_connection<R: Net>(
 /// Writes what waits for a peer, and counts the bytes. Some: the connection has ended.
 #[tactic(auto, using(crate::proofs::Continuation::still, crate::proofs::Continuation::twice))]
 fn send<T: Tape + Drop>(
-    process: &mut Process<T>,
+    voter: &mut Voter<T>,
     peer: NodeId,
     stream: &TcpStream,
     written: &mut u64,
 ) -> Option<PeerEnd>
-    ensures { GoesOn T.Tape process.old process.new }
+    ensures { Continues T.Tape voter.old voter.new }
 {
     let mut sink = Stream::new(stream);
     for _ in 0..MOST_WRITES {
-        if process.remaining(peer) == 0 {
+        if voter.process.remaining(peer) == 0 {
             return None;
         }
-        match write_to(process, peer, &mut sink) {
+        match write_to(voter, peer, &mut sink) {
             Ok(count) => *written = written.saturating_add(count as u64),
             Err(error) if error.kind() == ErrorKind::WouldBlock => return None,
             Err(_) => return Some(PeerEnd::Failed),

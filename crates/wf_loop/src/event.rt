@@ -1,5 +1,6 @@
 //! The events of a node, and their lines in its log.
 
+use crate::reopening::{FolderFault, FolderFile};
 use std::fmt;
 use std::net::SocketAddr;
 use wf_peer::{GreetingFault, PeerRejection};
@@ -26,12 +27,14 @@ pub enum PeerEnd {
     BadMessage,
     /// A message came in the name of another node.
     WrongSender,
-    /// The address isn't a peer's.
-    UnknownAddress,
     /// A newer connection of the same node has replaced it.
     Replaced,
     /// No slot was free for it.
     NoSlot,
+    /// What is heard of the peer can't be written to the folder.
+    Unwritten,
+    /// The peer closed it before it replied.
+    Unanswered,
     /// An allocation failed.
     Memory,
 }
@@ -48,9 +51,12 @@ impl fmt::Display for PeerEnd {
             PeerEnd::Talkative => f.write_str("talkative"),
             PeerEnd::BadMessage => f.write_str("bad-message"),
             PeerEnd::WrongSender => f.write_str("wrong-sender"),
-            PeerEnd::UnknownAddress => f.write_str("unknown-address"),
             PeerEnd::Replaced => f.write_str("replaced"),
             PeerEnd::NoSlot => f.write_str("no-free-slot"),
+            PeerEnd::Unwritten => f.write_str("unwritten"),
+            PeerEnd::Unanswered => f.write_str(
+                "\"closed before its reply: is this machine's address in its --peers?\"",
+            ),
             PeerEnd::Memory => f.write_str("out-of-memory"),
         }
     }
@@ -88,6 +94,16 @@ pub enum NodeEvent {
         peer: Option<usize>,
         why: PeerEnd,
     },
+    /// A connection came from an address that isn't listed.
+    Unlisted {
+        address: SocketAddr,
+    },
+    /// A peer remembers more of this node than it has: the node is suspended.
+    Suspended {
+        peer: usize,
+        address: SocketAddr,
+        why: PeerRejection,
+    },
     /// The node's map is published.
     Published {
         sequence: u16,
@@ -105,9 +121,11 @@ pub enum NodeEvent {
 impl LogEntry for NodeEvent {
     fn level(&self) -> Level {
         match self {
-            NodeEvent::Halted => Level::Error,
-            NodeEvent::Lost { .. } | NodeEvent::Dropped { .. } | NodeEvent::Overtaken { .. } =>
-                Level::Warn,
+            NodeEvent::Halted | NodeEvent::Suspended { .. } => Level::Error,
+            NodeEvent::Lost { .. }
+            | NodeEvent::Dropped { .. }
+            | NodeEvent::Unlisted { .. }
+            | NodeEvent::Overtaken { .. } => Level::Warn,
             NodeEvent::Listening { .. }
             | NodeEvent::Opened { .. }
             | NodeEvent::Connected { .. }
@@ -137,10 +155,45 @@ impl fmt::Display for NodeEvent {
                 Some(peer) => write!(f, "dropped peer={peer} why={why}"),
                 None => write!(f, "dropped peer=unknown why={why}"),
             },
+            NodeEvent::Unlisted { address } => {
+                write!(
+                    f,
+                    "dropped peer=unknown why=unknown-address address={address}"
+                )
+            }
+            NodeEvent::Suspended { peer, address, why } => write!(
+                f,
+                "suspended peer={peer} address={address} why=\"{why}\""
+            ),
             NodeEvent::Published { sequence } => write!(f, "published sequence={sequence}"),
             NodeEvent::Overtaken { sequence } => write!(f, "overtaken sequence={sequence}"),
             NodeEvent::Halted => f.write_str("tape-failed"),
             NodeEvent::Reopened => f.write_str("tape-reopened"),
         }
+    }
+}
+
+/// A file of the folder isn't written, and the node acts no more until it is.
+#[derive(Clone, Copy)]
+pub(crate) struct FolderNotWritten<'a> {
+    pub(crate) folder: &'a str,
+    pub(crate) file: FolderFile,
+    pub(crate) why: FolderFault,
+}
+
+impl<'a> LogEntry for FolderNotWritten<'a> {
+    fn level(&self) -> Level {
+        Level::Error
+    }
+}
+
+impl<'a> fmt::Display for FolderNotWritten<'a> {
+    fn fmt<W: fmt::Write>(&self, f: &mut fmt::Formatter<W>) -> fmt::Result {
+        let FolderNotWritten { folder, file, why } = self;
+        let name = match file {
+            FolderFile::Heard => "heard",
+            FolderFile::Folder | FolderFile::Farm | FolderFile::Tape => "farm",
+        };
+        write!(f, "folder-not-written file={folder}/{name} why=\"{why}\"")
     }
 }

@@ -1,15 +1,19 @@
 //! What a node tells its operator.
 
-use crate::mesh::{Differing, PeerState};
+use crate::mesh::Differing;
 use crate::notes::Notes;
+use crate::peer_state::PeerState;
 use crate::steps::Steps;
 use crate::tally::Tally;
 use std::alloc::AllocError;
 use std::fmt::Write;
 use std::fs;
+use std::net::{Ipv6Addr, SocketAddr};
 use std::rt::Files;
+use wf_folder::{PeerAddress, Suspension};
 use wf_learner::History;
 use wf_operator::{Health, Operated, PictureCounts, counter, gauge, seconds};
+use wf_peer::PeerRejection;
 use wf_proposer::ProposalState;
 use wf_visitors::Counts;
 
@@ -29,6 +33,9 @@ pub(crate) struct NodeFacts<'a, R> {
     pub(crate) is_halted: bool,
     pub(crate) proposal: ProposalState,
     pub(crate) differs: Option<Differing>,
+    pub(crate) suspension: Option<Suspension>,
+    pub(crate) is_unwritten: bool,
+    pub(crate) hears_majority: bool,
     pub(crate) reader_differs: Option<u16>,
     pub(crate) latest: u16,
     pub(crate) is_behind: bool,
@@ -46,7 +53,14 @@ impl<'a, R: Files> Operated for NodeFacts<'a, R> {
     }
 
     fn health(&self) -> Health {
-        if self.is_halted {
+        if let Some(suspension) = self.suspension {
+            return Health::Suspended {
+                peer: suspension.accuser.number() as usize,
+                address: socket_address(suspension.address),
+                remembers: remembered(suspension.cause),
+            };
+        }
+        if self.is_halted || self.is_unwritten {
             return Health::Halted;
         }
         match (self.differs, self.reader_differs) {
@@ -54,6 +68,10 @@ impl<'a, R: Files> Operated for NodeFacts<'a, R> {
             (None, Some(sequence)) => Health::ReaderDiffers { sequence },
             (None, None) => Health::Fine,
         }
+    }
+
+    fn hears_majority(&self) -> Option<bool> {
+        Some(self.hears_majority)
     }
 
     fn later(&self) -> Option<u16> {
@@ -86,19 +104,46 @@ impl<'a, R: Files> Operated for NodeFacts<'a, R> {
     }
 }
 
+/// The address of a peer.
+fn socket_address(address: PeerAddress) -> SocketAddr {
+    SocketAddr::new(
+        Ipv6Addr::from_octets(address.ip).to_canonical(),
+        address.port,
+    )
+}
+
+/// What a peer remembers of a node, by the number of the cause for which it isn't let in.
+fn remembered(cause: u8) -> &'static str {
+    match PeerRejection::of_byte(cause) {
+        Some(PeerRejection::OtherMark) => "another folder",
+        Some(PeerRejection::OlderStart) => "a later start",
+        Some(PeerRejection::OtherLife) => "another start of as many",
+        Some(PeerRejection::LowerRound) => "a higher round",
+        Some(PeerRejection::LowerPromise) => "a higher promise",
+        Some(PeerRejection::LowerVote) => "a higher vote",
+        Some(PeerRejection::LowerSequence) => "a later publication",
+        _ => "more",
+    }
+}
+
 /// Appends what is known of the node and its farm.
 fn push_farm<R>(text: &mut String, facts: &NodeFacts<'_, R>) -> Result<(), AllocError> {
     let connected = facts.peers.iter().filter(|peer| peer.is_connected).count();
     let nodes = facts.peers.len();
-    let is_majority = nodes < connected.saturating_add(1).saturating_mul(2);
     let published = facts.history.published().number();
+    let is_halted = facts.is_halted || facts.is_unwritten;
     let differs = facts.differs.is_some() || facts.reader_differs.is_some();
     gauge(text, "wfarm_published_sequence", published as u64)?;
     gauge(text, "wfarm_heard_sequence", facts.latest as u64)?;
     gauge(text, "wfarm_nodes", nodes as u64)?;
     gauge(text, "wfarm_peers_connected", connected as u64)?;
-    gauge(text, "wfarm_majority_connected", is_majority as u64)?;
-    gauge(text, "wfarm_halted", facts.is_halted as u64)?;
+    gauge(
+        text,
+        "wfarm_majority_connected",
+        facts.hears_majority as u64,
+    )?;
+    gauge(text, "wfarm_halted", is_halted as u64)?;
+    gauge(text, "wfarm_suspended", facts.suspension.is_some() as u64)?;
     gauge(text, "wfarm_history_differs", differs as u64)?;
     gauge(text, "wfarm_open_clients", facts.clients as u64)?;
     gauge(text, "wfarm_open_readers", facts.readers as u64)

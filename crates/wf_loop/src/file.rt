@@ -16,11 +16,19 @@ pub fn write_file<R: Files>(rt: &R, path: &str, bytes: &[u8]) -> io::Result<()> 
     file.sync_all()
 }
 
-/// Puts these bytes in the place of a file: they are written and synced under a second name first, which is then renamed. The folder
-/// isn't synced: after a power cut either file may be there, whole.
-pub fn replace<R: Files>(rt: &R, path: &str, second: &str, bytes: &[u8]) -> io::Result<()> {
-    write_file(rt, second, bytes)?;
-    fs::rename(rt, second, path)
+/// Puts these bytes in the place of a file of a folder: whole and synced under a second name first, which is then renamed, and the folder
+/// synced last. After a power cut before it has returned either file may be there, whole.
+pub fn replace_in<R: Files + AllocGlobal>(
+    rt: &R,
+    folder: &str,
+    name: &str,
+    bytes: &[u8],
+) -> io::Result<()> {
+    let path = path_in(rt.alloc(), folder, name)?;
+    let second = format!(in rt.alloc(); "{folder}/{name}.new")?;
+    write_file(rt, second.as_str(), bytes)?;
+    fs::rename(rt, second.as_str(), path.as_str())?;
+    fs::open(rt, folder)?.sync_all()
 }
 
 /// The path of a file in a folder.

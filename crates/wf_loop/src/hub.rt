@@ -1,4 +1,5 @@
 use crate::clients::Clients;
+use crate::gate::Gate;
 use crate::pace::Pace;
 use crate::parts::HubParts;
 use crate::tally::Tally;
@@ -7,10 +8,11 @@ use wf_actor::Process;
 use wf_operator::{Behind, PictureCounts};
 use wf_tape::Tape;
 
-/// A process that answers clients, how many maps it rejected, and which pictures it answered with.
+/// A process that answers clients, whether it acts, how many maps it rejected, and which pictures it answered with.
 #[derive(Drop)]
 pub struct Voter<T: Tape> {
     pub(crate) process: Process<T>,
+    pub(crate) gate: Gate,
     pub(crate) rejected: Tally,
     pub(crate) pictures: PictureCounts,
 }

@@ -3,10 +3,12 @@
 use crate::event::PeerEnd;
 use mio::net::TcpStream;
 use std::alloc::Global;
+use std::net::SocketAddr;
 use wf_ballot::NodeId;
 use wf_client::Outgoing;
 use wf_peer::{
-    GREETING_BYTES, Greeting, GreetingFault, PeerRejection, decode, encode, encode_rejection,
+    GREETING_BYTES, Greeting, GreetingFault, PeerRejection, Progress, decode, encode,
+    encode_rejection,
 };
 use wf_stream::Sink;
 use wf_timing::is_silent;
@@ -16,6 +18,7 @@ use wf_visitors::{Done, read, write};
 #[derive(Drop)]
 pub(crate) struct Inbound {
     stream: TcpStream,
+    address: SocketAddr,
     from: Option<NodeId>,
     greeting: Vec<u8>,
     reply: Outgoing,
@@ -39,9 +42,10 @@ pub(crate) enum Came {
 
 impl Inbound {
     /// A connection that was accepted now.
-    pub(crate) fn new(alloc: Global, stream: TcpStream, now: u64) -> Self {
+    pub(crate) fn new(alloc: Global, stream: TcpStream, address: SocketAddr, now: u64) -> Self {
         Inbound {
             stream,
+            address,
             from: None,
             greeting: Vec::new(alloc),
             reply: Outgoing::new(alloc),
@@ -52,6 +56,11 @@ impl Inbound {
     /// The peer, once it has greeted.
     pub(crate) fn from(&self) -> Option<NodeId> {
         self.from
+    }
+
+    /// The address from which it came.
+    pub(crate) fn address(&self) -> SocketAddr {
+        self.address
     }
 
     /// Its stream.
@@ -79,10 +88,17 @@ impl Inbound {
         self.send()
     }
 
-    /// Says why the peer isn't let in.
-    pub(crate) fn reject(&mut self, alloc: Global, why: PeerRejection) {
+    /// Says why the peer isn't let in, and what is remembered of it.
+    pub(crate) fn reject(
+        &mut self,
+        alloc: Global,
+        why: PeerRejection,
+        remembered: &Option<Progress>,
+    ) {
         let mut bytes = Vec::new(alloc);
-        if encode_rejection(why, &mut bytes).is_ok() && self.reply.write(&bytes).is_ok() {
+        if encode_rejection(why, remembered, &mut bytes).is_ok()
+            && self.reply.write(&bytes).is_ok()
+        {
             let _ = self.send();
         }
     }

@@ -1,52 +1,49 @@
 //! The connections to and from the peers of a node.
-ghost use Rattle.std.specs.Prelude.{◌≡◌};
-ghost use Rattle.wf_loop.specs.Continuation.{GoesOn};
+ghost use Rattle.std.specs.Prelude.{◌≡◌, IfOk, IfSome};
+ghost use Rattle.wf_loop.specs.Continuation.{Continues};
+ghost use Rattle.wf_loop.specs.Hub.{IsGreetedWith};
 
-use crate::acts::{handle, open_receiver, receive};
 use crate::dial::Dial;
-use crate::event::{NodeEvent, PeerEnd};
-use crate::inbound::{Came, Inbound};
+use crate::event::FolderNotWritten;
+use crate::gate::Gate;
+use crate::hub::Voter;
+use crate::inbound::Inbound;
 use crate::notes::Notes;
+use crate::peer_state::PeerState;
 use crate::plan::NodePlan;
+use crate::reach::reach_of;
+use crate::reopening::{FolderFault, FolderFile};
 use crate::steps::Steps;
-use crate::token::Socket;
-use mio::net::{TcpListener, TcpStream};
+use crate::unlisted::Unlisted;
+use mio::net::TcpListener;
 use std::alloc::{AllocError, Global};
 use std::mem;
 use std::net::SocketAddr;
 use std::rt::Files;
 use std::time::Clock;
 use wf_actor::Process;
-use wf_ballot::{NodeId, SEQUENCES};
+use wf_ballot::NodeId;
 use wf_digest::Digests;
+use wf_folder::Suspension;
 use wf_learner::History;
-use wf_peer::{Greeting, PeerProgress, PeerRejection, Progress};
+use wf_peer::{Greeting, NodeState, PeerProgress, PeerRejection, Progress};
 use wf_tape::Tape;
 use wf_timing::CatchUp;
-use wf_visitors::{Context, micros, register, register_again};
-
-/// What is known of a peer: whether messages can be sent to it, how many were dropped since its connection opened, how many were put into
-/// its outboxes, how many came, and how many bytes were written to it.
-#[derive(Clone, Copy, Default)]
-pub(crate) struct PeerState {
-    pub(crate) is_connected: bool,
-    pub(crate) lost: u64,
-    pub(crate) posted: u64,
-    pub(crate) received: u64,
-    pub(crate) written: u64,
-}
+use wf_visitors::{Context, Log};
 
 /// The most bytes of a piece. Nearly all messages come in one.
 const PIECE_BYTES: usize = 65_536;
 
-/// The most pieces that a turn reads of a peer.
-const MOST_PIECES: u32 = 4;
-
 /// The most sequences without a digest that a turn leaves.
 const MOST_LACKING: u16 = 8;
 
+/// For how long the answer of a peer is waited for after a start, with no connection to it and with one, in milliseconds.
+const UNCONNECTED_START: u64 = 1_000;
+
+const LONGEST_START: u64 = 3_000;
+
 /// The most connections from peers at once.
-const INBOUND_SLOTS: usize = 128;
+pub(crate) const INBOUND_SLOTS: usize = 128;
 
 /// A peer whose history differs up to a sequence.
 #[derive(Clone, Copy)]
@@ -59,11 +56,11 @@ pub(crate) struct Differing {
 #[derive(Drop)]
 pub(crate) struct Mesh {
     pub(crate) plan: NodePlan,
-    listener: TcpListener,
+    pub(crate) listener: TcpListener,
     pub(crate) dials: Vec<Dial>,
-    inbounds: Vec<Option<Inbound>>,
+    pub(crate) inbounds: Vec<Option<Inbound>>,
     // where a piece is read to
-    piece: Vec<u8>,
+    pub(crate) piece: Vec<u8>,
     pub(crate) states: Vec<PeerState>,
     pub(crate) notes: Notes,
     pub(crate) catch_up: CatchUp,
@@ -74,6 +71,17 @@ pub(crate) struct Mesh {
     pub(crate) differs: Option<Differing>,
     // what a peer said for which the node has to end
     pub(crate) end: Option<PeerRejection>,
+    // who suspended the node, and whether its folder says so
+    pub(crate) suspension: Option<Suspension>,
+    pub(crate) is_suspension_kept: bool,
+    pub(crate) is_suspension_new: bool,
+    // what can't be written to the folder
+    pub(crate) unwritten: Option<FolderFile>,
+    // since when what peers remember is waited for; None once it was
+    began: Option<u64>,
+    // whether the last sequence is published
+    pub(crate) is_full: bool,
+    pub(crate) unlisted: Unlisted,
     // whether more waits to be read
     pub(crate) is_busy: bool,
     // whether nothing came in this turn
@@ -115,12 +123,15 @@ impl Mesh {
         listener: TcpListener,
         known: PeerProgress,
         time: u64,
-    ) -> Result<Self, AllocError> {
+    ) -> Result<Self, AllocError>
+        ensures { IfOk result (λ mesh. mesh.suspension ≡ plan.suspension) }
+    {
         let dials = dials_of(alloc, plan.peers.as_slice())?;
         let inbounds = free_slots(alloc)?;
         let piece = vec![in alloc; 0; PIECE_BYTES]?;
         let states = unknown_peers(alloc, plan.peers.len())?;
         let notes = Notes::new(alloc, plan.own, known)?;
+        let suspension = plan.suspension;
         Ok(Mesh {
             plan,
             listener,
@@ -134,6 +145,13 @@ impl Mesh {
             steps: Steps::default(),
             differs: None,
             end: None,
+            suspension,
+            is_suspension_kept: suspension.is_some(),
+            is_suspension_new: false,
+            unwritten: None,
+            began: Some(time),
+            is_full: false,
+            unlisted: Unlisted::new(alloc),
             is_busy: false,
             is_idle: false,
         })
@@ -157,247 +175,76 @@ impl Mesh {
         !self.is_idle && self.notes.lacks_more_than(history, 0)
     }
 
-    /// How far the node is, with the round and the promise of its start: peers compare these at the first greeting of a start alone, and
-    /// hear the later ones in messages.
-    pub(crate) fn progress<T: Tape + Drop>(&self, process: &Process<T>) -> Progress {
-        Progress {
-            published: process.node().published(),
-            ..self.plan.start
-        }
+    /// How far the node is, in this start of its folder.
+    pub(crate) fn progress<T: Tape + Drop>(&self, process: &Process<T>) -> Progress
+        ensures { IsGreetedWith self.now.plan.start process.now.actor.node result }
+    {
+        self.plan.start.at(&reach_of(process.node()))
     }
 
     /// This node's greeting now. None: an allocation failed.
-    pub(crate) fn greeting<T: Tape + Drop>(&mut self, process: &Process<T>) -> Option<Greeting> {
-        self.notes.extend(process.node().history());
-        let progress = self.progress(process);
-        self.notes.greeting(progress)
+    pub(crate) fn greeting<T: Tape + Drop>(&mut self, voter: &Voter<T>) -> Option<Greeting>
+        ensures { IfSome result (λ said.
+            IsGreetedWith self.old.plan.start voter.now.process.actor.node said.progress) }
+    {
+        self.notes.extend(voter.process.node().history());
+        let progress = self.progress(&voter.process);
+        self.notes.greeting(progress, state_of(voter))
     }
 
-    /// Writes what was heard of the peers to the node's folder, if more was heard than it has.
-    pub(crate) fn save<R: Files + AllocGlobal>(&mut self, rt: &R) {
+    /// Writes what was heard of the peers to the node's folder, if more was heard than it has. Where that fails, the node acts no more
+    /// until it succeeds.
+    #[tactic(auto, using(crate::proofs::Continuation::still))]
+    pub(crate) fn save<R: Files + Clock + Eprint + AllocGlobal, T: Tape + Drop>(
+        &mut self,
+        context: &Context<'_, '_, R>,
+        voter: &mut Voter<T>,
+    ) -> bool
+        ensures { Continues T.Tape voter.old voter.new }
+    {
         let Mesh { plan, notes, .. } = self;
-        notes.save(rt, plan.folder.as_str());
-    }
-
-    /// Accepts connections from peers.
-    #[tactic(auto, using(crate::proofs::Continuation::still, crate::proofs::Continuation::twice))]
-    pub(crate) fn accept<R: Clock + Eprint + AllocGlobal, T: Tape + Drop>(
-        &mut self,
-        context: &Context<'_, '_, R>,
-        process: &mut Process<T>,
-    )
-        ensures { GoesOn T.Tape process.old process.new }
-    {
-        for _ in 0..INBOUND_SLOTS {
-            let Ok((stream, address)) = self.listener.accept() else {
-                return;
-            };
-            self.admit(context, process, stream, address);
+        match notes.save(context.rt, plan.folder.as_str()) {
+            Ok(()) => {
+                self.note_written(FolderFile::Heard);
+                true
+            }
+            Err(error) => {
+                self.note_unwritten(
+                    context.log,
+                    context.time,
+                    FolderFile::Heard,
+                    FolderFault::Unwritten(error.kind()),
+                );
+                voter.set_gate(Gate::Unwritten);
+                false
+            }
         }
     }
 
-    /// Puts a connection from a peer's address into a free slot.
-    #[tactic(auto, using(crate::proofs::Continuation::still))]
-    fn admit<R: Clock + Eprint + AllocGlobal, T: Tape + Drop>(
+    /// Notes that a file of the folder can't be written; the log has the first failure.
+    pub(crate) fn note_unwritten<R: Clock + Eprint>(
         &mut self,
-        context: &Context<'_, '_, R>,
-        process: &mut Process<T>,
-        mut stream: TcpStream,
-        address: SocketAddr,
-    )
-        ensures { GoesOn T.Tape process.old process.new }
-    {
-        if !is_known(self.plan.peers.as_slice(), address) {
-            context.log.write(&NodeEvent::Dropped {
-                peer: None,
-                why: PeerEnd::UnknownAddress,
+        log: &Log<'_, R>,
+        time: u64,
+        file: FolderFile,
+        why: FolderFault,
+    ) {
+        if self.unwritten.is_none() {
+            self.unwritten = Some(file);
+            log.write(&FolderNotWritten {
+                folder: self.plan.folder.as_str(),
+                file,
+                why,
             });
-            return;
-        }
-        let Some(index) = first_free(self.inbounds.as_slice()) else {
-            context.log.write(&NodeEvent::Dropped {
-                peer: None,
-                why: PeerEnd::NoSlot,
-            });
-            return;
-        };
-        let _ = stream.set_nodelay(true);
-        if register(
-            context.registry,
-            &mut stream,
-            Socket::Inbound(index).token(),
-        )
-        .is_ok()
-        {
-            let inbound = Inbound::new(context.alloc(), stream, context.time);
-            self.receive_out(context, process, index, inbound);
+            self.close_all(time);
         }
     }
 
-    /// Reads what came from a peer, a bounded part of it, and delivers it.
-    #[tactic(auto, using(crate::proofs::Continuation::still))]
-    pub(crate) fn handle<R: Clock + Eprint + AllocGlobal, T: Tape + Drop>(
-        &mut self,
-        context: &Context<'_, '_, R>,
-        process: &mut Process<T>,
-        index: usize,
-    )
-        ensures { GoesOn T.Tape process.old process.new }
-    {
-        let Some(slot) = self.inbounds.get_mut(index) else {
-            return;
-        };
-        let Some(inbound) = slot.take() else {
-            return;
-        };
-        self.receive_out(context, process, index, inbound);
-    }
-
-    /// Reads what came on a connection from a peer, and keeps it in its slot unless it has ended.
-    fn receive_out<R: Clock + Eprint + AllocGlobal, T: Tape + Drop>(
-        &mut self,
-        context: &Context<'_, '_, R>,
-        process: &mut Process<T>,
-        index: usize,
-        mut inbound: Inbound,
-    )
-        ensures { GoesOn T.Tape process.old process.new }
-    {
-        match self.read(context, process, &mut inbound) {
-            None => {
-                if self.is_busy {
-                    register_again(
-                        context.registry,
-                        inbound.stream(),
-                        Socket::Inbound(index).token(),
-                    );
-                }
-                if let Some(slot) = self.inbounds.get_mut(index) {
-                    *slot = Some(inbound);
-                }
-            }
-            Some(why) => {
-                // its line is there once the peer sees that it was closed
-                let peer = number_of(inbound.from());
-                context.log.write(&NodeEvent::Dropped { peer, why });
-                drop(inbound);
-            }
+    /// A file of the folder can be written again.
+    pub(crate) fn note_written(&mut self, file: FolderFile) {
+        if self.unwritten == Some(file) {
+            self.unwritten = None;
         }
-    }
-
-    /// Reads what came on a connection, a bounded part of it. Some: it has ended.
-    #[tactic(auto, using(crate::proofs::Continuation::still))]
-    fn read<R: Clock + Eprint + AllocGlobal, T: Tape + Drop>(
-        &mut self,
-        context: &Context<'_, '_, R>,
-        process: &mut Process<T>,
-        inbound: &mut Inbound,
-    ) -> Option<PeerEnd>
-        ensures { GoesOn T.Tape process.old process.new }
-    {
-        let mut piece = mem::replace(&mut self.piece, Vec::new(context.alloc()));
-        let ended = self.read_pieces(context, process, inbound, piece.as_mut_slice());
-        self.piece = piece;
-        ended
-    }
-
-    /// Reads what came on a connection, a bounded number of pieces, each to the front of the buffer. Some: it has ended.
-    #[tactic(auto, using(crate::proofs::Continuation::still, crate::proofs::Continuation::twice))]
-    fn read_pieces<R: Clock + Eprint + AllocGlobal, T: Tape + Drop>(
-        &mut self,
-        context: &Context<'_, '_, R>,
-        process: &mut Process<T>,
-        inbound: &mut Inbound,
-        piece: &mut [u8],
-    ) -> Option<PeerEnd>
-        ensures { GoesOn T.Tape process.old process.new }
-    {
-        for _ in 0..MOST_PIECES {
-            let came = inbound.handle(piece, context.time);
-            match self.take_in(context, process, inbound, came, piece) {
-                Ok(()) => {}
-                Err(ended) => return ended,
-            }
-        }
-        self.is_busy = true;
-        None
-    }
-
-    /// Takes in what came in one piece. Err: nothing more is to be read now, and why the connection has ended if it has.
-    #[tactic(auto, using(crate::proofs::Continuation::still))]
-    fn take_in<R: Clock + Eprint + AllocGlobal, T: Tape + Drop>(
-        &mut self,
-        context: &Context<'_, '_, R>,
-        process: &mut Process<T>,
-        inbound: &mut Inbound,
-        came: Came,
-        piece: &[u8],
-    ) -> Result<(), Option<PeerEnd>>
-        ensures { GoesOn T.Tape process.old process.new }
-    {
-        match came {
-            Came::Nothing => Err(inbound.send()),
-            Came::Part => Ok(()),
-            Came::Greeting(greeting) => {
-                match self.let_in(context, process, inbound, &greeting) {
-                    Some(why) => Err(Some(why)),
-                    None => Ok(()),
-                }
-            }
-            Came::Bytes(from, count) => {
-                let piece = piece.split_at(count.min(piece.len())).0;
-                match self.deliver(context, process, from, piece) {
-                    Some(why) => Err(Some(why)),
-                    None => Ok(()),
-                }
-            }
-            Came::Ended(why) => Err(Some(why)),
-        }
-    }
-
-    /// Lets a peer in that has greeted, in the place of an older connection from it. Some: it isn't let in.
-    #[tactic(auto, using(crate::proofs::Continuation::still))]
-    fn let_in<R: Clock + Eprint + AllocGlobal, T: Tape + Drop>(
-        &mut self,
-        context: &Context<'_, '_, R>,
-        process: &mut Process<T>,
-        inbound: &mut Inbound,
-        greeting: &Greeting,
-    ) -> Option<PeerEnd>
-        ensures { GoesOn T.Tape process.old process.new }
-    {
-        if let Err(why) = self.admit_peer(process, None, greeting) {
-            inbound.reject(context.alloc(), why);
-            return Some(PeerEnd::Rejected(why));
-        }
-        let peer = greeting.node;
-        self.close_older(context, peer);
-        let Some(own) = self.greeting(process) else {
-            return Some(PeerEnd::Memory);
-        };
-        open_receiver(context.alloc(), process, peer);
-        // its answers can come from now on
-        let number = peer.number() as usize;
-        self.catch_up.connect(number, context.time);
-        context.log.write(&NodeEvent::Accepted { peer: number });
-        inbound.let_in(context.alloc(), peer, &own)
-    }
-
-    /// Whether a peer is let in that greets so, by all that the node has published. Whether its history differs is noted.
-    pub(crate) fn admit_peer<T: Tape + Drop>(
-        &mut self,
-        process: &Process<T>,
-        index: Option<NodeId>,
-        greeting: &Greeting,
-    ) -> Result<(), PeerRejection> {
-        self.notes.extend(process.node().history());
-        let admitted = self.notes.admit(index, greeting);
-        if admitted == Err(PeerRejection::OtherHistory) {
-            self.note_difference(greeting.node, greeting.progress.published.number());
-        } else if admitted == Ok(()) && self.differs_from(greeting.node) {
-            self.differs = None;
-        }
-        admitted
     }
 
     /// Notes that a peer's history differs up to a sequence.
@@ -409,111 +256,120 @@ impl Mesh {
     }
 
     /// Whether the history of this peer differed.
-    fn differs_from(&self, peer: NodeId) -> bool {
+    pub(crate) fn differs_from(&self, peer: NodeId) -> bool {
         match self.differs {
             Some(differing) => differing.peer == peer.number() as usize,
             None => false,
         }
     }
 
-    /// Closes the connections of a peer, in whose place a newer one comes.
-    fn close_older<R: Clock + Eprint>(&mut self, context: &Context<'_, '_, R>, peer: NodeId) {
-        for slot in &mut self.inbounds {
-            if is_of(slot, peer) {
-                context.log.write(&NodeEvent::Dropped {
-                    peer: Some(peer.number() as usize),
-                    why: PeerEnd::Replaced,
-                });
-                *slot = None;
-            }
-        }
-    }
-
-    /// Judges what came from a peer, and delivers it. Some: the connection has ended.
-    #[tactic(auto, using(crate::proofs::Continuation::still, crate::proofs::Continuation::twice))]
-    fn deliver<R: Clock + Eprint + AllocGlobal, T: Tape + Drop>(
-        &mut self,
-        context: &Context<'_, '_, R>,
-        process: &mut Process<T>,
-        peer: NodeId,
-        piece: &[u8],
-    ) -> Option<PeerEnd>
-        ensures { GoesOn T.Tape process.old process.new }
-    {
-        let Some(count) = receive(process, peer, piece) else {
-            return Some(PeerEnd::BadMessage);
-        };
-        if let Some(state) = self.states.get_mut(peer.number() as usize) {
-            state.received = state.received.saturating_add(count as u64);
-        }
-        for _ in 0..count {
-            if !self.notes.admits(process, peer) {
-                open_receiver(context.alloc(), process, peer);
-                return Some(PeerEnd::WrongSender);
-            }
-            self.deliver_first(context, process, peer);
-        }
-        None
-    }
-
-    /// Delivers the first message that has arrived from a peer, and writes the answer at once: the peers wait for it.
-    #[tactic(auto, using(crate::proofs::Continuation::twice))]
-    fn deliver_first<R: Clock + Eprint + AllocGlobal, T: Tape + Drop>(
-        &mut self,
-        context: &Context<'_, '_, R>,
-        process: &mut Process<T>,
-        peer: NodeId,
-    )
-        ensures { GoesOn T.Tape process.old process.new }
-    {
-        let from = micros(context.rt);
-        handle(context.alloc(), process, peer);
-        self.steps.add(from, micros(context.rt));
-        self.send(context, process);
-    }
-
-    /// Closes the connections from peers on which nothing came for too long. Once the last sequence is published nobody asks any more,
-    /// and none is closed.
-    pub(crate) fn close_silent<R: Clock + Eprint>(
-        &mut self,
-        context: &Context<'_, '_, R>,
-        published: u16,
-    ) {
-        if published == SEQUENCES {
-            return;
-        }
-        for slot in &mut self.inbounds {
-            if is_silent_at(slot, context.time) {
-                context.log.write(&NodeEvent::Dropped {
-                    peer: peer_in(slot),
-                    why: PeerEnd::Silent,
-                });
-                *slot = None;
-            }
-        }
-    }
-
     /// The node is opened again, by this start: it greets as it is now, and connections begin anew.
-    pub(crate) fn begin_run<T: Tape + Drop>(
-        &mut self,
-        process: &Process<T>,
-        digests: Digests,
-        starts: u32,
-        time: u64,
-    )
+    pub(crate) fn begin_run(&mut self, digests: Digests, starts: u32, time: u64)
         ensures starts { self.new.plan.start.starts ≡ starts }
-        ensures round { self.new.plan.start.round ≡ process.now.actor.node.parts.tried }
-        ensures promise { self.new.plan.start.promise ≡ process.now.actor.node.parts.promise }
         ensures digests { self.new.notes.digests ≡ digests }
     {
         self.close_all(time);
         self.notes.begin(digests);
+        self.begin_start(time);
         self.plan.start = Progress {
             starts,
-            round: process.node().last_round(),
-            promise: process.node().promise(),
             ..self.plan.start
         };
+    }
+
+    /// A start begins: what the peers remember is waited for.
+    fn begin_start(&mut self, time: u64)
+        ensures notes { self.new.notes ≡ self.old.notes }
+    {
+        self.began = Some(time);
+        for state in &mut self.states {
+            state.has_answered = false;
+        }
+    }
+
+    /// A peer has answered this node's greeting, or closed the connection.
+    pub(crate) fn note_answer(&mut self, index: usize) {
+        if let Some(state) = self.states.get_mut(index) {
+            state.has_answered = true;
+        }
+    }
+
+    /// Whether the node may act: each peer has answered since it started, or closed the connection, or a second passed without one, or three
+    /// with one.
+    pub(crate) fn has_waited(&mut self, time: u64) -> bool {
+        let Some(began) = self.began else {
+            return true;
+        };
+        let elapsed = time.saturating_sub(began);
+        if elapsed < LONGEST_START && self.is_waiting(elapsed) {
+            return false;
+        }
+        self.began = None;
+        true
+    }
+
+    /// Whether a peer's answer is waited for, so long after the start.
+    fn is_waiting(&self, elapsed: u64) -> bool {
+        let own = self.plan.own.node.number() as usize;
+        for (index, dial) in self.dials.iter().enumerate() {
+            if index != own
+                && !self.has_answered(index)
+                && (elapsed < UNCONNECTED_START || dial.is_established())
+            {
+                return true;
+            }
+        }
+        false
+    }
+
+    /// Whether a peer has answered since the start.
+    fn has_answered(&self, index: usize) -> bool {
+        match self.states.get(index) {
+            Some(state) => state.has_answered,
+            None => false,
+        }
+    }
+
+    /// Who suspended the node, if its folder doesn't say so yet, and that was just found or is to be tried again.
+    pub(crate) fn unkept_suspension(&mut self, is_due: bool) -> Option<Suspension> {
+        let is_new = mem::replace(&mut self.is_suspension_new, false);
+        if self.is_suspension_kept || !(is_new || is_due) {
+            return None;
+        }
+        self.suspension
+    }
+
+    /// How the node is to act now.
+    pub(crate) fn gate(&mut self, time: u64) -> Gate {
+        if self.suspension.is_some() {
+            Gate::Suspended
+        } else if self.unwritten.is_some() {
+            Gate::Unwritten
+        } else if self.has_waited(time) {
+            Gate::Open
+        } else {
+            Gate::Starting
+        }
+    }
+
+    /// Whether messages of a majority came within five seconds, this node counted.
+    pub(crate) fn hears_majority(&self, time: u64) -> bool {
+        let mut count = 1usize;
+        for index in 0..self.dials.len() {
+            if self.is_heard(index, time) {
+                count = count.saturating_add(1);
+            }
+        }
+        self.dials.len() < count.saturating_mul(2)
+    }
+
+    /// Whether a message of a peer came a short time ago, and it serves. Once the last sequence is published nobody asks any more: then
+    /// a connection will do.
+    fn is_heard(&self, index: usize, time: u64) -> bool {
+        let Some(state) = self.states.get(index) else {
+            return false;
+        };
+        state.is_heard(time) || (self.is_full && state.serves && self.is_open(index))
     }
 
     /// Closes all connections.
@@ -526,50 +382,21 @@ impl Mesh {
         }
     }
 
-    /// Notes which peers are connected, how many messages to them were posted and dropped, and how many bytes were written.
-    pub(crate) fn note_states<T: Tape + Drop>(&mut self, process: &Process<T>) {
-        for (index, state) in self.states.iter_mut().enumerate() {
-            if let Some(dial) = self.dials.get(index) {
-                state.is_connected = dial.is_open();
-                state.written = dial.byte_count();
-            }
-            if let Some(peer) = id_of(index) {
+    /// Notes which peers are heard, how many messages to them were posted and dropped, and how many bytes were written.
+    pub(crate) fn note_states<T: Tape + Drop>(&mut self, process: &Process<T>, time: u64) {
+        for index in 0..self.states.len() {
+            let is_heard = self.is_heard(index, time);
+            let written = match self.dials.get(index) {
+                Some(dial) => dial.byte_count(),
+                None => 0,
+            };
+            if let (Some(state), Some(peer)) = (self.states.get_mut(index), id_of(index)) {
+                state.is_connected = is_heard;
+                state.written = written;
                 state.lost = process.drop_count(peer);
                 state.posted = process.post_count(peer);
             }
         }
-    }
-}
-
-/// Whether nothing came for too long on the connection in a slot.
-fn is_silent_at(slot: &Option<Inbound>, time: u64) -> bool {
-    match slot {
-        Some(inbound) => inbound.is_silent(time),
-        None => false,
-    }
-}
-
-/// The number of the peer in a slot, if it is known.
-fn peer_in(slot: &Option<Inbound>) -> Option<usize> {
-    match slot {
-        Some(inbound) => number_of(inbound.from()),
-        None => None,
-    }
-}
-
-/// Whether a connection is one of this peer.
-fn is_of(slot: &Option<Inbound>, peer: NodeId) -> bool {
-    match slot {
-        Some(inbound) => inbound.from() == Some(peer),
-        None => false,
-    }
-}
-
-/// The number of a node, if it is known.
-fn number_of(node: Option<NodeId>) -> Option<usize> {
-    match node {
-        Some(node) => Some(node.number() as usize),
-        None => None,
     }
 }
 
@@ -581,22 +408,17 @@ pub(crate) fn id_of(number: usize) -> Option<NodeId> {
     }
 }
 
-/// Whether a connection comes from a peer's address; its port is any.
-fn is_known(peers: &[SocketAddr], address: SocketAddr) -> bool {
-    for peer in peers {
-        if peer.ip() == address.ip() {
-            return true;
+/// What a node does now, as its peers are told.
+fn state_of<T: Tape + Drop>(voter: &Voter<T>) -> NodeState {
+    match voter.gate {
+        Gate::Suspended => NodeState::Suspended,
+        Gate::Unwritten => NodeState::Halted,
+        Gate::Open | Gate::Starting => {
+            if voter.process.is_halted() {
+                NodeState::Halted
+            } else {
+                NodeState::Serves
+            }
         }
     }
-    false
-}
-
-/// The first free slot.
-fn first_free(slots: &[Option<Inbound>]) -> Option<usize> {
-    for (index, slot) in slots.iter().enumerate() {
-        if slot.is_none() {
-            return Some(index);
-        }
-    }
-    None
 }

@@ -1,7 +1,7 @@
 //! What was heard of the peers, and the digests of this node's history.
-ghost use Rattle.std.specs.Prelude.{◌≡◌};
+ghost use Rattle.std.specs.Prelude.{◌≡◌, IfSome};
 
-use crate::file::{path_in, replace as replace_file};
+use crate::file::replace_in;
 use std::alloc::{AllocError, Global};
 use std::io;
 use std::mem::replace;
@@ -10,8 +10,19 @@ use wf_actor::Process;
 use wf_ballot::{NodeId, Seq};
 use wf_digest::Digests;
 use wf_learner::History;
-use wf_peer::{Greeting, Own, PeerProgress, PeerRejection, Progress, admit, is_from};
+use wf_peer::{Greeting, NodeState, Own, PeerProgress, PeerRejection, Progress, admit, is_from};
 use wf_tape::Tape;
+
+/// What a message that has arrived tells of its peer.
+#[derive(Clone, Copy, PartialEq, Eq)]
+pub(crate) enum Told {
+    /// It is in the name of another node, and tells nothing.
+    WrongSender,
+    /// A higher round or promise: that has to be in the folder before the message is delivered.
+    More,
+    /// Nothing of the kind.
+    Less,
+}
 
 /// What was heard of the peers, and the digests of this node's history.
 #[derive(Drop)]
@@ -34,25 +45,33 @@ impl Notes {
         })
     }
 
-    /// Whether a peer may send the message that has arrived from it; then what it tells of the peer is kept.
-    pub(crate) fn admits<T: Tape>(&mut self, process: &Process<T>, peer: NodeId) -> bool {
+    /// What the message that has arrived from a peer tells of it: that is kept.
+    pub(crate) fn hear<T: Tape>(&mut self, process: &Process<T>, peer: NodeId) -> Told {
         let Some(message) = process.next_message(peer) else {
-            return true;
+            return Told::Less;
         };
         if !is_from(message, peer) {
-            return false;
+            return Told::WrongSender;
         }
         let before = self.known.of(peer);
         self.known.receive(peer, message);
-        self.is_new = self.is_new || self.known.of(peer) != before;
-        true
+        let after = self.known.of(peer);
+        self.is_new = self.is_new || after != before;
+        if is_raised(&before, &after) {
+            Told::More
+        } else {
+            Told::Less
+        }
     }
 
-    /// Writes what was heard to the file `heard` of a folder, if more was heard than it has. Where that fails it is tried again later.
-    pub(crate) fn save<R: Files + AllocGlobal>(&mut self, rt: &R, folder: &str) {
-        if self.is_new && write_peer_progress(rt, folder, &self.known).is_ok() {
+    /// Writes what was heard to the file `heard` of a folder, synced with the folder, if more was heard than it has.
+    pub(crate) fn save<R: Files + AllocGlobal>(&mut self, rt: &R, folder: &str) -> io::Result<()> {
+        if self.is_new {
+            let text = self.known.text(rt.alloc())?;
+            replace_in(rt, folder, "heard", &text)?;
             self.is_new = false;
         }
+        Ok(())
     }
 
     /// The node is opened again: its digests begin with these, of no history yet.
@@ -87,7 +106,9 @@ impl Notes {
     }
 
     /// This node's greeting.
-    pub(crate) fn greeting(&self, progress: Progress) -> Option<Greeting> {
+    pub(crate) fn greeting(&self, progress: Progress, state: NodeState) -> Option<Greeting>
+        ensures { IfSome result (λ said. said.progress ≡ progress) }
+    {
         let digest = self.digests.at(progress.published)?;
         Some(Greeting {
             farm: self.own.farm,
@@ -95,10 +116,12 @@ impl Notes {
             node: self.own.node,
             progress,
             digest,
+            state,
         })
     }
 
-    /// Whether a peer that greets so is let in; then that is kept.
+    /// Whether a peer that greets so is let in; that is kept, and so is of what it is accused. A greeting of an older start may still be on
+    /// its way when a later one was let in, so that accuses nobody.
     pub(crate) fn admit(
         &mut self,
         index: Option<NodeId>,
@@ -106,10 +129,24 @@ impl Notes {
     ) -> Result<(), PeerRejection> {
         let node = greeting.node;
         let digest = self.digests.at(greeting.progress.published);
-        admit(&self.own, index, self.known.of(node), digest, greeting)?;
-        self.known.greet(node, greeting.progress);
-        self.is_new = true;
-        Ok(())
+        let before = self.known.heard(node);
+        let admitted = admit(&self.own, index, before, digest, greeting);
+        match admitted {
+            Ok(()) => self.known.greet(node, greeting.progress),
+            Err(PeerRejection::OlderStart) => {}
+            Err(why) => self.known.accuse(node, why),
+        }
+        self.is_new = self.is_new || self.known.heard(node) != before;
+        admitted
+    }
+
+    /// What a node that isn't let in is told of what is remembered of it, if it forgot something.
+    pub(crate) fn remembered(&self, node: NodeId, why: PeerRejection) -> Option<Progress> {
+        if why.ends_a_node() {
+            self.known.of(node)
+        } else {
+            None
+        }
     }
 
     /// The latest sequence that was heard of.
@@ -126,14 +163,12 @@ impl Notes {
     }
 }
 
-/// Writes what was heard to the file `heard` of a folder.
-fn write_peer_progress<R: Files + AllocGlobal>(
-    rt: &R,
-    folder: &str,
-    known: &PeerProgress,
-) -> io::Result<()> {
-    let text = known.text(rt.alloc())?;
-    let path = path_in(rt.alloc(), folder, "heard")?;
-    let second = path_in(rt.alloc(), folder, "heard.new")?;
-    replace_file(rt, path.as_str(), second.as_str(), &text)
+/// Whether a peer's round or promise was raised.
+fn is_raised(before: &Option<Progress>, after: &Option<Progress>) -> bool {
+    match (before, after) {
+        (Some(before), Some(after)) => {
+            after.round != before.round || after.promise != before.promise
+        }
+        _ => false,
+    }
 }

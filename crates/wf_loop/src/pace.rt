@@ -1,12 +1,13 @@
 //! What a node does by the clock.
 ghost use Rattle.std.specs.Prelude.{◌≡◌, ◌↔◌, IsTrue};
 ghost use Rattle.wf_loop.specs.Hub.{IsDue};
-ghost use Rattle.wf_loop.specs.Continuation.{GoesOn};
+ghost use Rattle.wf_loop.specs.Continuation.{Continues};
 
 use crate::acts::retry;
 use crate::clients::Clients;
 use crate::desk::Desk;
 use crate::event::NodeEvent;
+use crate::hub::Voter;
 use crate::mesh::Mesh;
 use std::alloc::Global;
 use std::net::Net;
@@ -21,6 +22,9 @@ use wf_visitors::Context;
 
 /// The time between two ticks, in milliseconds.
 pub(crate) const TICK_MILLIS: u64 = 100;
+
+/// The time after which the folder says how far the node is, in milliseconds: a second at most, with what a turn takes.
+const KEEPING_MILLIS: u64 = 800;
 
 /// The least time between two attempts to open a failed tape again, in milliseconds.
 const LEAST_REOPENING: u64 = 1_000;
@@ -37,6 +41,8 @@ pub(crate) struct Pace {
     node: NodeId,
     ticks: Ticker,
     seconds: Ticker,
+    // when the folder is written to
+    keeping: Ticker,
     retries: Backoff,
     retry: Option<Alarm>,
     reopenings: Backoff,
@@ -44,6 +50,8 @@ pub(crate) struct Pace {
     // since when the tape hasn't failed
     stands_since: u64,
     last: ProposalState,
+    // whether a majority was heard at the last tick
+    heard_majority: bool,
 }
 
 impl Pace {
@@ -53,18 +61,25 @@ impl Pace {
             node,
             ticks: Ticker::new(time, TICK_MILLIS),
             seconds: Ticker::new(time, SECOND),
+            keeping: Ticker::new(time, KEEPING_MILLIS),
             retries: retry_of(node),
             retry: None,
             reopenings: Backoff::new(LEAST_REOPENING, MOST_REOPENING),
             reopening: None,
             stands_since: time,
             last: ProposalState::None,
+            heard_majority: false,
         }
     }
 
     /// The time until the next tick, in milliseconds.
     pub(crate) fn rest(&self, time: u64) -> u64 {
         self.ticks.due.saturating_sub(time).min(TICK_MILLIS)
+    }
+
+    /// Whether the folder is to be written to.
+    pub(crate) fn is_keeping_due(&mut self, time: u64) -> bool {
+        self.keeping.tick(time)
     }
 
     /// Whether it is time to open the failed tape again.
@@ -99,18 +114,18 @@ impl Pace {
     pub(crate) fn turn<R: Net + Files + Clock + Eprint + AllocGlobal, T: Tape + Drop>(
         &mut self,
         context: &Context<'_, '_, R>,
-        process: &mut Process<T>,
+        voter: &mut Voter<T>,
         mesh: &mut Mesh,
         desk: &mut Desk,
         clients: &mut Clients<T>,
     )
-        ensures on { GoesOn T.Tape process.old process.new }
+        ensures on { Continues T.Tape voter.old voter.new }
         ensures befores { clients.new.before.items ≡ clients.old.before.items }
     {
-        self.tick(context, process, mesh, desk, clients);
-        self.watch_tape(context, process, mesh);
-        self.watch_proposal(context, process);
-        mesh.go_on(context, process);
+        self.tick(context, voter, mesh, desk, clients);
+        self.watch_tape(context, &voter.process, mesh);
+        self.watch_proposal(context, &voter.process);
+        mesh.go_on(context, voter);
     }
 
     /// Does what is to be done at a tick, if one is over.
@@ -118,78 +133,90 @@ impl Pace {
     fn tick<R: Net + Files + Clock + Eprint + AllocGlobal, T: Tape + Drop>(
         &mut self,
         context: &Context<'_, '_, R>,
-        process: &mut Process<T>,
+        voter: &mut Voter<T>,
         mesh: &mut Mesh,
         desk: &mut Desk,
         clients: &mut Clients<T>,
     )
-        ensures on { GoesOn T.Tape process.old process.new }
+        ensures on { Continues T.Tape voter.old voter.new }
         ensures befores { clients.new.before.items ≡ clients.old.before.items }
     {
         if self.ticks.tick(context.time) {
             clients.accept(context);
             clients.tick(context.time);
             desk.tick(context);
-            self.go_on(context, process, mesh);
+            self.go_on(context, voter, mesh);
         }
     }
 
     /// What the node does at a tick: nothing while it is halted.
-    #[tactic(auto, using(crate::proofs::Continuation::still))]
+    #[tactic(auto, using(crate::proofs::Continuation::still, crate::proofs::Continuation::twice))]
     fn go_on<R: Net + Files + Clock + Eprint + AllocGlobal, T: Tape + Drop>(
         &mut self,
         context: &Context<'_, '_, R>,
-        process: &mut Process<T>,
+        voter: &mut Voter<T>,
         mesh: &mut Mesh,
     )
-        ensures { GoesOn T.Tape process.old process.new }
+        ensures { Continues T.Tape voter.old voter.new }
     {
-        if process.is_halted() {
+        if voter.process.is_halted() {
             return;
         }
-        mesh.accept(context, process);
-        mesh.close_silent(context, process.node().published().number());
-        mesh.connect(context, process);
-        self.respond_on(context, process, mesh);
+        if voter.connects() {
+            link(context, voter, mesh);
+        }
+        self.respond_on(context, voter, mesh);
     }
 
     /// What the node says by the clock, and what it saves of what it heard.
     #[tactic(auto, using(crate::proofs::Continuation::twice))]
-    fn respond_on<R: Files + AllocGlobal, T: Tape + Drop>(
+    fn respond_on<R: Files + Clock + Eprint + AllocGlobal, T: Tape + Drop>(
         &mut self,
         context: &Context<'_, '_, R>,
-        process: &mut Process<T>,
+        voter: &mut Voter<T>,
         mesh: &mut Mesh,
     )
-        ensures { GoesOn T.Tape process.old process.new }
+        ensures { Continues T.Tape voter.old voter.new }
     {
-        self.retry(context.alloc(), process, context.time);
+        self.retry(context.alloc(), voter, mesh, context.time);
         if self.seconds.tick(context.time) {
-            mesh.ask_all(context.alloc(), process);
-            mesh.save(context.rt);
+            mesh.ask_all(context.alloc(), voter);
+            let _ = mesh.save(context, voter);
         }
     }
 
-    /// Begins a running proposal again, if it is time to.
+    /// Begins a running proposal again, if it is time to, or if a majority is heard that wasn't.
     #[tactic(auto, using(crate::proofs::Continuation::still))]
-    fn retry<T: Tape + Drop>(&mut self, alloc: Global, process: &mut Process<T>, time: u64)
-        ensures { GoesOn T.Tape process.old process.new }
+    fn retry<T: Tape + Drop>(&mut self, alloc: Global, voter: &mut Voter<T>, mesh: &Mesh, time: u64)
+        ensures { Continues T.Tape voter.old voter.new }
     {
-        if !matches!(process.node().proposal(), ProposalState::Running) {
+        let is_back = self.notes_majority(mesh.hears_majority(time));
+        if !matches!(voter.process.node().proposal(), ProposalState::Running) {
             self.retry = None;
             self.retries = retry_of(self.node);
             return;
         }
-        let is_due = match self.retry {
-            Some(alarm) => alarm.is_due(time),
-            None => false,
-        };
+        let is_due = is_back
+            || match self.retry {
+                Some(alarm) => alarm.is_due(time),
+                None => false,
+            };
+        if is_back {
+            self.retries = retry_of(self.node);
+        }
         if is_due {
-            retry(alloc, process);
+            retry(alloc, voter);
         }
         if is_due || self.retry.is_none() {
             self.retry = Some(Alarm::after(time, self.retries.wait()));
         }
+    }
+
+    /// Whether a majority is heard that wasn't before; that it is heard is noted.
+    fn notes_majority(&mut self, is_heard: bool) -> bool {
+        let is_back = is_heard && !self.heard_majority;
+        self.heard_majority = is_heard;
+        is_back
     }
 
     /// Once the tape has failed: writes that, and ends the connections with peers, to which the node has nothing more to say.
@@ -228,4 +255,18 @@ impl Pace {
             ProposalState::None | ProposalState::Running => {}
         }
     }
+}
+
+/// Accepts the connections of peers, ends those on which nothing comes, and connects to peers.
+#[tactic(auto, using(crate::proofs::Continuation::twice))]
+fn link<R: Net + Files + Clock + Eprint + AllocGlobal, T: Tape + Drop>(
+    context: &Context<'_, '_, R>,
+    voter: &mut Voter<T>,
+    mesh: &mut Mesh,
+)
+    ensures { Continues T.Tape voter.old voter.new }
+{
+    mesh.accept(context, voter);
+    mesh.close_silent(context, voter.process.node().published().number());
+    mesh.connect(context, voter);
 }

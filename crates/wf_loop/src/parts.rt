@@ -139,6 +139,7 @@ fn begin_at(
     time: u64,
 ) -> Result<HubStart, LoopFault>
     ensures begun { IfOk result (λ begun. responses_of begun.visitors ≡ []) }
+    ensures suspended { IfOk result (λ begun. begun.parts.mesh.suspension ≡ plan.suspension) }
     ensures memory { IfErr result (λ why. why ≡ LoopFault.Memory) }
 {
     let Doors {
@@ -172,6 +173,7 @@ pub(crate) fn bind<R: Net + AllocGlobal>(
     time: u64,
 ) -> Result<HubStart, LoopFault>
     ensures begun { IfOk result (λ begun. responses_of begun.visitors ≡ []) }
+    ensures suspended { IfOk result (λ begun. begun.parts.mesh.suspension ≡ plan.suspension) }
     ensures cause { IfErr result (IsCause plan) }
 {
     match doors_of(rt, &plan) {

@@ -1,15 +1,20 @@
 //! The connections of a node to its peers: they are opened, written on, and tried again.
-ghost use Rattle.wf_loop.specs.Continuation.{GoesOn};
+ghost use Rattle.std.specs.Prelude.{◌≡◌};
+ghost use Rattle.wf_loop.specs.Continuation.{Continues};
+ghost use Rattle.wf_peer.specs.GreetingReply.{EndsANode};
 
-use crate::acts::close_outbox;
+use crate::acts::{ask, close_outbox, open_outbox};
 use crate::dial::DialTurn;
 use crate::event::{NodeEvent, PeerEnd};
+use crate::gate::Gate;
+use crate::hub::Voter;
 use crate::mesh::{Mesh, id_of};
 use std::alloc::Global;
 use std::net::Net;
+use std::rt::Files;
 use std::time::Clock;
-use wf_actor::Process;
 use wf_ballot::NodeId;
+use wf_folder::{PeerAddress, Suspension};
 use wf_peer::{GreetingReply, PeerRejection, encode};
 use wf_tape::Tape;
 use wf_visitors::Context;
@@ -20,13 +25,13 @@ const MOST_NODES: usize = 64;
 impl Mesh {
     /// Lets the connection to a peer go on.
     #[tactic(auto, using(crate::proofs::Continuation::still, crate::proofs::Continuation::twice))]
-    pub(crate) fn turn<R: Clock + Eprint + AllocGlobal, T: Tape + Drop>(
+    pub(crate) fn turn<R: Files + Clock + Eprint + AllocGlobal, T: Tape + Drop>(
         &mut self,
         context: &Context<'_, '_, R>,
-        process: &mut Process<T>,
+        voter: &mut Voter<T>,
         index: usize,
     )
-        ensures { GoesOn T.Tape process.old process.new }
+        ensures { Continues T.Tape voter.old voter.new }
     {
         let Some(peer) = id_of(index) else {
             return;
@@ -34,65 +39,125 @@ impl Mesh {
         let Some(dial) = self.dials.get_mut(index) else {
             return;
         };
-        match dial.turn(process, peer) {
+        let turned = dial.turn(voter, peer, context.time);
+        let is_established = dial.is_established();
+        match turned {
             DialTurn::Same => {}
-            DialTurn::Answered(reply) => self.open(context, process, index, peer, reply),
-            DialTurn::Ended(why) => self.end(context, process, index, peer, why),
+            DialTurn::Answered(reply) => {
+                self.note_answer(index);
+                self.open(context, voter, index, peer, &reply);
+            }
+            DialTurn::Ended(why) => {
+                if is_established {
+                    self.note_answer(index);
+                }
+                self.end(context, voter, index, peer, why);
+            }
         }
     }
 
     /// Opens the connection to a peer, whose reply has come.
-    #[tactic(auto, using(crate::proofs::Continuation::relinked))]
-    fn open<R: Clock + Eprint + AllocGlobal, T: Tape + Drop>(
+    #[tactic(auto, using(crate::proofs::Continuation::still, crate::proofs::Continuation::twice))]
+    fn open<R: Files + Clock + Eprint + AllocGlobal, T: Tape + Drop>(
         &mut self,
         context: &Context<'_, '_, R>,
-        process: &mut Process<T>,
+        voter: &mut Voter<T>,
         index: usize,
         peer: NodeId,
-        reply: GreetingReply,
+        reply: &GreetingReply,
     )
-        ensures { GoesOn T.Tape process.old process.new }
+        ensures { Continues T.Tape voter.old voter.new }
     {
-        if let Some(why) = self.why_not(process, peer, reply) {
-            self.end(context, process, index, peer, why);
+        if let Some(why) = self.why_not(context, voter, peer, reply) {
+            self.end(context, voter, index, peer, why);
             return;
         }
         self.was_let_in = true;
         if let Some(dial) = self.dials.get_mut(index) {
-            dial.open();
+            dial.open(context.time);
             context.log.write(&NodeEvent::Connected {
                 peer: index,
                 address: dial.address(),
             });
         }
-        process.open_outbox(context.alloc(), peer);
+        open_outbox(context.alloc(), voter, peer);
         self.catch_up.connect(index, context.time);
     }
 
     /// Why the connection to a peer doesn't open, by its reply.
-    fn why_not<T: Tape + Drop>(
+    #[tactic(auto, using(crate::proofs::Continuation::still))]
+    fn why_not<R: Files + Clock + Eprint + AllocGlobal, T: Tape + Drop>(
         &mut self,
-        process: &Process<T>,
+        context: &Context<'_, '_, R>,
+        voter: &mut Voter<T>,
         peer: NodeId,
-        reply: GreetingReply,
-    ) -> Option<PeerEnd> {
+        reply: &GreetingReply,
+    ) -> Option<PeerEnd>
+        ensures { Continues T.Tape voter.old voter.new }
+    {
         match reply {
             GreetingReply::Greeting(greeting) => {
-                match self.admit_peer(process, Some(peer), &greeting) {
-                    Ok(()) => None,
+                match self.admit_peer(context, voter, None, Some(peer), greeting) {
+                    Ok(()) if voter.connects() => None,
+                    Ok(()) => Some(PeerEnd::Unwritten),
                     Err(why) => Some(PeerEnd::Rejected(why)),
                 }
             }
-            GreetingReply::Rejected(why) => {
-                if why == PeerRejection::OtherHistory {
-                    self.note_difference(peer, process.node().published().number());
-                }
-                if why.ends_a_node() || (why == PeerRejection::OtherHistory && !self.was_let_in) {
-                    self.end = Some(why);
-                }
-                Some(PeerEnd::RejectedBy(why))
+            GreetingReply::Rejected(why, _) => {
+                self.take_rejection(context, voter, peer, *why);
+                Some(PeerEnd::RejectedBy(*why))
             }
         }
+    }
+
+    /// A peer doesn't let this node in. One that remembers more of the node than it has suspends it: nothing leaves it from now on.
+    #[tactic(auto, using(crate::proofs::Continuation::still))]
+    fn take_rejection<R: Clock + Eprint, T: Tape + Drop>(
+        &mut self,
+        context: &Context<'_, '_, R>,
+        voter: &mut Voter<T>,
+        peer: NodeId,
+        why: PeerRejection,
+    )
+        ensures on { Continues T.Tape voter.old voter.new }
+        ensures suspended { EndsANode why → voter.new.gate ≡ Gate.Suspended }
+    {
+        if why.ends_a_node() {
+            voter.set_gate(Gate::Suspended);
+            self.suspend(context, peer, why);
+        } else if why == PeerRejection::OtherHistory {
+            self.note_difference(peer, voter.process.node().published().number());
+            if !self.was_let_in {
+                self.end = Some(why);
+            }
+        }
+    }
+
+    /// Notes who suspended the node, and closes all connections.
+    fn suspend<R: Clock + Eprint>(
+        &mut self,
+        context: &Context<'_, '_, R>,
+        peer: NodeId,
+        why: PeerRejection,
+    ) {
+        if self.suspension.is_some() {
+            return;
+        }
+        let number = peer.number() as usize;
+        if let Some(address) = self.plan.peers.get(number) {
+            self.suspension = Some(Suspension {
+                accuser: peer,
+                address: PeerAddress::of(*address),
+                cause: why.byte(),
+            });
+            context.log.write(&NodeEvent::Suspended {
+                peer: number,
+                address: *address,
+                why,
+            });
+        }
+        self.is_suspension_new = true;
+        self.close_all(context.time);
     }
 
     /// Ends the connection to a peer.
@@ -100,47 +165,53 @@ impl Mesh {
     fn end<R: Clock + Eprint, T: Tape + Drop>(
         &mut self,
         context: &Context<'_, '_, R>,
-        process: &mut Process<T>,
+        voter: &mut Voter<T>,
         index: usize,
         peer: NodeId,
         why: PeerEnd,
     )
-        ensures { GoesOn T.Tape process.old process.new }
+        ensures { Continues T.Tape voter.old voter.new }
     {
         let Some(dial) = self.dials.get_mut(index) else {
             return;
         };
         let was_open = dial.is_open();
+        let why = if why == PeerEnd::Closed && !was_open {
+            PeerEnd::Unanswered
+        } else {
+            why
+        };
+        let is_told = was_open || (why != PeerEnd::Failed && dial.is_to_be_told(why, context.time));
         dial.end(context.time);
-        close_outbox(process, peer);
-        if was_open || !matches!(why, PeerEnd::Closed | PeerEnd::Failed) {
+        close_outbox(voter, peer);
+        if is_told {
             context.log.write(&NodeEvent::Lost { peer: index, why });
         }
     }
 
     /// Connects to the peers to which there is no connection, and ends attempts that take too long.
     #[tactic(auto, using(crate::proofs::Continuation::still, crate::proofs::Continuation::twice))]
-    pub(crate) fn connect<R: Net + Clock + Eprint + AllocGlobal, T: Tape + Drop>(
+    pub(crate) fn connect<R: Net + Files + Clock + Eprint + AllocGlobal, T: Tape + Drop>(
         &mut self,
         context: &Context<'_, '_, R>,
-        process: &mut Process<T>,
+        voter: &mut Voter<T>,
     )
-        ensures { GoesOn T.Tape process.old process.new }
+        ensures { Continues T.Tape voter.old voter.new }
     {
         for index in 0..self.dials.len() {
-            self.connect_to(context, process, index);
+            self.connect_to(context, voter, index);
         }
     }
 
     /// Connects to a node, if it is a peer, there is no connection and it is time to; ends an attempt that takes too long.
     #[tactic(auto, using(crate::proofs::Continuation::still))]
-    fn connect_to<R: Net + Clock + Eprint + AllocGlobal, T: Tape + Drop>(
+    fn connect_to<R: Net + Files + Clock + Eprint + AllocGlobal, T: Tape + Drop>(
         &mut self,
         context: &Context<'_, '_, R>,
-        process: &mut Process<T>,
+        voter: &mut Voter<T>,
         index: usize,
     )
-        ensures { GoesOn T.Tape process.old process.new }
+        ensures { Continues T.Tape voter.old voter.new }
     {
         let Some(peer) = id_of(index) else {
             return;
@@ -149,22 +220,22 @@ impl Mesh {
             return;
         }
         if self.is_late(index, context.time) {
-            self.end(context, process, index, peer, PeerEnd::Silent);
+            self.end(context, voter, index, peer, PeerEnd::Silent);
         }
-        self.connect_if_due(context, process, index);
+        self.connect_if_due(context, voter, index);
     }
 
     /// Connects to a peer and greets it, if there is no connection and it is time to.
-    fn connect_if_due<R: Net + Clock + Eprint + AllocGlobal, T: Tape + Drop>(
+    fn connect_if_due<R: Net + Files + Clock + Eprint + AllocGlobal, T: Tape + Drop>(
         &mut self,
         context: &Context<'_, '_, R>,
-        process: &Process<T>,
+        voter: &Voter<T>,
         index: usize,
     ) {
         if !self.is_due(index, context.time) {
             return;
         }
-        let Some(greeting) = self.greeting(process) else {
+        let Some(greeting) = self.greeting(voter) else {
             return;
         };
         let mut bytes = Vec::new(context.alloc());
@@ -184,16 +255,19 @@ impl Mesh {
         }
     }
 
-    /// Whether an attempt to connect takes too long.
+    /// Whether a connection to a peer takes too long to open, or nothing is heard of the peer. Once the last sequence is published nobody
+    /// asks any more, and silence ends none.
     fn is_late(&self, index: usize, time: u64) -> bool {
-        match self.dials.get(index) {
-            Some(dial) => dial.is_late(time),
-            None => false,
+        match (self.dials.get(index), self.states.get(index)) {
+            (Some(dial), Some(state)) => {
+                dial.is_late(state.heard_at, time) && !(dial.is_open() && self.is_full)
+            }
+            _ => false,
         }
     }
 
     /// Whether messages can be sent to a peer.
-    fn is_open(&self, index: usize) -> bool {
+    pub(crate) fn is_open(&self, index: usize) -> bool {
         match self.dials.get(index) {
             Some(dial) => dial.is_open(),
             None => false,
@@ -202,95 +276,90 @@ impl Mesh {
 
     /// Asks a peer for the definitions that the node lacks, if it is time to: nobody once the tape has failed.
     #[tactic(auto, using(crate::proofs::Continuation::still))]
-    fn ask_next<T: Tape + Drop>(&mut self, alloc: Global, process: &mut Process<T>, time: u64)
-        ensures { GoesOn T.Tape process.old process.new }
+    fn ask_next<T: Tape + Drop>(&mut self, alloc: Global, voter: &mut Voter<T>, time: u64)
+        ensures { Continues T.Tape voter.old voter.new }
     {
-        if process.is_halted() {
+        if voter.process.is_halted() {
             return;
         }
         let mut connected = [false; MOST_NODES];
         for (flag, dial) in connected.iter_mut().zip(self.dials.iter()) {
             *flag = dial.is_open();
         }
-        let published = process.node().published().number();
-        if let Some(peer) = self.catch_up.ask(time, published, connected.as_slice()) {
-            ask(alloc, process, peer);
+        let published = voter.process.node().published().number();
+        if let Some(index) = self.catch_up.ask(time, published, connected.as_slice()) {
+            if let Some(peer) = id_of(index) {
+                ask(alloc, voter, peer);
+            }
         }
     }
 
     /// Asks each peer for the next definition: peers learn by this that the node is there.
     #[tactic(auto, using(crate::proofs::Continuation::still, crate::proofs::Continuation::twice))]
-    pub(crate) fn ask_all<T: Tape + Drop>(&mut self, alloc: Global, process: &mut Process<T>)
-        ensures { GoesOn T.Tape process.old process.new }
+    pub(crate) fn ask_all<T: Tape + Drop>(&mut self, alloc: Global, voter: &mut Voter<T>)
+        ensures { Continues T.Tape voter.old voter.new }
     {
         for index in 0..self.dials.len() {
-            if self.is_open(index) {
-                ask(alloc, process, index);
+            if let Some(peer) = id_of(index) {
+                if self.is_open(index) {
+                    ask(alloc, voter, peer);
+                }
             }
         }
     }
 
     /// Asks for what the node lacks, writes what waits for the peers, and extends the digests if there is time.
     #[tactic(auto, using(crate::proofs::Continuation::still, crate::proofs::Continuation::twice))]
-    pub(crate) fn go_on<R: Clock + Eprint + AllocGlobal, T: Tape + Drop>(
+    pub(crate) fn go_on<R: Files + Clock + Eprint + AllocGlobal, T: Tape + Drop>(
         &mut self,
         context: &Context<'_, '_, R>,
-        process: &mut Process<T>,
+        voter: &mut Voter<T>,
     )
-        ensures { GoesOn T.Tape process.old process.new }
+        ensures { Continues T.Tape voter.old voter.new }
     {
-        self.ask_next(context.alloc(), process, context.time);
-        self.send(context, process);
-        self.extend_digests(process.node().history());
+        self.ask_next(context.alloc(), voter, context.time);
+        self.send(context, voter);
+        self.extend_digests(voter.process.node().history());
     }
 
     /// Writes what waits for the peers: nothing once the tape has failed.
     #[tactic(auto, using(crate::proofs::Continuation::still, crate::proofs::Continuation::twice))]
-    pub(crate) fn send<R: Clock + Eprint + AllocGlobal, T: Tape + Drop>(
+    pub(crate) fn send<R: Files + Clock + Eprint + AllocGlobal, T: Tape + Drop>(
         &mut self,
         context: &Context<'_, '_, R>,
-        process: &mut Process<T>,
+        voter: &mut Voter<T>,
     )
-        ensures { GoesOn T.Tape process.old process.new }
+        ensures { Continues T.Tape voter.old voter.new }
     {
-        if process.is_halted() {
+        if voter.process.is_halted() {
             return;
         }
         for index in 0..self.dials.len() {
-            self.send_to(context, process, index);
+            self.send_to(context, voter, index);
         }
     }
 
     /// Writes what waits for a peer, if anything does.
     #[tactic(auto, using(crate::proofs::Continuation::still, crate::proofs::Continuation::twice))]
-    fn send_to<R: Clock + Eprint + AllocGlobal, T: Tape + Drop>(
+    fn send_to<R: Files + Clock + Eprint + AllocGlobal, T: Tape + Drop>(
         &mut self,
         context: &Context<'_, '_, R>,
-        process: &mut Process<T>,
+        voter: &mut Voter<T>,
         index: usize,
     )
-        ensures { GoesOn T.Tape process.old process.new }
+        ensures { Continues T.Tape voter.old voter.new }
     {
         let Some(peer) = id_of(index) else {
             return;
         };
-        if process.remaining(peer) == 0 {
+        if voter.process.remaining(peer) == 0 {
             return;
         }
         let Some(dial) = self.dials.get_mut(index) else {
             return;
         };
-        if let Some(why) = dial.send(process, peer) {
-            self.end(context, process, index, peer, why);
+        if let Some(why) = dial.send(voter, peer) {
+            self.end(context, voter, index, peer, why);
         }
-    }
-}
-
-/// Asks a peer for the next definition.
-fn ask<T: Tape + Drop>(alloc: Global, process: &mut Process<T>, peer: usize)
-    ensures { GoesOn T.Tape process.old process.new }
-{
-    if let Some(peer) = id_of(peer) {
-        let _ = process.catch_up(alloc, peer);
     }
 }

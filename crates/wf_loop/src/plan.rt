@@ -3,6 +3,7 @@
 use std::alloc::AllocError;
 use std::net::SocketAddr;
 use thiserror::Error;
+use wf_folder::Suspension;
 use wf_peer::{Own, Progress};
 
 /// Which node of a farm it is, and where the others are.
@@ -10,8 +11,10 @@ use wf_peer::{Own, Progress};
 pub struct NodePlan {
     /// The farm and the node.
     pub own: Own,
-    /// How far the node was at this start.
+    /// This start of the node's folder, and how far the node was then.
     pub start: Progress,
+    /// Who suspended the node, if anybody did.
+    pub suspension: Option<Suspension>,
     /// The node's folder.
     pub folder: String,
     /// The path of the node's tape, whose length is told.

@@ -6,6 +6,7 @@ use std::io::ErrorKind;
 use thiserror::Error;
 use wf_actor::{Process, ReopenFault};
 use wf_digest::Digests;
+use wf_folder::{Reach, Suspension};
 use wf_tape::Tape;
 use wf_visitors::{Level, LogEntry};
 
@@ -16,6 +17,8 @@ pub enum FolderFile {
     Folder,
     /// The file `farm`.
     Farm,
+    /// The file `heard`.
+    Heard,
     /// The node's tape.
     Tape,
 }
@@ -72,7 +75,24 @@ impl NotReopened {
     }
 }
 
-/// The folder of a node whose tape has failed, which its process has locked.
+/// Why a file of the folder isn't written.
+#[derive(Clone, Copy, Debug, PartialEq, Eq, Error)]
+pub enum FolderFault {
+    /// The folder can't be opened.
+    #[error("the folder can't be opened: {0}")]
+    NoFolder(ErrorKind),
+    /// What is at the folder's path isn't the folder that this process has locked.
+    #[error("another folder is at its path")]
+    OtherFolder,
+    /// The file can't be written.
+    #[error("it can't be written: {0}")]
+    Unwritten(ErrorKind),
+    /// An allocation failed.
+    #[error("out of memory")]
+    Memory,
+}
+
+/// The folder of a node, which its process has locked.
 pub trait NodeFolder<T> {
     /// How many starts the file `farm` counts, as this process wrote it last.
     ghost starts: { Self → ℕ };
@@ -88,6 +108,15 @@ pub trait NodeFolder<T> {
         ensures number { IfOk result (λ number. number ≡ starts self.old + 1) }
         ensures counted { OnOk result (starts self.new ≡ starts self.old + 1) }
         ensures same { OnErr result (starts self.new ≡ starts self.old) };
+
+    /// Raises in the file `farm` how far the node is known to have been, with the digest of its history up to its last published
+    /// sequence, if that is more than the file has: synced, with the folder.
+    fn keep(&mut self, reach: &Reach, digest: [u8; 32]) -> Result<(), FolderFault>
+        ensures { starts self.new ≡ starts self.old };
+
+    /// Writes into the file `farm` that a peer has suspended the node: synced, with the folder.
+    fn suspend(&mut self, suspension: Suspension) -> Result<(), FolderFault>
+        ensures { starts self.new ≡ starts self.old };
 }
 
 /// A process that goes on for one whose tape has failed, with the digests of no history yet, and the number of its start.
@@ -118,6 +147,7 @@ impl<'a> fmt::Display for TapeNotReopened<'a> {
         match why.file() {
             FolderFile::Folder => write!(f, "tape-not-reopened file={folder} why=\"{why}\""),
             FolderFile::Farm => write!(f, "tape-not-reopened file={folder}/farm why=\"{why}\""),
+            FolderFile::Heard => write!(f, "tape-not-reopened file={folder}/heard why=\"{why}\""),
             FolderFile::Tape => write!(f, "tape-not-reopened file={tape} why=\"{why}\""),
         }
     }

@@ -1,22 +1,28 @@
 //! How a hub begins, waits for its sockets and goes on, turn after turn.
-ghost use Rattle.std.specs.Prelude.{◌≡◌, ◌≤◌, ◌+◌, ◌↔◌, ◌++◌, ◌∷◌, [], Err, IfErr, IfOk, IsTrue, OnErr, OnOk};
+ghost use Rattle.std.specs.Prelude.{◌≡◌, ◌≤◌, ◌+◌, ◌↔◌, ◌++◌, ◌∷◌, [], Err, IfErr, IfOk, IsSome, IsTrue, OnErr, OnOk, Option};
 ghost use Rattle.wf_actor.specs.Process.{IsBegun};
 ghost use Rattle.wf_digest.specs.Digest.{AreDigestsOf};
-ghost use Rattle.wf_loop.specs.Hub.{GreetsAsNow, HasAnswered, IsReopeningDue, address_of, process_of, time_of};
+ghost use Rattle.wf_folder.specs.declared.suspension.Suspension.{Suspension as SuspensionValue};
+ghost use Rattle.wf_loop.specs.Hub.{GreetsAsNow, HasAnswered, IsReopeningDue, IsSuspended, address_of, process_of, time_of};
 ghost use Rattle.wf_node.specs.Reopening.{HasStoredAs};
 ghost use Rattle.wf_loop.specs.Lived.{HasLived};
-ghost use Rattle.wf_loop.specs.Continuation.{GoesOn, KeepsEarlier};
+ghost use Rattle.wf_loop.specs.Continuation.{Continues, GoesOn, KeepsEarlier, StaysSuspended};
 ghost use Rattle.wf_loop.specs.StartErrors.{IsCause};
 ghost use Rattle.wf_visitors.specs.Visitors.{responses_of};
 
 use crate::acts::begin_run;
 use crate::clients::Clients;
 use crate::event::NodeEvent;
+use crate::gate::Gate;
 use crate::hub::{Hub, Voter};
+use crate::mesh::Mesh;
 use crate::pace::{Pace, TICK_MILLIS};
 use crate::parts::{HubParts, HubStart, MOST_EVENTS, bind};
 use crate::plan::{LoopFault, NodePlan};
-use crate::reopening::{NextRun, NodeFolder, NotReopened, TapeNotReopened};
+use crate::reach::reach_of;
+use crate::reopening::{
+    FolderFault, FolderFile, NextRun, NodeFolder, NotReopened, TapeNotReopened,
+};
 use crate::tally::Tally;
 use crate::turn::{answer_operators, has_more, serve_all};
 use std::alloc::Global;
@@ -25,6 +31,7 @@ use std::rt::Files;
 use std::time::{Clock, Duration};
 use wf_actor::Process;
 use wf_digest::Digests;
+use wf_folder::Suspension;
 use wf_operator::{Behind, PictureCounts};
 use wf_peer::{PeerProgress, PeerRejection};
 use wf_tape::Tape;
@@ -52,6 +59,9 @@ fn hub_of<T: Tape + Drop>(
     requires { IfOk begun (λ begun. responses_of begun.visitors ≡ []) }
     ensures hub { IfOk result (λ hub. process_of hub ≡ process) }
     ensures time { IfOk result (λ hub. time_of hub ≡ time) }
+    ensures suspended { (suspension : Option SuspensionValue) →
+        IfOk begun (λ begun. begun.parts.mesh.suspension ≡ suspension) →
+        IsSome suspension → IfOk result IsSuspended }
     ensures fault { IfErr result (λ fault. begun ≡ Err fault) }
 {
     match begun {
@@ -63,12 +73,22 @@ fn hub_of<T: Tape + Drop>(
     }
 }
 
-/// A process that has answered nobody yet.
-fn voter_of<T: Tape>(alloc: Global, process: Process<T>) -> Voter<T>
-    ensures { result.process ≡ process }
+/// A process that has answered nobody yet, and doesn't act yet.
+fn voter_of<T: Tape>(
+    alloc: Global,
+    process: Process<T>,
+    suspension: &Option<Suspension>,
+) -> Voter<T>
+    ensures process { result.process ≡ process }
+    ensures suspended { IsSome suspension.now → result.gate ≡ Gate.Suspended }
 {
+    let gate = match suspension {
+        Some(_) => Gate::Suspended,
+        None => Gate::Starting,
+    };
     Voter {
         process,
+        gate,
         rejected: Tally::new(alloc),
         pictures: PictureCounts::default(),
     }
@@ -84,12 +104,13 @@ fn assemble<T: Tape + Drop>(
 ) -> Hub<T>
     requires { responses_of visitors ≡ [] }
     ensures hub { process_of result ≡ process }
+    ensures suspended { IsSome parts.mesh.suspension → IsSuspended result }
     ensures time { time_of result ≡ time }
 {
     let pace = parts.pace(time);
     let http = visitors.address();
     let clients = Clients::new(visitors);
-    let voter = voter_of(alloc, process);
+    let voter = voter_of(alloc, process, &parts.mesh.suspension);
     hub_with(parts, clients, voter, pace, http, time)
 }
 
@@ -102,7 +123,7 @@ fn hub_with<T: Tape>(
     http: Option<SocketAddr>,
     time: u64,
 ) -> Hub<T>
-    ensures voter { process_of result ≡ voter.process }
+    ensures voter { result.voter ≡ voter }
     ensures time { time_of result ≡ time }
 {
     Hub {
@@ -127,6 +148,8 @@ impl<T: Tape + Drop> Hub<T> {
         known: PeerProgress,
     ) -> Result<Self, LoopFault>
         ensures process { IfOk result (λ hub. process_of hub ≡ process) }
+        // A node that its folder says is suspended begins so.
+        ensures suspended { IsSome plan.suspension → IfOk result IsSuspended }
         ensures cause { IfErr result (IsCause plan) }
     {
         let time = now(rt);
@@ -187,6 +210,7 @@ impl<T: Tape + Drop> Hub<T> {
             (HasStoredAs (process_of self.old).actor.node (process_of self.new).actor.node) }
         ensures counted { OnOk result (F.starts folder.new ≡ F.starts folder.old + 1) }
         ensures greets { OnOk result (GreetsAsNow (F.starts folder.new) self.new) }
+        ensures suspended { IsSuspended self.old → IsSuspended self.new }
         ensures same { OnErr result (process_of self.new ≡ process_of self.old) }
         ensures earlier { KeepsEarlier T.Tape (process_of self.old) (process_of self.new) }
     {
@@ -275,6 +299,7 @@ impl<T: Tape + Drop> Hub<T> {
         requires digests { AreDigestsOf [] next.digests }
         ensures process { process_of self.new ≡ next.process }
         ensures greets { GreetsAsNow next.starts self.new }
+        ensures suspended { IsSuspended self.old → IsSuspended self.new }
         ensures earlier { KeepsEarlier T.Tape (process_of self.old) (process_of self.new) }
     {
         let NextRun {
@@ -282,18 +307,18 @@ impl<T: Tape + Drop> Hub<T> {
             digests,
             starts,
         } = next;
-        begin_run(&mut self.voter.process, process);
-        self.parts
-            .mesh
-            .begin_run(&self.voter.process, digests, starts, self.time);
+        begin_run(&mut self.voter, process);
+        self.parts.mesh.begin_run(digests, starts, self.time);
         self.pace.note_reopening(self.time);
     }
 
-    /// One turn: waits until a socket is ready or a tick is over, and does a bounded part of what there is to do.
-    pub fn go_on<R: Net + Files + Clock + Eprint + AllocGlobal>(
+    /// One turn: waits until a socket is ready or a tick is over, and does a bounded part of what there is to do. What has to be in the
+    /// node's folder is written there: that it is suspended at once, and each second how far it is.
+    pub fn go_on<R: Net + Files + Clock + Eprint + AllocGlobal, F: NodeFolder<T>>(
         &mut self,
         rt: &R,
         log: &Log<'_, R>,
+        folder: &mut F,
     ) -> Begun
         // Whatever came, the node has lived by its acts, was given only what receivers returned, and sent only what it returned.
         ensures lived { HasLived T.Tape (process_of self.new) }
@@ -302,18 +327,23 @@ impl<T: Tape + Drop> Hub<T> {
         // It goes on in the run that it was in, as the node that it was.
         ensures on { GoesOn T.Tape (process_of self.old) (process_of self.new) }
         ensures earlier { KeepsEarlier T.Tape (process_of self.old) (process_of self.new) }
+        // A suspended node stays suspended and as it is: it is given nothing, and emits no message.
+        ensures suspended { IsSuspended self.old → StaysSuspended self.old.voter self.new.voter }
+        ensures starts { F.starts folder.new ≡ F.starts folder.old }
         ensures time { time_of self.old ≤ time_of self.new }
     {
         let could_wait = self.wait(rt);
         let mut ready = [0usize; MOST_EVENTS];
         let count = self.ready(&mut ready);
         self.time = now(rt).max(self.time);
+        self.judge();
         self.is_busy = self.act(
             rt,
             log,
             ready.split_at(count.min(MOST_EVENTS)).0,
             could_wait,
         );
+        self.keep(log, folder);
         self.always_lived();
         match self.parts.mesh.end {
             Some(rejection) => Begun::Ended(rejection),
@@ -321,9 +351,46 @@ impl<T: Tape + Drop> Hub<T> {
         }
     }
 
+    /// Decides how the node acts in this turn. Of a suspended one all ports but the operator's are closed.
+    fn judge(&mut self)
+        ensures on { Continues T.Tape self.old.voter self.new.voter }
+        ensures time { time_of self.new ≡ time_of self.old }
+    {
+        let gate = self.parts.mesh.gate(self.time);
+        self.voter.set_gate(gate);
+        if self.voter.gate == Gate::Suspended {
+            self.clients.close();
+            self.parts.desk.readers.close();
+            self.parts.mesh.close_all(self.time);
+        }
+    }
+
+    /// Writes to the folder what has to be there.
+    fn keep<R: Clock + Eprint, F: NodeFolder<T>>(&mut self, log: &Log<'_, R>, folder: &mut F)
+        ensures voter { self.new.voter ≡ self.old.voter }
+        ensures time { time_of self.new ≡ time_of self.old }
+        ensures starts { F.starts folder.new ≡ F.starts folder.old }
+    {
+        let is_due = self.pace.is_keeping_due(self.time);
+        let HubParts { mesh, .. } = &mut self.parts;
+        let kept = if let Some(suspension) = mesh.unkept_suspension(is_due) {
+            let kept = folder.suspend(suspension);
+            mesh.is_suspension_kept = kept.is_ok();
+            kept
+        } else if is_due && !self.voter.process.is_halted() {
+            keep_reach(&self.voter.process, mesh, folder)
+        } else {
+            return;
+        };
+        match kept {
+            Ok(()) => mesh.note_written(FolderFile::Farm),
+            Err(why) => mesh.note_unwritten(log, self.time, FolderFile::Farm, why),
+        }
+    }
+
     /// Waits until a socket is ready or the patience is over. Returns whether it could wait.
     fn wait<R: Clock>(&mut self, rt: &R) -> bool
-        ensures process { process_of self.new ≡ process_of self.old }
+        ensures voter { self.new.voter ≡ self.old.voter }
         ensures time { time_of self.new ≡ time_of self.old }
     {
         let millis = self.patience(now(rt));
@@ -335,7 +402,7 @@ impl<T: Tape + Drop> Hub<T> {
     /// For how long a turn may wait, in milliseconds: up to the next tick, for a moment while digests are to be made, not at all if there is
     /// more to do.
     fn patience(&self, time: u64) -> u64 {
-        if self.is_busy || self.voter.process.waiting() != 0 {
+        if self.is_busy || (self.voter.acts() && self.voter.process.waiting() != 0) {
             return 0;
         }
         let history = self.voter.process.node().history();
@@ -367,7 +434,7 @@ impl<T: Tape + Drop> Hub<T> {
         ready: &[usize],
         could_wait: bool,
     ) -> bool
-        ensures on { GoesOn T.Tape (process_of self.old) (process_of self.new) }
+        ensures on { Continues T.Tape self.old.voter self.new.voter }
         ensures time { time_of self.new ≡ time_of self.old }
     {
         let Hub {
@@ -393,8 +460,24 @@ impl<T: Tape + Drop> Hub<T> {
         };
         mesh.begin_turn(could_wait, ready.len());
         serve_all(&context, voter, mesh, desk, clients, ready);
-        pace.turn(&context, &mut voter.process, mesh, desk, clients);
+        pace.turn(&context, voter, mesh, desk, clients);
         answer_operators(&context, voter, mesh, desk, clients, behind);
-        has_more(mesh, clients)
+        has_more(voter, mesh, clients)
+    }
+}
+
+/// Keeps in the folder how far a node is.
+fn keep_reach<T: Tape + Drop, F: NodeFolder<T>>(
+    process: &Process<T>,
+    mesh: &mut Mesh,
+    folder: &mut F,
+) -> Result<(), FolderFault>
+    ensures starts { F.starts folder.new ≡ F.starts folder.old }
+{
+    let node = process.node();
+    mesh.notes.extend(node.history());
+    match mesh.notes.digest_at(node.published().number()) {
+        Some(digest) => folder.keep(&reach_of(node), digest),
+        None => Err(FolderFault::Memory),
     }
 }

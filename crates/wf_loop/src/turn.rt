@@ -1,6 +1,6 @@
 //! What a turn does once it has waited.
 ghost use Rattle.std.specs.Prelude.{◌≡◌};
-ghost use Rattle.wf_loop.specs.Continuation.{GoesOn};
+ghost use Rattle.wf_loop.specs.Continuation.{Continues};
 
 use crate::acts::handle_own;
 use crate::clients::Clients;
@@ -25,7 +25,7 @@ const MOST_OWN: u32 = 64;
 const MOST_SERVED: usize = 8;
 
 /// Does what the sockets with these tokens ask for, which are ready, and answers clients.
-pub(crate) fn serve_all<R: Net + Clock + Eprint + AllocGlobal, T: Tape + Drop>(
+pub(crate) fn serve_all<R: Net + Files + Clock + Eprint + AllocGlobal, T: Tape + Drop>(
     context: &Context<'_, '_, R>,
     voter: &mut Voter<T>,
     mesh: &mut Mesh,
@@ -33,47 +33,51 @@ pub(crate) fn serve_all<R: Net + Clock + Eprint + AllocGlobal, T: Tape + Drop>(
     clients: &mut Clients<T>,
     tokens: &[usize],
 )
-    ensures { GoesOn T.Tape voter.old.process voter.new.process }
+    ensures { Continues T.Tape voter.old voter.new }
 {
-    act_on_all(context, &mut voter.process, mesh, desk, clients, tokens);
-    handle_all_own(context, &mut voter.process, mesh);
+    act_on_all(context, voter, mesh, desk, clients, tokens);
+    handle_all_own(context, voter, mesh);
     serve_clients(context, voter, mesh, clients);
 }
 
 /// Whether there is more to do.
-pub(crate) fn has_more<T: Tape + Drop>(mesh: &Mesh, clients: &Clients<T>) -> bool {
-    mesh.is_busy || clients.visitors.is_busy()
+pub(crate) fn has_more<T: Tape + Drop>(
+    voter: &Voter<T>,
+    mesh: &Mesh,
+    clients: &Clients<T>,
+) -> bool {
+    mesh.is_busy || (voter.answers() && clients.visitors.is_busy())
 }
 
 /// Does what the sockets with these tokens ask for: those of peers first.
 #[tactic(auto, using(crate::proofs::Continuation::still, crate::proofs::Continuation::twice))]
-fn act_on_all<R: Net + Clock + Eprint + AllocGlobal, T: Tape + Drop>(
+fn act_on_all<R: Net + Files + Clock + Eprint + AllocGlobal, T: Tape + Drop>(
     context: &Context<'_, '_, R>,
-    process: &mut Process<T>,
+    voter: &mut Voter<T>,
     mesh: &mut Mesh,
     desk: &mut Desk,
     clients: &mut Clients<T>,
     tokens: &[usize],
 )
-    ensures on { GoesOn T.Tape process.old process.new }
+    ensures on { Continues T.Tape voter.old voter.new }
     ensures befores { clients.new.before.items ≡ clients.old.before.items }
 {
-    act_on_those(context, process, mesh, desk, clients, tokens, true);
-    act_on_those(context, process, mesh, desk, clients, tokens, false);
+    act_on_those(context, voter, mesh, desk, clients, tokens, true);
+    act_on_those(context, voter, mesh, desk, clients, tokens, false);
 }
 
 /// Does what those of the sockets with these tokens ask for that are of peers, or the others.
 #[tactic(auto, using(crate::proofs::Continuation::still, crate::proofs::Continuation::twice))]
-fn act_on_those<R: Net + Clock + Eprint + AllocGlobal, T: Tape + Drop>(
+fn act_on_those<R: Net + Files + Clock + Eprint + AllocGlobal, T: Tape + Drop>(
     context: &Context<'_, '_, R>,
-    process: &mut Process<T>,
+    voter: &mut Voter<T>,
     mesh: &mut Mesh,
     desk: &mut Desk,
     clients: &mut Clients<T>,
     tokens: &[usize],
     are_of_peers: bool,
 )
-    ensures on { GoesOn T.Tape process.old process.new }
+    ensures on { Continues T.Tape voter.old voter.new }
     ensures befores { clients.new.before.items ≡ clients.old.before.items }
 {
     for token in tokens {
@@ -81,38 +85,38 @@ fn act_on_those<R: Net + Clock + Eprint + AllocGlobal, T: Tape + Drop>(
         if socket.is_of_peer() != are_of_peers {
             continue;
         }
-        act_on(context, process, mesh, desk, clients, socket);
+        act_on(context, voter, mesh, desk, clients, socket);
     }
 }
 
 /// Does what a ready socket asks for.
 #[tactic(auto, using(crate::proofs::Continuation::still))]
-fn act_on<R: Net + Clock + Eprint + AllocGlobal, T: Tape + Drop>(
+fn act_on<R: Net + Files + Clock + Eprint + AllocGlobal, T: Tape + Drop>(
     context: &Context<'_, '_, R>,
-    process: &mut Process<T>,
+    voter: &mut Voter<T>,
     mesh: &mut Mesh,
     desk: &mut Desk,
     clients: &mut Clients<T>,
     socket: Socket,
 )
-    ensures on { GoesOn T.Tape process.old process.new }
+    ensures on { Continues T.Tape voter.old voter.new }
     ensures befores { clients.new.before.items ≡ clients.old.before.items }
 {
     match socket {
         Socket::Http => clients.accept(context),
         Socket::Client(index) => clients.turn(context, index),
-        Socket::Listen => mesh.accept(context, process),
-        Socket::Dial(index) => mesh.turn(context, process, index),
-        Socket::Inbound(index) => mesh.handle(context, process, index),
+        Socket::Listen => mesh.accept(context, voter),
+        Socket::Dial(index) => mesh.turn(context, voter, index),
+        Socket::Inbound(index) => mesh.handle(context, voter, index),
         Socket::Admin => desk.operators.accept(context),
         Socket::Asker(index) => desk.operators.turn(context, index),
         Socket::Readers => desk.readers.accept(context),
-        Socket::Reader(index) => answer_reader(context, process, mesh, desk, index),
+        Socket::Reader(index) => answer_reader(context, &voter.process, mesh, desk, index),
     }
 }
 
 /// Answers a reader, from what is published: nothing of the node can change by it.
-fn answer_reader<R: Clock + Eprint + AllocGlobal, T: Tape + Drop>(
+fn answer_reader<R: Files + Clock + Eprint + AllocGlobal, T: Tape + Drop>(
     context: &Context<'_, '_, R>,
     process: &Process<T>,
     mesh: &mut Mesh,
@@ -136,15 +140,15 @@ fn answer_reader<R: Clock + Eprint + AllocGlobal, T: Tape + Drop>(
 
 /// Delivers messages of the node to itself, a bounded number of them.
 #[tactic(auto, using(crate::proofs::Continuation::still, crate::proofs::Continuation::twice))]
-fn handle_all_own<R: Clock + Eprint + AllocGlobal, T: Tape + Drop>(
+fn handle_all_own<R: Files + Clock + Eprint + AllocGlobal, T: Tape + Drop>(
     context: &Context<'_, '_, R>,
-    process: &mut Process<T>,
+    voter: &mut Voter<T>,
     mesh: &mut Mesh,
 )
-    ensures { GoesOn T.Tape process.old process.new }
+    ensures { Continues T.Tape voter.old voter.new }
 {
     for _ in 0..MOST_OWN {
-        if !handle_next_own(context, process, mesh) {
+        if !handle_next_own(context, voter, mesh) {
             return;
         }
     }
@@ -153,16 +157,16 @@ fn handle_all_own<R: Clock + Eprint + AllocGlobal, T: Tape + Drop>(
 /// Delivers the first message of the node to itself. What waits for the peers is written before: they store it while the node does.
 /// Returns whether a message waited.
 #[tactic(auto, using(crate::proofs::Continuation::twice))]
-fn handle_next_own<R: Clock + Eprint + AllocGlobal, T: Tape + Drop>(
+fn handle_next_own<R: Files + Clock + Eprint + AllocGlobal, T: Tape + Drop>(
     context: &Context<'_, '_, R>,
-    process: &mut Process<T>,
+    voter: &mut Voter<T>,
     mesh: &mut Mesh,
 ) -> bool
-    ensures { GoesOn T.Tape process.old process.new }
+    ensures { Continues T.Tape voter.old voter.new }
 {
-    mesh.send(context, process);
+    mesh.send(context, voter);
     let from = micros(context.rt);
-    if !handle_own(context.alloc(), process) {
+    if !handle_own(context.alloc(), voter) {
         return false;
     }
     mesh.steps.add(from, micros(context.rt));
@@ -171,13 +175,13 @@ fn handle_next_own<R: Clock + Eprint + AllocGlobal, T: Tape + Drop>(
 
 /// Answers requests of clients that are whole, a bounded number of them.
 #[tactic(auto, using(crate::proofs::Continuation::still, crate::proofs::Continuation::twice))]
-fn serve_clients<R: Clock + Eprint + AllocGlobal, T: Tape + Drop>(
+fn serve_clients<R: Files + Clock + Eprint + AllocGlobal, T: Tape + Drop>(
     context: &Context<'_, '_, R>,
     voter: &mut Voter<T>,
     mesh: &mut Mesh,
     clients: &mut Clients<T>,
 )
-    ensures { GoesOn T.Tape voter.old.process voter.new.process }
+    ensures { Continues T.Tape voter.old voter.new }
 {
     for _ in 0..MOST_SERVED {
         if !serve_next(context, voter, mesh, clients) {
@@ -189,18 +193,18 @@ fn serve_clients<R: Clock + Eprint + AllocGlobal, T: Tape + Drop>(
 /// Answers the next request of a client, if it is whole. What it makes the node send is written to the peers before the client is
 /// written to. Returns whether there was one.
 #[tactic(auto, using(crate::proofs::Continuation::twice))]
-fn serve_next<R: Clock + Eprint + AllocGlobal, T: Tape + Drop>(
+fn serve_next<R: Files + Clock + Eprint + AllocGlobal, T: Tape + Drop>(
     context: &Context<'_, '_, R>,
     voter: &mut Voter<T>,
     mesh: &mut Mesh,
     clients: &mut Clients<T>,
 ) -> bool
-    ensures { GoesOn T.Tape voter.old.process voter.new.process }
+    ensures { Continues T.Tape voter.old voter.new }
 {
     let Some(index) = clients.answer_next(context, voter) else {
         return false;
     };
-    mesh.send(context, &mut voter.process);
+    mesh.send(context, voter);
     clients.turn(context, index);
     true
 }
@@ -220,7 +224,7 @@ pub(crate) fn answer_operators<R: Files + Clock + Eprint + AllocGlobal, T: Tape 
     if desk.operators.waits() {
         // what was published in this turn has its digests too
         mesh.notes.extend(history);
-        mesh.note_states(&voter.process);
+        mesh.note_states(&voter.process, context.time);
         serve_facts(context, voter, mesh, desk, clients, is_behind);
     }
 }
@@ -256,6 +260,9 @@ fn serve_facts<R: Files + Clock + Eprint + AllocGlobal, T: Tape + Drop>(
         is_halted: process.is_halted(),
         proposal: process.node().proposal(),
         differs: mesh.differs,
+        suspension: mesh.suspension,
+        is_unwritten: mesh.unwritten.is_some(),
+        hears_majority: mesh.hears_majority(context.time),
         reader_differs: readers.differs(context.time),
         latest: latest.max(history.published().number()),
         is_behind,

@@ -1,3 +1,5 @@
 mod Faults
 mod Kept
+mod Own
+mod Reached
 mod Started

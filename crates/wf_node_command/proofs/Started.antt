@@ -1,34 +1,32 @@
 -- From a start that was admitted to a node that was served.
-use Rattle.std.proofs.Common.{◌≡◌, ◌<◌, ℕ, [], append-nil, arith, inl, refl, sym, subst}
+use Rattle.std.proofs.Common.{◌≡◌, ◌<◌, ◌+◌, ℕ, [], append-nil, arith, inl, inr, refl, sym, subst}
 use Rattle.std.specs.Prelude.{Result, Ok, Err, length}
 use Rattle.wf_actor.specs.declared.process.Process.{Process}
 use Rattle.wf_address.specs.Address.{words_of}
 use Rattle.wf_folder.specs.NodeAdmission.{IsNodeRejection, IsNodeStart, IsSoundFind}
-use Rattle.wf_folder.specs.NodeFile.{IsNodeFile, last_start, started}
+use Rattle.wf_folder.specs.NodeFile.{IsNodeFile, last_start, raised_known, started}
 use Rattle.wf_folder.specs.declared.node_admission.NodeFound.{NodeFound}
 use Rattle.wf_folder.specs.declared.node_admission.NodeFound.TheVariants as finds
 use Rattle.wf_folder.specs.declared.node_admission.NodeRejection.{NodeRejection}
 use Rattle.wf_folder.specs.declared.node_file.NodeFile.{NodeFile}
 use Rattle.wf_folder.specs.declared.presence.Presence.{Presence}
+use Rattle.wf_folder.specs.declared.reach.Known.{Known}
 use Rattle.wf_line.specs.declared.node_line.NodeLine.{NodeLine}
 use Rattle.wf_loop.specs.Continuation.{IsEarlier, KeepsEarlier}
 use Rattle.wf_loop.specs.Hub.{HasAnswered, process_of}
 use Rattle.wf_loop.specs.Lived.{HasLived}
 use Rattle.wf_loop.specs.declared.hub.Hub.{Hub}
 use Rattle.wf_tape.specs.declared.tape.Tape.{Ghosts as Tape}
-use Rattle.wf_node_command.specs.Done.{HasGoneOn, IsAdmitted, IsEnd, IsNodeDone, IsRejected, IsStarted}
+use Rattle.wf_node.specs.Node.{stored_of}
+use Rattle.wf_node_command.proofs.Faults.{not_opened_by_system, system_of_node}
+use Rattle.wf_node_command.specs.Done.{HasLivedOn, IsAdmitted, IsEnd, IsNodeDone, IsRejected, IsServed, IsStarted}
+use Rattle.wf_node_command.specs.FolderTheorems.{with_starts}
+use Rattle.wf_node_command.specs.Held.{IsKnownOf, IsRaisedTo}
 use Rattle.wf_node_command.specs.declared.fault.CommandFault.{CommandFault}
 use Rattle.wf_node_command.specs.declared.fault.CommandFault.TheVariants as faults
 
 started_is_file : (file : NodeFile) → IsNodeFile file → file.starts < last_start → IsNodeFile (started file)
-started_is_file file is l = record {
-  nodes = is.nodes;
-  node = is.node;
-  starts = omega arith;
-  farm = is.farm;
-  bytes = is.bytes;
-  size = is.size;
-}
+started_is_file file is l = with_starts file (file.starts + 1) is (omega (arith, l))
 
 -- the file of a start is one of a node, of as many as are listed
 pub start_is_file : (nodes : ℕ) (found : NodeFound) (tape : Presence) (now : NodeFile) → IsSoundFind found → IsNodeStart nodes found tape now → IsNodeFile now
@@ -48,7 +46,7 @@ module _ (line : NodeLine) (nodes : ℕ) (found : NodeFound) (tape : Presence) w
 
   pub rejected_by : (why : NodeRejection) → nodes ≡ length (words_of line.peers.now) → IsSoundFind found → IsNodeRejection nodes found tape why → IsRejected line why
   rejected_by why count sound rejection =
-      record { found = found; tape = tape; sound = sound; rejection = subst (λ (n : ℕ). IsNodeRejection n found tape why) count rejection }
+      inl (record { found = found; tape = tape; sound = sound; rejection = subst (λ (n : ℕ). IsNodeRejection n found tape why) count rejection })
 
 module _ {T : Type 0} (tapes : Tape T) where
   pub kept_still : (process : Process T tapes) → KeepsEarlier tapes process process
@@ -60,33 +58,27 @@ module _ {T : Type 0} (tapes : Tape T) where
   its_own : (process : Process T tapes) → IsEarlier tapes process process
   its_own process = inl (record { number = refl; read_from = refl; began = refl; given = ([], append-nil _); emitted = ([], append-nil _) })
 
-  pub gone_on : (file : NodeFile) (process : Process T tapes) (begun hub : Hub T tapes) → IsStarted tapes file process → process_of begun ≡ process
-      → HasLived tapes (process_of hub) → HasAnswered tapes hub → KeepsEarlier tapes (process_of begun) (process_of hub) → HasGoneOn tapes file
-  gone_on file process begun hub started same lived answered keeps =
+  pub lived_on : (process : Process T tapes) (begun hub : Hub T tapes) → process_of begun ≡ process → HasLived tapes (process_of hub) → HasAnswered tapes hub
+      → KeepsEarlier tapes (process_of begun) (process_of hub) → HasLivedOn tapes process
+  lived_on process begun hub same lived answered keeps =
       let earlier = subst (λ (p : Process T tapes). IsEarlier tapes process p) (sym same) (its_own process) in
-      record { started = process; is_started = started; hub = hub; earlier = keeps process earlier; lived = lived; answered = answered }
+      record { hub = hub; earlier = keeps process earlier; lived = lived; answered = answered }
+
+  raised_by : (file written : NodeFile) (known : Known) (process : Process T tapes) → IsKnownOf (stored_of process.actor.node) known
+      → written ≡ record file { known = raised_known file.known known.reach known.digest } → IsRaisedTo (stored_of process.actor.node) file written
+  raised_by file written known process is value = record { known = known; is_known = is; value = value }
+
+  -- the turns of a process that was started, after the file was written
+  pub ended_by : (file written : NodeFile) (known : Known) (process : Process T tapes) (result : Result (Unit {0}) CommandFault) → IsStarted tapes file process
+      → IsKnownOf (stored_of process.actor.node) known → written ≡ record file { known = raised_known file.known known.reach known.digest } → IsServed tapes process result → IsEnd tapes file result
+  ended_by file written known process (Ok done) started is value on =
+      record { started = process; is_started = started; written = written; is_raised = raised_by file written known process is value; on = on }
+  ended_by file written known process (Err (faults.Ended why)) started is value on =
+      record { started = process; is_started = started; written = written; is_raised = raised_by file written known process is value; on = on }
+  ended_by file written known process (Err fault) started is value on = not_opened_by_system tapes file fault on
 
   pub served_by : (line : NodeLine) (file : NodeFile) (result : Result (Unit {0}) CommandFault) → IsAdmitted line file → IsEnd tapes file result → IsNodeDone tapes line result
   served_by line file (Ok done) admit end = record { file = file; admit = admit; served = end }
-  served_by line file (Err (faults.BadPeer index)) admit end = absurd end
-  served_by line file (Err (faults.PeerCount count)) admit end = absurd end
-  served_by line file (Err (faults.BadAddress option)) admit end = absurd end
-  served_by line file (Err (faults.Id id nodes)) admit end = absurd end
-  served_by line file (Err faults.Name) admit end = absurd end
-  served_by line file (Err faults.NoFolder) admit end = tt
-  served_by line file (Err faults.Held) admit end = tt
-  served_by line file (Err (faults.NotEmpty why)) admit end = absurd end
-  served_by line file (Err (faults.Unread kind)) admit end = tt
-  served_by line file (Err (faults.Unwritten kind)) admit end = tt
-  served_by line file (Err (faults.Rejected why)) admit end = absurd end
-  served_by line file (Err (faults.PeerProgress why)) admit end = tt
-  served_by line file (Err (faults.FromUnread kind)) admit end = absurd end
-  served_by line file (Err (faults.FromBad offset)) admit end = absurd end
-  served_by line file (Err (faults.TapeUnread kind)) admit end = tt
-  served_by line file (Err (faults.TapeUnwritten kind)) admit end = tt
-  served_by line file (Err faults.TapeFailed) admit end = tt
-  served_by line file (Err (faults.TapeBad offset)) admit end = tt
-  served_by line file (Err faults.NoRandomBits) admit end = tt
-  served_by line file (Err faults.Memory) admit end = tt
-  served_by line file (Err (faults.Loop why)) admit end = tt
   served_by line file (Err (faults.Ended why)) admit end = record { file = file; admit = admit; served = end }
+  served_by line file (Err (faults.Rejected why)) admit end = inr (record { file = file; admit = admit; content = end.0; back = end.1 })
+  served_by line file (Err fault) admit end = system_of_node line fault end

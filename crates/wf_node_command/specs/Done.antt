@@ -1,5 +1,6 @@
 -- What a command did.
-use Rattle.std.specs.Prelude.{◌≡◌, ◌≤◌, ◌<◌, ℕ, ⊤, List, [], Option, Some, Result, Ok, Err, IsSome, MatchOption, length, option_map}
+use Rattle.std.specs.Prelude.{◌≡◌, ◌≤◌, ◌<◌, ◌⊎◌, ℕ, List, [], Option, Some, Result, Ok, Err, IsSome, MatchOption, length, option_map}
+use Rattle.std.specs.Path.{path_file_name}
 use Rattle.wf_actor.specs.Start.{IsOpened}
 use Rattle.wf_actor.specs.Process.{IsBegun}
 use Rattle.wf_actor.specs.declared.process.Process.{Process}
@@ -24,11 +25,15 @@ use Rattle.wf_loop.specs.declared.hub.Hub.{Hub}
 use Rattle.wf_def.specs.Definition.{Definition}
 use Rattle.wf_model.specs.DurableState.{DurableState}
 use Rattle.wf_node.specs.Images.{AllStandFor, StandsFor}
-use Rattle.wf_node.specs.OpenedNode.{IsFoldOf}
+use Rattle.wf_node.specs.Node.{stored_of}
 use Rattle.wf_tape.specs.declared.tape.Tape.{Ghosts as Tape}
+use Rattle.wf_node_command.specs.Cleared.{IsClearDone}
 use Rattle.wf_node_command.specs.Fault.{IsFromSystem, fault_status}
+use Rattle.wf_node_command.specs.From.{IsFrom, IsNotFrom}
+use Rattle.wf_node_command.specs.Held.{HasGoneBack, HoldsAll, IsRaisedTo}
 use Rattle.wf_node_command.specs.declared.fault.CommandFault.{CommandFault}
 use Rattle.wf_node_command.specs.declared.fault.CommandFault.TheVariants as faults
+use Rattle.wf_node_command.specs.declared.from_rejection.FromRejection.{FromRejection}
 
 -- ---- node
 
@@ -39,12 +44,22 @@ pub record IsAdmitted (line : NodeLine) (file : NodeFile) : Type 0 where
   pub sound : IsSoundFind found
   pub start : IsNodeStart (length (words_of line.peers.now)) found tape file
 
--- what was found is why the node may not start
-pub record IsRejected (line : NodeLine) (why : NodeRejection) : Type 0 where
+-- what was found in the folder is why the node may not start
+pub record IsRejectedBy (line : NodeLine) (why : NodeRejection) : Type 0 where
   pub found : NodeFound
   pub tape : Presence
   pub sound : IsSoundFind found
   pub rejection : IsNodeRejection (length (words_of line.peers.now)) found tape why
+
+-- The folder admitted the start, and the tape has gone back.
+pub record HasReturned (line : NodeLine) (why : NodeRejection) : Type 0 where
+  pub file : NodeFile
+  pub admit : IsAdmitted line file
+  pub content : List ℕ
+  pub back : HasGoneBack file content why
+
+abbrev pub IsRejected : NodeLine → NodeRejection → Type 0
+IsRejected line why = IsRejectedBy line why ⊎ HasReturned line why
 
 -- the value of an option, if it is given
 abbrev pub value_of : NodeLine → AddressOption → Option (List ℕ)
@@ -73,7 +88,8 @@ StandsAlike content images = (stored : DurableState Definition) → StandsFor st
 
 module _ {T : Type 0} (tapes : Tape T) where
   -- The process was just opened on a tape as the node of this file, of as many nodes as the file says. Before that the tape was put in
-  -- order: if the one that was found is durable, whatever a crash leaves stands for all that its records say.
+  -- order: if the one that was found is durable, whatever a crash leaves stands for all that its records say. Its node holds all that the
+  -- file says is known of it.
   pub record IsStarted (file : NodeFile) (process : Process T tapes) : Type 0 where
     pub found : T
     pub kept : tapes.durable → StandsAlike (tapes.content found) (tapes.images process.actor.node.tape)
@@ -81,21 +97,35 @@ module _ {T : Type 0} (tapes : Tape T) where
     pub opened : IsOpened tapes tape file.node file.nodes process.actor.node
     pub begun : IsBegun process
     pub among : process.n ≡ file.nodes
+    pub holds : HoldsAll file.known (stored_of process.actor.node)
 
-  -- A process that was started so has gone on in a hub, whose process it is at an earlier moment, and which has lived; and each client was
-  -- sent the response to exactly what had come of its request, by a process that had lived so.
-  pub record HasGoneOn (file : NodeFile) : Type 0 where
-    pub started : Process T tapes
-    pub is_started : IsStarted file started
+  -- The process has gone on in a hub, whose process it is at an earlier moment, and which has lived; and each client was sent the response
+  -- to exactly what had come of its request, by a process that had lived so.
+  pub record HasLivedOn (started : Process T tapes) : Type 0 where
     pub hub : Hub T tapes
     pub lived : HasLived tapes (process_of hub)
     pub answered : HasAnswered tapes hub
     pub earlier : IsEarlier tapes started (process_of hub)
 
-  -- how the turns of a started node ended
+  -- how the turns of a process ended
+  abbrev pub IsServed : Process T tapes → Result (Unit {0}) CommandFault → Type 0
+  IsServed started (Ok done) = HasLivedOn started
+  IsServed started (Err (faults.Ended why)) = HasLivedOn started
+  IsServed started (Err fault) = IsFromSystem fault
+
+  -- A process was started so, the file was written, raised to what its node had stored, and then it has gone on.
+  pub record HasGoneOn (file : NodeFile) : Type 0 where
+    pub started : Process T tapes
+    pub is_started : IsStarted file started
+    pub written : NodeFile
+    pub is_raised : IsRaisedTo (stored_of started.actor.node) file written
+    pub on : HasLivedOn started
+
+  -- how the start of a node, which its folder had admitted, and its turns ended
   abbrev pub IsEnd : NodeFile → Result (Unit {0}) CommandFault → Type 0
   IsEnd file (Ok done) = HasGoneOn file
   IsEnd file (Err (faults.Ended why)) = HasGoneOn file
+  IsEnd file (Err (faults.Rejected why)) = (content : List ℕ) × HasGoneBack file content why
   IsEnd file (Err fault) = IsFromSystem fault
 
   -- The node was served: its folder admitted the start, and its process has gone on.
@@ -112,13 +142,9 @@ module _ {T : Type 0} (tapes : Tape T) where
 
 -- ---- init
 
--- a node opens on a tape with these bytes
-abbrev pub IsTape : List ℕ → Type 0
-IsTape bytes = (stored : DurableState Definition) × IsFoldOf stored bytes
-
--- the tape to begin with: an empty one, or that of `--from`, which is one on which a node opens
+-- the tape to begin with: an empty one, or that of `--from`, which can be that of the line's node of a farm of as many
 abbrev pub IsFirstTape : InitLine → List ℕ → Type 0
-IsFirstTape line bytes = MatchOption line.from (bytes ≡ []) (λ from. IsTape bytes)
+IsFirstTape line bytes = MatchOption line.from (bytes ≡ []) (λ from. IsFrom (path_file_name from.now) line.id line.nodes bytes)
 
 -- The file is that of the line's node, which never started.
 pub record IsFirstFile (line : InitLine) (file : NodeFile) : Type 0 where
@@ -137,12 +163,9 @@ pub record HasMade (line : InitLine) : Type 0 where
   pub tape : List ℕ
   pub begins : IsFirstTape line tape
 
--- the tape of `--from` can't be read, or is none; or an allocation failed
-abbrev pub IsFromFault : CommandFault → Type 0
-IsFromFault (faults.FromUnread kind) = ⊤
-IsFromFault (faults.FromBad offset) = ⊤
-IsFromFault faults.Memory = ⊤
-IsFromFault fault = ⊥
+-- the tape in the file of `--from` can't be that of the line's node
+abbrev pub IsFromRejected : InitLine → FromRejection → Type 0
+IsFromRejected line why = MatchOption line.from ⊥ (λ from. IsNotFrom (path_file_name from.now) line.id line.nodes why)
 
 -- why it wasn't
 abbrev pub IsInitFault : InitLine → CommandFault → Type 0
@@ -151,6 +174,8 @@ IsInitFault line faults.Name = ¬ (IsNameText line.farm.now)
 IsInitFault line (faults.NotEmpty why) = (names : ℕ) × ¬ (names ≡ 0)
 IsInitFault line (faults.FromUnread kind) = IsSome line.from
 IsInitFault line (faults.FromBad offset) = IsSome line.from
+IsInitFault line (faults.BesideUnread kind) = IsSome line.from
+IsInitFault line (faults.FromRejected why) = IsFromRejected line why
 IsInitFault line fault = IsFromSystem fault
 
 -- What `init` did.
@@ -158,11 +183,12 @@ abbrev pub IsInitDone : InitLine → Result (Unit {0}) CommandFault → Type 0
 IsInitDone line (Ok done) = HasMade line
 IsInitDone line (Err fault) = IsInitFault line fault
 
--- ---- either
+-- ---- any of them
 
 abbrev pub IsDone : {T : Type 0} → Tape T → NodeCommand → Result (Unit {0}) CommandFault → Type 0
 IsDone tapes (commands.Init line) result = IsInitDone line result
 IsDone tapes (commands.Node line) result = IsNodeDone tapes line result
+IsDone tapes (commands.Clear line) result = IsClearDone result
 
 -- the exit status of a command
 abbrev pub command_status : Result (Unit {0}) CommandFault → ℕ

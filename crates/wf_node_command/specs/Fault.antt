@@ -32,5 +32,13 @@ IsFromSystem (faults.NotEmpty why) = ⊥
 IsFromSystem (faults.Rejected why) = ⊥
 IsFromSystem (faults.FromUnread kind) = ⊥
 IsFromSystem (faults.FromBad offset) = ⊥
+IsFromSystem (faults.FromRejected why) = ⊥
+IsFromSystem (faults.BesideUnread kind) = ⊥
 IsFromSystem (faults.Ended why) = ⊥
 IsFromSystem fault = ⊤
+
+-- a file can't be written, or an allocation failed
+abbrev pub IsUnwritten : CommandFault → Type 0
+IsUnwritten (faults.Unwritten kind) = ⊤
+IsUnwritten faults.Memory = ⊤
+IsUnwritten fault = ⊥

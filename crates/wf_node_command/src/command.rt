@@ -2,6 +2,7 @@
 ghost use Rattle.wf_line.specs.NodeLine.{IsNodeCommandInRange};
 ghost use Rattle.wf_node_command.specs.Done.{IsDone};
 
+use crate::clear::clear;
 use crate::fault::CommandFault;
 use crate::init::init;
 use crate::node::node;
@@ -12,9 +13,10 @@ use std::time::Clock;
 use wf_line::NodeCommand;
 use wf_tape::{FileTape, Tape};
 
-/// Runs a command: `init` makes the folder of a node, and `node` serves it for this many turns, or until a peer tells it that it has to
-/// end; `init` takes none. A turn waits until a socket is ready, 0.1 seconds at most. Err: the cause, whose text is the line for
-/// standard error. After an error of `init` the folder may have a file without being a node's; it begins on no such folder.
+/// Runs a command: `init` makes the folder of a node, `node` serves it for this many turns, or until a peer tells it that it has to
+/// end, and `clear` ends a suspension; only `node` takes turns. A turn waits until a socket is ready, 0.1 seconds at most. Err: the cause,
+/// whose text is the line for standard error. After an error of `init` the folder may have a file without being a node's; it begins on no
+/// such folder.
 pub fn run<'a, R: Files<File = File> + Clock + Eprint + Net + AllocGlobal>(
     rt: &'a R,
     command: &NodeCommand<'_>,
@@ -26,5 +28,6 @@ pub fn run<'a, R: Files<File = File> + Clock + Eprint + Net + AllocGlobal>(
     match command {
         NodeCommand::Init(line) => init(rt, line),
         NodeCommand::Node(line) => node(rt, line, turns),
+        NodeCommand::Clear(line) => clear(rt, line),
     }
 }

@@ -2,6 +2,7 @@
 ghost use Rattle.std.specs.Prelude.{◌≡◌, ◌≤◌};
 ghost use Rattle.wf_node_command.specs.Fault.{fault_status};
 
+use crate::from_rejection::FromRejection;
 use std::io;
 use thiserror::Error;
 use wf_address::AddressOption;
@@ -54,6 +55,12 @@ pub enum CommandFault {
     /// The tape of `--from` has a bad record at this byte offset.
     #[error("--from isn't a tape: P2: a bad record at {0}")]
     FromBad(usize),
+    /// The tape of `--from` isn't taken.
+    #[error("--from: {0}")]
+    FromRejected(FromRejection),
+    /// The file `farm` beside the tape of `--from` can't be read.
+    #[error("the file farm beside --from can't be read: {0}")]
+    BesideUnread(io::ErrorKind),
     /// The tape's file can't be read.
     #[error("the tape can't be read: {0}")]
     TapeUnread(io::ErrorKind),
@@ -101,6 +108,8 @@ impl CommandFault {
             | CommandFault::PeerProgress(_)
             | CommandFault::FromUnread(_)
             | CommandFault::FromBad(_)
+            | CommandFault::FromRejected(..)
+            | CommandFault::BesideUnread(_)
             | CommandFault::TapeUnread(_)
             | CommandFault::TapeUnwritten(_)
             | CommandFault::TapeFailed

@@ -1,17 +1,18 @@
 //! The files of a node's folder.
-ghost use Rattle.std.specs.Prelude.{IfErr, IfOk, OnErr};
+ghost use Rattle.std.specs.Prelude.{◌≡◌, IfErr, IfOk};
 ghost use Rattle.wf_folder.specs.NodeAdmission.{IsSoundFind};
 ghost use Rattle.wf_folder.specs.NodeFile.{IsNodeFile};
-ghost use Rattle.wf_node_command.specs.Fault.{IsFromSystem};
+ghost use Rattle.wf_node_command.specs.Fault.{IsFromSystem, IsUnwritten};
 
 use crate::fault::CommandFault;
 use std::alloc::Global;
 use std::fs::{File, OpenFile};
 use std::io::{ErrorKind, Read};
+use std::path::Path;
 use std::rt::Files;
 use std::{fs, io};
 use wf_folder::{NodeFile, NodeFound, Presence};
-use wf_loop::{path_in, replace};
+use wf_loop::{path_in, replace_in};
 use wf_peer::PeerProgress;
 use wf_stream::{Stream, read_up_to};
 
@@ -79,40 +80,94 @@ fn fill<R: Files>(rt: &R, buffer: &mut [u8]) -> io::Result<()> {
     source.read_exact(buffer)
 }
 
-/// Puts the file `farm` of a folder in the place of the one that is there: whole and synced under another name first, then under its
-/// own, and the folder synced last.
+/// Puts the file `farm` of a folder in the place of the one that is there, synced with the folder. Ok is what was written. After an error
+/// either may be there.
 pub(crate) fn replace_farm<R: Files + AllocGlobal>(
     rt: &R,
     folder: &str,
     file: &NodeFile,
-) -> Result<(), CommandFault>
+) -> Result<NodeFile, CommandFault>
     requires { IsNodeFile file.now }
-    ensures { IfErr result IsFromSystem }
+    ensures written { IfOk result (λ written. written ≡ file.now) }
+    ensures fault { IfErr result IsFromSystem }
+    ensures cause { IfErr result IsUnwritten }
 {
     let Ok(text) = file.text(rt.alloc()) else {
         return Err(CommandFault::Memory);
     };
-    let Ok(path) = path_in(rt.alloc(), folder, "farm") else {
+    let replaced = replace_in(rt, folder, "farm", &text);
+    drop(text);
+    match replaced {
+        Ok(()) => Ok(*file),
+        Err(error) => Err(unwritten(error)),
+    }
+}
+
+/// Puts the file `heard` of a folder in the place of the one that is there, synced with the folder. Ok is what was written.
+pub(crate) fn replace_heard<R: Files + AllocGlobal>(
+    rt: &R,
+    folder: &str,
+    heard: &PeerProgress,
+) -> Result<PeerProgress, CommandFault>
+    ensures written { IfOk result (λ written. written ≡ heard.now) }
+    ensures fault { IfErr result IsFromSystem }
+{
+    let Ok(text) = heard.text(rt.alloc()) else {
         return Err(CommandFault::Memory);
     };
-    let Ok(second) = path_in(rt.alloc(), folder, "farm.new") else {
-        return Err(CommandFault::Memory);
-    };
-    match replace_synced(rt, folder, path.as_str(), second.as_str(), &text) {
+    let replaced = replace_in(rt, folder, "heard", &text);
+    drop(text);
+    match replaced {
+        Ok(()) => Ok(*heard),
+        Err(error) => Err(unwritten(error)),
+    }
+}
+
+/// The error of a file that can't be written.
+fn unwritten(error: io::Error) -> CommandFault
+    ensures fault { IsFromSystem result }
+    ensures cause { IsUnwritten result }
+{
+    match error.kind() {
+        ErrorKind::OutOfMemory => CommandFault::Memory,
+        kind => CommandFault::Unwritten(kind),
+    }
+}
+
+/// Makes a folder where its parent is there, if it isn't; the parent is synced.
+pub(crate) fn make_folder<R: Files + AllocGlobal>(rt: &R, folder: &str) -> Result<(), CommandFault>
+    ensures { IfErr result IsFromSystem }
+{
+    match fs::create_dir(rt, folder) {
+        Ok(()) => sync_parent(rt, folder),
+        Err(error) => match error.kind() {
+            ErrorKind::AlreadyExists => Ok(()),
+            ErrorKind::NotFound | ErrorKind::NotADirectory => Err(CommandFault::NoFolder),
+            kind => Err(CommandFault::Unwritten(kind)),
+        },
+    }
+}
+
+/// Syncs the folder in which a folder is.
+fn sync_parent<R: Files + AllocGlobal>(rt: &R, folder: &str) -> Result<(), CommandFault>
+    ensures { IfErr result IsFromSystem }
+{
+    match sync(rt, parent_of(folder)) {
         Ok(()) => Ok(()),
         Err(error) => Err(CommandFault::Unwritten(error.kind())),
     }
 }
 
-/// Puts these bytes in the place of a file of a folder, and syncs the folder.
-fn replace_synced<R: Files>(
-    rt: &R,
-    folder: &str,
-    path: &str,
-    second: &str,
-    bytes: &[u8],
-) -> io::Result<()> {
-    replace(rt, path, second, bytes)?;
+/// The folder in which a folder is.
+fn parent_of(folder: &str) -> &str {
+    match Path::new(folder).parent() {
+        Some(parent) if !parent.as_str().is_empty() => parent.as_str(),
+        _ => ".",
+    }
+}
+
+/// Syncs a folder.
+fn sync<R: Files>(rt: &R, folder: &str) -> io::Result<()> {
     fs::open(rt, folder)?.sync_all()
 }
 

@@ -2,25 +2,20 @@
 ghost use Rattle.std.specs.Prelude.{◌≡◌, ◌≤◌, ◌<◌, IfErr, IfOk, IsSome};
 ghost use Rattle.wf_folder.specs.Name.{pad};
 ghost use Rattle.wf_line.specs.NodeLine.{IsInitInRange};
-ghost use Rattle.wf_node_command.specs.Done.{IsFirstFile, IsFirstTape, IsFromFault, IsInitDone, IsInitFault, IsTape};
+ghost use Rattle.wf_node_command.specs.Done.{IsFirstFile, IsFirstTape, IsInitDone, IsInitFault};
 ghost use Rattle.wf_node_command.specs.Fault.{IsFromSystem};
 
 use crate::fault::CommandFault;
-use crate::folder::{count_names, hold, new_mark, read_file, replace_farm, tape_path};
-use crate::tape::MOST_TAPE_BYTES;
+use crate::folder::{count_names, hold, make_folder, new_mark, replace_farm, tape_path};
+use crate::from::{FirstTape, tape_from};
 use std::fs::File;
-use std::io::ErrorKind;
 use std::rt::Files;
-use wf_ballot::NodeId;
 use wf_folder::{FarmName, NodeFile, admit_new};
-use wf_journal::OpenFault;
 use wf_line::InitLine;
 use wf_loop::write_file;
-use wf_node::Node;
-use wf_tape::MemoryTape;
 
 /// Makes the folder of a node.
-pub(crate) fn init<R: Files<File = File> + AllocGlobal>(
+pub(crate) fn init<R: Files<File = File> + Eprint + AllocGlobal>(
     rt: &R,
     line: &InitLine<'_>,
 ) -> Result<(), CommandFault>
@@ -31,14 +26,15 @@ pub(crate) fn init<R: Files<File = File> + AllocGlobal>(
         return Err(CommandFault::Id(line.id, line.nodes));
     }
     match FarmName::new(line.farm.as_bytes()) {
-        Some(farm) => make_held(rt, line, farm),
+        Some(farm) => make(rt, line, farm),
         None => Err(CommandFault::Name),
     }
 }
 
-/// Makes the files of a folder, which is locked meanwhile.
+/// Makes the folder: the tape to begin with is read first, so that nothing is made where that isn't taken. A tape of which no file says
+/// whose it is is taken with a warning.
 #[tactic(auto, using(crate::proofs::Faults::system_of_init))]
-fn make_held<R: Files<File = File> + AllocGlobal>(
+fn make<R: Files<File = File> + Eprint + AllocGlobal>(
     rt: &R,
     line: &InitLine<'_>,
     farm: FarmName,
@@ -48,9 +44,48 @@ fn make_held<R: Files<File = File> + AllocGlobal>(
     requires farm { farm ≡ pad line.now.farm.now }
     ensures { IsInitDone line.now result }
 {
+    let tape = match first_tape(rt, line) {
+        Ok(tape) => tape,
+        Err(fault) => return Err(fault),
+    };
+    let made = make_with(rt, line, farm, &tape.bytes);
+    if made.is_ok() && !tape.is_known {
+        warn(rt, line);
+    }
+    drop(tape);
+    made
+}
+
+/// Writes that no file says whose the tape is that the folder begins with.
+fn warn<R: Eprint>(rt: &R, line: &InitLine<'_>) {
+    if let Some(from) = line.from {
+        let id = line.id;
+        let _ = eprintln!(rt;
+            "warning: no file farm beside --from {from} says that this is the tape of node {id}"
+        );
+    }
+}
+
+/// Makes the folder that begins with a tape of these bytes, if its parent is there, and the files in it. It is locked meanwhile.
+#[tactic(auto, using(crate::proofs::Faults::system_of_init))]
+fn make_with<R: Files<File = File> + AllocGlobal>(
+    rt: &R,
+    line: &InitLine<'_>,
+    farm: FarmName,
+    tape: &[u8],
+) -> Result<(), CommandFault>
+    requires range { IsInitInRange line.now }
+    requires member { line.now.id < line.now.nodes }
+    requires farm { farm ≡ pad line.now.farm.now }
+    requires tape { IsFirstTape line.now tape.now }
+    ensures { IsInitDone line.now result }
+{
+    if let Err(fault) = make_folder(rt, line.state) {
+        return Err(fault);
+    }
     match hold(rt, line.state) {
         Ok(held) => {
-            let made = make(rt, line, farm);
+            let made = fill_folder(rt, line, farm, tape);
             drop(held);
             made
         }
@@ -58,16 +93,18 @@ fn make_held<R: Files<File = File> + AllocGlobal>(
     }
 }
 
-/// Makes the files of a folder, if it is empty: the tape first, so that a folder with a file `farm` has one.
+/// Makes the files of a folder, if it is empty.
 #[tactic(auto, using(crate::proofs::Faults::system_of_init))]
-fn make<R: Files + AllocGlobal>(
+fn fill_folder<R: Files + AllocGlobal>(
     rt: &R,
     line: &InitLine<'_>,
     farm: FarmName,
+    tape: &[u8],
 ) -> Result<(), CommandFault>
     requires range { IsInitInRange line.now }
     requires member { line.now.id < line.now.nodes }
     requires farm { farm ≡ pad line.now.farm.now }
+    requires tape { IsFirstTape line.now tape.now }
     ensures { IsInitDone line.now result }
 {
     let names = match count_names(rt, line.state) {
@@ -77,17 +114,13 @@ fn make<R: Files + AllocGlobal>(
     if let Err(why) = admit_new(names) {
         return Err(CommandFault::NotEmpty(why));
     }
-    let tape = match first_tape(rt, line) {
-        Ok(tape) => tape,
-        Err(fault) => return Err(fault),
-    };
-    match write_files(rt, line, farm, &tape) {
+    match write_files(rt, line, farm, tape) {
         Ok(_) => Ok(()),
         Err(fault) => Err(fault),
     }
 }
 
-/// Writes the tape and the file `farm` of an empty folder. Ok is that file.
+/// Writes the tape and the file `farm` of an empty folder: the tape first, so that a folder with a file `farm` has one. Ok is that file.
 fn write_files<R: Files + AllocGlobal>(
     rt: &R,
     line: &InitLine<'_>,
@@ -112,69 +145,25 @@ fn write_files<R: Files + AllocGlobal>(
         return Err(CommandFault::Unwritten(error.kind()));
     }
     let file = NodeFile::new(line.id, line.nodes, farm, mark);
-    match replace_farm(rt, line.state, &file) {
-        Ok(()) => Ok(file),
-        Err(fault) => Err(fault),
-    }
+    replace_farm(rt, line.state, &file)
 }
 
 /// The tape that a node begins with.
 #[tactic(auto, using(crate::proofs::Faults::from_fault))]
-fn first_tape<R: Files + AllocGlobal>(rt: &R, line: &InitLine<'_>) -> Result<Vec<u8>, CommandFault>
+fn first_tape<R: Files + AllocGlobal>(
+    rt: &R,
+    line: &InitLine<'_>,
+) -> Result<FirstTape, CommandFault>
     requires range { IsInitInRange line.now }
     requires member { line.now.id < line.now.nodes }
-    ensures tape { IfOk result (λ bytes. IsFirstTape line.now bytes.items) }
+    ensures tape { IfOk result (λ tape. IsFirstTape line.now tape.bytes.items) }
     ensures fault { IfErr result (IsInitFault line.now) }
 {
     match line.from {
         Some(from) => tape_from(rt, from, line.id, line.nodes),
-        None => Ok(Vec::new(rt.alloc())),
-    }
-}
-
-/// The bytes of a tape on which the node opens.
-fn tape_from<R: Files + AllocGlobal>(
-    rt: &R,
-    from: &str,
-    id: u8,
-    nodes: u8,
-) -> Result<Vec<u8>, CommandFault>
-    requires nodes { nodes ≤ 64 }
-    requires member { id < nodes }
-    ensures tape { IfOk result (λ bytes. IsTape bytes.items) }
-    ensures fault { IfErr result IsFromFault }
-{
-    let bytes = match read_file(rt, from, MOST_TAPE_BYTES) {
-        Ok(bytes) => bytes,
-        Err(error) => {
-            return Err(match error.kind() {
-                ErrorKind::OutOfMemory => CommandFault::Memory,
-                kind => CommandFault::FromUnread(kind),
-            });
-        }
-    };
-    let Ok(copy) = Vec::from_slice(rt.alloc(), &bytes) else {
-        return Err(CommandFault::Memory);
-    };
-    let id = NodeId::new(id).unwrap();
-    match Node::open(rt.alloc(), MemoryTape::new(copy), id, nodes) {
-        Ok(node) => {
-            drop(node);
-            Ok(bytes)
-        }
-        Err((tape, fault)) => {
-            drop(tape);
-            Err(from_fault(fault))
-        }
-    }
-}
-
-/// The error of a tape in memory that doesn't open.
-fn from_fault(fault: OpenFault) -> CommandFault
-    ensures { IsFromFault result }
-{
-    match fault {
-        OpenFault::BadRecord(offset) => CommandFault::FromBad(offset),
-        OpenFault::TapeFailed | OpenFault::Memory => CommandFault::Memory,
+        None => Ok(FirstTape {
+            bytes: Vec::new(rt.alloc()),
+            is_known: true,
+        }),
     }
 }

@@ -19,16 +19,21 @@
 //! lock holds, and that what is written stays, is tried with the built program.
 #![tactic(auto)]
 
+mod clear;
 mod command;
 mod event;
 mod fault;
 mod folder;
+mod from;
+mod from_rejection;
 mod held;
+mod held_state;
 mod init;
 mod node;
-mod stored;
+mod settled;
 mod tape;
 
 pub use command::run;
 pub use fault::CommandFault;
+pub use from_rejection::FromRejection;
 pub use wf_address::AddressOption;

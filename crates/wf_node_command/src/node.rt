@@ -1,18 +1,22 @@
 //! `wfarm node`.
 ghost use Rattle.std.specs.Prelude.{◌≡◌, ◌≤◌, IfErr, IfOk, length};
 ghost use Rattle.wf_address.specs.Address.{words_of};
-ghost use Rattle.wf_folder.specs.NodeFile.{IsNodeFile};
+ghost use Rattle.wf_folder.specs.NodeFile.{IsNodeFile, raised_known};
 ghost use Rattle.wf_line.specs.NodeLine.{IsNodeInRange};
 ghost use Rattle.wf_loop.specs.Hub.{HasAnswered, process_of};
 ghost use Rattle.wf_loop.specs.Lived.{HasLived};
 ghost use Rattle.wf_loop.specs.Continuation.{KeepsEarlier};
-ghost use Rattle.wf_node_command.specs.Done.{IsAdmitted, IsEnd, IsNodeDone, IsNodeFault, IsStarted};
+ghost use Rattle.wf_node_command.specs.Done.{IsAdmitted, IsEnd, IsNodeDone, IsNodeFault, IsServed, IsStarted};
+ghost use Rattle.wf_node.specs.Node.{stored_of};
 ghost use Rattle.wf_node_command.specs.Fault.{IsFromSystem, fault_of};
+ghost use Rattle.wf_node_command.specs.Held.{IsKnownOf, IsWhyNotOpened};
 
 use crate::fault::CommandFault;
-use crate::folder::{find_in, hold, presence, read_peer_progress, replace_farm, tape_path};
+use crate::folder::{
+    find_in, hold, new_mark, presence, read_peer_progress, replace_farm, tape_path,
+};
 use crate::held::HeldFolder;
-use crate::tape::{open_process, open_tape};
+use crate::tape::{examine_tape, open_process, open_tape};
 use std::alloc::Global;
 use std::fs::File;
 use std::net::{Net, SocketAddr};
@@ -20,7 +24,7 @@ use std::rt::Files;
 use std::time::Clock;
 use wf_address::{AddressOption, ListFault, address, address_if_any, addresses};
 use wf_ballot::NodeId;
-use wf_folder::{NodeFile, NodeFound, admit_node};
+use wf_folder::{Known, NodeFile, NodeFound, Reach, admit_node};
 use wf_line::NodeLine;
 use wf_loop::{Begun, Hub, Log, NodeEvent, NodeFolder, NodePlan, Process};
 use wf_peer::{Own, PeerProgress, PeerRejection, Progress};
@@ -199,7 +203,7 @@ fn start_as<'a, R: Files<File = File> + Clock + Eprint + Net + AllocGlobal>(
 }
 
 /// Serves the node of this file on the tape at this path.
-#[tactic(auto, using(crate::proofs::Faults::not_opened))]
+#[tactic(auto, using(crate::proofs::Faults::not_opened, crate::proofs::Faults::not_opened_by_system))]
 fn serve_at<'a, R: Files<File = File> + Clock + Eprint + Net + AllocGlobal>(
     rt: &'a R,
     line: &NodeLine<'_>,
@@ -215,15 +219,8 @@ fn serve_at<'a, R: Files<File = File> + Clock + Eprint + Net + AllocGlobal>(
     ensures { IsEnd ⟦<FileTape<&'a R> as Tape>⟧ file.now result }
 {
     match open_node(rt, line, file, path) {
-        Ok((progress, process)) => match plan_of(
-            rt.alloc(),
-            line,
-            node_addresses,
-            file,
-            progress,
-            path,
-        ) {
-            Ok(plan) => begin(rt, line, held, file, plan, process, path, turns),
+        Ok((process, known)) => match plan_of(rt, line, node_addresses, file, &known.reach, path) {
+            Ok(plan) => begin(rt, line, held, file, plan, process, &known, path, turns),
             Err(fault) => {
                 drop(process);
                 Err(fault)
@@ -236,18 +233,24 @@ fn serve_at<'a, R: Files<File = File> + Clock + Eprint + Net + AllocGlobal>(
     }
 }
 
-/// How far the node of this file is, and its process on the tape at this path.
+/// The process of the node of this file on the tape at this path, and how far the node is. The tape is compared with what is known of the
+/// node before anything is written.
+#[tactic(auto, using(crate::proofs::Kept::unopened_of_system))]
 fn open_node<'a, R: Files + Clock + Eprint + AllocGlobal>(
     rt: &'a R,
     line: &NodeLine<'_>,
     file: &NodeFile,
     path: &str,
-) -> Result<(Progress, Process<FileTape<&'a R>>), CommandFault>
+) -> Result<(Process<FileTape<&'a R>>, Known), CommandFault>
     requires range { IsNodeInRange line.now }
     requires file { IsNodeFile file.now }
-    ensures started { IfOk result (λ opened. IsStarted ⟦<FileTape<&'a R> as Tape>⟧ file.now opened.1) }
-    ensures fault { IfErr result IsFromSystem }
+    ensures started { IfOk result (λ opened. IsStarted ⟦<FileTape<&'a R> as Tape>⟧ file.now opened.0) }
+    ensures known { IfOk result (λ opened. IsKnownOf (stored_of opened.0.actor.node) opened.1) }
+    ensures fault { IfErr result (IsWhyNotOpened file.now) }
 {
+    if let Err(fault) = examine_tape(rt, file, path) {
+        return Err(fault);
+    }
     let log = Log::new(rt, line.log);
     let tape = match open_tape(rt, path) {
         Ok(tape) => tape,
@@ -256,13 +259,13 @@ fn open_node<'a, R: Files + Clock + Eprint + AllocGlobal>(
     open_process(rt, &log, file, tape, path, line.cache)
 }
 
-/// Which node it is, and where the others are.
-fn plan_of(
-    alloc: Global,
+/// Which node it is, how far it is at this start, and where the others are.
+fn plan_of<R: Files + AllocGlobal>(
+    rt: &R,
     line: &NodeLine<'_>,
     node_addresses: NodeAddresses,
     file: &NodeFile,
-    start: Progress,
+    reach: &Reach,
     path: &str,
 ) -> Result<NodePlan, CommandFault>
     requires file { IsNodeFile file.now }
@@ -276,11 +279,18 @@ fn plan_of(
         admin,
         readers,
     } = node_addresses;
-    let Ok(folder) = String::from_str(alloc, line.state) else {
+    let life = match new_mark(rt) {
+        Ok(life) => life,
+        Err(fault) => {
+            drop(peers);
+            return Err(fault);
+        }
+    };
+    let Ok(folder) = String::from_str(rt.alloc(), line.state) else {
         drop(peers);
         return Err(CommandFault::Memory);
     };
-    let Ok(tape) = String::from_str(alloc, path) else {
+    let Ok(tape) = String::from_str(rt.alloc(), path) else {
         drop(peers);
         drop(folder);
         return Err(CommandFault::Memory);
@@ -292,7 +302,8 @@ fn plan_of(
             nodes: file.nodes,
             node: NodeId::new(file.node).unwrap(),
         },
-        start,
+        start: Progress::new(file.mark, file.starts, life, reach),
+        suspension: file.suspension,
         folder,
         tape,
         peers,
@@ -305,7 +316,7 @@ fn plan_of(
 }
 
 /// Counts the start in the folder, and serves the node from then on.
-#[tactic(auto, using(crate::proofs::Faults::not_opened))]
+#[tactic(auto, using(crate::proofs::Faults::not_opened_by_system, crate::proofs::Started::ended_by))]
 fn begin<'a, R: Files<File = File> + Clock + Eprint + Net + AllocGlobal>(
     rt: &'a R,
     line: &NodeLine<'_>,
@@ -313,22 +324,24 @@ fn begin<'a, R: Files<File = File> + Clock + Eprint + Net + AllocGlobal>(
     file: &NodeFile,
     plan: NodePlan,
     process: Process<FileTape<&'a R>>,
+    known: &Known,
     path: &str,
     turns: u64,
 ) -> Result<(), CommandFault>
     requires file { IsNodeFile file.now }
     requires started { IsStarted ⟦<FileTape<&'a R> as Tape>⟧ file.now process }
+    requires known { IsKnownOf (stored_of process.actor.node) known.now }
     ensures { IsEnd ⟦<FileTape<&'a R> as Tape>⟧ file.now result }
 {
-    match count_start(rt, line, file) {
-        Ok(known) => serve(
+    match count_start(rt, line, file, known) {
+        Ok((heard, written)) => serve(
             rt,
             line,
-            file,
+            file.node,
             plan,
             process,
-            known,
-            &mut HeldFolder::new(rt, line.state, path, held, *file),
+            heard,
+            &mut HeldFolder::new(rt, line.state, path, held, written),
             turns,
         ),
         Err(fault) => {
@@ -339,21 +352,28 @@ fn begin<'a, R: Files<File = File> + Clock + Eprint + Net + AllocGlobal>(
     }
 }
 
-/// Counts the start in the folder's file. Ok is what was heard of the peers before.
+/// Counts the start in the folder's file, raised to how far the node is. Ok is what was heard of the peers before, and the file as it was
+/// written.
 fn count_start<R: Files + AllocGlobal>(
     rt: &R,
     line: &NodeLine<'_>,
     file: &NodeFile,
-) -> Result<PeerProgress, CommandFault>
+    known: &Known,
+) -> Result<(PeerProgress, NodeFile), CommandFault>
     requires { IsNodeFile file.now }
-    ensures { IfErr result IsFromSystem }
+    ensures raised { IfOk result (λ counted. counted.1 ≡ record file.now {
+      known = raised_known file.now.known known.now.reach known.now.digest;
+    }) }
+    ensures sound { IfOk result (λ counted. IsNodeFile counted.1) }
+    ensures fault { IfErr result IsFromSystem }
 {
-    let known = match read_peer_progress(rt, line.state) {
-        Ok(known) => known,
+    let heard = match read_peer_progress(rt, line.state) {
+        Ok(heard) => heard,
         Err(fault) => return Err(fault),
     };
-    match replace_farm(rt, line.state, file) {
-        Ok(()) => Ok(known),
+    let raised = file.raise(&known.reach, known.digest);
+    match replace_farm(rt, line.state, &raised) {
+        Ok(written) => Ok((heard, written)),
         Err(fault) => Err(fault),
     }
 }
@@ -366,19 +386,18 @@ fn serve<
 >(
     rt: &R,
     line: &NodeLine<'_>,
-    file: &NodeFile,
+    node: u8,
     plan: NodePlan,
     process: Process<T>,
-    known: PeerProgress,
+    heard: PeerProgress,
     folder: &mut F,
     turns: u64,
 ) -> Result<(), CommandFault>
-    requires started { IsStarted T.Tape file.now process }
-    ensures { IsEnd T.Tape file.now result }
+    ensures { IsServed T.Tape process result }
 {
     let log = Log::new(rt, line.log);
     let listen = plan.listen;
-    let mut hub = match Hub::new(rt, plan, process, known) {
+    let mut hub = match Hub::new(rt, plan, process, heard) {
         Ok(hub) => hub,
         Err(fault) => return Err(CommandFault::Loop(fault)),
     };
@@ -386,7 +405,7 @@ fn serve<
         log.write(&NodeEvent::Listening { http, listen });
     }
     log.write(&NodeEvent::Opened {
-        node: file.node as usize,
+        node: node as usize,
         published: hub.process().node().published().number(),
     });
     let ended = go_on(rt, &log, &mut hub, folder, turns);
@@ -419,7 +438,7 @@ fn go_on<
     ensures earlier { KeepsEarlier T.Tape (process_of hub.old) (process_of hub.new) }
 {
     for _ in 0..turns {
-        if let Begun::Ended(why) = hub.go_on(rt, log) {
+        if let Begun::Ended(why) = hub.go_on(rt, log, folder) {
             return Err(why);
         }
         reopen_if_due(rt, log, hub, folder);

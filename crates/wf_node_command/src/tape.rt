@@ -1,28 +1,30 @@
 //! The tape of a node that starts.
-ghost use Rattle.std.specs.Prelude.{◌≡◌, ◌≢◌, ◌≤◌, ◌<◌, false, IfErr, IfOk};
+ghost use Rattle.std.specs.Prelude.{◌≡◌, ◌≢◌, ◌≤◌, ◌<◌, false, IfErr, IfOk, OnOk};
 ghost use Rattle.wf_folder.specs.NodeFile.{IsNodeFile};
-ghost use Rattle.wf_journal.specs.Journal.{IsBadAt, IsWhereBad, ReadsSame};
-ghost use Rattle.wf_node.specs.Images.{AllStandFor};
+ghost use Rattle.wf_journal.specs.Journal.{ReadsSame};
+ghost use Rattle.wf_node.specs.Images.{AllStandFor, StandsFor};
 ghost use Rattle.wf_node.specs.Node.{stored_of};
+ghost use Rattle.wf_node.specs.OpenedNode.{IsFoldOf};
 ghost use Rattle.wf_node_command.specs.Done.{IsStarted, StandsAlike};
 ghost use Rattle.wf_node_command.specs.Fault.{IsFromSystem};
+ghost use Rattle.wf_node_command.specs.Held.{HasHeld, HoldsAll, IsKnownOf, IsWhyNotHeld, IsWhyNotHeldBy, IsWhyNotOpened};
 
 use crate::event::TapeZeros;
 use crate::fault::CommandFault;
-use crate::folder::{new_mark, read_file};
-use crate::stored::progress_of;
+use crate::folder::read_file;
+use crate::held_state::examine_node;
+use crate::settled::settle;
 use std::alloc::Global;
+use std::io::ErrorKind;
 use std::rt::Files;
 use std::time::Clock;
 use std::{fs, io};
 use wf_ballot::NodeId;
-use wf_folder::NodeFile;
-use wf_journal::{Journal, OpenFault, Record, records_are_read_one_way};
+use wf_folder::{Known, NodeFile};
+use wf_journal::{OpenFault, records_are_read_one_way};
 use wf_loop::{Log, Process, write_file};
 use wf_node::{Node, NodeFault};
-use wf_peer::Progress;
-use wf_recovery::drop_unsynced;
-use wf_tape::{FileTape, Tape, TapeFault};
+use wf_tape::{FileTape, MemoryTape, Tape, TapeFault};
 
 /// The greatest length of a tape, in bytes.
 pub(crate) const MOST_TAPE_BYTES: usize = 8_589_934_592;
@@ -41,7 +43,95 @@ pub(crate) fn open_tape<'a, R: Files + AllocGlobal>(
     }
 }
 
-/// How far the node of this file is, by the records of its tape, and its process on the tape, which is shortened first.
+/// Whether the node of this file holds all that is known of it on the tape at a path. It is opened on a copy of the tape's bytes in
+/// memory: no file is changed.
+#[tactic(auto, using(crate::proofs::Kept::not_opened_by, crate::proofs::Kept::unopened_of_system))]
+pub(crate) fn examine_tape<R: Files + AllocGlobal>(
+    rt: &R,
+    file: &NodeFile,
+    path: &str,
+) -> Result<(), CommandFault>
+    requires { IsNodeFile file.now }
+    ensures { IfErr result (IsWhyNotOpened file.now) }
+{
+    match read_file(rt, path, MOST_TAPE_BYTES) {
+        Ok(bytes) => examine_bytes(rt.alloc(), file, bytes),
+        Err(error) => Err(match error.kind() {
+            ErrorKind::OutOfMemory => CommandFault::Memory,
+            kind => CommandFault::TapeUnread(kind),
+        }),
+    }
+}
+
+/// Whether the node of this file holds all that is known of it on a tape of these bytes.
+#[tactic(auto, using(crate::proofs::Kept::held_by, crate::proofs::Kept::not_held_by, crate::proofs::Kept::unheld_of_system))]
+fn examine_bytes(alloc: Global, file: &NodeFile, bytes: Vec<u8>) -> Result<(), CommandFault>
+    requires { IsNodeFile file.now }
+    ensures holds { OnOk result (HasHeld file.now bytes.items) }
+    ensures fault { IfErr result (IsWhyNotHeldBy file.now bytes.items) }
+{
+    match open_copy(alloc, file, bytes) {
+        Ok(node) => {
+            let examined = examine_node(alloc, &file.known, &node);
+            drop(node);
+            match examined {
+                Ok(_) => Ok(()),
+                Err(fault) => Err(fault),
+            }
+        }
+        Err(fault) => Err(fault),
+    }
+}
+
+/// The node of this file on a tape of these bytes, in memory.
+#[tactic(auto, using(crate::proofs::Kept::stands_back))]
+fn open_copy(
+    alloc: Global,
+    file: &NodeFile,
+    bytes: Vec<u8>,
+) -> Result<Node<MemoryTape>, CommandFault>
+    requires { IsNodeFile file.now }
+    ensures stands { IfOk result (λ node. StandsFor (stored_of node) bytes.items) }
+    ensures fault { IfErr result IsFromSystem }
+{
+    match settle(alloc, MemoryTape::new(bytes)) {
+        Ok((tape, _)) => open_node(alloc, file, tape),
+        Err(fault) => Err(copy_fault(fault)),
+    }
+}
+
+/// The node of this file on a tape in memory.
+fn open_node(
+    alloc: Global,
+    file: &NodeFile,
+    tape: MemoryTape,
+) -> Result<Node<MemoryTape>, CommandFault>
+    requires { IsNodeFile file.now }
+    ensures stored { IfOk result (λ node. IsFoldOf (stored_of node) tape.bytes) }
+    ensures fault { IfErr result IsFromSystem }
+{
+    match Node::open(alloc, tape, id_of(file), file.nodes) {
+        Ok(node) => Ok(node),
+        Err((tape, fault)) => {
+            drop(tape);
+            Err(copy_fault(fault))
+        }
+    }
+}
+
+/// The error of a tape in memory that doesn't open.
+fn copy_fault(fault: OpenFault) -> CommandFault
+    ensures { IsFromSystem result }
+{
+    match fault {
+        OpenFault::BadRecord(offset) => CommandFault::TapeBad(offset),
+        OpenFault::TapeFailed | OpenFault::Memory => CommandFault::Memory,
+    }
+}
+
+/// The process of the node of this file on its tape, which is shortened first, and how far the node is. Err: the cause, which may be that
+/// the tape holds less than is known of the node.
+#[tactic(auto, using(crate::proofs::Kept::unopened_of_system))]
 pub(crate) fn open_process<R: Files + Clock + Eprint + AllocGlobal, T: Tape + Drop>(
     rt: &R,
     log: &Log<'_, R>,
@@ -49,18 +139,25 @@ pub(crate) fn open_process<R: Files + Clock + Eprint + AllocGlobal, T: Tape + Dr
     tape: T,
     path: &str,
     pictures: u8,
-) -> Result<(Progress, Process<T>), CommandFault>
+) -> Result<(Process<T>, Known), CommandFault>
     requires file { IsNodeFile file.now }
     requires least { 1 ≤ pictures }
     requires most { pictures ≤ 64 }
-    ensures started { IfOk result (λ opened. IsStarted T.Tape file.now opened.1) }
-    ensures fault { IfErr result IsFromSystem }
+    ensures started { IfOk result (λ opened. IsStarted T.Tape file.now opened.0) }
+    ensures known { IfOk result (λ opened. IsKnownOf (stored_of opened.0.actor.node) opened.1) }
+    ensures fault { IfErr result (IsWhyNotOpened file.now) }
 {
-    let (progress, read) = read_progress(rt, log, file, tape, path)?;
+    let read = match settle_tape(rt, log, tape, path) {
+        Ok(read) => read,
+        Err(fault) => return Err(fault),
+    };
     let id = id_of(file);
-    let short = shorten_tape(rt, read, id, file.nodes, path)?;
+    let short = match shorten_tape(rt, read, id, file.nodes, path) {
+        Ok(short) => short,
+        Err(fault) => return Err(fault),
+    };
     match Process::open(rt.alloc(), short, id, file.nodes, pictures as usize) {
-        Ok(process) => Ok((progress, process)),
+        Ok(process) => admit_process(rt.alloc(), &file.known, process),
         Err((tape, fault)) => {
             drop(tape);
             Err(fault_of(rt, path, fault))
@@ -68,138 +165,45 @@ pub(crate) fn open_process<R: Files + Clock + Eprint + AllocGlobal, T: Tape + Dr
     }
 }
 
-/// How far the node of this file is, by the records of a tape. The tape that is returned was written anew, whole, so that a node opens
-/// on it without a second copy.
-fn read_progress<R: Files + Clock + Eprint + AllocGlobal, T: Tape + Drop>(
-    rt: &R,
-    log: &Log<'_, R>,
-    file: &NodeFile,
-    tape: T,
-    path: &str,
-) -> Result<(Progress, T), CommandFault>
-    ensures same { T.durable → IfOk result (λ read. ReadsSame (T.content tape) (T.content read.1)) }
-    ensures fault { IfErr result IsFromSystem }
+/// A process and how far its node is, if that holds all that is known of it.
+fn admit_process<T: Tape + Drop>(
+    alloc: Global,
+    known: &Known,
+    process: Process<T>,
+) -> Result<(Process<T>, Known), CommandFault>
+    ensures same { IfOk result (λ opened. opened.0 ≡ process) }
+    ensures holds { IfOk result (λ _. HoldsAll known.now (stored_of process.actor.node)) }
+    ensures known { IfOk result (λ opened. IsKnownOf (stored_of process.actor.node) opened.1) }
+    ensures fault { IfErr result (IsWhyNotHeld known.now (stored_of process.actor.node)) }
 {
-    let life = new_mark(rt)?;
-    let (journal, records) = open_journal(rt, log, tape, path)?;
-    let progress = progress_of(file, life, &records);
-    drop(records);
-    Ok((progress, journal.close()))
-}
-
-/// The journal of a tape, and its records. Zeros behind them that were never synced are dropped first.
-#[tactic(auto, using(crate::proofs::Kept::same_back))]
-fn open_journal<R: Files + Clock + Eprint + AllocGlobal, T: Tape + Drop>(
-    rt: &R,
-    log: &Log<'_, R>,
-    tape: T,
-    path: &str,
-) -> Result<(Journal<T>, Vec<Record>), CommandFault>
-    ensures same { T.durable →
-        IfOk result (λ opened. ReadsSame (T.content tape) (T.content opened.0.tape)) }
-    ensures fault { IfErr result IsFromSystem }
-{
-    match open_whole(rt.alloc(), tape) {
-        Ok((journal, records)) => Ok((journal, records)),
-        Err((tape, fault)) => recover(rt, log, tape, fault, path),
-    }
-}
-
-/// The journal of a tape that has nothing or a torn record behind its records, and these.
-#[tactic(auto, using(crate::proofs::Kept::bad_still))]
-fn open_whole<T: Tape>(alloc: Global, tape: T) -> Result<(Journal<T>, Vec<Record>), (T, OpenFault)>
-    ensures same { T.durable →
-        IfOk result (λ opened. ReadsSame (T.content tape) (T.content opened.0.tape)) }
-    ensures kept { T.durable →
-        IfErr result (λ e. e.1 ≢ OpenFault.TapeFailed → T.content e.0 ≡ T.content tape) }
-    ensures bad { T.durable → IfErr result (λ e. IsWhereBad e.1 (T.content e.0)) }
-{
-    // Bytes are read as one list of records at most.
-    records_are_read_one_way();
-    match Journal::open(alloc, tape) {
-        Ok((journal, records)) => Ok((journal, records)),
-        Err((tape, fault)) => Err((tape, fault)),
-    }
-}
-
-/// The journal of a tape on which none opened, if what was never synced is why, and its records.
-#[tactic(auto, using(crate::proofs::Kept::unfailed))]
-fn recover<R: Files + Clock + Eprint + AllocGlobal, T: Tape + Drop>(
-    rt: &R,
-    log: &Log<'_, R>,
-    tape: T,
-    fault: OpenFault,
-    path: &str,
-) -> Result<(Journal<T>, Vec<Record>), CommandFault>
-    requires { T.durable → IsWhereBad fault (T.content tape) }
-    ensures same { T.durable →
-        IfOk result (λ opened. ReadsSame (T.content tape) (T.content opened.0.tape)) }
-    ensures unfailed { IfOk result (λ _. fault ≢ OpenFault.TapeFailed) }
-    ensures fault { IfErr result IsFromSystem }
-{
-    match fault {
-        OpenFault::BadRecord(offset) => open_without_zeros(rt, log, tape, offset, path),
-        OpenFault::TapeFailed | OpenFault::Memory => {
-            drop(tape);
-            Err(fault_of(rt, path, fault))
+    match examine_node(alloc, known, process.node()) {
+        Ok(held) => Ok((process, held)),
+        Err(fault) => {
+            drop(process);
+            Err(fault)
         }
     }
 }
 
-/// The journal of a tape that is bad at this offset, if what is there was never synced, and its records.
-#[tactic(auto, using(crate::proofs::Kept::same_twice))]
-fn open_without_zeros<R: Files + Clock + Eprint + AllocGlobal, T: Tape + Drop>(
+/// A tape that was written anew, whole, so that a node opens on it without a second copy. Zeros behind its records that were never synced
+/// are dropped first.
+fn settle_tape<R: Files + Clock + Eprint + AllocGlobal, T: Tape + Drop>(
     rt: &R,
     log: &Log<'_, R>,
     tape: T,
-    offset: usize,
-    path: &str,
-) -> Result<(Journal<T>, Vec<Record>), CommandFault>
-    requires { T.durable → IsBadAt (T.content tape) offset }
-    ensures same { T.durable →
-        IfOk result (λ opened. ReadsSame (T.content tape) (T.content opened.0.tape)) }
-    ensures fault { IfErr result IsFromSystem }
-{
-    let left = drop_zeros(rt, log, tape, offset, path)?;
-    match open_whole(rt.alloc(), left) {
-        Ok((journal, records)) => Ok((journal, records)),
-        Err((tape, fault)) => {
-            drop(tape);
-            Err(fault_of(rt, path, fault))
-        }
-    }
-}
-
-/// A tape that is bad at this offset, without the zeros there, which were never synced. Err: it has something else there.
-fn drop_zeros<R: Files + Clock + Eprint + AllocGlobal, T: Tape + Drop>(
-    rt: &R,
-    log: &Log<'_, R>,
-    tape: T,
-    offset: usize,
     path: &str,
 ) -> Result<T, CommandFault>
-    requires { T.durable → IsBadAt (T.content tape) offset }
-    ensures same { T.durable →
-        IfOk result (λ left. ReadsSame (T.content tape) (T.content left)) }
+    ensures same { T.durable → IfOk result (λ settled. ReadsSame (T.content tape) (T.content settled)) }
     ensures fault { IfErr result IsFromSystem }
 {
-    let mut tape = tape;
-    match drop_unsynced(rt.alloc(), &mut tape, offset) {
-        Ok(0) => {
-            drop(tape);
-            Err(CommandFault::TapeBad(offset))
-        }
-        Ok(dropped) => {
-            log.write(&TapeZeros { dropped });
+    match settle(rt.alloc(), tape) {
+        Ok((tape, dropped)) => {
+            if dropped != 0 {
+                log.write(&TapeZeros { dropped });
+            }
             Ok(tape)
         }
-        Err(fault) => {
-            drop(tape);
-            Err(match fault {
-                TapeFault::Memory => CommandFault::Memory,
-                TapeFault::Device => cause_of_failure(rt, path),
-            })
-        }
+        Err(fault) => Err(fault_of(rt, path, fault)),
     }
 }
 
@@ -263,8 +267,7 @@ fn fault_of<R: Files + AllocGlobal>(rt: &R, path: &str, fault: OpenFault) -> Com
 {
     match fault {
         OpenFault::TapeFailed => cause_of_failure(rt, path),
-        OpenFault::BadRecord(offset) => CommandFault::TapeBad(offset),
-        OpenFault::Memory => CommandFault::Memory,
+        OpenFault::BadRecord(_) | OpenFault::Memory => copy_fault(fault),
     }
 }
 

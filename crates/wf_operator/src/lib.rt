@@ -1,4 +1,5 @@
-//! The operator's port of a process that has a history: `GET /healthz`, `/readyz`, `/metrics`, `/map?seq=S` and `/history?from=S`.
+//! The operator's port of a process that has a history: `GET /healthz`, `/readyz`, `/votez`, `/metrics`, `/map?seq=S` and
+//! `/history?from=S`.
 //!
 //! - [`Operator`] answers what an [`Operated`] tells of itself; other paths are 404, other methods 405.
 //! - `metrics` writes samples in Prometheus' text form. [`PictureCounts`] counts the pictures among the responses. [`Behind`] says

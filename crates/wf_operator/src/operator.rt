@@ -5,6 +5,7 @@ use crate::page::TextPage;
 use crate::request::{FirstLine, is_whole, number_of, request_of};
 use http::StatusCode;
 use std::alloc::{AllocError, Global};
+use std::net::SocketAddr;
 use wf_client::{Incoming, Outgoing};
 use wf_learner::History;
 use wf_visitors::{Server, ServerReply};
@@ -17,12 +18,23 @@ const MOST_LINES: u16 = 256;
 pub enum Health {
     /// It serves, and nothing is wrong.
     Fine,
-    /// Its tape has failed.
+    /// Its tape has failed, or what it hears of its peers can't be written.
     Halted,
+    /// This peer at this address remembers more of it than it has.
+    Suspended {
+        peer: usize,
+        address: SocketAddr,
+        remembers: &'static str,
+    },
     /// Its history and that of a node differ, up to this sequence.
-    Differs { peer: usize, sequence: u16 },
+    Differs {
+        peer: usize,
+        sequence: u16,
+    },
     /// Its history and that of a reader differ, up to this sequence.
-    ReaderDiffers { sequence: u16 },
+    ReaderDiffers {
+        sequence: u16,
+    },
 }
 
 /// A process that tells an operator of itself.
@@ -35,6 +47,9 @@ pub trait Operated {
 
     /// How it is.
     fn health(&self) -> Health;
+
+    /// Whether it hears a majority of its farm, itself counted. None: it doesn't vote.
+    fn hears_majority(&self) -> Option<bool>;
 
     /// The latest sequence that it has heard of, if it has been behind for too long.
     fn later(&self) -> Option<u16>;
@@ -94,6 +109,7 @@ fn respond<O: Operated>(alloc: Global, operated: &O, bytes: &[u8]) -> Result<Tex
     match path {
         "/healthz" => health_page(alloc, operated.health()),
         "/readyz" => readiness_page(alloc, operated),
+        "/votez" => vote_page(alloc, operated),
         "/metrics" => metrics_page(alloc, operated),
         "/map" => map_page(alloc, operated.history(), query),
         "/history" => history_page(alloc, operated, query),
@@ -106,6 +122,14 @@ fn health_page(alloc: Global, health: Health) -> Result<TextPage, AllocError> {
     match health {
         Health::Fine => TextPage::of(alloc, StatusCode::OK, "ok\n"),
         Health::Halted => TextPage::of(alloc, StatusCode::SERVICE_UNAVAILABLE, "halted\n"),
+        Health::Suspended {
+            peer,
+            address,
+            remembers,
+        } => Ok(TextPage::of_text(
+            StatusCode::SERVICE_UNAVAILABLE,
+            format!(in alloc; "suspended: node {peer} at {address} remembers {remembers}\n")?,
+        )),
         Health::Differs { peer, sequence } => Ok(TextPage::of_text(
             StatusCode::SERVICE_UNAVAILABLE,
             format!(in alloc; "history differs from node {peer} at sequence {sequence}\n")?,
@@ -117,8 +141,25 @@ fn health_page(alloc: Global, health: Health) -> Result<TextPage, AllocError> {
     }
 }
 
-/// Whether it has all that it heard of.
+/// Whether a map that is proposed to it can be published: it hears a majority, and nothing is wrong.
+fn vote_page<O: Operated>(alloc: Global, operated: &O) -> Result<TextPage, AllocError> {
+    let health = operated.health();
+    if health != Health::Fine {
+        return health_page(alloc, health);
+    }
+    match operated.hears_majority() {
+        Some(true) => TextPage::of(alloc, StatusCode::OK, "votes\n"),
+        Some(false) => TextPage::of(alloc, StatusCode::SERVICE_UNAVAILABLE, "no majority\n"),
+        None => TextPage::of(alloc, StatusCode::NOT_FOUND, "not found\n"),
+    }
+}
+
+/// Whether it isn't suspended, and has all that it heard of.
 fn readiness_page<O: Operated>(alloc: Global, operated: &O) -> Result<TextPage, AllocError> {
+    let health = operated.health();
+    if matches!(health, Health::Suspended { .. }) {
+        return health_page(alloc, health);
+    }
     let Some(received) = operated.later() else {
         return TextPage::of(alloc, StatusCode::OK, "ready\n");
     };

@@ -13,10 +13,14 @@ use Rattle.wf_model.specs.DurableState as stored_part
 use Rattle.wf_model.specs.DurableState.{DurableState, Published, published, next_sequence, definition_at, put, raised, with_record}
 use Rattle.wf_model.specs.VolatileState.{Proposal, Proposing, Idle, Running, Won, Overtaken, Leadership, VolatileState, Preparing, Accepting, proposed, same_ballot, is_at, is_in_window, leading_at}
 use Rattle.wf_model.specs.Table.{Transition, Input, Propose, Retry, CatchUp, Deliver, store, quiet, only_sends, stores, running_transition, when_running, with_proposal, round_known, begin_at, ask_votes, lead, propose_by, on_propose, on_retry, on_catch_up, reports_of, reports, reports_from, on_ask, most_reports, is_above, is_rejected, nack, promise_to, prepare_open, on_prepare, votes_at, vote_for, accept_open, on_accept, is_new_response, with_promise, asking_votes, leadership_of, promised, on_promise, with_vote, on_nack, voted, on_accepted, on_chosen, on_message, transition}
-use Rattle.wf_peer.specs.Progress.{IsNoLess, IsNoLower}
-use Rattle.wf_peer.specs.Reported.{GoTogether, IsLedBy, IsTriedBy, StepsReportNoMore, ReportNoMore, ReportsNoMore, progress_of}
+use Rattle.wf_model.specs.PutTheorems.{put-same}
+use Rattle.wf_folder.specs.Reach.{IsNoLower, IsNoLowerVote, open_vote, raised_vote, vote_below}
+use Rattle.wf_folder.specs.declared.reach.HighestVote.{HighestVote}
+use Rattle.wf_folder.proofs.Raised.{no_lower_raised, no_lower_self, no_lower_vote_self}
+use Rattle.wf_peer.specs.Progress.{IsNoLess, owed}
+use Rattle.wf_peer.specs.Reported.{GoTogether, IsHighest, IsLedBy, IsTriedBy, StepsReportNoMore, ReportNoMore, ReportsNoMore, progress_of}
 use Rattle.wf_peer.specs.declared.progress.Progress.{Progress}
-use Rattle.wf_peer.proofs.Kept.{no_less_self, no_lower_raised, no_lower_self}
+use Rattle.wf_peer.proofs.Kept.{no_less_self}
 
 -- ---- what one message tells
 
@@ -33,20 +37,42 @@ unfolding raised
 raised_no_more None held b at kept = no_lower_of held b at
 raised_no_more (Some p) held b at kept = no_lower_cond held p b (below p b) at kept
 
--- a message whose round was tried, whose ballot is promised, or whose sequence is published tells no more
-by_round : (h p : Progress) (r : ℕ) → r ≤ p.round → IsNoLess h p → IsNoLess (record h { round = max h.round r }) p
-by_round h p r at kept = record { mark = kept.mark; starts = kept.starts; life = kept.life; round = omega (arith, at, kept.round); promise = kept.promise; published = kept.published }
+open_by : (v : HighestVote) (claimed : Option HighestVote) (t : Bool) → IsNoLowerVote (Some v) claimed → IsNoLowerVote (cond t (Some v) None) claimed
+open_by v claimed true no_lower = no_lower
+open_by v claimed false no_lower = tt
 
-by_promise : (h p : Progress) (b : Ballot) → NotBelow p.promise b → IsNoLess h p → IsNoLess (record h { promise = raised h.promise b }) p
-by_promise h p b at kept = record { mark = kept.mark; starts = kept.starts; life = kept.life; round = kept.round; promise = raised_no_more h.promise p.promise b at kept.promise; published = kept.published }
+open_no_more : (v : HighestVote) (n : ℕ) (claimed : Option HighestVote) → IsNoLowerVote (Some v) claimed → IsNoLowerVote (open_vote (Some v) n) claimed
+open_no_more v n claimed no_lower = open_by v claimed (nat_lt n v.sequence) no_lower
 
-by_sequence : (h p : Progress) (s : ℕ) → s ≤ p.published → IsNoLess h p → IsNoLess (record h { published = max h.published s }) p
-by_sequence h p s at kept = record { mark = kept.mark; starts = kept.starts; life = kept.life; round = kept.round; promise = kept.promise; published = omega (arith, at, kept.published) }
+vote_by_test : (k v : HighestVote) (n : ℕ) (claimed : Option HighestVote) (t : Bool) → IsNoLowerVote (open_vote (Some k) n) claimed → IsNoLowerVote (Some v) claimed → IsNoLowerVote (open_vote (cond t (Some v) (Some k)) n) claimed
+vote_by_test k v n claimed true kept at = open_no_more v n claimed at
+vote_by_test k v n claimed false kept at = kept
 
--- what a node has stored grows, and the rest of its progress stays
-grown : {V : Type 0} (start : Progress) (before after : DurableState V) → before.tried ≤ after.tried → IsNoLower before.promise after.promise → published before ≤ published after →
-    IsNoLess (progress_of start before) (progress_of start after)
-grown start before after tried promise up_to = record { mark = refl; starts = omega arith; life = λ same. refl; round = tried; promise = promise; published = up_to }
+vote_no_more : (known : Option HighestVote) (v : HighestVote) (n : ℕ) (claimed : Option HighestVote) → IsNoLowerVote (Some v) claimed → IsNoLowerVote (open_vote known n) claimed → IsNoLowerVote (open_vote (raised_vote known v) n) claimed
+vote_no_more None v n claimed at kept = open_no_more v n claimed at
+vote_no_more (Some k) v n claimed at kept = vote_by_test k v n claimed (vote_below k v) kept at
+
+-- a message whose round was tried, whose ballot is promised, whose vote isn't above the highest, or whose sequence is published tells no more
+by_round : (h p : Progress) (r : ℕ) → r ≤ p.round → IsNoLess (owed h p.published) p → IsNoLess (owed (record h { round = max h.round r }) p.published) p
+by_round h p r at kept = record { mark = kept.mark; starts = kept.starts; life = kept.life; round = omega (arith, at, kept.round); promise = kept.promise; vote = kept.vote; published = kept.published }
+
+by_promise : (h p : Progress) (b : Ballot) → NotBelow p.promise b → IsNoLess (owed h p.published) p → IsNoLess (owed (record h { promise = raised h.promise b }) p.published) p
+by_promise h p b at kept = record { mark = kept.mark; starts = kept.starts; life = kept.life; round = kept.round; promise = raised_no_more h.promise p.promise b at kept.promise; vote = kept.vote; published = kept.published }
+
+by_vote : (h p : Progress) (s : ℕ) (b : Ballot) → NotBelow p.promise b → IsNoLowerVote (Some (record { ballot = b; sequence = s })) p.vote → IsNoLess (owed h p.published) p →
+    IsNoLess (owed (record h { promise = raised h.promise b; vote = raised_vote h.vote (record { ballot = b; sequence = s }) }) p.published) p
+by_vote h p s b at no_lower kept = record {
+  mark = kept.mark;
+  starts = kept.starts;
+  life = kept.life;
+  round = kept.round;
+  promise = raised_no_more h.promise p.promise b at kept.promise;
+  vote = vote_no_more h.vote (record { ballot = b; sequence = s }) p.published p.vote no_lower kept.vote;
+  published = kept.published;
+}
+
+by_sequence : (h p : Progress) (s : ℕ) → s ≤ p.published → IsNoLess (owed h p.published) p → IsNoLess (owed (record h { published = max h.published s }) p.published) p
+by_sequence h p s at kept = record { mark = kept.mark; starts = kept.starts; life = kept.life; round = kept.round; promise = kept.promise; vote = kept.vote; published = omega (arith, at, kept.published) }
 
 report_both : {V : Type 0} (p : Progress) (a b : List (Message V)) → ReportNoMore p a → ReportNoMore p b → ReportNoMore p (a ++ b)
 report_both p [] b of_a of_b = of_b
@@ -73,11 +99,11 @@ module _ {V : Type 0} (start : Progress) (stored : DurableState V) where
 
   quiet_reports : (volatile : VolatileState V) → ReportsNoMore start stored (quiet volatile)
   unfolding quiet store
-  quiet_reports volatile = record { grows = no_less_self (progress_of start stored); reports = tt }
+  quiet_reports volatile = record { grows = λ highest. no_less_self (progress_of start highest stored); reports = λ highest is. tt }
 
-  sends_reports : (volatile : VolatileState V) (messages : List (Message V)) → ReportNoMore (progress_of start stored) messages → ReportsNoMore start stored (only_sends volatile messages)
+  sends_reports : (volatile : VolatileState V) (messages : List (Message V)) → ((highest : Option HighestVote) → IsHighest stored highest → ReportNoMore (progress_of start highest stored) messages) → ReportsNoMore start stored (only_sends volatile messages)
   unfolding only_sends store
-  sends_reports volatile messages no_more = record { grows = no_less_self (progress_of start stored); reports = no_more }
+  sends_reports volatile messages no_more = record { grows = λ highest. no_less_self (progress_of start highest stored); reports = no_more }
 
   running_transition_reports : (volatile : VolatileState V) (proposing : Proposing V) (transition_of : Proposal V → Transition V) → IsForNext stored proposing → IsTriedBy proposing stored.tried →
       ((p : Proposal V) → p.sequence ≡ next_sequence stored → p.ballot.round ≤ stored.tried → ReportsNoMore start stored (transition_of p)) →
@@ -94,56 +120,56 @@ module _ {V : Type 0} (start : Progress) (stored : DurableState V) where
 
   -- ---- published definitions
 
-  reported_of_reports : (s : ℕ) (d : Option V) → definition_at stored.history s ≡ d → ReportNoMore (progress_of start stored) (reports_of s d)
+  reported_of_reports : (highest : Option HighestVote) (s : ℕ) (d : Option V) → definition_at stored.history s ≡ d → ReportNoMore (progress_of start highest stored) (reports_of s d)
   unfolding reports_of published
-  reported_of_reports s None e = tt
-  reported_of_reports s (Some d) e = (λ h kept. by_sequence h (progress_of start stored) s (there stored.history s d e) kept, tt)
+  reported_of_reports highest s None e = tt
+  reported_of_reports highest s (Some d) e = (λ h kept. by_sequence h (progress_of start highest stored) s (there stored.history s d e) kept, tt)
 
-  reported_reports : (s : ℕ) → ReportNoMore (progress_of start stored) (reports stored.history s)
+  reported_reports : (highest : Option HighestVote) (s : ℕ) → ReportNoMore (progress_of start highest stored) (reports stored.history s)
   unfolding reports
-  reported_reports s = reported_of_reports s (definition_at stored.history s) refl
+  reported_reports highest s = reported_of_reports highest s (definition_at stored.history s) refl
 
-  reported_from_reports : (s count : ℕ) → ReportNoMore (progress_of start stored) (reports_from stored.history s count)
+  reported_from_reports : (highest : Option HighestVote) (s count : ℕ) → ReportNoMore (progress_of start highest stored) (reports_from stored.history s count)
   unfolding reports_from
-  reported_from_reports s zero = tt
-  reported_from_reports s (suc count) = report_both (progress_of start stored) (reports stored.history s) (reports_from stored.history (suc s) count) (reported_reports s) (reported_from_reports (suc s) count)
+  reported_from_reports highest s zero = tt
+  reported_from_reports highest s (suc count) = report_both (progress_of start highest stored) (reports stored.history s) (reports_from stored.history (suc s) count) (reported_reports highest s) (reported_from_reports highest (suc s) count)
 
-  ask_reports : ReportNoMore {V = V} (progress_of start stored) (Ask (next_sequence stored) ∷ [])
+  ask_reports : (highest : Option HighestVote) → ReportNoMore {V = V} (progress_of start highest stored) (Ask (next_sequence stored) ∷ [])
   unfolding next_sequence
-  ask_reports = (λ h kept. by_sequence h (progress_of start stored) (published stored + 1 - 1) (omega arith) kept, tt)
+  ask_reports highest = (λ h kept. by_sequence h (progress_of start highest stored) (published stored + 1 - 1) (omega arith) kept, tt)
 
   -- ---- the acceptor
 
-  nack_reports : (me s : ℕ) (b : Ballot) (promise : Option Ballot) → stored.promise ≡ promise → ReportNoMore {V = V} (progress_of start stored) (nack me s b promise)
-  nack_reports me s b None e = tt
-  nack_reports me s b (Some p) e =
+  nack_reports : (highest : Option HighestVote) (me s : ℕ) (b : Ballot) (promise : Option Ballot) → stored.promise ≡ promise → ReportNoMore {V = V} (progress_of start highest stored) (nack me s b promise)
+  nack_reports highest me s b None e = tt
+  nack_reports highest me s b (Some p) e =
       let at : NotBelow stored.promise p = subst (λ (o : Option Ballot). NotBelow o p) (sym e) (below-irreflexive p) in
-      (λ h kept. by_promise h (progress_of start stored) p at kept, tt)
+      (λ h kept. by_promise h (progress_of start highest stored) p at kept, tt)
 
   promise_reports : (me : ℕ) (volatile : VolatileState V) (s : ℕ) (b : Ballot) → ReportsNoMore start stored (promise_to me stored volatile s b)
   unfolding promise_to stores store with_record published
   promise_reports me volatile s b = record {
-    grows = record { mark = refl; starts = omega arith; life = λ same. refl; round = omega arith; promise = no_lower_raised stored.promise b; published = omega arith };
-    reports = (λ h kept. by_promise h _ b (raised-reached stored.promise b) kept, tt);
+    grows = λ highest. record { mark = refl; starts = omega arith; life = λ same. refl; round = omega arith; promise = no_lower_raised stored.promise b; vote = no_lower_vote_self highest; published = omega arith };
+    reports = λ highest is. (λ h kept. by_promise h _ b (raised-reached stored.promise b) kept, tt);
   }
 
   prepare_open_reports : (me : ℕ) (volatile : VolatileState V) (s : ℕ) (b : Ballot) (promise : Option Ballot) (above refused : Bool) → stored.promise ≡ promise →
       is_above promise b ≡ above → is_rejected promise b ≡ refused → ReportsNoMore start stored (prepare_open me stored volatile s b promise)
   unfolding prepare_open
   prepare_open_reports me volatile s b promise true refused its e h = rw e (promise_reports me volatile s b)
-  prepare_open_reports me volatile s b promise false true its e h = rw (e, h) (sends_reports volatile (nack me s b promise) (nack_reports me s b promise its))
+  prepare_open_reports me volatile s b promise false true its e h = rw (e, h) (sends_reports volatile (nack me s b promise) (λ highest is. nack_reports highest me s b promise its))
   prepare_open_reports me volatile s b promise false false its e h = rw (e, h) (quiet_reports volatile)
 
   prepare_reports : (me : ℕ) (volatile : VolatileState V) (s : ℕ) (b : Ballot) (is_published : Bool) → nat_le s (published stored) ≡ is_published →
       ReportsNoMore start stored (on_prepare me stored volatile s b)
   unfolding on_prepare
-  prepare_reports me volatile s b true e = rw e (sends_reports volatile (reports stored.history s) (reported_reports s))
+  prepare_reports me volatile s b true e = rw e (sends_reports volatile (reports stored.history s) (λ highest is. reported_reports highest s))
   prepare_reports me volatile s b false e = rw e (prepare_open_reports me volatile s b stored.promise (is_above stored.promise b) (is_rejected stored.promise b) refl refl refl)
 
-  voted_at : (b : Ballot) (vote : Option (Vote V)) → ((v : Vote V) → vote ≡ Some v → NotBelow stored.promise v.ballot) → votes_at vote b ≡ true → NotBelow stored.promise b
+  voted_at : (P : Ballot → Type 0) (b : Ballot) (vote : Option (Vote V)) → ((v : Vote V) → vote ≡ Some v → P v.ballot) → votes_at vote b ≡ true → P b
   unfolding votes_at
-  voted_at b None promised e = absurd (false≢true e)
-  voted_at b (Some v) promised e = subst (NotBelow stored.promise) (same_ballot-true v.ballot b e) (promised v refl)
+  voted_at P b None holds e = absurd (false≢true e)
+  voted_at P b (Some v) holds e = subst P (same_ballot-true v.ballot b e) (holds v refl)
 
   opened : (s : ℕ) (b : Ballot) (d : V) → nat_lt (published stored) s ≡ true →
       with_record stored (stored_part.Accepted s b d) ≡ record stored { promise = raised stored.promise b; votes = put stored.votes s (Some (record { ballot = b; definition = d })) }
@@ -154,30 +180,30 @@ module _ {V : Type 0} (start : Progress) (stored : DurableState V) where
       ReportsNoMore start stored (stores volatile (stored_part.Accepted s b d) (Accepted me s b))
   unfolding stores store published
   new_vote_reports me volatile s b d is_open = record {
-    grows = subst (λ (x : DurableState V). IsNoLess (progress_of start stored) (progress_of start x)) (sym (opened s b d is_open))
-        (record { mark = refl; starts = omega arith; life = λ same. refl; round = omega arith; promise = no_lower_raised stored.promise b; published = omega arith });
-    reports = subst (λ (x : DurableState V). ReportNoMore {V = V} (progress_of start x) (Accepted me s b ∷ [])) (sym (opened s b d is_open))
-        (λ h kept. by_promise h _ b (raised-reached stored.promise b) kept, tt);
+    grows = λ highest. subst (λ (x : DurableState V). IsNoLess (progress_of start highest stored) (progress_of start highest x)) (sym (opened s b d is_open))
+        (record { mark = refl; starts = omega arith; life = λ same. refl; round = omega arith; promise = no_lower_raised stored.promise b; vote = no_lower_vote_self highest; published = omega arith });
+    reports = subst (λ (x : DurableState V). (highest : Option HighestVote) → IsHighest x highest → ReportNoMore {V = V} (progress_of start highest x) (Accepted me s b ∷ [])) (sym (opened s b d is_open))
+        (λ highest is. (λ h kept. by_vote h _ s b (raised-reached stored.promise b) (is.each s (record { ballot = b; definition = d }) (put-same stored.votes s (Some (record { ballot = b; definition = d })) s refl)) kept, tt));
   }
 
   vote_reports : (me : ℕ) (volatile : VolatileState V) (s : ℕ) (b : Ballot) (d : V) (again : Bool) → GoTogether stored volatile → nat_lt (published stored) s ≡ true →
       votes_at (stored.votes s) b ≡ again → ReportsNoMore start stored (vote_for me stored volatile s b d)
   unfolding vote_for
   vote_reports me volatile s b d true go is_open e =
-      let at : NotBelow stored.promise b = voted_at b (stored.votes s) (go.promised s) e in
-      rw e (sends_reports volatile (Accepted me s b ∷ []) (λ h kept. by_promise h (progress_of start stored) b at kept, tt))
+      let at : NotBelow stored.promise b = voted_at (NotBelow stored.promise) b (stored.votes s) (go.promised s) e in
+      rw e (sends_reports volatile (Accepted me s b ∷ []) (λ highest is. (λ h kept. by_vote h (progress_of start highest stored) s b at (voted_at (λ (x : Ballot). IsNoLowerVote (Some (record { ballot = x; sequence = s })) highest) b (stored.votes s) (is.each s) e) kept, tt)))
   vote_reports me volatile s b d false go is_open e = rw e (new_vote_reports me volatile s b d is_open)
 
   accept_open_reports : (me : ℕ) (volatile : VolatileState V) (s : ℕ) (b : Ballot) (d : V) (promise : Option Ballot) (refused : Bool) → GoTogether stored volatile →
       nat_lt (published stored) s ≡ true → stored.promise ≡ promise → is_rejected promise b ≡ refused → ReportsNoMore start stored (accept_open me stored volatile s b d promise)
   unfolding accept_open
-  accept_open_reports me volatile s b d promise true go is_open its e = rw e (sends_reports volatile (nack me s b promise) (nack_reports me s b promise its))
+  accept_open_reports me volatile s b d promise true go is_open its e = rw e (sends_reports volatile (nack me s b promise) (λ highest is. nack_reports highest me s b promise its))
   accept_open_reports me volatile s b d promise false go is_open its e = rw e (vote_reports me volatile s b d (votes_at (stored.votes s) b) go is_open refl)
 
   accept_reports : (me : ℕ) (volatile : VolatileState V) (s : ℕ) (b : Ballot) (d : V) (is_published : Bool) → GoTogether stored volatile → nat_le s (published stored) ≡ is_published →
       ReportsNoMore start stored (on_accept me stored volatile s b d)
   unfolding on_accept
-  accept_reports me volatile s b d true go e = rw e (sends_reports volatile (reports stored.history s) (reported_reports s))
+  accept_reports me volatile s b d true go e = rw e (sends_reports volatile (reports stored.history s) (λ highest is. reported_reports highest s))
   accept_reports me volatile s b d false go e =
       let is_open : nat_lt (published stored) s ≡ true = lt-ltb (published stored) s (leb-false s (published stored) e) in
       rw e (accept_open_reports me volatile s b d stored.promise (is_rejected stored.promise b) go is_open refl refl)
@@ -187,8 +213,8 @@ module _ {V : Type 0} (start : Progress) (stored : DurableState V) where
   begin_reports : (me : ℕ) (own : V) (round : ℕ) → stored.tried ≤ round → ReportsNoMore start stored (begin_at me stored own round)
   unfolding begin_at stores store with_record published
   begin_reports me own round more = record {
-    grows = record { mark = refl; starts = omega arith; life = λ same. refl; round = more; promise = no_lower_self stored.promise; published = omega arith };
-    reports = (λ h kept. by_round h _ round (omega arith) kept, tt);
+    grows = λ highest. record { mark = refl; starts = omega arith; life = λ same. refl; round = more; promise = no_lower_self stored.promise; vote = no_lower_vote_self highest; published = omega arith };
+    reports = λ highest is. (λ h kept. by_round h _ round (omega arith) kept, tt);
   }
 
   retry_reports : (me : ℕ) (volatile : VolatileState V) → GoTogether stored volatile → ReportsNoMore start stored (on_retry me stored volatile)
@@ -198,12 +224,12 @@ module _ {V : Type 0} (start : Progress) (stored : DurableState V) where
 
   catch_up_reports : (volatile : VolatileState V) (more : Bool) → nat_lt (published stored) last_sequence ≡ more → ReportsNoMore start stored (on_catch_up stored volatile)
   unfolding on_catch_up
-  catch_up_reports volatile true e = rw e (sends_reports volatile (Ask (next_sequence stored) ∷ []) ask_reports)
+  catch_up_reports volatile true e = rw e (sends_reports volatile (Ask (next_sequence stored) ∷ []) (λ highest is. ask_reports highest))
   catch_up_reports volatile false e = rw e (quiet_reports volatile)
 
   votes_report : (leadership : Leadership V) (p : Proposal V) → p.ballot.round ≤ stored.tried → ReportsNoMore start stored (ask_votes leadership p)
   unfolding ask_votes
-  votes_report leadership p tried = sends_reports _ (Accept p.sequence p.ballot (proposed p) ∷ []) (λ h kept. by_round h (progress_of start stored) p.ballot.round tried kept, tt)
+  votes_report leadership p tried = sends_reports _ (Accept p.sequence p.ballot (proposed p) ∷ []) (λ highest is. (λ h kept. by_round h (progress_of start highest stored) p.ballot.round tried kept, tt))
 
   propose_reports : (me : ℕ) (leadership : Option (Leadership V)) (own : V) → IsLedBy leadership stored.tried → ReportsNoMore start stored (propose_by me stored leadership own)
   unfolding propose_by lead
@@ -254,17 +280,17 @@ module _ {V : Type 0} (start : Progress) (stored : DurableState V) where
   one_more d = length-append stored.history (d ∷ [])
 
   module _ (same : V → V → Bool) where
-    published_reports : (volatile : VolatileState V) (s : ℕ) (d : V) (messages : List (Message V)) → ReportNoMore (progress_of start (with_record stored (Published s d))) messages →
+    published_reports : (volatile : VolatileState V) (s : ℕ) (d : V) (messages : List (Message V)) → ((highest : Option HighestVote) → ReportNoMore (progress_of start highest (with_record stored (Published s d))) messages) →
         ReportsNoMore start stored (record { entry = Some (Published s d); messages = messages; volatile = volatile })
     unfolding store with_record published
     published_reports volatile s d messages no_more = record {
-      grows = record { mark = refl; starts = omega arith; life = λ same. refl; round = omega arith; promise = no_lower_self stored.promise; published = omega (arith, one_more d) };
-      reports = no_more;
+      grows = λ highest. record { mark = refl; starts = omega arith; life = λ same. refl; round = omega arith; promise = no_lower_self stored.promise; vote = no_lower_vote_self highest; published = omega (arith, one_more d) };
+      reports = λ highest is. no_more highest;
     }
 
-    chosen_reports_next : (s : ℕ) (d : V) → s ≡ next_sequence stored → ReportNoMore {V = V} (progress_of start (with_record stored (Published s d))) (Chosen s d ∷ [])
+    chosen_reports_next : (s : ℕ) (d : V) → s ≡ next_sequence stored → (highest : Option HighestVote) → ReportNoMore {V = V} (progress_of start highest (with_record stored (Published s d))) (Chosen s d ∷ [])
     unfolding with_record published next_sequence
-    chosen_reports_next s d next = (λ h kept. by_sequence h _ s (omega (arith, one_more d, next)) kept, tt)
+    chosen_reports_next s d next highest = (λ h kept. by_sequence h _ s (omega (arith, one_more d, next)) kept, tt)
 
     voted_reports : (n : ℕ) (volatile : VolatileState V) (p : Proposal V) (is_majority : Bool) → p.sequence ≡ next_sequence stored →
         is_majority_of (count_nodes n p.responders) n ≡ is_majority → ReportsNoMore start stored (voted same n volatile p)
@@ -288,8 +314,8 @@ module _ {V : Type 0} (start : Progress) (stored : DurableState V) where
     chosen_reports : (volatile : VolatileState V) (s : ℕ) (d : V) (is_next is_later : Bool) → (s == next_sequence stored) ≡ is_next →
         nat_lt (next_sequence stored) s ≡ is_later → ReportsNoMore start stored (on_chosen same stored volatile s d)
     unfolding on_chosen
-    chosen_reports volatile s d true is_later e h = rw e (published_reports _ s d [] tt)
-    chosen_reports volatile s d false true e h = rw (e, h) (sends_reports volatile (Ask (next_sequence stored) ∷ []) ask_reports)
+    chosen_reports volatile s d true is_later e h = rw e (published_reports _ s d [] (λ highest. tt))
+    chosen_reports volatile s d false true e h = rw (e, h) (sends_reports volatile (Ask (next_sequence stored) ∷ []) (λ highest is. ask_reports highest))
     chosen_reports volatile s d false false e h = rw (e, h) (quiet_reports volatile)
 
     -- ---- the table
@@ -302,7 +328,7 @@ module _ {V : Type 0} (start : Progress) (stored : DurableState V) where
     message_reports n me volatile (Accepted sender s b) go = accepted_reports n volatile sender s b go
     message_reports n me volatile (Nack sender s b q) go = nacks_report volatile s b q go
     message_reports n me volatile (Chosen s d) go = chosen_reports volatile s d (s == next_sequence stored) (nat_lt (next_sequence stored) s) refl refl
-    message_reports n me volatile (Ask s) go = sends_reports volatile (reports_from stored.history s most_reports) (reported_from_reports s most_reports)
+    message_reports n me volatile (Ask s) go = sends_reports volatile (reports_from stored.history s most_reports) (λ highest is. reported_from_reports highest s most_reports)
 
     pub transition_reports : (n me : ℕ) (volatile : VolatileState V) (input : Input V) → GoTogether stored volatile → ReportsNoMore start stored (transition same n me stored volatile input)
     unfolding transition on_propose

@@ -1,7 +1,8 @@
 -- What a node answers to a greeting, and its bytes.
-use Rattle.std.specs.Prelude.{ℕ, List, [], ◌∷◌, ◌++◌, codes}
+use Rattle.std.specs.Prelude.{ℕ, List, [], ◌∷◌, ◌++◌, codes, Bool, true, false, Option, Some, None}
 use Rattle.std.specs.Int.{w16, to_be_bytes}
-use Rattle.wf_peer.specs.Greeting.{IsGreeting, greeting_bytes, peer_version}
+use Rattle.wf_peer.specs.Greeting.{IsGreeting, IsProgress, greeting_bytes, peer_version, progress_bytes}
+use Rattle.wf_peer.specs.declared.progress.Progress.{Progress}
 use Rattle.wf_peer.specs.declared.rejection.PeerRejection.{PeerRejection}
 use Rattle.wf_peer.specs.declared.rejection.PeerRejection.TheVariants as causes
 use Rattle.wf_peer.specs.declared.reply.GreetingReply.{GreetingReply}
@@ -18,21 +19,33 @@ rejection_byte causes.LowerRound = 7
 rejection_byte causes.LowerPromise = 8
 rejection_byte causes.LowerSequence = 9
 rejection_byte causes.OtherHistory = 10
+rejection_byte causes.LowerVote = 11
 
--- what each rejection begins with, the version (2 bytes), and the cause (1)
+-- what each rejection begins with, the version (2 bytes), the cause (1), and what is remembered of the peer: 0, or 1 and its progress
 abbrev pub rejection_mark : List ℕ
 rejection_mark = codes "wf-nope\n"
 
-unfoldable pub rejection_bytes : PeerRejection → List ℕ
-rejection_bytes why = rejection_mark ++ (to_be_bytes w16 peer_version ++ rejection_byte why ∷ [])
+abbrev pub IsProgressOrNone : Option Progress → Type 0
+IsProgressOrNone None = Unit {0}
+IsProgressOrNone (Some p) = IsProgress p
+
+abbrev pub remembered_bytes : Option Progress → List ℕ
+remembered_bytes None = 0 ∷ []
+remembered_bytes (Some p) = 1 ∷ progress_bytes p
+
+abbrev pub cause_bytes : PeerRejection → List ℕ
+cause_bytes why = rejection_mark ++ (to_be_bytes w16 peer_version ++ rejection_byte why ∷ [])
+
+unfoldable pub rejection_bytes : PeerRejection → Option Progress → List ℕ
+rejection_bytes why remembered = cause_bytes why ++ remembered_bytes remembered
 
 abbrev pub IsReply : GreetingReply → Type 0
 IsReply (replies.Greeting g) = IsGreeting g
-IsReply (replies.Rejected why) = Unit {0}
+IsReply (replies.Rejected why remembered) = IsProgressOrNone remembered
 
 abbrev pub reply_bytes : GreetingReply → List ℕ
 reply_bytes (replies.Greeting g) = greeting_bytes g
-reply_bytes (replies.Rejected why) = rejection_bytes why
+reply_bytes (replies.Rejected why remembered) = rejection_bytes why remembered
 
 -- a node that is told this has forgotten something, or runs on a copy
 abbrev pub EndsANode : PeerRejection → Type 0
@@ -41,5 +54,16 @@ EndsANode causes.OlderStart = Unit {0}
 EndsANode causes.OtherLife = Unit {0}
 EndsANode causes.LowerRound = Unit {0}
 EndsANode causes.LowerPromise = Unit {0}
+EndsANode causes.LowerVote = Unit {0}
 EndsANode causes.LowerSequence = Unit {0}
 EndsANode _ = ⊥
+
+-- it is kept as an accusation of the folder of which more was heard before
+abbrev pub accuses : PeerRejection → Bool
+accuses causes.OlderStart = true
+accuses causes.OtherLife = true
+accuses causes.LowerRound = true
+accuses causes.LowerPromise = true
+accuses causes.LowerVote = true
+accuses causes.LowerSequence = true
+accuses _ = false

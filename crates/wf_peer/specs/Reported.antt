@@ -5,13 +5,19 @@ use Rattle.wf_model.specs.Message.{Message, Vote}
 use Rattle.wf_model.specs.DurableState.{DurableState, published}
 use Rattle.wf_model.specs.Table.{Input, Transition, transition, store}
 use Rattle.wf_model.specs.VolatileState.{Idle, Leadership, Overtaken, Proposing, Running, Won, VolatileState}
-use Rattle.wf_peer.specs.Progress.{IsNoLess}
+use Rattle.wf_folder.specs.Reach.{IsNoLowerVote}
+use Rattle.wf_folder.specs.declared.reach.HighestVote.{HighestVote}
+use Rattle.wf_peer.specs.Progress.{IsNoLess, owed}
 use Rattle.wf_peer.specs.Sender.{advance_by}
 use Rattle.wf_peer.specs.declared.progress.Progress.{Progress}
 
--- the progress of a node that has stored this, in this start of it
-abbrev pub progress_of : {V : Type 0} → Progress → DurableState V → Progress
-progress_of start stored = record start { round = stored.tried; promise = stored.promise; published = published stored }
+-- no stored vote is above this one: that of no node is above its highest vote
+pub record IsHighest {V : Type 0} (stored : DurableState V) (highest : Option HighestVote) : Type 0 where
+  pub each : (s : ℕ) (vote : Vote V) → stored.votes s ≡ Some vote → IsNoLowerVote (Some (record { ballot = vote.ballot; sequence = s })) highest
+
+-- the progress of a node that has stored this, in this start of it, with this highest vote
+abbrev pub progress_of : {V : Type 0} → Progress → Option HighestVote → DurableState V → Progress
+progress_of start highest stored = record start { round = stored.tried; promise = stored.promise; vote = highest; published = published stored }
 
 -- the round of a running proposal's ballot was tried, and that of a leadership's
 abbrev pub IsTriedBy : {V : Type 0} → Proposing V → ℕ → Type 0
@@ -31,15 +37,15 @@ pub record GoTogether {V : Type 0} (stored : DurableState V) (volatile : Volatil
   pub led : IsLedBy volatile.leadership stored.tried
   pub promised : (s : ℕ) (vote : Vote V) → stored.votes s ≡ Some vote → NotBelow stored.promise vote.ballot
 
--- what was heard, if it is no more than the node's progress, is no more after each of these messages
+-- what was heard, if the node's progress has all of it that it has to have still, is so after each of these messages
 abbrev pub ReportNoMore : {V : Type 0} → Progress → List (Message V) → Type 0
 ReportNoMore progress [] = ⊤
-ReportNoMore progress (m ∷ rest) = ((known : Progress) → IsNoLess known progress → IsNoLess (advance_by known m) progress) × ReportNoMore progress rest
+ReportNoMore progress (m ∷ rest) = ((known : Progress) → IsNoLess (owed known progress.published) progress → IsNoLess (owed (advance_by known m) progress.published) progress) × ReportNoMore progress rest
 
--- a transition's record takes nothing back, and its messages tell no more than is stored by then
+-- a transition's record takes back no round, promise and publication, and its messages tell no more than is stored by then, votes included
 pub record ReportsNoMore {V : Type 0} (start : Progress) (stored : DurableState V) (transition : Transition V) : Type 0 where
-  pub grows : IsNoLess (progress_of start stored) (progress_of start (store stored transition.entry))
-  pub reports : ReportNoMore (progress_of start (store stored transition.entry)) transition.messages
+  pub grows : (highest : Option HighestVote) → IsNoLess (progress_of start highest stored) (progress_of start highest (store stored transition.entry))
+  pub reports : (highest : Option HighestVote) → IsHighest (store stored transition.entry) highest → ReportNoMore (progress_of start highest (store stored transition.entry)) transition.messages
 
 abbrev pub StepsReportNoMore : Type 0 → Type 0
 StepsReportNoMore V = (same : V → V → Bool) (n me : ℕ) (start : Progress) (stored : DurableState V) (volatile : VolatileState V) (input : Input V) → GoTogether stored volatile →

@@ -1,13 +1,15 @@
 //! Whether a peer is let in.
 ghost use Rattle.std.specs.Prelude.{◌≡◌, ◌≢◌, ◌<◌, ◌↔◌, length, IfErr, IfNone, IfSome, IsOk, IsTrue, Some};
 ghost use Rattle.wf_peer.specs.Admission.{AgreesWith, IsAdmitted, IsCause, IsForgotten, IsLess, IsPlaced};
-ghost use Rattle.wf_peer.specs.Progress.{HasKept, IsNoLess, IsNoLower, IsSameStart};
+ghost use Rattle.wf_peer.specs.declared.rejection.PeerRejection.{PeerRejection as RejectionValue};
+ghost use Rattle.wf_peer.specs.Progress.{HasKept, IsAccusedOf, IsNoLess, IsSameStart, owed, progress_in};
 
 use crate::greeting::Greeting;
+use crate::heard::Heard;
 use crate::progress::Progress;
 use crate::rejection::PeerRejection;
-use wf_ballot::{Ballot, NodeId};
-use wf_folder::FarmName;
+use wf_ballot::NodeId;
+use wf_folder::{FarmName, is_no_lower, is_no_lower_vote, open_vote};
 
 /// The node that lets peers in.
 #[derive(Clone, Copy, Debug, PartialEq, Eq)]
@@ -20,20 +22,20 @@ pub struct Own {
     pub node: NodeId,
 }
 
-/// Whether a peer that greets so is let in, by what was last heard of this peer, if anything was, and this node's digest of its own
-/// history up to the sequence that the peer published last, if this node has published that one. `index` is the node that is listed
+/// Whether a peer that greets so is let in, by what was last heard of this peer, if anything was, what it was accused of, and this node's
+/// digest of its own history up to the sequence that the peer published last, if this node has published that one. `index` is the node that is listed
 /// at the address that was dialed; None for a peer that connected, which may be any other node of the farm.
 ///
 /// A peer that is let in takes the place of an older connection from it: its start is no older.
 pub fn admit(
     own: &Own,
     index: Option<NodeId>,
-    known: Option<Progress>,
+    heard: Option<Heard>,
     digest: Option<[u8; 32]>,
     greeting: &Greeting,
 ) -> Result<(), PeerRejection>
-    ensures admitted { IsOk result ↔ IsAdmitted own.now index known digest greeting.now }
-    ensures cause { IfErr result (IsCause own.now index known digest greeting.now) }
+    ensures admitted { IsOk result ↔ IsAdmitted own.now index heard digest greeting.now }
+    ensures cause { IfErr result (IsCause own.now index heard digest greeting.now) }
 {
     if greeting.farm != own.farm {
         return Err(PeerRejection::OtherFarm);
@@ -44,7 +46,10 @@ pub fn admit(
     if !is_placed(own, index, greeting.node) {
         return Err(PeerRejection::OtherNode);
     }
-    if let Some(why) = forgotten_since(known, &greeting.progress) {
+    if let Some(why) = accusation_of(&heard, &greeting.progress) {
+        return Err(why);
+    }
+    if let Some(why) = forgotten_since(&heard, &greeting.progress) {
         return Err(why);
     }
     if agrees(digest, &greeting.digest) {
@@ -64,17 +69,30 @@ fn is_placed(own: &Own, index: Option<NodeId>, node: NodeId) -> bool
     }
 }
 
-/// What a peer forgot that was heard of it.
-fn forgotten_since(known: Option<Progress>, claimed: &Progress) -> Option<PeerRejection>
-    ensures none { IfNone result (HasKept known claimed.now) }
-    ensures some { IfSome result (λ why. IsForgotten known claimed.now why) }
-    ensures lost { IfSome result (λ _. ¬ HasKept known claimed.now) }
+/// What the folder was accused of before.
+fn accusation_of(heard: &Option<Heard>, claimed: &Progress) -> Option<PeerRejection>
+    ensures some { IfSome result (λ why. IsAccusedOf heard.now claimed.now.mark why) }
+    ensures none { IfNone result ((why : RejectionValue) → ¬ IsAccusedOf heard.now claimed.now.mark why) }
 {
-    match known {
-        Some(known) if !is_same_start(&known, claimed) => match forgotten(&known, claimed) {
-            Some(why) => Some(why),
-            None => None,
-        },
+    match heard {
+        Some(heard) if claimed.mark == heard.progress.mark => heard.accusation,
+        _ => None,
+    }
+}
+
+/// What a peer forgot that was heard of it.
+fn forgotten_since(heard: &Option<Heard>, claimed: &Progress) -> Option<PeerRejection>
+    ensures none { IfNone result (HasKept (progress_in heard.now) claimed.now) }
+    ensures some { IfSome result (λ why. IsForgotten (progress_in heard.now) claimed.now why) }
+    ensures lost { IfSome result (λ _. ¬ HasKept (progress_in heard.now) claimed.now) }
+{
+    match heard {
+        Some(heard) if !is_same_start(&heard.progress, claimed) => {
+            match forgotten(&heard.progress, claimed) {
+                Some(why) => Some(why),
+                None => None,
+            }
+        }
         _ => None,
     }
 }
@@ -88,9 +106,9 @@ fn is_same_start(known: &Progress, claimed: &Progress) -> bool
 
 /// What is less than what was heard.
 fn forgotten(known: &Progress, claimed: &Progress) -> Option<PeerRejection>
-    ensures none { IfNone result (IsNoLess known.now claimed.now) }
+    ensures none { IfNone result (IsNoLess (owed known.now claimed.now.published) claimed.now) }
     ensures some { IfSome result (λ why. IsLess known.now claimed.now why) }
-    ensures less { IfSome result (λ _. ¬ IsNoLess known.now claimed.now) }
+    ensures less { IfSome result (λ _. ¬ IsNoLess (owed known.now claimed.now.published) claimed.now) }
 {
     if claimed.mark != known.mark {
         return Some(PeerRejection::OtherMark);
@@ -107,21 +125,13 @@ fn forgotten(known: &Progress, claimed: &Progress) -> Option<PeerRejection>
     if !is_no_lower(known.promise, claimed.promise) {
         return Some(PeerRejection::LowerPromise);
     }
+    if !is_no_lower_vote(open_vote(known.vote, claimed.published), claimed.vote) {
+        return Some(PeerRejection::LowerVote);
+    }
     if claimed.published.number() < known.published.number() {
         return Some(PeerRejection::LowerSequence);
     }
     None
-}
-
-/// Whether a promise is no lower than one that was heard.
-fn is_no_lower(known: Option<Ballot>, claimed: Option<Ballot>) -> bool
-    ensures { IsTrue result ↔ IsNoLower known claimed }
-{
-    match (known, claimed) {
-        (None, _) => true,
-        (Some(_), None) => false,
-        (Some(known), Some(claimed)) => !claimed.is_below(known),
-    }
 }
 
 /// Whether digests agree, as far as this node has one.

@@ -1,26 +1,30 @@
 //! Greetings out of bytes.
-ghost use Rattle.std.specs.Prelude.{◌≡◌, ◌≢◌, ◌<◌, ◌^◌, ◌++◌, ℕ, List, Option, Some, Ok, length, IfErr, IfOk, IfNone, IfSome, IsErrOf};
+ghost use Rattle.std.specs.Prelude.{◌≡◌, ◌≢◌, ◌<◌, ◌^◌, ◌++◌, ◌∷◌, ◌↔◌, [], ℕ, List, Option, Some, Ok, Err, length, IfErr, IfOk, IfNone, IfSome, IsErrOf};
 ghost use Rattle.std.specs.Int.{w16, w32, to_be_bytes};
 ghost use Rattle.wf_ballot.specs.Ballot.{Ballot as BallotValue};
-ghost use Rattle.wf_peer.specs.Greeting.{IsGreeting, IsProgress, IsPromise, body_bytes, greeting_bytes, greeting_length, progress_bytes, promise_bytes, peer_version};
+ghost use Rattle.wf_folder.specs.Reach.{IsPromise, IsVote, IsVoteOrNone};
+ghost use Rattle.wf_folder.specs.declared.reach.HighestVote.{HighestVote as VoteValue};
+ghost use Rattle.wf_peer.specs.Greeting.{IsGreeting, IsProgress, body_bytes, greeting_bytes, greeting_length, progress_bytes, promise_bytes, peer_version, state_byte, vote_bytes};
 ghost use Rattle.wf_peer.specs.declared.greeting.Greeting.{Greeting as GreetingValue};
 ghost use Rattle.wf_peer.specs.declared.progress.Progress.{Progress as ProgressValue};
+ghost use Rattle.wf_peer.specs.declared.state.NodeState.{NodeState as StateValue};
 
 use crate::encoder::GREETING_MARK;
 use crate::fault::GreetingFault;
 use crate::greeting::Greeting;
 use crate::progress::Progress;
-use wf_ballot::{Ballot, NodeId, Seq};
-use wf_folder::{FarmName, after};
+use crate::state::NodeState;
+use wf_ballot::{Ballot, NodeId, Seq, Slot};
+use wf_folder::{FarmName, HighestVote, after};
 
 /// The bytes of the version, those of `PEER_VERSION`.
-const VERSION_BYTES: &[u8] = &[0, 1];
+const VERSION_BYTES: &[u8] = &[0, 2];
 
 /// The number of bytes of a greeting after its version.
-const BODY: usize = 113;
+const BODY: usize = 122;
 
 /// The number of bytes of a node's progress.
-const PROGRESS: usize = 47;
+pub(crate) const PROGRESS: usize = 54;
 
 /// The greeting that bytes begin with. `Short`: they may go on as one, and more are needed. Any other error stays, whatever follows.
 #[tactic(auto, unfolding(crate::specs::Greeting::greeting_bytes))]
@@ -29,6 +33,8 @@ pub fn decode(bytes: &[u8]) -> Result<Greeting, GreetingFault>
     ensures front { IfOk result (λ g. (rest : List ℕ) × (bytes.now ≡ greeting_bytes g ++ rest)) }
     ensures each { (g : GreetingValue) (rest : List ℕ) → IsGreeting g → bytes.now ≡ greeting_bytes g ++ rest → result ≡ Ok g }
     ensures short { IsErrOf result GreetingFault.Short → length bytes.now < greeting_length }
+    ensures few { length bytes.now < 8 → result ≡ Err GreetingFault.Short }
+    ensures begins { (g : GreetingValue) (more : List ℕ) → IsGreeting g → 0 < length more → bytes.now ++ more ≡ greeting_bytes g → result ≡ Err GreetingFault.Short }
 {
     match after(bytes, GREETING_MARK) {
         Some(rest) => decode_body(after_version(rest)?),
@@ -38,7 +44,7 @@ pub fn decode(bytes: &[u8]) -> Result<Greeting, GreetingFault>
 
 /// The error of bytes that don't begin as a greeting does.
 pub(crate) fn fault_of_mark(bytes: &[u8]) -> GreetingFault
-    ensures { result ≡ GreetingFault.Short → length bytes.now < 8 }
+    ensures { (result ≡ GreetingFault.Short) ↔ (length bytes.now < 8) }
 {
     if bytes.len() < GREETING_MARK.len() {
         GreetingFault::Short
@@ -52,6 +58,7 @@ pub(crate) fn after_version(bytes: &[u8]) -> Result<&[u8], GreetingFault>
     ensures ok { IfOk result (λ rest. bytes.now ≡ to_be_bytes w16 peer_version ++ rest.now) }
     ensures err { IfErr result (λ _. (rest : List ℕ) → bytes.now ≢ to_be_bytes w16 peer_version ++ rest) }
     ensures short { IsErrOf result GreetingFault.Short → length bytes.now < 2 }
+    ensures begins { length bytes.now < 2 → IsErrOf result GreetingFault.Short }
 {
     match after(bytes, VERSION_BYTES) {
         Some(rest) => Ok(rest),
@@ -61,7 +68,7 @@ pub(crate) fn after_version(bytes: &[u8]) -> Result<&[u8], GreetingFault>
 
 /// The error of bytes that don't begin with this version.
 fn fault_of_version(bytes: &[u8]) -> GreetingFault
-    ensures { result ≡ GreetingFault.Short → length bytes.now < 2 }
+    ensures { (result ≡ GreetingFault.Short) ↔ (length bytes.now < 2) }
 {
     match bytes {
         [high, low, ..] => GreetingFault::OtherVersion(u16::from_be_bytes([*high, *low])),
@@ -74,7 +81,8 @@ fn decode_body(bytes: &[u8]) -> Result<Greeting, GreetingFault>
     ensures greeting { IfOk result IsGreeting }
     ensures front { IfOk result (λ g. (rest : List ℕ) × (bytes.now ≡ body_bytes g ++ rest)) }
     ensures each { (g : GreetingValue) (rest : List ℕ) → IsGreeting g → bytes.now ≡ body_bytes g ++ rest → result ≡ Ok g }
-    ensures short { IsErrOf result GreetingFault.Short → length bytes.now < 113 }
+    ensures short { IsErrOf result GreetingFault.Short → length bytes.now < 122 }
+    ensures begins { length bytes.now < 122 → result ≡ Err GreetingFault.Short }
 {
     if bytes.len() < BODY {
         return Err(GreetingFault::Short);
@@ -88,29 +96,32 @@ fn decode_body(bytes: &[u8]) -> Result<Greeting, GreetingFault>
 
 /// The greeting with these bytes after its version.
 fn body_of(bytes: &[u8]) -> Option<Greeting>
-    requires { length bytes.now ≡ 113 }
+    requires { length bytes.now ≡ 122 }
     ensures greeting { IfSome result IsGreeting }
     ensures some { IfSome result (λ g. bytes.now ≡ body_bytes g) }
     ensures each { (g : GreetingValue) → IsGreeting g → bytes.now ≡ body_bytes g → result ≡ Some g }
 {
     let (farm, rest) = bytes.split_at(32);
     let (numbers, rest) = rest.split_at(2);
-    let (progress, digest) = rest.split_at(PROGRESS);
+    let (progress, rest) = rest.split_at(PROGRESS);
+    let (digest, end) = rest.split_at(32);
     let farm = FarmName::from_bytes(farm)?;
     let node = NodeId::new(numbers[1])?;
     let progress = progress_of(progress)?;
+    let state = state_of(end)?;
     Some(Greeting {
         farm,
         nodes: numbers[0],
         node,
         progress,
         digest: array(digest),
+        state,
     })
 }
 
 /// The progress with these bytes.
-fn progress_of(bytes: &[u8]) -> Option<Progress>
-    requires { length bytes.now ≡ 47 }
+pub(crate) fn progress_of(bytes: &[u8]) -> Option<Progress>
+    requires { length bytes.now ≡ 54 }
     ensures progress { IfSome result IsProgress }
     ensures some { IfSome result (λ p. bytes.now ≡ progress_bytes p) }
     ensures each { (p : ProgressValue) → IsProgress p → bytes.now ≡ progress_bytes p → result ≡ Some p }
@@ -119,8 +130,12 @@ fn progress_of(bytes: &[u8]) -> Option<Progress>
     let (starts, rest) = rest.split_at(4);
     let (life, rest) = rest.split_at(16);
     let (round, rest) = rest.split_at(4);
-    let (promise, published) = rest.split_at(5);
+    let (promise, rest) = rest.split_at(5);
+    let (vote, published) = rest.split_at(7);
     let promise = promise_of(promise)?;
+    let Some(vote) = vote_of(vote) else {
+        return None;
+    };
     let published = Seq::from_bytes(published)?;
     Some(Progress {
         mark: array(mark),
@@ -128,6 +143,7 @@ fn progress_of(bytes: &[u8]) -> Option<Progress>
         life: array(life),
         round: number_of(round),
         promise,
+        vote,
         published,
     })
 }
@@ -144,6 +160,59 @@ fn promise_of(bytes: &[u8]) -> Option<Option<Ballot>>
             Some(ballot) => Some(Some(ballot)),
             None => None,
         },
+    }
+}
+
+/// The vote with these bytes.
+fn vote_of(bytes: &[u8]) -> Option<Option<HighestVote>>
+    requires { length bytes.now ≡ 7 }
+    ensures vote { IfSome result IsVoteOrNone }
+    ensures some { IfSome result (λ v. bytes.now ≡ vote_bytes v) }
+    ensures each { (v : Option VoteValue) → IsVoteOrNone v → bytes.now ≡ vote_bytes v → result ≡ Some v }
+{
+    match bytes {
+        [0, 0, 0, 0, 0, 0, 0] => Some(None),
+        _ => match some_vote_of(bytes) {
+            Some(vote) => Some(Some(vote)),
+            None => None,
+        },
+    }
+}
+
+/// The vote with these bytes, which aren't all zeros.
+fn some_vote_of(bytes: &[u8]) -> Option<HighestVote>
+    requires { length bytes.now ≡ 7 }
+    ensures vote { IfSome result IsVote }
+    ensures some { IfSome result (λ v. bytes.now ≡ vote_bytes (Some v)) }
+    ensures each { (v : VoteValue) → IsVote v → bytes.now ≡ vote_bytes (Some v) → result ≡ Some v }
+{
+    let (ballot, sequence) = bytes.split_at(5);
+    let ballot = Ballot::from_bytes(ballot)?;
+    let sequence = Slot::from_bytes(sequence)?;
+    Some(HighestVote { ballot, sequence })
+}
+
+/// The state that a greeting ends with, before the number of replaced nodes, which is none.
+fn state_of(bytes: &[u8]) -> Option<NodeState>
+    requires { length bytes.now ≡ 2 }
+    ensures some { IfSome result (λ s. bytes.now ≡ state_byte s ∷ 0 ∷ []) }
+    ensures each { (s : StateValue) → bytes.now ≡ state_byte s ∷ 0 ∷ [] → result ≡ Some s }
+{
+    match bytes {
+        [state, count] => state_before(*state, *count),
+        _ => None,
+    }
+}
+
+/// The state with this byte, if no node is replaced.
+fn state_before(state: u8, count: u8) -> Option<NodeState>
+    ensures some { IfSome result (λ s. (state ≡ state_byte s) × (count ≡ 0)) }
+    ensures each { (s : StateValue) → state ≡ state_byte s → count ≡ 0 → result ≡ Some s }
+{
+    if count == 0 {
+        NodeState::of_byte(state)
+    } else {
+        None
     }
 }
 

@@ -1,9 +1,9 @@
 //! What a node knows of its peers: the greeting with which each connects, whether it is let in, and what was last heard of it.
 //!
 //! Nodes in processes of their own greet each other before they send messages. A [`Greeting`] says which farm and node a peer is,
-//! and its [`Progress`]: its folder's mark, how often it started, the mark of this start, the highest round that it tried, its promise and
-//! its last published sequence. [`admit`] lets a peer in or says why not ([`PeerRejection`]); [`PeerProgress`] keeps the progress that was
-//! last heard of each peer, raised by each greeting and each message that comes from it, and its text for a file. A sound node's progress never falls, since each
+//! and its [`Progress`]: its folder's mark, how often it started, the mark of this start, the highest round that it tried, its promise, its
+//! highest vote and its last published sequence; and what it does now ([`NodeState`]). [`admit`] lets a peer in or says why not ([`PeerRejection`]); [`PeerProgress`] keeps the progress that was
+//! last heard of each peer, raised by each greeting and each message that comes from it, what the peer was accused of, and its text for a file. A sound node's progress never falls, since each
 //! record is synced before a message tells of it: a later start that says less than was heard lost its disk, or runs on a copy.
 //! Within one start nothing is compared, since what a node says on two connections comes in any order. [`is_from`] says who may send a message.
 //!
@@ -21,13 +21,16 @@ mod decoder;
 mod encoder;
 mod fault;
 mod greeting;
+mod heard;
 mod peer_progress;
 mod peer_progress_reader;
 mod peer_progress_text;
 mod progress;
+mod reach;
 mod rejection;
 mod reply;
 mod sender;
+mod state;
 mod theorem;
 
 pub use admission::{Own, admit};
@@ -35,9 +38,11 @@ pub use decoder::decode;
 pub use encoder::encode;
 pub use fault::{GreetingFault, PeerProgressFault};
 pub use greeting::{GREETING_BYTES, Greeting, PEER_VERSION};
+pub use heard::Heard;
 pub use peer_progress::PeerProgress;
 pub use progress::Progress;
 pub use rejection::PeerRejection;
 pub use reply::{GreetingReply, REJECTION_BYTES, decode_reply, encode_rejection};
 pub use sender::is_from;
+pub use state::NodeState;
 pub use theorem::{no_less_is_transitive, steps_report_no_more};

@@ -1,20 +1,23 @@
 //! What was last heard of each peer.
+use crate::heard::Heard;
 use crate::progress::Progress;
+use crate::rejection::PeerRejection;
 use std::marker::Model;
-use wf_ballot::{Ballot, NodeId, Seq};
+use wf_ballot::{Ballot, NodeId, Seq, Slot};
 use wf_codec::Message;
+use wf_folder::{HighestVote, higher_promise, higher_vote, raise_promise, raise_vote};
 
 /// What was last heard of each node that a farm may have, in the order of the nodes; nothing of one that never greeted.
 #[derive(Clone, Copy)]
 pub struct PeerProgress {
-    pub(crate) nodes: [Option<Progress>; 64],
+    pub(crate) nodes: [Option<Heard>; 64],
 }
 
 impl Model for PeerProgress {
     ghost use Rattle.std.specs.Prelude.{List, Option};
-    ghost use Rattle.wf_peer.specs.declared.progress.Progress.{Progress};
+    ghost use Rattle.wf_peer.specs.declared.heard.Heard.{Heard};
 
-    ghost Value = { List (Option Progress) };
+    ghost Value = { List (Option Heard) };
 
     ghost view = { λ known. known.nodes };
 
@@ -24,8 +27,8 @@ impl Model for PeerProgress {
 impl PeerProgress {
     ghost use Rattle.std.specs.Prelude.{◌≡◌, Some, None, List, Option, replicate, slice_set};
     ghost use Rattle.wf_codec.specs.Message.{view};
-    ghost use Rattle.wf_peer.specs.Progress.{HasKept, together};
-    ghost use Rattle.wf_peer.specs.Sender.{NeverFalls, progress_of_peer, with_reported};
+    ghost use Rattle.wf_peer.specs.Progress.{HasKept, greeted, progress_in};
+    ghost use Rattle.wf_peer.specs.Sender.{NeverFalls, heard_of, with_accusation, with_reported};
 
     /// Nothing was heard of any node.
     pub fn new() -> PeerProgress
@@ -34,76 +37,134 @@ impl PeerProgress {
         PeerProgress { nodes: [None; 64] }
     }
 
-    /// What was last heard of a node, if anything was.
-    pub fn of(&self, node: NodeId) -> Option<Progress>
-        ensures { result ≡ progress_of_peer self.now node }
+    /// What was last heard of a node, if anything was, and what it was accused of.
+    pub fn heard(&self, node: NodeId) -> Option<Heard>
+        ensures { result ≡ heard_of self.now node }
     {
         match self.nodes.get(node.number() as usize) {
-            Some(progress) => *progress,
+            Some(heard) => *heard,
+            None => None,
+        }
+    }
+
+    /// How far a node was when it was last heard of, if it was.
+    pub fn of(&self, node: NodeId) -> Option<Progress>
+        ensures { result ≡ progress_in (heard_of self.now node) }
+    {
+        match self.heard(node) {
+            Some(heard) => Some(heard.progress),
             None => None,
         }
     }
 
     /// A node that was let in greeted with this progress: together with what was heard of it, that is kept.
     pub fn greet(&mut self, node: NodeId, progress: Progress)
-        requires { HasKept (progress_of_peer self.old node) progress }
-        ensures value { self.new ≡ slice_set self.old node (Some (together (progress_of_peer self.old node) progress)) }
+        requires { HasKept (progress_in (heard_of self.old node)) progress }
+        ensures value { self.new ≡ slice_set self.old node (Some (greeted (heard_of self.old node) progress)) }
         ensures falls { NeverFalls self.old self.new }
     {
-        let progress = together(self.of(node), &progress);
-        self.put(node, progress);
+        let heard = greeted(&self.heard(node), &progress);
+        self.put(node, heard);
     }
 
     /// Sets what was heard of a node.
-    fn put(&mut self, node: NodeId, progress: Progress)
-        ensures { self.new ≡ slice_set self.old node (Some progress) }
+    fn put(&mut self, node: NodeId, heard: Heard)
+        ensures { self.new ≡ slice_set self.old node (Some heard) }
     {
-        self.nodes[node.number() as usize] = Some(progress);
+        self.nodes[node.number() as usize] = Some(heard);
     }
 
     /// A message came from a node that greeted: what it tells of the node's progress is kept. From another one nothing is.
     #[tactic(auto, using(crate::proofs::Kept::nothing_falls))]
     pub fn receive(&mut self, node: NodeId, message: &Message)
-        ensures value { self.new ≡ with_reported self.old node (progress_of_peer self.old node) (view message.now) }
+        ensures value { self.new ≡ with_reported self.old node (heard_of self.old node) (view message.now) }
         ensures falls { NeverFalls self.old self.new }
     {
-        let Some(progress) = self.of(node) else {
+        let Some(heard) = self.heard(node) else {
             return;
         };
-        self.put(node, advance_by(&progress, message));
+        let heard = reported(&heard, message);
+        self.put(node, heard);
+    }
+
+    /// A node was told that it forgot something: that is kept, and its folder is rejected for it from then on. The first accusation stays.
+    /// Nothing is kept of a node of which nothing was heard, nor for a cause that accuses no folder.
+    #[tactic(auto, using(crate::proofs::Kept::nothing_falls))]
+    pub fn accuse(&mut self, node: NodeId, why: PeerRejection)
+        ensures value { self.new ≡ with_accusation self.old node (heard_of self.old node) why }
+        ensures falls { NeverFalls self.old self.new }
+    {
+        let Some(heard) = self.heard(node) else {
+            return;
+        };
+        let heard = accused(&heard, why);
+        self.put(node, heard);
     }
 }
 
 ghost use Rattle.std.specs.Prelude.{◌≡◌, ◌≤◌};
 ghost use Rattle.wf_ballot.specs.Sequence.{IsSequence};
 ghost use Rattle.wf_codec.specs.Message.{view};
-ghost use Rattle.wf_model.specs.DurableState.{raised};
-ghost use Rattle.wf_peer.specs.Progress.{higher_promise, together};
-ghost use Rattle.wf_peer.specs.Sender.{promised, publish_up_to, advance_by, tried};
+ghost use Rattle.wf_peer.specs.Progress.{accused, first_accusation, greeted, together};
+ghost use Rattle.wf_peer.specs.Sender.{promised, publish_up_to, advance_by, tried, voted};
 
-/// The progress that was heard, if any was, and the one that is said, together.
-fn together(known: Option<Progress>, claimed: &Progress) -> Progress
-    ensures { result ≡ together known claimed.now }
+/// What was heard of a node, if anything was, once it greets with this progress.
+fn greeted(heard: &Option<Heard>, claimed: &Progress) -> Heard
+    ensures { result ≡ greeted heard.now claimed.now }
 {
-    let Some(known) = known else {
-        return *claimed;
-    };
+    match heard {
+        Some(heard) => Heard {
+            progress: together(&heard.progress, claimed),
+            accusation: heard.accusation,
+        },
+        None => Heard {
+            progress: *claimed,
+            accusation: None,
+        },
+    }
+}
+
+/// What was heard of a node, once it is accused of this.
+fn accused(heard: &Heard, why: PeerRejection) -> Heard
+    ensures { result ≡ accused heard.now why }
+{
+    Heard {
+        progress: heard.progress,
+        accusation: first_accusation(heard.accusation, why),
+    }
+}
+
+/// The first accusation.
+fn first_accusation(earlier: Option<PeerRejection>, why: PeerRejection) -> Option<PeerRejection>
+    ensures { result ≡ first_accusation earlier why }
+{
+    match earlier {
+        Some(earlier) => Some(earlier),
+        None => { if why.accuses() { Some(why) } else { None } }
+    }
+}
+
+/// What was heard of a node, once this message came from it.
+fn reported(heard: &Heard, message: &Message) -> Heard
+    ensures { result ≡ record heard.now { progress = advance_by heard.now.progress (view message.now) } }
+{
+    Heard {
+        progress: advance_by(&heard.progress, message),
+        accusation: heard.accusation,
+    }
+}
+
+/// The progress that was heard and the one that is said, together.
+fn together(known: &Progress, claimed: &Progress) -> Progress
+    ensures { result ≡ together known.now claimed.now }
+{
     let number = known.published.number().max(claimed.published.number());
     Progress {
         round: known.round.max(claimed.round),
         promise: higher_promise(known.promise, claimed.promise),
+        vote: higher_vote(&known.vote, &claimed.vote),
         published: Seq::new(number).unwrap(),
         ..*claimed
-    }
-}
-
-/// The higher one of two promises.
-fn higher_promise(known: Option<Ballot>, claimed: Option<Ballot>) -> Option<Ballot>
-    ensures { result ≡ higher_promise known claimed }
-{
-    match claimed {
-        Some(ballot) => Some(higher_ballot(known, ballot)),
-        None => known,
     }
 }
 
@@ -115,7 +176,11 @@ fn advance_by(progress: &Progress, message: &Message) -> Progress
         Message::Prepare(_, ballot) => with_round(progress, *ballot),
         Message::Promise(_, ballot, _) => with_promise(progress, *ballot),
         Message::Accept(_, ballot, _) => with_round(progress, *ballot),
-        Message::Accepted(_, _, ballot) => with_promise(progress, *ballot),
+        Message::Accepted(_, slot, ballot) => with_vote(
+            &with_promise(progress, *ballot),
+            *slot,
+            *ballot,
+        ),
         Message::Nack(_, _, _, promise) => with_promise(progress, *promise),
         Message::Chosen(slot, _) => publish_up_to(progress, slot.number()),
         Message::Ask(slot) => publish_up_to(progress, slot.number() - 1),
@@ -137,19 +202,19 @@ fn with_promise(progress: &Progress, ballot: Ballot) -> Progress
     ensures { result ≡ promised progress.now ballot }
 {
     Progress {
-        promise: Some(higher_ballot(progress.promise, ballot)),
+        promise: Some(raise_promise(progress.promise, ballot)),
         ..*progress
     }
 }
 
-/// The promise, raised to this ballot.
-#[tactic(auto, unfolding(wf_model::specs::DurableState::raised))]
-fn higher_ballot(promise: Option<Ballot>, ballot: Ballot) -> Ballot
-    ensures { Some result ≡ raised promise ballot }
+/// The progress of a node that voted for this ballot at this sequence.
+fn with_vote(progress: &Progress, sequence: Slot, ballot: Ballot) -> Progress
+    ensures { result ≡ voted progress.now sequence ballot }
 {
-    match promise {
-        Some(promise) if !promise.is_below(ballot) => promise,
-        _ => ballot,
+    let vote = HighestVote { ballot, sequence };
+    Progress {
+        vote: Some(raise_vote(&progress.vote, &vote)),
+        ..*progress
     }
 }
 

@@ -1,6 +1,7 @@
 use wf_ballot::{Ballot, Seq};
+use wf_folder::HighestVote;
 
-/// How far a node is: of a sound one no number ever falls, and its mark stays.
+/// How far a node is: of a sound one no number ever falls, a vote goes only once its sequence is published, and the mark stays.
 #[derive(Clone, Copy, Debug, PartialEq, Eq)]
 pub struct Progress {
     /// The mark of its folder.
@@ -13,6 +14,8 @@ pub struct Progress {
     pub round: u32,
     /// Its promise.
     pub promise: Option<Ballot>,
+    /// Its highest vote, at a sequence that it hasn't published.
+    pub vote: Option<HighestVote>,
     /// The last sequence that it published.
     pub published: Seq,
 }

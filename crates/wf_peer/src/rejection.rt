@@ -19,7 +19,7 @@ pub enum PeerRejection {
     #[error("an older start of its folder: a copy of the folder was started, or an old one put back")]
     OlderStart,
     /// As many starts of its folder were heard, but it is another one.
-    #[error("another start of as many of its folder: two programs run on copies of one folder")]
+    #[error("another start of as many of its folder: two programs run on copies of one folder, or an old copy was put back and started as often")]
     OtherLife,
     /// It tried a higher round before.
     #[error("it forgot a round: an old copy of its folder was put back")]
@@ -30,17 +30,20 @@ pub enum PeerRejection {
     /// It had published a later sequence before.
     #[error("it forgot a publication: an old copy of its folder was put back")]
     LowerSequence,
+    /// It had a vote before that it hasn't now, at a sequence that it hasn't published.
+    #[error("it forgot a vote: an old copy of its folder was put back")]
+    LowerVote,
     /// Its history differs.
     #[error("histories differ: a tape was changed, or backups were mixed")]
     OtherHistory,
 }
 
 impl PeerRejection {
-    ghost use Rattle.std.specs.Prelude.{◌≡◌, ◌↔◌, ℕ, Some, IsTrue, IfSome};
-    ghost use Rattle.wf_peer.specs.GreetingReply.{EndsANode, rejection_byte};
+    ghost use Rattle.std.specs.Prelude.{◌≡◌, ◌↔◌, Some, IsTrue, IfSome};
+    ghost use Rattle.wf_peer.specs.GreetingReply.{EndsANode, accuses, rejection_byte};
     ghost use Rattle.wf_peer.specs.declared.rejection.PeerRejection.{PeerRejection as RejectionValue};
 
-    /// Whether a node that is told this has forgotten something, or runs on a copy, and has to end.
+    /// Whether a node that is told this has forgotten something, or runs on a copy: it is suspended.
     pub fn ends_a_node(self) -> bool
         ensures { IsTrue result ↔ EndsANode self }
     {
@@ -51,6 +54,22 @@ impl PeerRejection {
                 | PeerRejection::OtherLife
                 | PeerRejection::LowerRound
                 | PeerRejection::LowerPromise
+                | PeerRejection::LowerVote
+                | PeerRejection::LowerSequence
+        )
+    }
+
+    /// Whether it is kept as an accusation of the folder of which it was heard before. Another folder is rejected without one.
+    pub fn accuses(self) -> bool
+        ensures { result ≡ accuses self }
+    {
+        matches!(
+            self,
+            PeerRejection::OlderStart
+                | PeerRejection::OtherLife
+                | PeerRejection::LowerRound
+                | PeerRejection::LowerPromise
+                | PeerRejection::LowerVote
                 | PeerRejection::LowerSequence
         )
     }
@@ -70,6 +89,7 @@ impl PeerRejection {
             PeerRejection::LowerPromise => 8,
             PeerRejection::LowerSequence => 9,
             PeerRejection::OtherHistory => 10,
+            PeerRejection::LowerVote => 11,
         }
     }
 
@@ -89,6 +109,7 @@ impl PeerRejection {
             8 => Some(PeerRejection::LowerPromise),
             9 => Some(PeerRejection::LowerSequence),
             10 => Some(PeerRejection::OtherHistory),
+            11 => Some(PeerRejection::LowerVote),
             _ => None,
         }
     }

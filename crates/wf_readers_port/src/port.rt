@@ -86,6 +86,14 @@ impl ReadersPort {
         }
     }
 
+    /// Closes the port: nobody is accepted any more, and whoever is there is closed.
+    pub fn close(&mut self) {
+        self.listener = None;
+        for slot in &mut self.slots {
+            *slot = None;
+        }
+    }
+
     /// The next connection, if there is one.
     fn accept_one(&self) -> Option<TcpStream> {
         match &self.listener {

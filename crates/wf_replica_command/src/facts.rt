@@ -45,6 +45,10 @@ impl<'a, R: Files> Operated for ReplicaFacts<'a, R> {
         }
     }
 
+    fn hears_majority(&self) -> Option<bool> {
+        None
+    }
+
     fn later(&self) -> Option<u16> {
         // one that began with no map isn't ready before it has what a source has
         if self.is_behind || self.asker.is_new {

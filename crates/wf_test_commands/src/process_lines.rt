@@ -1,7 +1,7 @@
 //! Command lines about processes of a farm.
 use crate::lines::{status_of, words_of, write_bracketed, write_rejection};
 use wf_line::{
-    InitLine, NodeCommand, NodeLine, ProcessCommand, ReplicaLine, names_process_command,
+    ClearLine, InitLine, NodeCommand, NodeLine, ProcessCommand, ReplicaLine, names_process_command,
     process_command,
 };
 use wf_test_table::{Answered, CaseInput, Transcript};
@@ -39,6 +39,12 @@ fn write_node(line: &NodeLine<'_>, answer: &mut Transcript) {
     answer.line(if line.log { ", log" } else { "" });
 }
 
+fn write_clear(line: &ClearLine<'_>, answer: &mut Transcript) {
+    answer.text("clear");
+    write_bracketed(line.state, answer);
+    answer.line("");
+}
+
 fn write_replica(line: &ReplicaLine<'_>, answer: &mut Transcript) {
     answer.text("replica");
     write_bracketed(line.state, answer);
@@ -60,6 +66,7 @@ fn write_words(asked: &CaseInput<'_>, words: &[&str], answer: &mut Transcript) {
     match process_command(asked.alloc, words) {
         Ok(ProcessCommand::Node(NodeCommand::Init(line))) => write_init(&line, answer),
         Ok(ProcessCommand::Node(NodeCommand::Node(line))) => write_node(&line, answer),
+        Ok(ProcessCommand::Node(NodeCommand::Clear(line))) => write_clear(&line, answer),
         Ok(ProcessCommand::Replica(line)) => write_replica(&line, answer),
         Err(error) => write_rejection(status_of(error), answer),
     }

@@ -21,7 +21,7 @@ abbrev pub first_retry : ℕ → ℕ
 first_retry node = 100 + 40 * node
 
 abbrev pub longest_retry : ℕ → ℕ
-longest_retry node = 16 * first_retry node
+longest_retry node = first_retry node + 1000
 
 -- a node's wait before a retry, after that many
 abbrev pub retry_wait : (node tries : ℕ) → ℕ

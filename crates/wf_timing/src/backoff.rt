@@ -9,8 +9,8 @@ const FIRST: u64 = 100;
 
 const APART: u64 = 40;
 
-/// How many times its first wait a node's longest is.
-const LONGEST: u64 = 16;
+/// How much longer than its first wait a node's longest is, in milliseconds.
+const MOST_LONGER: u64 = 1_000;
 
 /// The wait before the next try, which doubles from try to try up to a limit.
 #[derive(Clone, Copy, Debug, PartialEq, Eq)]
@@ -59,7 +59,7 @@ impl Backoff {
     }
 }
 
-/// The waits before a node's running proposal is tried again: 100 ms and 40 more for each lower node, doubled up to sixteen times that.
+/// The waits before a node's running proposal is tried again: 100 ms and 40 more for each lower node, doubled up to a second more than that.
 /// A new proposal begins with the first.
 pub fn retry_of(node: NodeId) -> Backoff
     ensures first { result.first ≡ first_retry node }
@@ -68,5 +68,5 @@ pub fn retry_of(node: NodeId) -> Backoff
     ensures backoff { IsBackoff result }
 {
     let first = FIRST + APART * u64::from(node.number());
-    Backoff::new(first, LONGEST * first)
+    Backoff::new(first, first + MOST_LONGER)
 }

@@ -113,6 +113,16 @@ impl Visitors {
         }
     }
 
+    /// Closes the port: nobody is accepted any more, and whoever is there is closed, answered or not.
+    pub fn close(&mut self)
+        ensures { responses_of self.new ≡ responses_of self.old }
+    {
+        self.listener = None;
+        for index in 0..self.count() {
+            drop(self.take(index));
+        }
+    }
+
     /// The next connection, if there is one.
     fn accept_one(&self) -> Option<TcpStream> {
         match &self.listener {

@@ -11,6 +11,11 @@ theorem nodes (finds.File file) tape now causes.MissingTape is why = why.1 is.ha
 theorem nodes (finds.File file) tape now causes.NoFurtherStart is why = omega (arith, is.countable, why.2)
 theorem nodes (finds.File file) tape now causes.NoFile is why = why
 theorem nodes (finds.File file) tape now (causes.BadFile fault) is why = why
+theorem nodes (finds.File file) tape now (causes.LowerSequence had has) is why = why
+theorem nodes (finds.File file) tape now (causes.OtherHistory at) is why = why
+theorem nodes (finds.File file) tape now (causes.LowerRound had has) is why = why
+theorem nodes (finds.File file) tape now (causes.LowerPromise b) is why = why
+theorem nodes (finds.File file) tape now (causes.LowerVote v) is why = why
 theorem nodes finds.Nothing tape now why is rejected = absurd is
 theorem nodes (finds.Bad fault) tape now why is rejected = absurd is
 

@@ -1,5 +1,8 @@
-use Rattle.wf_loop.proofs.Continuation.{own_received}
+use Rattle.wf_loop.proofs.Continuation.{own_received, acting, still}
 use Rattle.wf_loop.proofs.acts.handle_own.Goals as goal
 
-pub returns : goal.returns
-returns g c = own_received g.T.Tape _ _ _ c.handle_own.ensures
+pub returns-then-acts : goal.returns-then-acts
+returns-then-acts g c = acting g.T.Tape _ _ (c.acts.ensures c.if-acts.true) (own_received g.T.Tape _ _ _ c.handle_own.ensures)
+
+pub returns-else-acts : goal.returns-else-acts
+returns-else-acts g c = still g.T.Tape _

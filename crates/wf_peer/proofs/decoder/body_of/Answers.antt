@@ -10,14 +10,14 @@ use Rattle.wf_peer.proofs.decoder.body_of.Goals as goal
 
 pub returns-in_err-farm-clause-each : goal.returns-in_err-farm-clause-each
 returns-in_err-farm-clause-each c = λ g is e.
-    let parts = body_parts c.args.bytes.now c.split_at.result.1.now c.split_at-2.result.1.now c.split_at.result.0.now c.split_at-2.result.0.now c.split_at-3.result.0.now c.split_at-3.result.1.now c.split_at.ensures.front c.split_at.ensures.back c.split_at-2.ensures.front c.split_at-2.ensures.back c.split_at-3.ensures.front c.split_at-3.ensures.back g is e in
+    let parts = body_parts c.args.bytes.now c.split_at.result.1.now c.split_at-2.result.1.now c.split_at-3.result.1.now c.split_at.result.0.now c.split_at-2.result.0.now c.split_at-3.result.0.now c.split_at-4.result.0.now c.split_at-4.result.1.now c.split_at.ensures.front c.split_at.ensures.back c.split_at-2.ensures.front c.split_at-2.ensures.back c.split_at-3.ensures.front c.split_at-3.ensures.back c.split_at-4.ensures.front c.split_at-4.ensures.back g is e in
     let some : IsSome c.from_bytes.result = c.from_bytes.ensures.valid.1 (subst IsFarmName (sym parts.0) is.farm) in
     let none : is_some c.from_bytes.result ≡ false = ap (λ (o : _). is_some o) c.in_err-farm.was in
     cc
 
 pub returns-in_err-node-clause-each : goal.returns-in_err-node-clause-each
 returns-in_err-node-clause-each c = λ g is e.
-    let parts = body_parts c.args.bytes.now c.split_at.result.1.now c.split_at-2.result.1.now c.split_at.result.0.now c.split_at-2.result.0.now c.split_at-3.result.0.now c.split_at-3.result.1.now c.split_at.ensures.front c.split_at.ensures.back c.split_at-2.ensures.front c.split_at-2.ensures.back c.split_at-3.ensures.front c.split_at-3.ensures.back g is e in
+    let parts = body_parts c.args.bytes.now c.split_at.result.1.now c.split_at-2.result.1.now c.split_at-3.result.1.now c.split_at.result.0.now c.split_at-2.result.0.now c.split_at-3.result.0.now c.split_at-4.result.0.now c.split_at-4.result.1.now c.split_at.ensures.front c.split_at.ensures.back c.split_at-2.ensures.front c.split_at-2.ensures.back c.split_at-3.ensures.front c.split_at-3.ensures.back c.split_at-4.ensures.front c.split_at-4.ensures.back g is e in
     let same : get_or c.split_at-2.result.0.now 1 0 ≡ g.node = ap (λ (l : List ℕ). get_or l 1 0) parts.1 in
     let some : IsSome c.new.result = c.new.ensures.valid.1 (subst IsNode (sym same) is.node) in
     let none : is_some c.new.result ≡ false = ap (λ (o : _). is_some o) c.in_err-node.was in
@@ -25,17 +25,26 @@ returns-in_err-node-clause-each c = λ g is e.
 
 pub returns-in_err-progress-clause-each : goal.returns-in_err-progress-clause-each
 returns-in_err-progress-clause-each c = λ g is e.
-    let parts = body_parts c.args.bytes.now c.split_at.result.1.now c.split_at-2.result.1.now c.split_at.result.0.now c.split_at-2.result.0.now c.split_at-3.result.0.now c.split_at-3.result.1.now c.split_at.ensures.front c.split_at.ensures.back c.split_at-2.ensures.front c.split_at-2.ensures.back c.split_at-3.ensures.front c.split_at-3.ensures.back g is e in
+    let parts = body_parts c.args.bytes.now c.split_at.result.1.now c.split_at-2.result.1.now c.split_at-3.result.1.now c.split_at.result.0.now c.split_at-2.result.0.now c.split_at-3.result.0.now c.split_at-4.result.0.now c.split_at-4.result.1.now c.split_at.ensures.front c.split_at.ensures.back c.split_at-2.ensures.front c.split_at-2.ensures.back c.split_at-3.ensures.front c.split_at-3.ensures.back c.split_at-4.ensures.front c.split_at-4.ensures.back g is e in
     let got = c.progress_of.ensures.each g.progress is.progress parts.2 in
     let none = c.in_err-progress.was in
     cc
 
+pub returns-in_err-state-clause-each : goal.returns-in_err-state-clause-each
+returns-in_err-state-clause-each c = λ g is e.
+    let parts = body_parts c.args.bytes.now c.split_at.result.1.now c.split_at-2.result.1.now c.split_at-3.result.1.now c.split_at.result.0.now c.split_at-2.result.0.now c.split_at-3.result.0.now c.split_at-4.result.0.now c.split_at-4.result.1.now c.split_at.ensures.front c.split_at.ensures.back c.split_at-2.ensures.front c.split_at-2.ensures.back c.split_at-3.ensures.front c.split_at-3.ensures.back c.split_at-4.ensures.front c.split_at-4.ensures.back g is e in
+    let got = c.state_of.ensures.each g.state parts.4 in
+    let none = c.in_err-state.was in
+    cc
+
 pub returns-clause-some : goal.returns-clause-some
-returns-clause-some c = body_whole c.args.bytes.now c.split_at.result.1.now c.split_at-2.result.1.now c.split_at.result.0.now c.split_at-2.result.0.now c.split_at-3.result.0.now c.split_at-3.result.1.now c.split_at.ensures.front c.split_at.ensures.back c.split_at-2.ensures.front c.split_at-2.ensures.back c.split_at-3.ensures.front c.split_at-3.ensures.back c.split_at-2.ensures.front_len _ c.in_ok-farm.ensures.value refl c.in_ok-node.ensures.value c.in_ok-progress.ensures.some c.array.ensures
+returns-clause-some c = body_whole c.args.bytes.now c.split_at.result.1.now c.split_at-2.result.1.now c.split_at-3.result.1.now c.split_at.result.0.now c.split_at-2.result.0.now c.split_at-3.result.0.now c.split_at-4.result.0.now c.split_at-4.result.1.now c.split_at.ensures.front c.split_at.ensures.back c.split_at-2.ensures.front c.split_at-2.ensures.back c.split_at-3.ensures.front c.split_at-3.ensures.back c.split_at-4.ensures.front c.split_at-4.ensures.back c.split_at-2.ensures.front_len _ c.in_ok-farm.ensures.value refl c.in_ok-node.ensures.value c.in_ok-progress.ensures.some c.array.ensures c.in_ok-state.ensures.some
 
 pub returns-clause-each : goal.returns-clause-each
 returns-clause-each c = λ g is e.
-    let parts = body_parts c.args.bytes.now c.split_at.result.1.now c.split_at-2.result.1.now c.split_at.result.0.now c.split_at-2.result.0.now c.split_at-3.result.0.now c.split_at-3.result.1.now c.split_at.ensures.front c.split_at.ensures.back c.split_at-2.ensures.front c.split_at-2.ensures.back c.split_at-3.ensures.front c.split_at-3.ensures.back g is e in
+    let parts = body_parts c.args.bytes.now c.split_at.result.1.now c.split_at-2.result.1.now c.split_at-3.result.1.now c.split_at.result.0.now c.split_at-2.result.0.now c.split_at-3.result.0.now c.split_at-4.result.0.now c.split_at-4.result.1.now c.split_at.ensures.front c.split_at.ensures.back c.split_at-2.ensures.front c.split_at-2.ensures.back c.split_at-3.ensures.front c.split_at-3.ensures.back c.split_at-4.ensures.front c.split_at-4.ensures.back g is e in
     let progress = c.progress_of.ensures.each g.progress is.progress parts.2 in
     let was_progress = c.in_ok-progress.was in
-    ap (λ (q : Greeting). Some q) (same_greeting _ g (c.in_ok-farm.ensures.value ∙ parts.0) (ap (λ (l : List ℕ). get_or l 0 0) parts.1) (c.in_ok-node.ensures.value ∙ ap (λ (l : List ℕ). get_or l 1 0) parts.1) (cc) (c.array.ensures ∙ parts.3))
+    let state = c.state_of.ensures.each g.state parts.4 in
+    let was_state = c.in_ok-state.was in
+    ap (λ (q : Greeting). Some q) (same_greeting _ g (c.in_ok-farm.ensures.value ∙ parts.0) (ap (λ (l : List ℕ). get_or l 0 0) parts.1) (c.in_ok-node.ensures.value ∙ ap (λ (l : List ℕ). get_or l 1 0) parts.1) (cc) (c.array.ensures ∙ parts.3) (cc))

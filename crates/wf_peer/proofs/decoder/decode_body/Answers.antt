@@ -10,10 +10,10 @@ returns-then-bytes-lt-BODY-clause-each c = λ g rest is e.
 
 pub returns-in-Some-clause-each : goal.returns-in-Some-clause-each
 returns-in-Some-clause-each c = λ g rest is e.
-    let same = c.in-Some.ensures.each g is (c.split_at.ensures.front ∙ take_front 113 c.args.bytes.now (body_bytes g) rest (length_of_body g is) e) in
+    let same = c.in-Some.ensures.each g is (c.split_at.ensures.front ∙ take_front 122 c.args.bytes.now (body_bytes g) rest (length_of_body g is) e) in
     cc
 
 pub returns-in-None-clause-each : goal.returns-in-None-clause-each
 returns-in-None-clause-each c = λ g rest is e.
-    let same = c.in-None.ensures.each g is (c.split_at.ensures.front ∙ take_front 113 c.args.bytes.now (body_bytes g) rest (length_of_body g is) e) in
+    let same = c.in-None.ensures.each g is (c.split_at.ensures.front ∙ take_front 122 c.args.bytes.now (body_bytes g) rest (length_of_body g is) e) in
     cc

@@ -1,42 +1,23 @@
--- A node's waits are its first one, times a number that is the same for all nodes.
-use Rattle.std.proofs.Common.{◌≡◌, ℕ, zero, suc, ◌+◌, ◌*◌, ◌≤◌, ◌∙◌, min, ap, arith}
-use Rattle.std.proofs.Common.{inl, inr}
-use Rattle.std.proofs.lemmas.Bool.{cases_lt}
-use Rattle.std.proofs.Math.Nat.{mul-le-mul_left}
-use Rattle.wf_timing.specs.Waits.{wait_after, first_retry, retry_wait, RetriesDifferByNode}
+-- After equally many tries two nodes' waits are at least as far apart as their first ones: doubling keeps that, and so do limits that are as
+-- far apart.
+use Rattle.std.proofs.Common.{ℕ, zero, suc, ◌+◌, ◌≤◌, ◌<◌, arith}
+use Rattle.wf_timing.specs.Waits.{RetriesDifferByNode, doubled, first_retry, longest_retry, wait_after}
 use Rattle.wf_timing.proofs.theorem.retries_differ_by_node.Goals as goal
 
--- a limit of so many times the first wait
-min-times : (a m : ℕ) → min (a * m * 2) (16 * a) ≡ a * min (m * 2) 16
-min-times a m = elim (cases_lt (m * 2) 16) [
-  | inl few ↦
-      let most : a * (m * 2) ≤ a * 16 = mul-le-mul_left a (omega arith) in
-      let short : min (m * 2) 16 ≡ m * 2 = omega arith in
-      rw short (omega arith)
-  | inr many ↦
-      let least : a * 16 ≤ a * (m * 2) = mul-le-mul_left a many in
-      let long : min (m * 2) 16 ≡ 16 = omega arith in
-      rw long (omega arith)
-]
+apart_doubled : (a b x y : ℕ) → a + 40 ≤ b → x + 40 ≤ y → doubled a x + 40 ≤ doubled b y
+apart_doubled a b x y limits waits = omega (arith, limits, waits)
 
-times : (a tries : ℕ) → wait_after a (16 * a) tries ≡ a * wait_after 1 16 tries
+apart : (first first' limit limit' tries : ℕ) → first + 40 ≤ first' → limit + 40 ≤ limit' → wait_after first limit tries + 40 ≤ wait_after first' limit' tries
 unfolding wait_after
-times a zero = omega arith
-times a (suc tries) = ap (λ w. min (w * 2) (16 * a)) (times a tries) ∙ min-times a (wait_after 1 16 tries)
+apart first first' limit limit' zero firsts limits = firsts
+apart first first' limit limit' (suc tries) firsts limits = apart_doubled limit limit' _ _ limits (apart first first' limit limit' tries firsts limits)
 
-some : (tries : ℕ) → 1 ≤ wait_after 1 16 tries
-unfolding wait_after
-some zero = omega arith
-some (suc tries) = omega (arith, some tries)
+firsts_apart : (lower higher : ℕ) → lower < higher → first_retry lower + 40 ≤ first_retry higher
+firsts_apart lower higher less = omega (arith, less)
 
 theorem : RetriesDifferByNode
-theorem lower higher tries below =
-    let m : ℕ = wait_after 1 16 tries in
-    let gap : m * (lower + 1) ≤ m * higher = mul-le-mul_left m (omega arith) in
-    let few : 1 ≤ m = some tries in
-    let of_lower : retry_wait lower tries ≡ (100 + 40 * lower) * m = times (first_retry lower) tries in
-    let of_higher : retry_wait higher tries ≡ (100 + 40 * higher) * m = times (first_retry higher) tries in
-    rw (of_lower, of_higher) (omega arith)
+theorem lower higher tries less =
+    apart (first_retry lower) (first_retry higher) (longest_retry lower) (longest_retry higher) tries (firsts_apart lower higher less) (omega (arith, firsts_apart lower higher less))
 
 pub returns : goal.returns
 returns c = theorem

@@ -1,5 +1,5 @@
-use Rattle.wf_loop.specs.Continuation.{GoesOn}
+use Rattle.wf_loop.specs.Continuation.{Continues}
 use Rattle.wf_loop.proofs.mesh.Mesh.accept.Given as goal
 
 abbrev pub invariant-loop : goal.invariant-loop
-invariant-loop g l = GoesOn g.T.Tape l.fn.process l.process
+invariant-loop g l = Continues g.T.Tape l.fn.voter l.voter

@@ -2,10 +2,10 @@
 use Rattle.std.proofs.Common.{◌∙◌, ap, sym}
 use Rattle.std.specs.Prelude.{Some, slice_set}
 use Rattle.wf_codec.specs.Message.{view}
-use Rattle.wf_peer.specs.declared.progress.Progress.{Progress}
+use Rattle.wf_peer.specs.declared.heard.Heard.{Heard}
 use Rattle.wf_peer.proofs.Kept.{falls_by_message}
 use Rattle.wf_peer.proofs.peer_progress.PeerProgress.receive.Goals as goal
 
 pub returns-clause-falls : goal.returns-clause-falls
-returns-clause-falls c = falls_by_message c.args.self.now c.put.new.self c.args.node c.in-Some.progress (view c.args.message.now) (sym c.in-Some.ensures)
-    (c.put.ensures ∙ ap (λ (q : Progress). slice_set c.args.self.now c.args.node (Some q)) c.advance_by.ensures)
+returns-clause-falls c = falls_by_message c.args.self.now c.put.new.self c.args.node c.in-Some.heard (view c.args.message.now) (sym c.in-Some.ensures)
+    (c.put.ensures ∙ ap (λ (q : Heard). slice_set c.args.self.now c.args.node (Some q)) c.reported-heard.ensures)

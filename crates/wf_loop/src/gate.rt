@@ -1,0 +1,14 @@
+//! Whether a node acts.
+
+/// Whether a node acts: whether it is given the messages that come, and says what it has to.
+#[derive(Clone, Copy, Debug, PartialEq, Eq)]
+pub enum Gate {
+    /// It acts.
+    Open,
+    /// It has just started, and waits for what its peers remember of it.
+    Starting,
+    /// What it hears of its peers, or how far it is, can't be written to its folder.
+    Unwritten,
+    /// A peer remembers more of it than it has.
+    Suspended,
+}

@@ -1,0 +1,445 @@
+//! What comes from the peers of a node: connections, greetings and messages.
+ghost use Rattle.wf_loop.specs.Continuation.{Continues};
+
+use crate::acts::{handle, open_receiver, receive};
+use crate::event::{NodeEvent, PeerEnd};
+use crate::hub::Voter;
+use crate::inbound::{Came, Inbound};
+use crate::mesh::{INBOUND_SLOTS, Mesh};
+use crate::notes::Told;
+use crate::token::Socket;
+use mio::net::TcpStream;
+use std::mem;
+use std::net::SocketAddr;
+use std::rt::Files;
+use std::time::Clock;
+use wf_ballot::{NodeId, SEQUENCES};
+use wf_folder::PeerAddress;
+use wf_peer::{Greeting, NodeState, PeerRejection};
+use wf_tape::Tape;
+use wf_visitors::{Context, micros, register, register_again};
+
+/// The most pieces that a turn reads of a peer.
+const MOST_PIECES: u32 = 4;
+
+impl Mesh {
+    /// Accepts connections from peers.
+    #[tactic(auto, using(crate::proofs::Continuation::still, crate::proofs::Continuation::twice))]
+    pub(crate) fn accept<R: Files + Clock + Eprint + AllocGlobal, T: Tape + Drop>(
+        &mut self,
+        context: &Context<'_, '_, R>,
+        voter: &mut Voter<T>,
+    )
+        ensures { Continues T.Tape voter.old voter.new }
+    {
+        for _ in 0..INBOUND_SLOTS {
+            let Ok((stream, address)) = self.listener.accept() else {
+                return;
+            };
+            if voter.connects() {
+                self.admit(context, voter, stream, address);
+            }
+        }
+    }
+
+    /// Puts a connection from a peer's address into a free slot.
+    #[tactic(auto, using(crate::proofs::Continuation::still))]
+    fn admit<R: Files + Clock + Eprint + AllocGlobal, T: Tape + Drop>(
+        &mut self,
+        context: &Context<'_, '_, R>,
+        voter: &mut Voter<T>,
+        mut stream: TcpStream,
+        address: SocketAddr,
+    )
+        ensures { Continues T.Tape voter.old voter.new }
+    {
+        if !is_known(self.plan.peers.as_slice(), address) {
+            if self.unlisted.is_to_be_told(address, context.time) {
+                context.log.write(&NodeEvent::Unlisted { address });
+            }
+            return;
+        }
+        let Some(index) = first_free(self.inbounds.as_slice()) else {
+            context.log.write(&NodeEvent::Dropped {
+                peer: None,
+                why: PeerEnd::NoSlot,
+            });
+            return;
+        };
+        let _ = stream.set_nodelay(true);
+        if register(
+            context.registry,
+            &mut stream,
+            Socket::Inbound(index).token(),
+        )
+        .is_ok()
+        {
+            let inbound = Inbound::new(context.alloc(), stream, address, context.time);
+            self.receive_out(context, voter, index, inbound);
+        }
+    }
+
+    /// Reads what came from a peer, a bounded part of it, and delivers it.
+    #[tactic(auto, using(crate::proofs::Continuation::still))]
+    pub(crate) fn handle<R: Files + Clock + Eprint + AllocGlobal, T: Tape + Drop>(
+        &mut self,
+        context: &Context<'_, '_, R>,
+        voter: &mut Voter<T>,
+        index: usize,
+    )
+        ensures { Continues T.Tape voter.old voter.new }
+    {
+        let Some(slot) = self.inbounds.get_mut(index) else {
+            return;
+        };
+        let Some(inbound) = slot.take() else {
+            return;
+        };
+        self.receive_out(context, voter, index, inbound);
+    }
+
+    /// Reads what came on a connection from a peer, and keeps it in its slot unless it has ended.
+    fn receive_out<R: Files + Clock + Eprint + AllocGlobal, T: Tape + Drop>(
+        &mut self,
+        context: &Context<'_, '_, R>,
+        voter: &mut Voter<T>,
+        index: usize,
+        mut inbound: Inbound,
+    )
+        ensures { Continues T.Tape voter.old voter.new }
+    {
+        match self.read(context, voter, &mut inbound) {
+            None => {
+                if self.is_busy {
+                    register_again(
+                        context.registry,
+                        inbound.stream(),
+                        Socket::Inbound(index).token(),
+                    );
+                }
+                if let Some(slot) = self.inbounds.get_mut(index) {
+                    *slot = Some(inbound);
+                }
+            }
+            Some(why) => {
+                // its line is there once the peer sees that it was closed
+                let peer = number_of(inbound.from());
+                context.log.write(&NodeEvent::Dropped { peer, why });
+                drop(inbound);
+            }
+        }
+    }
+
+    /// Reads what came on a connection, a bounded part of it. Some: it has ended.
+    #[tactic(auto, using(crate::proofs::Continuation::still))]
+    fn read<R: Files + Clock + Eprint + AllocGlobal, T: Tape + Drop>(
+        &mut self,
+        context: &Context<'_, '_, R>,
+        voter: &mut Voter<T>,
+        inbound: &mut Inbound,
+    ) -> Option<PeerEnd>
+        ensures { Continues T.Tape voter.old voter.new }
+    {
+        let mut piece = mem::replace(&mut self.piece, Vec::new(context.alloc()));
+        let ended = self.read_pieces(context, voter, inbound, piece.as_mut_slice());
+        self.piece = piece;
+        ended
+    }
+
+    /// Reads what came on a connection, a bounded number of pieces, each to the front of the buffer. Some: it has ended.
+    #[tactic(auto, using(crate::proofs::Continuation::still, crate::proofs::Continuation::twice))]
+    fn read_pieces<R: Files + Clock + Eprint + AllocGlobal, T: Tape + Drop>(
+        &mut self,
+        context: &Context<'_, '_, R>,
+        voter: &mut Voter<T>,
+        inbound: &mut Inbound,
+        piece: &mut [u8],
+    ) -> Option<PeerEnd>
+        ensures { Continues T.Tape voter.old voter.new }
+    {
+        for _ in 0..MOST_PIECES {
+            let came = inbound.handle(piece, context.time);
+            match self.take_in(context, voter, inbound, came, piece) {
+                Ok(()) => {}
+                Err(ended) => return ended,
+            }
+        }
+        self.is_busy = true;
+        None
+    }
+
+    /// Takes in what came in one piece. Err: nothing more is to be read now, and why the connection has ended if it has.
+    #[tactic(auto, using(crate::proofs::Continuation::still))]
+    fn take_in<R: Files + Clock + Eprint + AllocGlobal, T: Tape + Drop>(
+        &mut self,
+        context: &Context<'_, '_, R>,
+        voter: &mut Voter<T>,
+        inbound: &mut Inbound,
+        came: Came,
+        piece: &[u8],
+    ) -> Result<(), Option<PeerEnd>>
+        ensures { Continues T.Tape voter.old voter.new }
+    {
+        match came {
+            Came::Nothing => Err(inbound.send()),
+            Came::Part => Ok(()),
+            Came::Greeting(greeting) => {
+                match self.let_in(context, voter, inbound, &greeting) {
+                    Some(why) => Err(Some(why)),
+                    None => Ok(()),
+                }
+            }
+            Came::Bytes(from, count) => {
+                let piece = piece.split_at(count.min(piece.len())).0;
+                match self.deliver(context, voter, from, piece) {
+                    Some(why) => Err(Some(why)),
+                    None => Ok(()),
+                }
+            }
+            Came::Ended(why) => Err(Some(why)),
+        }
+    }
+
+    /// Lets a peer in that has greeted, in the place of an older connection from it. Some: it isn't let in.
+    #[tactic(auto, using(crate::proofs::Continuation::still))]
+    fn let_in<R: Files + Clock + Eprint + AllocGlobal, T: Tape + Drop>(
+        &mut self,
+        context: &Context<'_, '_, R>,
+        voter: &mut Voter<T>,
+        inbound: &mut Inbound,
+        greeting: &Greeting,
+    ) -> Option<PeerEnd>
+        ensures { Continues T.Tape voter.old voter.new }
+    {
+        let admitted = self.admit_peer(context, voter, Some(inbound.address()), None, greeting);
+        if !voter.connects() {
+            // what was heard of it isn't in the folder, so nothing is said
+            return Some(PeerEnd::Unwritten);
+        }
+        if let Err(why) = admitted {
+            let remembered = self.notes.remembered(greeting.node, why);
+            inbound.reject(context.alloc(), why, &remembered);
+            return Some(PeerEnd::Rejected(why));
+        }
+        let peer = greeting.node;
+        self.close_older(context, peer);
+        let Some(own) = self.greeting(voter) else {
+            return Some(PeerEnd::Memory);
+        };
+        open_receiver(context.alloc(), voter, peer);
+        // its answers can come from now on
+        let number = peer.number() as usize;
+        self.catch_up.connect(number, context.time);
+        context.log.write(&NodeEvent::Accepted { peer: number });
+        inbound.let_in(context.alloc(), peer, &own)
+    }
+
+    /// Whether a peer is let in that greets so, by all that the node has published: one that was dialed, or one from an address. What is
+    /// heard of it is in the folder before it is answered, and so is of what it is accused. Whether its history differs is noted.
+    #[tactic(auto, using(crate::proofs::Continuation::still))]
+    pub(crate) fn admit_peer<R: Files + Clock + Eprint + AllocGlobal, T: Tape + Drop>(
+        &mut self,
+        context: &Context<'_, '_, R>,
+        voter: &mut Voter<T>,
+        address: Option<SocketAddr>,
+        index: Option<NodeId>,
+        greeting: &Greeting,
+    ) -> Result<(), PeerRejection>
+        ensures { Continues T.Tape voter.old voter.new }
+    {
+        self.notes.extend(voter.process.node().history());
+        let number = greeting.node.number() as usize;
+        let admitted = if self.is_listed(number, address) {
+            self.notes.admit(index, greeting)
+        } else {
+            Err(PeerRejection::OtherNode)
+        };
+        match admitted {
+            Ok(()) => {
+                if let Some(state) = self.states.get_mut(number) {
+                    state.serves = greeting.state == NodeState::Serves;
+                }
+                if self.differs_from(greeting.node) {
+                    self.differs = None;
+                }
+            }
+            Err(PeerRejection::OtherHistory) => {
+                self.note_difference(greeting.node, greeting.progress.published.number());
+            }
+            Err(_) => {}
+        }
+        let _ = self.save(context, voter);
+        admitted
+    }
+
+    /// Whether the node of this number is listed at an address; its port is any.
+    fn is_listed(&self, number: usize, address: Option<SocketAddr>) -> bool {
+        match (self.plan.peers.get(number), address) {
+            (Some(listed), Some(address)) => is_same_host(*listed, address),
+            _ => true,
+        }
+    }
+
+    /// Closes the connections of a peer, in whose place a newer one comes.
+    fn close_older<R: Clock + Eprint>(&mut self, context: &Context<'_, '_, R>, peer: NodeId) {
+        for slot in &mut self.inbounds {
+            if is_of(slot, peer) {
+                context.log.write(&NodeEvent::Dropped {
+                    peer: Some(peer.number() as usize),
+                    why: PeerEnd::Replaced,
+                });
+                *slot = None;
+            }
+        }
+    }
+
+    /// Judges what came from a peer, and delivers it. Some: the connection has ended.
+    #[tactic(auto, using(crate::proofs::Continuation::still, crate::proofs::Continuation::twice))]
+    fn deliver<R: Files + Clock + Eprint + AllocGlobal, T: Tape + Drop>(
+        &mut self,
+        context: &Context<'_, '_, R>,
+        voter: &mut Voter<T>,
+        peer: NodeId,
+        piece: &[u8],
+    ) -> Option<PeerEnd>
+        ensures { Continues T.Tape voter.old voter.new }
+    {
+        let Some(count) = receive(voter, peer, piece) else {
+            return Some(PeerEnd::BadMessage);
+        };
+        if let Some(state) = self.states.get_mut(peer.number() as usize) {
+            state.received = state.received.saturating_add(count as u64);
+            state.heard_at = Some(context.time);
+        }
+        if !voter.acts() {
+            // as if the network had lost them
+            return None;
+        }
+        for _ in 0..count {
+            if let Some(why) = self.deliver_next(context, voter, peer) {
+                open_receiver(context.alloc(), voter, peer);
+                return Some(why);
+            }
+        }
+        None
+    }
+
+    /// Judges the first message that has arrived from a peer, and delivers it: one that raises the peer's round or promise once that is
+    /// in the folder. Some: it isn't delivered, and the connection ends.
+    #[tactic(auto, using(crate::proofs::Continuation::still, crate::proofs::Continuation::twice))]
+    fn deliver_next<R: Files + Clock + Eprint + AllocGlobal, T: Tape + Drop>(
+        &mut self,
+        context: &Context<'_, '_, R>,
+        voter: &mut Voter<T>,
+        peer: NodeId,
+    ) -> Option<PeerEnd>
+        ensures { Continues T.Tape voter.old voter.new }
+    {
+        match self.notes.hear(&voter.process, peer) {
+            Told::WrongSender => return Some(PeerEnd::WrongSender),
+            Told::More => {
+                if !self.save(context, voter) {
+                    return Some(PeerEnd::Unwritten);
+                }
+            }
+            Told::Less => {}
+        }
+        self.deliver_first(context, voter, peer);
+        None
+    }
+
+    /// Delivers the first message that has arrived from a peer, and writes the answer at once: the peers wait for it.
+    #[tactic(auto, using(crate::proofs::Continuation::twice))]
+    fn deliver_first<R: Files + Clock + Eprint + AllocGlobal, T: Tape + Drop>(
+        &mut self,
+        context: &Context<'_, '_, R>,
+        voter: &mut Voter<T>,
+        peer: NodeId,
+    )
+        ensures { Continues T.Tape voter.old voter.new }
+    {
+        let from = micros(context.rt);
+        handle(context.alloc(), voter, peer);
+        self.steps.add(from, micros(context.rt));
+        self.send(context, voter);
+    }
+
+    /// Closes the connections from peers on which nothing came for too long. Once the last sequence is published nobody asks any more,
+    /// and none is closed.
+    pub(crate) fn close_silent<R: Clock + Eprint>(
+        &mut self,
+        context: &Context<'_, '_, R>,
+        published: u16,
+    ) {
+        self.is_full = published == SEQUENCES;
+        if self.is_full {
+            return;
+        }
+        for slot in &mut self.inbounds {
+            if is_silent_at(slot, context.time) {
+                context.log.write(&NodeEvent::Dropped {
+                    peer: peer_in(slot),
+                    why: PeerEnd::Silent,
+                });
+                *slot = None;
+            }
+        }
+    }
+}
+
+/// Whether nothing came for too long on the connection in a slot.
+fn is_silent_at(slot: &Option<Inbound>, time: u64) -> bool {
+    match slot {
+        Some(inbound) => inbound.is_silent(time),
+        None => false,
+    }
+}
+
+/// The number of the peer in a slot, if it is known.
+fn peer_in(slot: &Option<Inbound>) -> Option<usize> {
+    match slot {
+        Some(inbound) => number_of(inbound.from()),
+        None => None,
+    }
+}
+
+/// Whether a connection is one of this peer.
+fn is_of(slot: &Option<Inbound>, peer: NodeId) -> bool {
+    match slot {
+        Some(inbound) => inbound.from() == Some(peer),
+        None => false,
+    }
+}
+
+/// The number of a node, if it is known.
+fn number_of(node: Option<NodeId>) -> Option<usize> {
+    match node {
+        Some(node) => Some(node.number() as usize),
+        None => None,
+    }
+}
+
+/// Whether a connection comes from a peer's address; its port is any.
+fn is_known(peers: &[SocketAddr], address: SocketAddr) -> bool {
+    for peer in peers {
+        if is_same_host(*peer, address) {
+            return true;
+        }
+    }
+    false
+}
+
+/// Whether two addresses are of one host: that of IPv4 is the one of IPv6 to which it is mapped.
+fn is_same_host(first: SocketAddr, second: SocketAddr) -> bool {
+    PeerAddress::of(first).ip == PeerAddress::of(second).ip
+}
+
+/// The first free slot.
+fn first_free(slots: &[Option<Inbound>]) -> Option<usize> {
+    for (index, slot) in slots.iter().enumerate() {
+        if slot.is_none() {
+            return Some(index);
+        }
+    }
+    None
+}

@@ -1,4 +1,0 @@
-pub mod Entries
-pub mod Pairs
-pub mod Nested
-pub mod Theorems

@@ -1,6 +1,0 @@
--- No mark follows where none is read.
-use Rattle.wf_peer.proofs.Lines.{no_mark_after}
-use Rattle.wf_peer.proofs.peer_progress_reader.split_named.Goals as goal
-
-pub returns-in-Some-clause-none : goal.returns-in-Some-clause-none
-returns-in-Some-clause-none c = no_mark_after c.split_mark.result c.args.bytes.now c.args.word.now c.in-Some.rest.now c.in-Some.ensures c.split_mark.ensures.none
