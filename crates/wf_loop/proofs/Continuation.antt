@@ -6,18 +6,21 @@ use Rattle.wf_actor.specs.Process.{ReceivesFrom, ReceivesOwn, IsActed, IsGoingOn
 use Rattle.wf_actor.specs.declared.actor.Actor.{Actor}
 use Rattle.wf_actor.specs.declared.link.Link.{Link}
 use Rattle.wf_actor.specs.declared.actor.Origin.{Origin}
+use Rattle.wf_actor.specs.declared.actor.Origin.TheVariants as origins
 use Rattle.wf_actor.specs.declared.process.Process.{Process}
 use Rattle.wf_actor.specs.declared.target.Target.{Target}
 use Rattle.wf_def.specs.Definition.{Definition}
 use Rattle.wf_model.specs.declared.action.Action.{Action}
+use Rattle.wf_model.specs.declared.action.Action.TheVariants as actions
 use Rattle.wf_codec.specs.declared.message.Message.{Message}
 use Rattle.wf_edge.specs.declared.outcome.Outcome.{Outcome}
 use Rattle.wf_mail.specs.Mail.{IsBeginning}
 use Rattle.wf_node.specs.declared.fault.NodeFault.{NodeFault}
 use Rattle.wf_tape.specs.declared.tape.Tape.{Ghosts as Tape}
 use Rattle.wf_codec.specs.declared.fault.DecodeFault.{DecodeFault}
-use Rattle.wf_loop.specs.Answer.{IsAnswer, IsResponse}
-use Rattle.wf_loop.specs.Continuation.{Continues, GoesOn, IsEarlier, IsLater, IsOfRuns, KeepsEarlier, StaysSuspended}
+use Rattle.wf_loop.specs.Answer.{HasResponded, IsAnswer, IsResponse}
+use Rattle.wf_loop.specs.Continuation.{Continues, GoesOn, HasServed, IsEarlier, IsLater, IsOfRuns, KeepsEarlier, StaysSuspended}
+use Rattle.wf_loop.specs.declared.clients.Clients.{Clients}
 use Rattle.wf_loop.specs.declared.gate.Gate.TheVariants as gates
 use Rattle.wf_loop.specs.declared.hub.Voter.{Voter}
 
@@ -104,6 +107,11 @@ module _ {T : Type 0} (tapes : Tape T) where
       → IsActed tapes input origin target before result after → GoesOn tapes before after
   acted input origin target before result after is = going_on before after _ is.goes_on is.emitted (grown _ _ _ is.given)
 
+  -- nothing is given to one that asks
+  pub asked : {U : Type 0} (target : Target) (before : Process T tapes) (result : Result U NodeFault) (after : Process T tapes)
+      → IsActed tapes actions.CatchUp origins.Own target before result after → after.actor.given.items ≡ before.actor.given.items
+  asked target before result after is = is.given ∙ append-nil before.actor.given.items
+
   -- a message of its own, or of a peer
   pub own_received : {U : Type 0} (before : Process T tapes) (result : Option (Result U NodeFault)) (after : Process T tapes) → ReceivesOwn tapes before result after → GoesOn tapes before after
   own_received before None after is = unchanged before after is.1
@@ -116,12 +124,14 @@ module _ {T : Type 0} (tapes : Tape T) where
   -- ---- a voter
 
   pub still : (voter : Voter T tapes) → Continues tapes voter voter
-  still voter = record { process = goes_still voter.process; suspended = λ is. record { gate = is; actor = refl } }
+  still voter = record { process = goes_still voter.process; suspended = λ is. record { gate = is; actor = refl }; outvoted = refl; idle = λ _. refl }
 
   pub twice : (one two three : Voter T tapes) → Continues tapes one two → Continues tapes two three → Continues tapes one three
   twice one two three first second = record {
     process = goes_twice one.process two.process three.process first.process second.process;
     suspended = λ is. let a = first.suspended is in let b = second.suspended a.gate in record { gate = b.gate; actor = b.actor ∙ a.actor };
+    outvoted = second.outvoted ∙ first.outvoted;
+    idle = λ is. second.idle (first.outvoted ∙ is) ∙ first.idle is;
   }
 
   pub thrice : (one two three four : Voter T tapes) → Continues tapes one two → Continues tapes two three → Continues tapes three four → Continues tapes one four
@@ -130,63 +140,123 @@ module _ {T : Type 0} (tapes : Tape T) where
   pub same_voter : (before after : Voter T tapes) → after ≡ before → Continues tapes before after
   same_voter before after same = subst (λ (v : Voter T tapes). Continues tapes before v) (sym same) (still before)
 
-  -- one that acts, or isn't suspended at least, goes on as its process does
-  pub awake : (before after : Voter T tapes) → ¬ (before.gate ≡ gates.Suspended) → GoesOn tapes before.process after.process → Continues tapes before after
-  awake before after not goes = record { process = goes; suspended = λ is. absurd (not is) }
-
-  pub acting : (before after : Voter T tapes) → before.gate ≡ gates.Open → GoesOn tapes before.process after.process → Continues tapes before after
-  acting before after acts goes = awake before after (λ is. let is_open = acts in cc) goes
-
-  -- the gate alone
-  pub gated : (before after : Voter T tapes) → ¬ (before.gate ≡ gates.Suspended) → after.process ≡ before.process → Continues tapes before after
-  gated before after not same = awake before after not (unchanged before.process after.process same)
-
-  -- an end of a connection
-  same_node : (before after : Voter T tapes) → after.gate ≡ before.gate → IsSameActor before.process after.process → Continues tapes before after
-  same_node before after gate is = record { process = same_actor before.process after.process is; suspended = λ suspended. record { gate = gate ∙ suspended; actor = is.actor } }
-
-  same_process : (before after : Voter T tapes) → after.gate ≡ before.gate → after.process ≡ before.process → Continues tapes before after
-  same_process before after gate is = record {
-    process = unchanged before.process after.process is;
-    suspended = λ suspended. record { gate = gate ∙ suspended; actor = ap (λ (p : Process T tapes). p.actor) is };
+  -- one that acts, or is at least neither suspended nor outvoted, goes on as its process does
+  pub awake : (before after : Voter T tapes) → ¬ (before.gate ≡ gates.Suspended) → before.is_outvoted ≡ false → after.is_outvoted ≡ before.is_outvoted
+      → GoesOn tapes before.process after.process → Continues tapes before after
+  awake before after not agrees same goes = record {
+    process = goes;
+    suspended = λ is. absurd (not is);
+    outvoted = same;
+    idle = λ is. absurd (let no = agrees in cc);
   }
 
-  pub relinked : (peer : ℕ) (change : Link → Link → Type 0) (before after : Voter T tapes) → after.gate ≡ before.gate
-      → (peer < length before.process.links.items → IsLinkChanged peer change before.process after.process) → (length before.process.links.items ≤ peer → after.process ≡ before.process) → Continues tapes before after
-  relinked peer change before after gate linked no_links =
-      by_order peer (length before.process.links.items) (λ below. same_node before after gate (linked below).rest) (λ above. same_process before after gate (no_links above))
+  pub acting : (before after : Voter T tapes) → before.gate ≡ gates.Open → before.is_outvoted ≡ false → after.is_outvoted ≡ before.is_outvoted
+      → GoesOn tapes before.process after.process → Continues tapes before after
+  acting before after acts agrees same goes = awake before after (λ is. let is_open = acts in cc) agrees same goes
 
-  pub written : {A B : Type 0} (peer : ℕ) (change : Link → Link → Type 0) (before after : Voter T tapes) → after.gate ≡ before.gate
+  -- one that asks: it isn't suspended, and is given nothing
+  pub asking : (before after : Voter T tapes) → before.gate ≡ gates.Open → after.is_outvoted ≡ before.is_outvoted → GoesOn tapes before.process after.process
+      → after.process.actor.given.items ≡ before.process.actor.given.items → Continues tapes before after
+  asking before after is_open same goes given = record {
+    process = goes;
+    suspended = λ is. absurd (let at_open = is_open in cc);
+    outvoted = same;
+    idle = λ _. given;
+  }
+
+  -- the gate alone
+  pub gated : (before after : Voter T tapes) → (before.gate ≡ gates.Suspended → after.gate ≡ gates.Suspended) → after.is_outvoted ≡ before.is_outvoted
+      → after.process ≡ before.process → Continues tapes before after
+  gated before after stays same is = record {
+    process = unchanged before.process after.process is;
+    suspended = λ suspended. record { gate = stays suspended; actor = ap (λ (p : Process T tapes). p.actor) is };
+    outvoted = same;
+    idle = λ _. ap (λ (p : Process T tapes). p.actor.given.items) is;
+  }
+
+  -- an end of a connection
+  same_node : (before after : Voter T tapes) → after.gate ≡ before.gate → after.is_outvoted ≡ before.is_outvoted → IsSameActor before.process after.process → Continues tapes before after
+  same_node before after gate same is = record {
+    process = same_actor before.process after.process is;
+    suspended = λ suspended. record { gate = gate ∙ suspended; actor = is.actor };
+    outvoted = same;
+    idle = λ _. ap (λ (a : Actor T tapes). a.given.items) is.actor;
+  }
+
+  same_process : (before after : Voter T tapes) → after.gate ≡ before.gate → after.is_outvoted ≡ before.is_outvoted → after.process ≡ before.process → Continues tapes before after
+  same_process before after gate same is = gated before after (λ suspended. gate ∙ suspended) same is
+
+  pub relinked : (peer : ℕ) (change : Link → Link → Type 0) (before after : Voter T tapes) → after.gate ≡ before.gate → after.is_outvoted ≡ before.is_outvoted
+      → (peer < length before.process.links.items → IsLinkChanged peer change before.process after.process) → (length before.process.links.items ≤ peer → after.process ≡ before.process) → Continues tapes before after
+  relinked peer change before after gate same linked no_links =
+      by_order peer (length before.process.links.items) (λ below. same_node before after gate same (linked below).rest) (λ above. same_process before after gate same (no_links above))
+
+  pub written : {A B : Type 0} (peer : ℕ) (change : Link → Link → Type 0) (before after : Voter T tapes) → after.gate ≡ before.gate → after.is_outvoted ≡ before.is_outvoted
       → (peer < length before.process.links.items → IsLinkChanged peer change before.process after.process) → (length before.process.links.items ≤ peer → A × (after.process ≡ before.process) × B)
       → Continues tapes before after
-  written peer change before after gate linked no_links = relinked peer change before after gate linked (λ above. (no_links above).1)
+  written peer change before after gate same linked no_links = relinked peer change before after gate same linked (λ above. (no_links above).1)
 
   pub received : {A : Type 0} (peer : ℕ) (piece : List ℕ) (before : Voter T tapes) (result : Result ℕ DecodeFault) (after : Voter T tapes) → after.gate ≡ before.gate
+      → after.is_outvoted ≡ before.is_outvoted
       → (is_peer before.process peer ≡ true → IsReception peer piece before.process result after.process) → (is_peer before.process peer ≡ false → A × (after.process ≡ before.process))
       → Continues tapes before after
-  received peer piece before result after gate from other =
+  received peer piece before result after gate same from other =
       by_test (is_peer before.process peer)
       (λ is. let took = from is in record {
         process = record { actor = later_same before.process.actor after.process.actor took.actor; among = took.among; ended = took.ended };
         suspended = λ suspended. record { gate = gate ∙ suspended; actor = took.actor };
+        outvoted = same;
+        idle = λ _. ap (λ (a : Actor T tapes). a.given.items) took.actor;
       })
-      (λ is. same_process before after gate (other is).1)
+      (λ is. same_process before after gate same (other is).1)
 
   -- a client's request, which was answered, or wasn't
   pub answered : (before : Process T tapes) (came response : List ℕ) (outcome : Outcome) (after : Process T tapes) → IsAnswer tapes before came response outcome after → GoesOn tapes before after
   answered before came response outcome after is = going_on before after _ is.goes_on is.emitted (whole _ _ is.given)
 
-  pub responded : (before : Voter T tapes) (came response : List ℕ) (after : Voter T tapes) → ¬ (before.gate ≡ gates.Suspended) → IsResponse tapes before.process came response after.process → Continues tapes before after
-  responded before came response after not is = awake before after not (answered before.process came response is.outcome after.process is.answer)
+  pub responded : (before : Voter T tapes) (came response : List ℕ) (after : Voter T tapes) → ¬ (before.gate ≡ gates.Suspended) → before.is_outvoted ≡ false
+      → HasResponded tapes before came response after → Continues tapes before after
+  responded before came response after not agrees is =
+      awake before after not agrees is.outvoted (answered before.process came response is.answers.outcome after.process is.answers.answer)
 
-  pub stayed : (before after : Voter T tapes) → ¬ (before.gate ≡ gates.Suspended) → (after ≡ before) ⊎ GoesOn tapes before.process after.process → Continues tapes before after
-  stayed before after not (inl same) = same_voter before after same
-  stayed before after not (inr is) = awake before after not is
+  pub stayed : (before after : Voter T tapes) → ¬ (before.gate ≡ gates.Suspended) → before.is_outvoted ≡ false → (after ≡ before) ⊎ HasServed tapes before after → Continues tapes before after
+  stayed before after not agrees (inl same) = same_voter before after same
+  stayed before after not agrees (inr is) = awake before after not agrees is.outvoted is.process
 
-  -- a turn: a wait, a decision, what is done, and what is kept
-  pub turned : (one two three four five : Voter T tapes) → two ≡ one → Continues tapes two three → Continues tapes three four → five ≡ four → Continues tapes one five
+  -- ---- a turn: a wait, a decision, what is done, and what is kept
+
+  process_at : (one two three : Voter T tapes) → two ≡ one → three.process ≡ two.process → three.process ≡ one.process
+  process_at one two three waits decides = decides ∙ ap (λ (v : Voter T tapes). v.process) waits
+
+  pub turned : (one two three four five : Voter T tapes) → two ≡ one → three.process ≡ two.process → Continues tapes three four → five ≡ four → GoesOn tapes one.process five.process
   turned one two three four five waits decides does keeps =
-      twice one two five (same_voter one two waits) (twice two three five decides (twice three four five does (same_voter four five keeps)))
+      goes_twice one.process three.process five.process
+      (unchanged one.process three.process (process_at one two three waits decides))
+      (goes_twice three.process four.process five.process does.process (unchanged four.process five.process (ap (λ (v : Voter T tapes). v.process) keeps)))
+
+  pub turned_suspended : (one two three four five : Voter T tapes) → two ≡ one → three.process ≡ two.process → (two.gate ≡ gates.Suspended → three.gate ≡ gates.Suspended)
+      → Continues tapes three four → five ≡ four → one.gate ≡ gates.Suspended → StaysSuspended one five
+  turned_suspended one two three four five waits decides stays does keeps is =
+      let on = does.suspended (stays (ap (λ (v : Voter T tapes). v.gate) waits ∙ is)) in
+      record {
+        gate = ap (λ (v : Voter T tapes). v.gate) keeps ∙ on.gate;
+        actor = ap (λ (v : Voter T tapes). v.process.actor) keeps ∙ (on.actor ∙ ap (λ (p : Process T tapes). p.actor) (process_at one two three waits decides));
+      }
+
+  outvoted_at : (three four five : Voter T tapes) → Continues tapes three four → five ≡ four → five.is_outvoted ≡ true → three.is_outvoted ≡ true
+  outvoted_at three four five does keeps is = sym does.outvoted ∙ (sym (ap (λ (v : Voter T tapes). v.is_outvoted) keeps) ∙ is)
+
+  pub turned_idle : (one two three four five : Voter T tapes) → two ≡ one → three.process ≡ two.process → Continues tapes three four → five ≡ four → five.is_outvoted ≡ true
+      → five.process.actor.given.items ≡ one.process.actor.given.items
+  turned_idle one two three four five waits decides does keeps is =
+      ap (λ (v : Voter T tapes). v.process.actor.given.items) keeps
+      ∙ (does.idle (outvoted_at three four five does keeps is) ∙ ap (λ (p : Process T tapes). p.actor.given.items) (process_at one two three waits decides))
+
+  pub turned_unanswered : (three four five : Voter T tapes) (first second : Clients T tapes) (decided : List (Voter T tapes × ℕ)) (fourth fifth : Clients T tapes)
+      → second ≡ first → decided ≡ second.before.items → Continues tapes three four → (three.is_outvoted ≡ true → fourth.before.items ≡ decided)
+      → five ≡ four → fifth ≡ fourth → five.is_outvoted ≡ true → fifth.before.items ≡ first.before.items
+  turned_unanswered three four five first second decided fourth fifth waits decides on does keeps keeps' is =
+      ap (λ (c : Clients T tapes). c.before.items) keeps' ∙ (does (outvoted_at three four five on keeps is) ∙ (decides ∙ ap (λ (c : Clients T tapes). c.before.items) waits))
 
   -- ---- what is earlier stays so
 

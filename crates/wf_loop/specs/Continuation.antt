@@ -1,5 +1,5 @@
 -- The life of a process goes on.
-use Rattle.std.specs.Prelude.{◌≡◌, ◌⊎◌, ℕ, List, [], ◌∷◌}
+use Rattle.std.specs.Prelude.{◌≡◌, ◌⊎◌, ℕ, true, List, [], ◌∷◌}
 use Rattle.wf_actor.specs.Life.{logged}
 use Rattle.wf_actor.specs.declared.actor.Actor.{Actor}
 use Rattle.wf_actor.specs.declared.process.Process.{Process}
@@ -28,10 +28,17 @@ pub record StaysSuspended {T : Type 0} {tapes : Tape T} (before after : Voter T 
   pub gate : after.gate ≡ gates.Suspended
   pub actor : after.process.actor ≡ before.process.actor
 
--- The process goes on in its run. Nothing of a suspended node changes.
+-- The process goes on in its run. Nothing of a suspended node changes. Whether it is outvoted stays, and one that is was given no message.
 pub record Continues {T : Type 0} (tapes : Tape T) (before after : Voter T tapes) : Type 0 where
   pub process : GoesOn tapes before.process after.process
   pub suspended : before.gate ≡ gates.Suspended → StaysSuspended before after
+  pub outvoted : after.is_outvoted ≡ before.is_outvoted
+  pub idle : before.is_outvoted ≡ true → after.process.actor.given.items ≡ before.process.actor.given.items
+
+-- The process goes on in its run, and whether it is outvoted stays.
+pub record HasServed {T : Type 0} (tapes : Tape T) (before after : Voter T tapes) : Type 0 where
+  pub process : GoesOn tapes before.process after.process
+  pub outvoted : after.is_outvoted ≡ before.is_outvoted
 
 -- one of these runs is a later moment of this one
 abbrev pub IsOfRuns : {T : Type 0} (tapes : Tape T) → Actor T tapes → List (Actor T tapes × ℕ) → Type 0

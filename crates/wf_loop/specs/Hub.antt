@@ -29,6 +29,15 @@ time_of hub = hub.time
 abbrev pub IsSuspended : {T : Type 0} {tapes : Tape T} → Hub T tapes → Type 0
 IsSuspended hub = hub.voter.gate ≡ gates.Suspended
 
+-- the history of a peer differs, and those that are heard and agree with this node are no majority
+abbrev pub IsOutvoted : {T : Type 0} {tapes : Tape T} → Hub T tapes → Type 0
+IsOutvoted hub = hub.voter.is_outvoted ≡ true
+
+-- The node was given no message, and no client was answered.
+pub record IsIdle {T : Type 0} {tapes : Tape T} (before after : Hub T tapes) : Type 0 where
+  pub given : after.voter.process.actor.given.items ≡ before.voter.process.actor.given.items
+  pub answered : after.clients.before.items ≡ before.clients.before.items
+
 -- Each client that was answered was sent the response of a process that had lived, as it was just before, to what had come of the request.
 abbrev pub HasAnswered : {T : Type 0} (tapes : Tape T) → Hub T tapes → Type 0
 HasAnswered tapes hub = ∥ AreAnswered tapes hub.clients.before.items (responses_of hub.clients.visitors) hub.clients.after.items ∥₁

@@ -1,5 +1,5 @@
 //! What is done to a process: by each of these its run goes on, and nothing of a suspended node changes.
-ghost use Rattle.std.specs.Prelude.{◌≡◌, ◌++◌, ◌∷◌, [], IsTrue};
+ghost use Rattle.std.specs.Prelude.{◌≡◌, ◌++◌, ◌∷◌, [], IsTrue, false};
 ghost use Rattle.wf_loop.specs.Continuation.{Continues, KeepsEarlier};
 
 use crate::gate::Gate;
@@ -15,16 +15,25 @@ use wf_tape::Tape;
 impl<T: Tape> Voter<T> {
     /// Whether the node is given messages, and says what it has to.
     pub(crate) fn acts(&self) -> bool
+        ensures gate { IsTrue result → self.now.gate ≡ Gate.Open }
+        ensures agrees { IsTrue result → self.now.is_outvoted ≡ false }
+    {
+        self.gate == Gate::Open && !self.is_outvoted
+    }
+
+    /// Whether it asks its peers for definitions, by which they learn that it is there: also where it is outvoted.
+    fn asks(&self) -> bool
         ensures { IsTrue result → self.now.gate ≡ Gate.Open }
     {
         self.gate == Gate::Open
     }
 
-    /// Whether clients are answered: not before it acts, and not once it is suspended.
+    /// Whether clients are answered: not before it acts, and not once it is suspended or outvoted.
     pub(crate) fn answers(&self) -> bool
-        ensures { IsTrue result → ¬ (self.now.gate ≡ Gate.Suspended) }
+        ensures awake { IsTrue result → ¬ (self.now.gate ≡ Gate.Suspended) }
+        ensures agrees { IsTrue result → self.now.is_outvoted ≡ false }
     {
-        matches!(self.gate, Gate::Open | Gate::Unwritten)
+        matches!(self.gate, Gate::Open | Gate::Unwritten) && !self.is_outvoted
     }
 
     /// Whether it has connections with its peers.
@@ -32,10 +41,22 @@ impl<T: Tape> Voter<T> {
         matches!(self.gate, Gate::Open | Gate::Starting)
     }
 
+    /// A turn begins, in which it acts so, and is outvoted or not. A suspended one stays suspended.
+    pub(crate) fn judge(&mut self, gate: Gate, is_outvoted: bool)
+        ensures process { self.new.process ≡ self.old.process }
+        ensures outvoted { self.new.is_outvoted ≡ is_outvoted }
+        ensures suspended { self.old.gate ≡ Gate.Suspended → self.new.gate ≡ Gate.Suspended }
+    {
+        self.is_outvoted = is_outvoted;
+        self.set_gate(gate);
+    }
+
     /// From now on it acts so. A suspended one stays suspended.
     pub(crate) fn set_gate(&mut self, gate: Gate)
         ensures on { Continues T.Tape self.old self.new }
         ensures process { self.new.process ≡ self.old.process }
+        ensures outvoted { self.new.is_outvoted ≡ self.old.is_outvoted }
+        ensures stays { self.old.gate ≡ Gate.Suspended → self.new.gate ≡ Gate.Suspended }
         ensures suspended { gate ≡ Gate.Suspended → self.new.gate ≡ Gate.Suspended }
     {
         if self.gate != Gate::Suspended {
@@ -73,11 +94,11 @@ pub(crate) fn handle<T: Tape>(alloc: Global, voter: &mut Voter<T>, peer: NodeId)
     }
 }
 
-/// Asks a peer for the next definition, if the node acts.
+/// Asks a peer for the next definition, if the node acts, or is outvoted.
 pub(crate) fn ask<T: Tape>(alloc: Global, voter: &mut Voter<T>, peer: NodeId)
     ensures { Continues T.Tape voter.old voter.new }
 {
-    if voter.acts() {
+    if voter.asks() {
         let _ = voter.process.catch_up(alloc, peer);
     }
 }

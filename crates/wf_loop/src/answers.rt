@@ -1,8 +1,8 @@
 //! How a process answers clients.
 
 ghost use Rattle.std.specs.Prelude.{◌≡◌};
-ghost use Rattle.wf_loop.specs.Answer.{IsAnswer, IsResponse, IsUnsent};
-ghost use Rattle.wf_loop.specs.Continuation.{GoesOn};
+ghost use Rattle.wf_loop.specs.Answer.{HasResponded, IsAnswer, IsUnsent};
+ghost use Rattle.wf_loop.specs.Continuation.{GoesOn, HasServed};
 ghost use Rattle.wf_visitors.specs.ServerReply.{nothing};
 
 use crate::hub::Voter;
@@ -15,9 +15,9 @@ use wf_tape::Tape;
 use wf_visitors::{Server, ServerReply};
 
 impl<T: Tape> Server for Voter<T> {
-    ghost responds = { λ before came _ response after. IsResponse T.Tape before.process came response after.process };
+    ghost responds = { λ before came _ response after. HasResponded T.Tape before came response after };
 
-    ghost stays = { λ before after. GoesOn T.Tape before.process after.process };
+    ghost stays = { λ before after. HasServed T.Tape before after };
 
     fn answer(
         &mut self,

@@ -1,6 +1,6 @@
 //! The clients of a node.
 
-ghost use Rattle.std.specs.Prelude.{◌≡◌};
+ghost use Rattle.std.specs.Prelude.{◌≡◌, false, true};
 ghost use Rattle.wf_loop.specs.Answer.{AreAnswered};
 ghost use Rattle.wf_loop.specs.Continuation.{Continues};
 ghost use Rattle.wf_visitors.specs.Visitors.{responses_of};
@@ -59,6 +59,13 @@ impl<T: Tape + Drop> Clients<T> {
         self.visitors.close();
     }
 
+    /// Closes whoever is there.
+    pub(crate) fn dismiss(&mut self)
+        ensures { self.new.before.items ≡ self.old.before.items }
+    {
+        self.visitors.dismiss();
+    }
+
     /// What came for the client in a slot, or was taken by it.
     pub(crate) fn turn<R: AllocGlobal>(&mut self, context: &Context<'_, '_, R>, index: usize)
         ensures { self.new.before.items ≡ self.old.before.items }
@@ -81,7 +88,9 @@ impl<T: Tape + Drop> Clients<T> {
         context: &Context<'_, '_, R>,
         voter: &mut Voter<T>,
     ) -> Option<usize>
-        ensures { Continues T.Tape voter.old voter.new }
+        ensures on { Continues T.Tape voter.old voter.new }
+        ensures outvoted { voter.old.is_outvoted ≡ true →
+            self.new.before.items ≡ self.old.before.items }
     {
         if !voter.answers() {
             return None;
@@ -101,7 +110,8 @@ impl<T: Tape + Drop> Clients<T> {
         voter: &mut Voter<T>,
         index: usize,
     )
-        requires { ¬ (voter.old.gate ≡ Gate.Suspended) }
+        requires awake { ¬ (voter.old.gate ≡ Gate.Suspended) }
+        requires agrees { voter.old.is_outvoted ≡ false }
         ensures { Continues T.Tape voter.old voter.new }
     {
         let before = self.before.and(&*voter, &0);

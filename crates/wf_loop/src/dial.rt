@@ -97,6 +97,11 @@ impl Dial {
         self.is_open
     }
 
+    /// Since when it is being opened, is established, or is open.
+    pub(crate) fn since(&self) -> u64 {
+        self.since
+    }
+
     /// How many bytes of messages were written to the peer, on all its connections.
     pub(crate) fn byte_count(&self) -> u64 {
         self.written

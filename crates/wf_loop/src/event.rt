@@ -27,6 +27,8 @@ pub enum PeerEnd {
     BadMessage,
     /// A message came in the name of another node.
     WrongSender,
+    /// The history of the peer is to be compared anew, over another connection.
+    Compared,
     /// A newer connection of the same node has replaced it.
     Replaced,
     /// No slot was free for it.
@@ -51,6 +53,7 @@ impl fmt::Display for PeerEnd {
             PeerEnd::Talkative => f.write_str("talkative"),
             PeerEnd::BadMessage => f.write_str("bad-message"),
             PeerEnd::WrongSender => f.write_str("wrong-sender"),
+            PeerEnd::Compared => f.write_str("compared-anew"),
             PeerEnd::Replaced => f.write_str("replaced"),
             PeerEnd::NoSlot => f.write_str("no-free-slot"),
             PeerEnd::Unwritten => f.write_str("unwritten"),
@@ -104,6 +107,21 @@ pub enum NodeEvent {
         address: SocketAddr,
         why: PeerRejection,
     },
+    /// The history of a peer differs, up to this sequence.
+    Differs {
+        peer: usize,
+        address: SocketAddr,
+        sequence: u16,
+    },
+    /// The history of this peer differs, and those that agree with this node and are heard are no majority: it answers no client, and
+    /// doesn't vote.
+    Outvoted {
+        peer: usize,
+        address: SocketAddr,
+        sequence: u16,
+    },
+    /// Those that agree with this node are a majority again, or no history differs.
+    Agrees,
     /// The node's map is published.
     Published {
         sequence: u16,
@@ -112,8 +130,6 @@ pub enum NodeEvent {
     Overtaken {
         sequence: u16,
     },
-    /// The node's tape has failed, and the node is halted.
-    Halted,
     /// The node's tape was opened again.
     Reopened,
 }
@@ -121,15 +137,17 @@ pub enum NodeEvent {
 impl LogEntry for NodeEvent {
     fn level(&self) -> Level {
         match self {
-            NodeEvent::Halted | NodeEvent::Suspended { .. } => Level::Error,
+            NodeEvent::Suspended { .. } | NodeEvent::Outvoted { .. } => Level::Error,
             NodeEvent::Lost { .. }
             | NodeEvent::Dropped { .. }
             | NodeEvent::Unlisted { .. }
+            | NodeEvent::Differs { .. }
             | NodeEvent::Overtaken { .. } => Level::Warn,
             NodeEvent::Listening { .. }
             | NodeEvent::Opened { .. }
             | NodeEvent::Connected { .. }
             | NodeEvent::Accepted { .. }
+            | NodeEvent::Agrees
             | NodeEvent::Published { .. }
             | NodeEvent::Reopened => Level::Info,
         }
@@ -165,11 +183,45 @@ impl fmt::Display for NodeEvent {
                 f,
                 "suspended peer={peer} address={address} why=\"{why}\""
             ),
+            NodeEvent::Differs {
+                peer,
+                address,
+                sequence,
+            } => write!(
+                f,
+                "history-differs peer={peer} address={address} sequence={sequence}"
+            ),
+            NodeEvent::Outvoted {
+                peer,
+                address,
+                sequence,
+            } => write!(
+                f,
+                "no-agreeing-majority peer={peer} address={address} sequence={sequence}"
+            ),
+            NodeEvent::Agrees => f.write_str("agreeing-majority"),
             NodeEvent::Published { sequence } => write!(f, "published sequence={sequence}"),
             NodeEvent::Overtaken { sequence } => write!(f, "overtaken sequence={sequence}"),
-            NodeEvent::Halted => f.write_str("tape-failed"),
             NodeEvent::Reopened => f.write_str("tape-reopened"),
         }
+    }
+}
+
+/// The node's tape at this path has failed, and the node is halted.
+#[derive(Clone, Copy)]
+pub(crate) struct TapeFailed<'a> {
+    pub(crate) tape: &'a str,
+}
+
+impl<'a> LogEntry for TapeFailed<'a> {
+    fn level(&self) -> Level {
+        Level::Error
+    }
+}
+
+impl<'a> fmt::Display for TapeFailed<'a> {
+    fn fmt<W: fmt::Write>(&self, f: &mut fmt::Formatter<W>) -> fmt::Result {
+        write!(f, "tape-failed file={}", self.tape)
     }
 }
 

@@ -1,8 +1,7 @@
 //! What a node tells its operator.
 
-use crate::mesh::Differing;
 use crate::notes::Notes;
-use crate::peer_state::PeerState;
+use crate::peer_state::{Differing, PeerState};
 use crate::steps::Steps;
 use crate::tally::Tally;
 use std::alloc::AllocError;
@@ -33,6 +32,7 @@ pub(crate) struct NodeFacts<'a, R> {
     pub(crate) is_halted: bool,
     pub(crate) proposal: ProposalState,
     pub(crate) differs: Option<Differing>,
+    pub(crate) is_outvoted: bool,
     pub(crate) suspension: Option<Suspension>,
     pub(crate) is_unwritten: bool,
     pub(crate) hears_majority: bool,
@@ -63,10 +63,18 @@ impl<'a, R: Files> Operated for NodeFacts<'a, R> {
         if self.is_halted || self.is_unwritten {
             return Health::Halted;
         }
-        match (self.differs, self.reader_differs) {
-            (Some(Differing { peer, sequence }), _) => Health::Differs { peer, sequence },
-            (None, Some(sequence)) => Health::ReaderDiffers { sequence },
-            (None, None) => Health::Fine,
+        if self.is_outvoted {
+            if let Some(differing) = self.differs {
+                return Health::Differs {
+                    peer: differing.peer,
+                    address: differing.address,
+                    sequence: differing.sequence,
+                };
+            }
+        }
+        match self.reader_differs {
+            Some(sequence) => Health::ReaderDiffers { sequence },
+            None => Health::Fine,
         }
     }
 

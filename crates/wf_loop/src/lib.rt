@@ -15,6 +15,7 @@
 #![tactic(auto)]
 
 mod acts;
+mod agreement;
 mod answers;
 mod clients;
 mod desk;
@@ -48,6 +49,5 @@ pub use hub::Hub;
 pub use plan::{LoopFault, NodePlan};
 pub use reach::reach_of;
 pub use reopening::{FolderFault, FolderFile, NodeFolder, NotReopened};
-pub use service::Begun;
 pub use wf_actor::Process;
 pub use wf_visitors::{Level, Log};

@@ -26,7 +26,7 @@ use wf_ballot::NodeId;
 use wf_digest::Digests;
 use wf_folder::Suspension;
 use wf_learner::History;
-use wf_peer::{Greeting, NodeState, PeerProgress, PeerRejection, Progress};
+use wf_peer::{Greeting, NodeState, PeerProgress, Progress};
 use wf_tape::Tape;
 use wf_timing::CatchUp;
 use wf_visitors::{Context, Log};
@@ -45,13 +45,6 @@ const LONGEST_START: u64 = 3_000;
 /// The most connections from peers at once.
 pub(crate) const INBOUND_SLOTS: usize = 128;
 
-/// A peer whose history differs up to a sequence.
-#[derive(Clone, Copy)]
-pub(crate) struct Differing {
-    pub(crate) peer: usize,
-    pub(crate) sequence: u16,
-}
-
 /// The connections to and from the peers of a node, and what is known of them.
 #[derive(Drop)]
 pub(crate) struct Mesh {
@@ -64,13 +57,10 @@ pub(crate) struct Mesh {
     pub(crate) states: Vec<PeerState>,
     pub(crate) notes: Notes,
     pub(crate) catch_up: CatchUp,
-    pub(crate) was_let_in: bool,
     // the messages that the node took in
     pub(crate) steps: Steps,
-    // the peer whose history differs, and a sequence up to which it does
-    pub(crate) differs: Option<Differing>,
-    // what a peer said for which the node has to end
-    pub(crate) end: Option<PeerRejection>,
+    // whether the log has that it is outvoted
+    pub(crate) is_outvoted: bool,
     // who suspended the node, and whether its folder says so
     pub(crate) suspension: Option<Suspension>,
     pub(crate) is_suspension_kept: bool,
@@ -141,10 +131,8 @@ impl Mesh {
             states,
             notes,
             catch_up: CatchUp::new(time),
-            was_let_in: false,
             steps: Steps::default(),
-            differs: None,
-            end: None,
+            is_outvoted: false,
             suspension,
             is_suspension_kept: suspension.is_some(),
             is_suspension_new: false,
@@ -247,22 +235,6 @@ impl Mesh {
         }
     }
 
-    /// Notes that a peer's history differs up to a sequence.
-    pub(crate) fn note_difference(&mut self, peer: NodeId, sequence: u16) {
-        self.differs = Some(Differing {
-            peer: peer.number() as usize,
-            sequence,
-        });
-    }
-
-    /// Whether the history of this peer differed.
-    pub(crate) fn differs_from(&self, peer: NodeId) -> bool {
-        match self.differs {
-            Some(differing) => differing.peer == peer.number() as usize,
-            None => false,
-        }
-    }
-
     /// The node is opened again, by this start: it greets as it is now, and connections begin anew.
     pub(crate) fn begin_run(&mut self, digests: Digests, starts: u32, time: u64)
         ensures starts { self.new.plan.start.starts ≡ starts }
@@ -360,12 +332,17 @@ impl Mesh {
                 count = count.saturating_add(1);
             }
         }
+        self.is_majority(count)
+    }
+
+    /// Whether so many nodes are a majority of the farm.
+    pub(crate) fn is_majority(&self, count: usize) -> bool {
         self.dials.len() < count.saturating_mul(2)
     }
 
     /// Whether a message of a peer came a short time ago, and it serves. Once the last sequence is published nobody asks any more: then
     /// a connection will do.
-    fn is_heard(&self, index: usize, time: u64) -> bool {
+    pub(crate) fn is_heard(&self, index: usize, time: u64) -> bool {
         let Some(state) = self.states.get(index) else {
             return false;
         };
@@ -376,6 +353,9 @@ impl Mesh {
     pub(crate) fn close_all(&mut self, time: u64) {
         for dial in &mut self.dials {
             dial.end(time);
+        }
+        for state in &mut self.states {
+            state.note_end();
         }
         for slot in &mut self.inbounds {
             *slot = None;

@@ -2,6 +2,7 @@
 ghost use Rattle.std.specs.Prelude.{◌≡◌, IfSome};
 
 use crate::file::replace_in;
+use crate::mesh::id_of;
 use std::alloc::{AllocError, Global};
 use std::io;
 use std::mem::replace;
@@ -152,14 +153,21 @@ impl Notes {
     /// The latest sequence that was heard of.
     pub(crate) fn latest(&self, nodes: usize) -> u16 {
         let mut latest = 0;
-        for number in 0..nodes.min(64) {
-            if let Some(node) = NodeId::new(number as u8) {
-                if let Some(progress) = self.known.of(node) {
-                    latest = progress.published.number().max(latest);
-                }
-            }
+        for number in 0..nodes {
+            latest = self.published(number).max(latest);
         }
         latest
+    }
+
+    /// How far the node of this number has published, as was heard; 0 where nothing was.
+    pub(crate) fn published(&self, number: usize) -> u16 {
+        match id_of(number) {
+            Some(node) => match self.known.of(node) {
+                Some(progress) => progress.published.number(),
+                None => 0,
+            },
+            None => 0,
+        }
     }
 }
 

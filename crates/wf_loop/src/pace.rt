@@ -6,7 +6,7 @@ ghost use Rattle.wf_loop.specs.Continuation.{Continues};
 use crate::acts::retry;
 use crate::clients::Clients;
 use crate::desk::Desk;
-use crate::event::NodeEvent;
+use crate::event::{NodeEvent, TapeFailed};
 use crate::hub::Voter;
 use crate::mesh::Mesh;
 use std::alloc::Global;
@@ -227,7 +227,9 @@ impl Pace {
         mesh: &mut Mesh,
     ) {
         if process.is_halted() && self.reopening.is_none() {
-            context.log.write(&NodeEvent::Halted);
+            context.log.write(&TapeFailed {
+                tape: mesh.plan.tape.as_str(),
+            });
             mesh.close_all(context.time);
             self.begin_waits(context.time);
             self.postpone_reopening(context.time);

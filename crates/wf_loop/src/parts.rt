@@ -1,5 +1,5 @@
 //! All of a hub but its node: sockets, peers, and who only reads.
-ghost use Rattle.std.specs.Prelude.{◌≡◌, [], None, IfErr, IfOk, IsOk};
+ghost use Rattle.std.specs.Prelude.{◌≡◌, [], Some, IfErr, IfOk};
 ghost use Rattle.wf_loop.specs.StartErrors.{IsCause};
 ghost use Rattle.wf_visitors.specs.Visitors.{responses_of};
 
@@ -52,39 +52,21 @@ pub(crate) struct HubStart {
     pub(crate) visitors: Visitors,
 }
 
-/// A listener at an address, registered. Err: this fault.
-fn listen_at<R: Net>(
-    rt: &R,
-    registry: &Registry,
-    address: SocketAddr,
-    socket: Socket,
-    fault: LoopFault,
-) -> Result<TcpListener, LoopFault>
-    ensures { IfErr result (λ why. why ≡ fault) }
-{
-    match listen(rt, registry, address, socket.token()) {
-        Ok(listener) => Ok(listener),
-        Err(_) => Err(fault),
-    }
-}
-
-/// A listener at an address, registered, if there is an address. Err: this fault.
+/// A listener at an address, registered, if there is an address. Err: that address is taken, or not permitted.
 fn listen_if<R: Net>(
     rt: &R,
     registry: &Registry,
     address: Option<SocketAddr>,
     socket: Socket,
-    fault: LoopFault,
-) -> Result<Option<TcpListener>, LoopFault>
-    ensures cause { IfErr result (λ why. why ≡ fault) }
-    ensures none { address ≡ None → IsOk result }
+) -> Result<Option<TcpListener>, SocketAddr>
+    ensures { IfErr result (λ taken. address ≡ Some taken) }
 {
-    match address {
-        Some(address) => match listen_at(rt, registry, address, socket, fault) {
-            Ok(listener) => Ok(Some(listener)),
-            Err(fault) => Err(fault),
-        },
-        None => Ok(None),
+    let Some(address) = address else {
+        return Ok(None);
+    };
+    match listen(rt, registry, address, socket.token()) {
+        Ok(listener) => Ok(Some(listener)),
+        Err(_) => Err(address),
     }
 }
 
@@ -103,16 +85,20 @@ fn doors_at<R: Net>(rt: &R, plan: &NodePlan, poll: Poll) -> Result<Doors, LoopFa
     ensures { IfErr result (IsCause plan.now) }
 {
     let registry = poll.registry();
-    let http = listen_at(rt, registry, plan.http, Socket::Http, LoopFault::Http)?;
-    let listener = listen_at(rt, registry, plan.listen, Socket::Listen, LoopFault::Listen)?;
-    let admin = listen_if(rt, registry, plan.admin, Socket::Admin, LoopFault::Admin)?;
-    let readers = listen_if(
-        rt,
-        registry,
-        plan.readers,
-        Socket::Readers,
-        LoopFault::Readers,
-    )?;
+    let Ok(http) = listen(rt, registry, plan.http, Socket::Http.token()) else {
+        return Err(LoopFault::Http(plan.http));
+    };
+    let Ok(listener) = listen(rt, registry, plan.listen, Socket::Listen.token()) else {
+        return Err(LoopFault::Listen(plan.listen));
+    };
+    let admin = match listen_if(rt, registry, plan.admin, Socket::Admin) {
+        Ok(admin) => admin,
+        Err(taken) => return Err(LoopFault::Admin(taken)),
+    };
+    let readers = match listen_if(rt, registry, plan.readers, Socket::Readers) {
+        Ok(readers) => readers,
+        Err(taken) => return Err(LoopFault::Readers(taken)),
+    };
     Ok(Doors {
         poll,
         http,

@@ -72,7 +72,6 @@ impl Mesh {
             self.end(context, voter, index, peer, why);
             return;
         }
-        self.was_let_in = true;
         if let Some(dial) = self.dials.get_mut(index) {
             dial.open(context.time);
             context.log.write(&NodeEvent::Connected {
@@ -110,7 +109,8 @@ impl Mesh {
         }
     }
 
-    /// A peer doesn't let this node in. One that remembers more of the node than it has suspends it: nothing leaves it from now on.
+    /// A peer doesn't let this node in. One that remembers more of the node than it has suspends it: nothing leaves it from now on. Of one
+    /// whose history differs that is noted.
     #[tactic(auto, using(crate::proofs::Continuation::still))]
     fn take_rejection<R: Clock + Eprint, T: Tape + Drop>(
         &mut self,
@@ -126,10 +126,8 @@ impl Mesh {
             voter.set_gate(Gate::Suspended);
             self.suspend(context, peer, why);
         } else if why == PeerRejection::OtherHistory {
-            self.note_difference(peer, voter.process.node().published().number());
-            if !self.was_let_in {
-                self.end = Some(why);
-            }
+            let published = voter.process.node().published().number();
+            self.note_difference(context, peer, published);
         }
     }
 
@@ -183,6 +181,9 @@ impl Mesh {
         };
         let is_told = was_open || (why != PeerEnd::Failed && dial.is_to_be_told(why, context.time));
         dial.end(context.time);
+        if let Some(state) = self.states.get_mut(index) {
+            state.note_end();
+        }
         close_outbox(voter, peer);
         if is_told {
             context.log.write(&NodeEvent::Lost { peer: index, why });
@@ -203,7 +204,7 @@ impl Mesh {
         }
     }
 
-    /// Connects to a node, if it is a peer, there is no connection and it is time to; ends an attempt that takes too long.
+    /// Connects to a node, if it is a peer, there is no connection and it is time to; ends one that takes too long, or is to be compared.
     #[tactic(auto, using(crate::proofs::Continuation::still))]
     fn connect_to<R: Net + Files + Clock + Eprint + AllocGlobal, T: Tape + Drop>(
         &mut self,
@@ -219,10 +220,22 @@ impl Mesh {
         if peer == self.plan.own.node {
             return;
         }
-        if self.is_late(index, context.time) {
-            self.end(context, voter, index, peer, PeerEnd::Silent);
+        let published = voter.process.node().published().number();
+        if let Some(why) = self.why_anew(index, published, context.time) {
+            self.end(context, voter, index, peer, why);
         }
         self.connect_if_due(context, voter, index);
+    }
+
+    /// Why the connection to a node ends, and another is to begin, if so: it takes too long, or the histories are to be compared.
+    fn why_anew(&self, index: usize, published: u16, time: u64) -> Option<PeerEnd> {
+        if self.is_late(index, time) {
+            Some(PeerEnd::Silent)
+        } else if self.is_to_be_compared(index, published, time) {
+            Some(PeerEnd::Compared)
+        } else {
+            None
+        }
     }
 
     /// Connects to a peer and greets it, if there is no connection and it is time to.
@@ -300,11 +313,20 @@ impl Mesh {
         ensures { Continues T.Tape voter.old voter.new }
     {
         for index in 0..self.dials.len() {
-            if let Some(peer) = id_of(index) {
-                if self.is_open(index) {
-                    ask(alloc, voter, peer);
-                }
-            }
+            self.ask_at(alloc, voter, index);
+        }
+    }
+
+    /// Asks a peer for the next definition, if messages can be sent to it.
+    #[tactic(auto, using(crate::proofs::Continuation::still))]
+    fn ask_at<T: Tape + Drop>(&self, alloc: Global, voter: &mut Voter<T>, index: usize)
+        ensures { Continues T.Tape voter.old voter.new }
+    {
+        let Some(peer) = id_of(index) else {
+            return;
+        };
+        if self.is_open(index) {
+            ask(alloc, voter, peer);
         }
     }
 

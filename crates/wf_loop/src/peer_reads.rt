@@ -248,6 +248,7 @@ impl Mesh {
         ensures { Continues T.Tape voter.old voter.new }
     {
         self.notes.extend(voter.process.node().history());
+        let published = voter.process.node().published().number();
         let number = greeting.node.number() as usize;
         let admitted = if self.is_listed(number, address) {
             self.notes.admit(index, greeting)
@@ -257,14 +258,13 @@ impl Mesh {
         match admitted {
             Ok(()) => {
                 if let Some(state) = self.states.get_mut(number) {
+                    let said = greeting.progress.published.number();
                     state.serves = greeting.state == NodeState::Serves;
-                }
-                if self.differs_from(greeting.node) {
-                    self.differs = None;
+                    state.agreement = state.agreement.after(said, index.is_some(), published);
                 }
             }
             Err(PeerRejection::OtherHistory) => {
-                self.note_difference(greeting.node, greeting.progress.published.number());
+                self.note_difference(context, greeting.node, greeting.progress.published.number());
             }
             Err(_) => {}
         }

@@ -40,17 +40,17 @@ pub enum LoopFault {
     #[error("no poll")]
     Poll,
     /// The clients' address is taken, or not permitted.
-    #[error("the address of --http is taken or not permitted")]
-    Http,
+    #[error("the address of --http is taken or not permitted: {0}")]
+    Http(SocketAddr),
     /// The peers' address is taken, or not permitted.
-    #[error("the address of --listen is taken or not permitted")]
-    Listen,
+    #[error("the address of --listen is taken or not permitted: {0}")]
+    Listen(SocketAddr),
     /// The operator's address is taken, or not permitted.
-    #[error("the address of --admin is taken or not permitted")]
-    Admin,
+    #[error("the address of --admin is taken or not permitted: {0}")]
+    Admin(SocketAddr),
     /// The readers' address is taken, or not permitted.
-    #[error("the address of --readers is taken or not permitted")]
-    Readers,
+    #[error("the address of --readers is taken or not permitted: {0}")]
+    Readers(SocketAddr),
     /// An allocation failed.
     #[error("out of memory")]
     Memory,

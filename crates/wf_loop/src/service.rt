@@ -3,7 +3,7 @@ ghost use Rattle.std.specs.Prelude.{◌≡◌, ◌≤◌, ◌+◌, ◌↔◌, �
 ghost use Rattle.wf_actor.specs.Process.{IsBegun};
 ghost use Rattle.wf_digest.specs.Digest.{AreDigestsOf};
 ghost use Rattle.wf_folder.specs.declared.suspension.Suspension.{Suspension as SuspensionValue};
-ghost use Rattle.wf_loop.specs.Hub.{GreetsAsNow, HasAnswered, IsReopeningDue, IsSuspended, address_of, process_of, time_of};
+ghost use Rattle.wf_loop.specs.Hub.{GreetsAsNow, HasAnswered, IsIdle, IsOutvoted, IsReopeningDue, IsSuspended, address_of, process_of, time_of};
 ghost use Rattle.wf_node.specs.Reopening.{HasStoredAs};
 ghost use Rattle.wf_loop.specs.Lived.{HasLived};
 ghost use Rattle.wf_loop.specs.Continuation.{Continues, GoesOn, KeepsEarlier, StaysSuspended};
@@ -33,21 +33,12 @@ use wf_actor::Process;
 use wf_digest::Digests;
 use wf_folder::Suspension;
 use wf_operator::{Behind, PictureCounts};
-use wf_peer::{PeerProgress, PeerRejection};
+use wf_peer::PeerProgress;
 use wf_tape::Tape;
 use wf_visitors::{Context, Log, Visitors, now};
 
 /// For how long nothing comes before the digests are made that lack, in milliseconds.
 const MOMENT_MILLIS: u64 = 1;
-
-/// How a turn ended.
-#[derive(Clone, Copy, PartialEq, Eq)]
-pub enum Begun {
-    /// The node goes on.
-    On,
-    /// A peer told it that it has to end.
-    Ended(PeerRejection),
-}
 
 /// A hub of these parts. Err: that of the parts; the process is dropped.
 fn hub_of<T: Tape + Drop>(
@@ -89,6 +80,7 @@ fn voter_of<T: Tape>(
     Voter {
         process,
         gate,
+        is_outvoted: false,
         rejected: Tally::new(alloc),
         pictures: PictureCounts::default(),
     }
@@ -319,7 +311,7 @@ impl<T: Tape + Drop> Hub<T> {
         rt: &R,
         log: &Log<'_, R>,
         folder: &mut F,
-    ) -> Begun
+    )
         // Whatever came, the node has lived by its acts, was given only what receivers returned, and sent only what it returned.
         ensures lived { HasLived T.Tape (process_of self.new) }
         // Each response that any client was sent is the one to exactly what had come of its request, by a process that had lived.
@@ -329,6 +321,9 @@ impl<T: Tape + Drop> Hub<T> {
         ensures earlier { KeepsEarlier T.Tape (process_of self.old) (process_of self.new) }
         // A suspended node stays suspended and as it is: it is given nothing, and emits no message.
         ensures suspended { IsSuspended self.old → StaysSuspended self.old.voter self.new.voter }
+        // In a turn in which the history of a peer differs and no majority agrees, it is given no message, so it doesn't vote, and no client is
+        // answered.
+        ensures outvoted { IsOutvoted self.new → IsIdle self.old self.new }
         ensures starts { F.starts folder.new ≡ F.starts folder.old }
         ensures time { time_of self.old ≤ time_of self.new }
     {
@@ -336,7 +331,7 @@ impl<T: Tape + Drop> Hub<T> {
         let mut ready = [0usize; MOST_EVENTS];
         let count = self.ready(&mut ready);
         self.time = now(rt).max(self.time);
-        self.judge();
+        self.judge(log);
         self.is_busy = self.act(
             rt,
             log,
@@ -345,29 +340,33 @@ impl<T: Tape + Drop> Hub<T> {
         );
         self.keep(log, folder);
         self.always_lived();
-        match self.parts.mesh.end {
-            Some(rejection) => Begun::Ended(rejection),
-            None => Begun::On,
-        }
     }
 
-    /// Decides how the node acts in this turn. Of a suspended one all ports but the operator's are closed.
-    fn judge(&mut self)
-        ensures on { Continues T.Tape self.old.voter self.new.voter }
+    /// Decides how the node acts in this turn. Of a suspended one all ports but the operator's are closed, and where no majority agrees with
+    /// it, clients and readers are sent away.
+    fn judge<R: Clock + Eprint>(&mut self, log: &Log<'_, R>)
+        ensures process { process_of self.new ≡ process_of self.old }
+        ensures suspended { IsSuspended self.old → IsSuspended self.new }
+        ensures befores { self.new.clients.before.items ≡ self.old.clients.before.items }
         ensures time { time_of self.new ≡ time_of self.old }
     {
         let gate = self.parts.mesh.gate(self.time);
-        self.voter.set_gate(gate);
+        let is_outvoted = self.parts.mesh.judge_histories(log, self.time);
+        self.voter.judge(gate, is_outvoted);
         if self.voter.gate == Gate::Suspended {
             self.clients.close();
             self.parts.desk.readers.close();
             self.parts.mesh.close_all(self.time);
+        } else if is_outvoted {
+            self.clients.dismiss();
+            self.parts.desk.readers.dismiss();
         }
     }
 
     /// Writes to the folder what has to be there.
     fn keep<R: Clock + Eprint, F: NodeFolder<T>>(&mut self, log: &Log<'_, R>, folder: &mut F)
         ensures voter { self.new.voter ≡ self.old.voter }
+        ensures clients { self.new.clients ≡ self.old.clients }
         ensures time { time_of self.new ≡ time_of self.old }
         ensures starts { F.starts folder.new ≡ F.starts folder.old }
     {
@@ -391,6 +390,7 @@ impl<T: Tape + Drop> Hub<T> {
     /// Waits until a socket is ready or the patience is over. Returns whether it could wait.
     fn wait<R: Clock>(&mut self, rt: &R) -> bool
         ensures voter { self.new.voter ≡ self.old.voter }
+        ensures clients { self.new.clients ≡ self.old.clients }
         ensures time { time_of self.new ≡ time_of self.old }
     {
         let millis = self.patience(now(rt));
@@ -435,6 +435,8 @@ impl<T: Tape + Drop> Hub<T> {
         could_wait: bool,
     ) -> bool
         ensures on { Continues T.Tape self.old.voter self.new.voter }
+        ensures outvoted { IsOutvoted self.old →
+            self.new.clients.before.items ≡ self.old.clients.before.items }
         ensures time { time_of self.new ≡ time_of self.old }
     {
         let Hub {

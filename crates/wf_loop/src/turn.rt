@@ -1,5 +1,5 @@
 //! What a turn does once it has waited.
-ghost use Rattle.std.specs.Prelude.{◌≡◌};
+ghost use Rattle.std.specs.Prelude.{◌≡◌, true};
 ghost use Rattle.wf_loop.specs.Continuation.{Continues};
 
 use crate::acts::handle_own;
@@ -33,7 +33,9 @@ pub(crate) fn serve_all<R: Net + Files + Clock + Eprint + AllocGlobal, T: Tape +
     clients: &mut Clients<T>,
     tokens: &[usize],
 )
-    ensures { Continues T.Tape voter.old voter.new }
+    ensures on { Continues T.Tape voter.old voter.new }
+    ensures outvoted { voter.old.is_outvoted ≡ true →
+        clients.new.before.items ≡ clients.old.before.items }
 {
     act_on_all(context, voter, mesh, desk, clients, tokens);
     handle_all_own(context, voter, mesh);
@@ -181,7 +183,9 @@ fn serve_clients<R: Files + Clock + Eprint + AllocGlobal, T: Tape + Drop>(
     mesh: &mut Mesh,
     clients: &mut Clients<T>,
 )
-    ensures { Continues T.Tape voter.old voter.new }
+    ensures on { Continues T.Tape voter.old voter.new }
+    ensures outvoted { voter.old.is_outvoted ≡ true →
+        clients.new.before.items ≡ clients.old.before.items }
 {
     for _ in 0..MOST_SERVED {
         if !serve_next(context, voter, mesh, clients) {
@@ -199,7 +203,9 @@ fn serve_next<R: Files + Clock + Eprint + AllocGlobal, T: Tape + Drop>(
     mesh: &mut Mesh,
     clients: &mut Clients<T>,
 ) -> bool
-    ensures { Continues T.Tape voter.old voter.new }
+    ensures on { Continues T.Tape voter.old voter.new }
+    ensures outvoted { voter.old.is_outvoted ≡ true →
+        clients.new.before.items ≡ clients.old.before.items }
 {
     let Some(index) = clients.answer_next(context, voter) else {
         return false;
@@ -259,7 +265,8 @@ fn serve_facts<R: Files + Clock + Eprint + AllocGlobal, T: Tape + Drop>(
         tape: mesh.plan.tape.as_str(),
         is_halted: process.is_halted(),
         proposal: process.node().proposal(),
-        differs: mesh.differs,
+        differs: mesh.differing(),
+        is_outvoted: voter.is_outvoted,
         suspension: mesh.suspension,
         is_unwritten: mesh.unwritten.is_some(),
         hears_majority: mesh.hears_majority(context.time),

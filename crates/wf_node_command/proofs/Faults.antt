@@ -66,7 +66,6 @@ from_fault line from fault some is = absurd is
 module _ {T : Type 0} (tapes : Tape T) (line : NodeLine) where
   -- a node that didn't begin
   pub not_begun : (fault : CommandFault) → IsNodeFault line fault → IsNodeDone tapes line (Err fault)
-  not_begun (faults.Ended why) is = absurd is
   not_begun fault is = is
 
   pub not_started : (fault : CommandFault) → IsFromSystem fault → IsNodeDone tapes line (Err fault)
@@ -74,7 +73,7 @@ module _ {T : Type 0} (tapes : Tape T) (line : NodeLine) where
 
 -- a node that was admitted, but not opened
 pub not_opened : {T : Type 0} (tapes : Tape T) (file : NodeFile) (fault : CommandFault) → IsWhyNotOpened file fault → IsEnd tapes file (Err fault)
-not_opened tapes file (faults.Ended why) is = absurd is
+not_opened tapes file (faults.Rejected why) is = is
 not_opened tapes file fault is = is
 
 pub not_opened_by_system : {T : Type 0} (tapes : Tape T) (file : NodeFile) (fault : CommandFault) → IsFromSystem fault → IsEnd tapes file (Err fault)

@@ -73,12 +73,9 @@ module _ {T : Type 0} (tapes : Tape T) where
       → IsKnownOf (stored_of process.actor.node) known → written ≡ record file { known = raised_known file.known known.reach known.digest } → IsServed tapes process result → IsEnd tapes file result
   ended_by file written known process (Ok done) started is value on =
       record { started = process; is_started = started; written = written; is_raised = raised_by file written known process is value; on = on }
-  ended_by file written known process (Err (faults.Ended why)) started is value on =
-      record { started = process; is_started = started; written = written; is_raised = raised_by file written known process is value; on = on }
   ended_by file written known process (Err fault) started is value on = not_opened_by_system tapes file fault on
 
   pub served_by : (line : NodeLine) (file : NodeFile) (result : Result (Unit {0}) CommandFault) → IsAdmitted line file → IsEnd tapes file result → IsNodeDone tapes line result
   served_by line file (Ok done) admit end = record { file = file; admit = admit; served = end }
-  served_by line file (Err (faults.Ended why)) admit end = record { file = file; admit = admit; served = end }
   served_by line file (Err (faults.Rejected why)) admit end = inr (record { file = file; admit = admit; content = end.0; back = end.1 })
   served_by line file (Err fault) admit end = system_of_node line fault end

@@ -110,7 +110,6 @@ module _ {T : Type 0} (tapes : Tape T) where
   -- how the turns of a process ended
   abbrev pub IsServed : Process T tapes → Result (Unit {0}) CommandFault → Type 0
   IsServed started (Ok done) = HasLivedOn started
-  IsServed started (Err (faults.Ended why)) = HasLivedOn started
   IsServed started (Err fault) = IsFromSystem fault
 
   -- A process was started so, the file was written, raised to what its node had stored, and then it has gone on.
@@ -124,7 +123,6 @@ module _ {T : Type 0} (tapes : Tape T) where
   -- how the start of a node, which its folder had admitted, and its turns ended
   abbrev pub IsEnd : NodeFile → Result (Unit {0}) CommandFault → Type 0
   IsEnd file (Ok done) = HasGoneOn file
-  IsEnd file (Err (faults.Ended why)) = HasGoneOn file
   IsEnd file (Err (faults.Rejected why)) = (content : List ℕ) × HasGoneBack file content why
   IsEnd file (Err fault) = IsFromSystem fault
 
@@ -134,10 +132,9 @@ module _ {T : Type 0} (tapes : Tape T) where
     pub admit : IsAdmitted line file
     pub served : HasGoneOn file
 
-  -- What `node` did: it took its turns, or a peer ended it, and then it was served; or it didn't begin.
+  -- What `node` did: it took its turns, and then it was served; or it didn't begin.
   abbrev pub IsNodeDone : NodeLine → Result (Unit {0}) CommandFault → Type 0
   IsNodeDone line (Ok done) = HasServed line
-  IsNodeDone line (Err (faults.Ended why)) = HasServed line
   IsNodeDone line (Err fault) = IsNodeFault line fault
 
 -- ---- init

@@ -20,8 +20,7 @@ fault_of (lists.Bad index) = faults.BadPeer index
 fault_of (lists.Count count) = faults.PeerCount count
 fault_of lists.Memory = faults.Memory
 
--- The error is one that files, sockets or memory caused before a node began: none of the command line, of where a node may begin, or of
--- what a peer said.
+-- The error is one that files, sockets or memory caused before a node began: none of the command line, or of where a node may begin.
 abbrev pub IsFromSystem : CommandFault → Type 0
 IsFromSystem (faults.BadPeer index) = ⊥
 IsFromSystem (faults.PeerCount count) = ⊥
@@ -34,7 +33,6 @@ IsFromSystem (faults.FromUnread kind) = ⊥
 IsFromSystem (faults.FromBad offset) = ⊥
 IsFromSystem (faults.FromRejected why) = ⊥
 IsFromSystem (faults.BesideUnread kind) = ⊥
-IsFromSystem (faults.Ended why) = ⊥
 IsFromSystem fault = ⊤
 
 -- a file can't be written, or an allocation failed

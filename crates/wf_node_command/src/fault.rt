@@ -8,7 +8,7 @@ use thiserror::Error;
 use wf_address::AddressOption;
 use wf_folder::{NodeRejection, NotEmpty};
 use wf_loop::LoopFault;
-use wf_peer::{PeerProgressFault, PeerRejection};
+use wf_peer::PeerProgressFault;
 
 /// Why a command ends with an error. Its text is the line on standard error.
 #[derive(Clone, Copy, Debug, Error)]
@@ -82,9 +82,6 @@ pub enum CommandFault {
     /// The node's loop doesn't begin.
     #[error("{0}")]
     Loop(LoopFault),
-    /// A peer told the node that it has to end.
-    #[error("{0}")]
-    Ended(PeerRejection),
 }
 
 impl CommandFault {
@@ -116,8 +113,7 @@ impl CommandFault {
             | CommandFault::TapeBad(_)
             | CommandFault::NoRandomBits
             | CommandFault::Memory
-            | CommandFault::Loop(_)
-            | CommandFault::Ended(_) => 1,
+            | CommandFault::Loop(_) => 1,
         }
     }
 }

@@ -11,6 +11,7 @@ ghost use Rattle.wf_node.specs.Node.{stored_of};
 ghost use Rattle.wf_node_command.specs.Fault.{IsFromSystem, fault_of};
 ghost use Rattle.wf_node_command.specs.Held.{IsKnownOf, IsWhyNotOpened};
 
+use crate::event::NodeStarts;
 use crate::fault::CommandFault;
 use crate::folder::{
     find_in, hold, new_mark, presence, read_peer_progress, replace_farm, tape_path,
@@ -26,8 +27,8 @@ use wf_address::{AddressOption, ListFault, address, address_if_any, addresses};
 use wf_ballot::NodeId;
 use wf_folder::{Known, NodeFile, NodeFound, Reach, admit_node};
 use wf_line::NodeLine;
-use wf_loop::{Begun, Hub, Log, NodeEvent, NodeFolder, NodePlan, Process};
-use wf_peer::{Own, PeerProgress, PeerRejection, Progress};
+use wf_loop::{Hub, Log, NodeEvent, NodeFolder, NodePlan, Process};
+use wf_peer::{Own, PeerProgress, Progress};
 use wf_tape::{FileTape, Tape};
 
 /// Where clients, peers, the operator and readers come, and where all nodes' peers do.
@@ -40,7 +41,7 @@ struct NodeAddresses {
     readers: Option<SocketAddr>,
 }
 
-/// Serves a node for this many turns, or until a peer tells it that it has to end.
+/// Serves a node for this many turns.
 #[tactic(auto, using(crate::proofs::Faults::not_begun, crate::proofs::Faults::not_started))]
 pub(crate) fn node<'a, R: Files<File = File> + Clock + Eprint + Net + AllocGlobal>(
     rt: &'a R,
@@ -248,10 +249,14 @@ fn open_node<'a, R: Files + Clock + Eprint + AllocGlobal>(
     ensures known { IfOk result (λ opened. IsKnownOf (stored_of opened.0.actor.node) opened.1) }
     ensures fault { IfErr result (IsWhyNotOpened file.now) }
 {
+    let log = Log::new(rt, line.log);
+    log.write(&NodeStarts {
+        node: file.node,
+        folder: line.state,
+    });
     if let Err(fault) = examine_tape(rt, file, path) {
         return Err(fault);
     }
-    let log = Log::new(rt, line.log);
     let tape = match open_tape(rt, path) {
         Ok(tape) => tape,
         Err(fault) => return Err(fault),
@@ -408,27 +413,18 @@ fn serve<
         node: node as usize,
         published: hub.process().node().published().number(),
     });
-    let ended = go_on(rt, &log, &mut hub, folder, turns);
+    go_on(rt, &log, &mut hub, folder, turns);
     drop(hub);
-    match ended {
-        Ok(()) => Ok(()),
-        Err(why) => Err(CommandFault::Ended(why)),
-    }
+    Ok(())
 }
 
-/// Takes that many turns, or fewer if a peer tells the node that it has to end; where the tape has failed, it is opened again.
+/// Takes that many turns; where the tape has failed, it is opened again.
 #[tactic(auto, using(crate::proofs::Started::kept_still))]
 fn go_on<
     R: Files<File = File> + Clock + Eprint + Net + AllocGlobal,
     T: Tape + Drop,
     F: NodeFolder<T>,
->(
-    rt: &R,
-    log: &Log<'_, R>,
-    hub: &mut Hub<T>,
-    folder: &mut F,
-    turns: u64,
-) -> Result<(), PeerRejection>
+>(rt: &R, log: &Log<'_, R>, hub: &mut Hub<T>, folder: &mut F, turns: u64)
     // Whatever came in however many turns, the node has lived by its acts, was given only what receivers returned, and sent only what it
     // returned.
     ensures lived { HasLived T.Tape (process_of hub.new) }
@@ -438,13 +434,10 @@ fn go_on<
     ensures earlier { KeepsEarlier T.Tape (process_of hub.old) (process_of hub.new) }
 {
     for _ in 0..turns {
-        if let Begun::Ended(why) = hub.go_on(rt, log, folder) {
-            return Err(why);
-        }
+        hub.go_on(rt, log, folder);
         reopen_if_due(rt, log, hub, folder);
     }
     hub.always_lived();
-    Ok(())
 }
 
 /// Opens the tape of a halted node again, if it is time to; where that fails it is tried later.

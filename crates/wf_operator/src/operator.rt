@@ -26,9 +26,11 @@ pub enum Health {
         address: SocketAddr,
         remembers: &'static str,
     },
-    /// Its history and that of a node differ, up to this sequence.
+    /// Its history and that of this node at this address differ, up to this sequence, and those that it hears and that agree with it are
+    /// no majority: it answers no client, and doesn't vote.
     Differs {
         peer: usize,
+        address: SocketAddr,
         sequence: u16,
     },
     /// Its history and that of a reader differ, up to this sequence.
@@ -117,7 +119,7 @@ fn respond<O: Operated>(alloc: Global, operated: &O, bytes: &[u8]) -> Result<Tex
     }
 }
 
-/// Whether it serves, its tape stands, and no history differs.
+/// Whether it serves, its tape stands, and no reader's history differs.
 fn health_page(alloc: Global, health: Health) -> Result<TextPage, AllocError> {
     match health {
         Health::Fine => TextPage::of(alloc, StatusCode::OK, "ok\n"),
@@ -130,9 +132,15 @@ fn health_page(alloc: Global, health: Health) -> Result<TextPage, AllocError> {
             StatusCode::SERVICE_UNAVAILABLE,
             format!(in alloc; "suspended: node {peer} at {address} remembers {remembers}\n")?,
         )),
-        Health::Differs { peer, sequence } => Ok(TextPage::of_text(
+        Health::Differs {
+            peer,
+            address,
+            sequence,
+        } => Ok(TextPage::of_text(
             StatusCode::SERVICE_UNAVAILABLE,
-            format!(in alloc; "history differs from node {peer} at sequence {sequence}\n")?,
+            format!(in alloc;
+                "history differs from node {peer} at {address} at sequence {sequence}\n"
+            )?,
         )),
         Health::ReaderDiffers { sequence } => Ok(TextPage::of_text(
             StatusCode::SERVICE_UNAVAILABLE,
@@ -141,10 +149,11 @@ fn health_page(alloc: Global, health: Health) -> Result<TextPage, AllocError> {
     }
 }
 
-/// Whether a map that is proposed to it can be published: it hears a majority, and nothing is wrong.
+/// Whether a map that is proposed to it can be published: it hears a majority, and nothing is wrong with it. That a reader's history
+/// differs stops nobody.
 fn vote_page<O: Operated>(alloc: Global, operated: &O) -> Result<TextPage, AllocError> {
     let health = operated.health();
-    if health != Health::Fine {
+    if !matches!(health, Health::Fine | Health::ReaderDiffers { .. }) {
         return health_page(alloc, health);
     }
     match operated.hears_majority() {
@@ -154,10 +163,10 @@ fn vote_page<O: Operated>(alloc: Global, operated: &O) -> Result<TextPage, Alloc
     }
 }
 
-/// Whether it isn't suspended, and has all that it heard of.
+/// Whether it answers clients, and has all that it heard of.
 fn readiness_page<O: Operated>(alloc: Global, operated: &O) -> Result<TextPage, AllocError> {
     let health = operated.health();
-    if matches!(health, Health::Suspended { .. }) {
+    if matches!(health, Health::Suspended { .. } | Health::Differs { .. }) {
         return health_page(alloc, health);
     }
     let Some(received) = operated.later() else {

@@ -89,6 +89,11 @@ impl ReadersPort {
     /// Closes the port: nobody is accepted any more, and whoever is there is closed.
     pub fn close(&mut self) {
         self.listener = None;
+        self.dismiss();
+    }
+
+    /// Closes whoever is there. The port stays open.
+    pub fn dismiss(&mut self) {
         for slot in &mut self.slots {
             *slot = None;
         }

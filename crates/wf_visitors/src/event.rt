@@ -1,6 +1,7 @@
 //! What a log has lines of.
 
 use std::fmt;
+use std::net::SocketAddr;
 
 /// How much an event matters.
 #[derive(Clone, Copy, PartialEq, Eq)]
@@ -32,8 +33,10 @@ pub trait LogEntry: fmt::Display {
 /// What has become of a client.
 #[derive(Clone, Copy)]
 pub enum Visit<'a> {
-    /// Its request was answered.
+    /// Its request was answered. What the response to a POST says is in it too.
     Answered {
+        address: SocketAddr,
+        said: Option<&'a str>,
         method: &'a str,
         path: &'a str,
         status: u16,
@@ -59,15 +62,23 @@ impl fmt::Display for Visit<'_> {
     fn fmt<W: fmt::Write>(&self, f: &mut fmt::Formatter<W>) -> fmt::Result {
         match self {
             Visit::Answered {
+                address,
+                said,
                 method,
                 path,
                 status,
                 bytes,
                 millis,
-            } => write!(
-                f,
-                "request method={method:?} path={path:?} status={status} bytes={bytes} millis={millis}"
-            ),
+            } => {
+                write!(
+                    f,
+                    "request method={method:?} path={path:?} status={status} bytes={bytes} millis={millis} client={address}"
+                )?;
+                match said {
+                    Some(said) => write!(f, " said={said:?}"),
+                    None => Ok(()),
+                }
+            }
             Visit::Unanswered { millis } => write!(f, "unanswered millis={millis}"),
         }
     }

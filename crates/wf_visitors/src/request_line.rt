@@ -1,4 +1,4 @@
-//! The first line of a request.
+//! The first line of a request, and that of its response's body.
 
 /// The most bytes of a method or a path that a log has.
 const MOST_LOGGED: usize = 200;
@@ -19,7 +19,17 @@ pub(crate) fn request_line(bytes: &[u8]) -> RequestLine<'_> {
     RequestLine { method, path }
 }
 
-/// The first line of a request, at most a beginning of it.
+/// What the response to a request of this method says, if it was sent to change something: the first line of its body.
+pub(crate) fn said_to<'a>(method: &str, response: &'a [u8]) -> Option<&'a str> {
+    if method != "POST" {
+        return None;
+    }
+    let text = str::from_utf8(response).ok()?;
+    let (_, body) = text.split_once("\r\n\r\n")?;
+    Some(first_line(body.as_bytes()))
+}
+
+/// The first line of some bytes, at most a beginning of it.
 fn first_line(bytes: &[u8]) -> &str {
     let length = bytes
         .iter()

@@ -8,14 +8,14 @@ use crate::clock::micros;
 use crate::context::Context;
 use crate::counts::Counts;
 use crate::event::Visit;
-use crate::request_line::request_line;
+use crate::request_line::{request_line, said_to};
 use crate::server::{Server, ServerReply};
 use crate::slots::{free_slots, put_in, take_out};
 use crate::socket::ClientConnection;
 use crate::turn::{ClientTurn, PIECE_BYTES, drop_rest, give, receive};
 use crate::visitors::Visitors;
 use http_server::Log as Past;
-use mio::net::{TcpListener, TcpStream};
+use mio::net::TcpListener;
 use std::alloc::{AllocError, Global};
 use std::net::SocketAddr;
 use std::time::Clock;
@@ -106,10 +106,10 @@ impl Visitors {
             let Some(index) = slot_index(self.slots.as_slice()) else {
                 return;
             };
-            let Some(stream) = self.accept_one() else {
+            let Some(connection) = self.accept_one() else {
                 return;
             };
-            self.admit(context, stream, index);
+            self.admit(context, connection, index);
         }
     }
 
@@ -118,16 +118,23 @@ impl Visitors {
         ensures { responses_of self.new ≡ responses_of self.old }
     {
         self.listener = None;
+        self.dismiss();
+    }
+
+    /// Closes whoever is there, answered or not. The port stays open.
+    pub fn dismiss(&mut self)
+        ensures { responses_of self.new ≡ responses_of self.old }
+    {
         for index in 0..self.count() {
             drop(self.take(index));
         }
     }
 
     /// The next connection, if there is one.
-    fn accept_one(&self) -> Option<TcpStream> {
+    fn accept_one(&self) -> Option<ClientConnection> {
         match &self.listener {
             Some(listener) => match listener.accept() {
-                Ok((stream, _)) => Some(stream),
+                Ok((stream, address)) => Some(ClientConnection::new(stream, address)),
                 Err(_) => None,
             },
             None => None,
@@ -139,20 +146,20 @@ impl Visitors {
     fn admit<R: Clock + Eprint + AllocGlobal>(
         &mut self,
         context: &Context<'_, '_, R>,
-        stream: TcpStream,
+        connection: ClientConnection,
         index: usize,
     )
         ensures { responses_of self.new ≡ responses_of self.old }
     {
-        if let Some((connection, client)) = self.take(index) {
-            drop(connection);
+        if let Some((older, client)) = self.take(index) {
+            drop(older);
             context.log.write(&Visit::Unanswered {
                 millis: context.time.saturating_sub(client.since()),
             });
             drop(client);
         }
         let client = Client::new(context.alloc(), context.time);
-        self.put(index, ClientConnection::new(stream), client);
+        self.put(index, connection, client);
         self.turn(context, index);
     }
 
@@ -381,6 +388,7 @@ impl Visitors {
                     context,
                     &client,
                     Sent {
+                        address: connection.address(),
                         status,
                         bytes,
                         begun,
@@ -398,6 +406,7 @@ impl Visitors {
         ensures { responses_of self.new ≡ responses_of self.old }
     {
         let Sent {
+            address,
             status,
             bytes,
             begun,
@@ -407,6 +416,8 @@ impl Visitors {
         self.counts.add(line.path, status, duration);
         if context.log.is_on() {
             context.log.write(&Visit::Answered {
+                address,
+                said: said_to(line.method, client.outgoing.bytes()),
                 method: line.method,
                 path: line.path,
                 status,
@@ -453,6 +464,7 @@ impl Visitors {
 /// A response that was written, and when it was begun, in microseconds.
 #[derive(Clone, Copy)]
 struct Sent {
+    address: SocketAddr,
     status: u16,
     bytes: u64,
     begun: u64,

@@ -5,7 +5,7 @@ use mio::net::TcpStream;
 use mio::{Interest, Registry, Token};
 use std::io;
 use std::io::{ErrorKind, Read, Write};
-use std::net::Shutdown;
+use std::net::{Shutdown, SocketAddr};
 
 /// What came of a read or a write.
 #[derive(Clone, Copy, Debug, PartialEq, Eq)]
@@ -68,16 +68,23 @@ pub fn register_again(registry: &Registry, stream: &mut TcpStream, token: usize)
 #[derive(Drop)]
 pub(crate) struct ClientConnection {
     pub(crate) stream: TcpStream,
+    address: SocketAddr,
     is_registered: bool,
 }
 
 impl ClientConnection {
-    /// A connection that was accepted now.
-    pub(crate) fn new(stream: TcpStream) -> Self {
+    /// A connection that was accepted now, from this address.
+    pub(crate) fn new(stream: TcpStream, address: SocketAddr) -> Self {
         ClientConnection {
             stream,
+            address,
             is_registered: false,
         }
+    }
+
+    /// The address from which it came.
+    pub(crate) fn address(&self) -> SocketAddr {
+        self.address
     }
 
     /// Registers it, unless it is registered. Returns whether it is now.

@@ -1,8 +1,9 @@
-use Rattle.wf_loop.proofs.Continuation.{acted, acting, still}
+use Rattle.std.proofs.Common.{refl}
+use Rattle.wf_loop.proofs.Continuation.{acted, asked, asking, still}
 use Rattle.wf_loop.proofs.acts.ask.Goals as goal
 
-pub returns-then-acts : goal.returns-then-acts
-returns-then-acts g c = acting g.T.Tape _ _ (c.acts.ensures c.if-acts.true) (acted g.T.Tape _ _ _ _ _ _ c.catch_up.ensures)
+pub returns-then-asks : goal.returns-then-asks
+returns-then-asks g c = asking g.T.Tape _ _ (c.asks.ensures c.if-asks.true) refl (acted g.T.Tape _ _ _ _ _ _ c.catch_up.ensures) (asked g.T.Tape _ _ _ _ c.catch_up.ensures)
 
-pub returns-else-acts : goal.returns-else-acts
-returns-else-acts g c = still g.T.Tape _
+pub returns-else-asks : goal.returns-else-asks
+returns-else-asks g c = still g.T.Tape _

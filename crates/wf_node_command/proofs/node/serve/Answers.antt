@@ -2,12 +2,7 @@
 use Rattle.wf_node_command.proofs.Started.{lived_on}
 use Rattle.wf_node_command.proofs.node.serve.Goals as goal
 
-pub returns-in-Ok-ended : goal.returns-in-Ok-ended
-returns-in-Ok-ended g c =
-    lived_on g.T.Tape c.args.process c.in-Ok.hub c.go_on-ended.new.hub c.in-Ok.ensures.process
-    c.in-Ok-ended.ensures.lived c.in-Ok-ended.ensures.answered c.in-Ok-ended.ensures.earlier
-
-pub returns-in-Err-ended : goal.returns-in-Err-ended
-returns-in-Err-ended g c =
-    lived_on g.T.Tape c.args.process c.in-Ok.hub c.go_on-ended.new.hub c.in-Ok.ensures.process
-    c.in-Err-ended.ensures.lived c.in-Err-ended.ensures.answered c.in-Err-ended.ensures.earlier
+pub returns-in-Ok : goal.returns-in-Ok
+returns-in-Ok g c =
+    lived_on g.T.Tape c.args.process c.in-Ok.hub c.go_on.new.hub c.in-Ok.ensures.process
+    c.go_on.ensures.lived c.go_on.ensures.answered c.go_on.ensures.earlier

@@ -1,21 +1,19 @@
-use Rattle.wf_loop.proofs.Continuation.{keeps_going, turned}
-use Rattle.wf_loop.specs.Continuation.{Continues}
+use Rattle.wf_loop.proofs.Continuation.{keeps_going, turned, turned_idle, turned_suspended, turned_unanswered}
 use Rattle.wf_loop.proofs.hub.Hub.go_on.Goals as goal
 
-pub returns-in-Some-clause-on : goal.returns-in-Some-clause-on
-returns-in-Some-clause-on g c = (turned g.T.Tape _ _ _ _ _ c.wait-could_wait.ensures.voter c.judge.ensures.on c.act-self.ensures.on c.keep.ensures.voter).process
+pub returns-clause-on : goal.returns-clause-on
+returns-clause-on g c = turned g.T.Tape _ _ _ _ _ c.wait-could_wait.ensures.voter c.judge.ensures.process c.act-self.ensures.on c.keep.ensures.voter
 
-pub returns-in-Some-clause-earlier : goal.returns-in-Some-clause-earlier
-returns-in-Some-clause-earlier g c = keeps_going g.T.Tape _ _ (returns-in-Some-clause-on g c)
+pub returns-clause-earlier : goal.returns-clause-earlier
+returns-clause-earlier g c = keeps_going g.T.Tape _ _ (returns-clause-on g c)
 
-pub returns-in-Some-clause-suspended : goal.returns-in-Some-clause-suspended
-returns-in-Some-clause-suspended g c = (turned g.T.Tape _ _ _ _ _ c.wait-could_wait.ensures.voter c.judge.ensures.on c.act-self.ensures.on c.keep.ensures.voter).suspended
+pub returns-clause-suspended : goal.returns-clause-suspended
+returns-clause-suspended g c = turned_suspended g.T.Tape _ _ _ _ _ c.wait-could_wait.ensures.voter c.judge.ensures.process c.judge.ensures.suspended c.act-self.ensures.on c.keep.ensures.voter
 
-pub returns-in-None-clause-on : goal.returns-in-None-clause-on
-returns-in-None-clause-on g c = (turned g.T.Tape _ _ _ _ _ c.wait-could_wait.ensures.voter c.judge.ensures.on c.act-self.ensures.on c.keep.ensures.voter).process
-
-pub returns-in-None-clause-earlier : goal.returns-in-None-clause-earlier
-returns-in-None-clause-earlier g c = keeps_going g.T.Tape _ _ (returns-in-None-clause-on g c)
-
-pub returns-in-None-clause-suspended : goal.returns-in-None-clause-suspended
-returns-in-None-clause-suspended g c = (turned g.T.Tape _ _ _ _ _ c.wait-could_wait.ensures.voter c.judge.ensures.on c.act-self.ensures.on c.keep.ensures.voter).suspended
+pub returns-clause-outvoted : goal.returns-clause-outvoted
+returns-clause-outvoted g c = λ is. record {
+  given = turned_idle g.T.Tape _ _ _ _ _ c.wait-could_wait.ensures.voter c.judge.ensures.process c.act-self.ensures.on c.keep.ensures.voter is;
+  answered =
+      turned_unanswered g.T.Tape _ _ _ _ _ _ _ _ c.wait-could_wait.ensures.clients c.judge.ensures.befores c.act-self.ensures.on c.act-self.ensures.outvoted
+      c.keep.ensures.voter c.keep.ensures.clients is;
+}

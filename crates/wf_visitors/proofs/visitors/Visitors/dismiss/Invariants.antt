@@ -1,6 +1,6 @@
 use Rattle.std.proofs.Common.{◌≡◌}
 use Rattle.wf_visitors.specs.Visitors.{responses_of}
-use Rattle.wf_visitors.proofs.visitors.Visitors.close.Given as goal
+use Rattle.wf_visitors.proofs.visitors.Visitors.dismiss.Given as goal
 
 abbrev pub invariant-loop-index : goal.invariant-loop-index
 invariant-loop-index l = responses_of l.self ≡ responses_of l.fn.self
