@@ -1,26 +1,37 @@
 #!/usr/bin/env python3
 """Tries nodes on hosts whose links are silent for a while: no connection is reset, no carrier is lost, no address is resolved.
 
+    python3 tools/cut_links.py [--program PROGRAM] [--nodes N[,N ..]] [--seconds S[,S ..]] [--at-once N] [--network N] [CASE ..]
+
 Hosts are network namespaces on a bridge (`tools/hosts.py`), which loses what goes from one to another; this program reaches all of them all
-the while. A publish waits at a node that can't publish it, the links are healed, and it has to be published within five seconds.
+the while. Cases, all of them where none is named, each on new nodes, with 3 and 5 nodes or as --nodes says, for 10, 60 and 300 seconds or as
+--seconds says:
 
-    python3 tools/cut_links.py [--program PROGRAM] [--nodes N] [--seconds S[,S ..]] [--network N] [CASE ..]
+    both    nothing goes anywhere
+    mute    what one node sends is lost
+    deaf    what is sent to one node is lost
+    each    nothing goes anywhere, and a publish waits at each node
+    away    a minority is cut off, both ways, and the others publish: `wfarmctl publish` goes to them
+    ring    each link between two nodes is silent one way, so that no reply arrives
+    last    nothing goes anywhere, and the publish that waits is for the last sequence, 4,096; once it is published, so that nobody asks for another,
+            no connection is dialed anew, and the links are silent once more, for ten seconds
 
-Cases, each of them on new nodes, all of them where none is named; those with a * for 10 and for 60 seconds, or as --seconds says:
+Asked of each: within six seconds of the cut, and as long as the links are silent, `/votez`, `wfarm_peers_connected` and
+`wfarm_majority_connected` of every node say whom it hears (within seven in mute, deaf and ring: a peer's last word may come a second after the
+cut); `wfarmctl status` says `no majority` of the nodes that hear none; a publish that waits at node 0 is published within five seconds of the
+healing, or overtaken where another was published; by then all nodes have it, and hear one another; and no node ends by itself. Then each node
+publishes once more.
 
-    both *    nothing goes anywhere
-    mute *    what one node sends is lost
-    deaf *    what is sent to one node is lost
-    each      nothing goes anywhere, and a publish waits at each node: each is published or overtaken
-    away      a node is cut off, both ways, and the others publish: `wfarmctl status` says `no majority` of it, `/votez` is 503 and its metrics say
-              so within ten seconds, and `wfarmctl publish` goes to the others; healed it has all within five seconds
-    ring      each link between two nodes is silent one way, so that no reply arrives: no node says that it is heard by a majority
-
-A line says what each saw; status 1 where one didn't go as it should. Six minutes. Wants root, iproute2, nftables.
+A line for each, and a table at the end, in seconds: from the cut until the last node said whom it hears (fell), and from the healing until what
+waited was published, all had it, and all heard one another. Status 1 where one didn't go as it should. Three farms at a time, or as --at-once says:
+35 minutes. The seconds are the nodes' own where they get a processor at once; on a machine with other work --slack is added to each limit. Wants
+root, iproute2, nftables.
 """
 
 import argparse
+import concurrent.futures
 import pathlib
+import queue
 import shutil
 import subprocess
 import sys
@@ -31,11 +42,15 @@ import hosts
 from farm import PROGRAM, Wrong, want
 from kill_nodes import map_of
 from rehearse import CLIENTS, OPERATOR, PEERS, Process, ask
+from try_replicas import MOST_MAPS, tape_of
 
 HERE = pathlib.Path(__file__).resolve().parent
-HEALED = 5
-NOTICED = 10
+# seconds: for a waiting publish after the healing; until a node knows that it isn't heard, and more of that where peers hear it; without a
+# connection that is dialed anew
+HEALED, NOTICED, ONE_WAY, QUIET = 5, 6, 1, 12
 PATIENCE = 30
+AGAIN = 10
+TABLE = "{:<6} {:>5} {:>7} {:>8} {:>9} {:>7} {:>7}  {}"
 
 
 def until(is_so, seconds=PATIENCE):
@@ -44,19 +59,21 @@ def until(is_so, seconds=PATIENCE):
     while not is_so():
         if time.monotonic() > begun + seconds:
             return None
-        time.sleep(0.02)
+        time.sleep(0.1)
     return round(time.monotonic() - begun, 2)
 
 
 class Node(Process):
     """A node on a host of its own."""
 
-    def __init__(self, host, above, program, peers):
+    def __init__(self, host, above, program, peers, tape):
         super().__init__(host, above, program)
         self.peers, self.state = peers, self.above / "state"
         words = [program, "init", "--state", self.state, "--farm", "silent", "--id", str(host.number), "--nodes", str(len(peers.split(",")))]
         self.state.mkdir()
         subprocess.run(words, check=True, capture_output=True)
+        if tape is not None:
+            shutil.copy(tape, self.state / f"node-{host.number}.tape")
 
     def start(self):
         self.start_words("node", "--state", str(self.state), "--peers", self.peers)
@@ -76,34 +93,45 @@ class Node(Process):
         status, body = ask(self.host.address, "/votez", port=OPERATOR) or (0, b"")
         return status, body.decode().strip()
 
-    def metric(self, name):
+    def metrics(self, *names):
+        """These metrics, in this order."""
         _, body = ask(self.host.address, "/metrics", port=OPERATOR) or (0, b"")
-        return next((float(line.split()[1]) for line in body.decode().splitlines() if line.startswith(name + " ")), None)
+        values = dict(line.rsplit(" ", 1) for line in body.decode().splitlines() if not line.startswith("#"))
+        return tuple(float(values[name]) if name in values else None for name in names)
+
+    def hears(self):
+        """What it says of whom it hears: `/votez`, its connected peers, and whether they are a majority."""
+        return (*self.votes(), *self.metrics("wfarm_peers_connected", "wfarm_majority_connected"))
+
+    def connections(self):
+        """The lines of its log about connections to its peers."""
+        return [line for line in (self.above / "log").read_text().splitlines() if " connected " in line or " lost " in line]
 
 
 class Farm:
     """Nodes that run, and the network between them."""
 
-    def __init__(self, options, folder):
+    def __init__(self, options, count, network, folder, tape):
         self.options, self.folder, self.number = options, folder, 0
-        self.network = hosts.Network(options.network, options.nodes)
+        self.network = hosts.Network(network, count)
         peers = ",".join(f"{host.address}:{PEERS}" for host in self.network.hosts)
-        self.nodes = [Node(host, folder, str(options.program), peers) for host in self.network.hosts]
+        self.nodes = [Node(host, folder, str(options.program), peers, tape) for host in self.network.hosts]
         self.file = folder / "nodes"
         self.file.write_text("".join(f"{host.address}:{CLIENTS} {host.address}:{OPERATOR}\n" for host in self.network.hosts))
 
-    def start(self):
+    def start(self, published):
         for node in self.nodes:
             node.start()
-        want("the nodes don't begin", until(lambda: all(node.published() == 0 for node in self.nodes)) is not None)
-        self.publish(self.nodes[0])
-        want("they don't hear one another", until(lambda: all(node.votes()[0] == 200 for node in self.nodes)) is not None)
+        want("the nodes don't begin", until(lambda: all(node.published() == published for node in self.nodes), 4 * PATIENCE) is not None)
+        want("they don't hear one another", until(lambda: self.unlike([]) == []) is not None)
+        if not published:
+            self.publish(self.nodes[0])
 
     def publish(self, node):
         """Publishes a map at a node, until all have it."""
         before, answer = self.top(), node.publish(self.next())
         want(f"no publish: {answer}", answer[0] == 202 and until(lambda: (node.published() or 0) > before) is not None)
-        want("not level", self.level() is not None)
+        want("not level", until(self.is_level) is not None)
 
     def next(self):
         self.number += 1
@@ -112,16 +140,30 @@ class Farm:
     def top(self):
         return max(node.published() or 0 for node in self.nodes)
 
-    def level(self, seconds=PATIENCE):
-        """The seconds until all nodes stand at one sequence; None where they don't in time."""
-        def is_level():
-            told = {node.published() for node in self.nodes}
-            return len(told) == 1 and None not in told
+    def is_level(self):
+        """Whether all nodes stand at one sequence."""
+        told = {node.published() for node in self.nodes}
+        return len(told) == 1 and None not in told
 
-        return until(is_level, seconds)
+    def hears(self, node, silenced):
+        """What a node has to say of whom it hears, while these links are silent: no reply comes on one that is silent one way."""
+        heard = sum((node, other) not in silenced and (other, node) not in silenced for other in self.nodes if other is not node)
+        is_majority = 2 * (heard + 1) > len(self.nodes)
+        return (*((200, "votes") if is_majority else (503, "no majority")), heard, int(is_majority))
 
-    def silence(self, pairs):
-        self.network.silence([(one.host, other.host) for one, other in pairs])
+    def unlike(self, silenced):
+        """What nodes say of whom they hear that isn't so while these links are silent."""
+        told = [(node, node.hears()) for node in self.nodes]
+        return [f"node {node.host.number}: {said}" for node, said in told if said != self.hears(node, silenced)]
+
+    def fell(self, silenced, most):
+        """The seconds until the last node says whom it hears while these links are silent; None where one doesn't in that time."""
+        begun, left, took = time.monotonic(), list(self.nodes), 0
+        while left and time.monotonic() < begun + most:
+            left = [node for node in left if node.hears() != self.hears(node, silenced)]
+            took = round(time.monotonic() - begun, 2)
+            time.sleep(0.05)
+        return None if left else took
 
     def control(self, *words):
         """What `wfarmctl` does: its status, what it writes, and what it writes on standard error."""
@@ -135,85 +177,113 @@ class Farm:
         self.network.stop()
 
 
-def pairs_of(farm):
-    return [(one, other) for one in farm.nodes for other in farm.nodes if one is not other]
+# ---- links that are silent
+
+def links(ones, others):
+    return [(one, other) for one in ones for other in others if one is not other]
 
 
-# ---- cases
+def both(nodes):
+    return links(nodes, nodes)
 
-def waits(farm, pairs, seconds):
-    """Silences these links for so long while a publish waits at the first node; the seconds from the healing until it is published, and until all
-    have it."""
-    first, before = farm.nodes[0], farm.top()
-    farm.silence(pairs)
+
+def mute(nodes):
+    return links(nodes[:1], nodes[1:])
+
+
+def deaf(nodes):
+    return links(nodes[1:], nodes[:1])
+
+
+def away(nodes):
+    few = (len(nodes) - 1) // 2
+    return links(nodes[:few], nodes[few:]) + links(nodes[few:], nodes[:few])
+
+
+def ring(nodes):
+    count = len(nodes)
+    return [(node, nodes[(at + step) % count]) for at, node in enumerate(nodes) for step in range(1, count // 2 + 1)]
+
+
+CASES = {"both": both, "mute": mute, "deaf": deaf, "each": both, "away": away, "ring": ring, "last": both}
+
+
+# ---- what is asked of each case
+
+def silence(farm, silenced, seconds, meanwhile=lambda: None):
+    """Silences links for so long, and does something meanwhile; the seconds until all nodes knew. The links are healed."""
+    farm.network.silence([(one.host, other.host) for one, other in silenced])
     begun = time.monotonic()
-    time.sleep(1)
-    answer = first.publish(farm.next())
-    want(f"the publish was answered by {answer}", answer[0] == 202)
+    is_both_ways = all((other, one) in silenced for one, other in silenced)
+    most = NOTICED + (0 if is_both_ways else ONE_WAY) + farm.options.slack
+    fell = farm.fell(silenced, most)
+    want(f"{most:g} s after the cut: {'; '.join(farm.unlike(silenced)) or 'just so'}", fell is not None)
+    without = [node.host.number for node in farm.nodes if farm.hears(node, silenced)[0] == 503]
+    code, told, _ = farm.control("status")
+    rows = told.splitlines()[1:]
+    want(f"status: {code} {rows}", code == 1 and [at for at, row in enumerate(rows) if row.endswith(" no majority")] == without)
+    meanwhile()
     time.sleep(max(0, begun + seconds - time.monotonic()))
-    want(f"its proposal is {first.proposal()} while the links are silent", first.proposal() == "running" and farm.top() == before)
+    unlike = farm.unlike(silenced)
+    want(f"before the healing: {'; '.join(unlike)}", not unlike)
     farm.network.heal()
-    healed, then = time.monotonic(), time.strftime("%H:%M:%S", time.gmtime())
-    published = until(lambda: first.proposal() == "published")
-    is_level = farm.level() is not None
-    level = round(time.monotonic() - healed, 2)
-    want(f"{seconds} s silent, healed at {then}: published {published} s after, {'' if is_level else 'not '}level {level} s after",
-         published is not None and published <= HEALED and is_level and level <= HEALED)
-    for node in farm.nodes:
-        farm.publish(node)
-    return f"{seconds} s silent, published {published} s after, level {level} s after"
+    return fell
 
 
-def both(farm, seconds):
-    return waits(farm, pairs_of(farm), seconds)
+def healed(farm, waiting, ends):
+    """The seconds from now, at the healing, until what waits is published, all nodes are level, and hear one another."""
+    begun, seconds = time.monotonic(), {}
+    looks = {"published": lambda: all(node.proposal() in ends for node in waiting), "level": farm.is_level, "heard": lambda: not farm.unlike([])}
+    while len(seconds) < len(looks) and time.monotonic() < begun + PATIENCE:
+        for name, is_so in looks.items():
+            if name not in seconds and (name != "level" or "published" in seconds) and is_so():
+                seconds[name] = round(time.monotonic() - begun, 2)
+        time.sleep(0.05)
+    told = ", ".join(f"{name} {seconds.get(name, 'never')}" for name in looks)
+    want(f"after the healing at {time.strftime('%H:%M:%S', time.gmtime(time.time() - time.monotonic() + begun))}: {told} ({PATIENCE} s looked), "
+         f"{[node.proposal() for node in waiting]}", len(seconds) == len(looks) and max(seconds.values()) <= HEALED + farm.options.slack)
+    return seconds
 
 
-def mute(farm, seconds):
-    return waits(farm, [(farm.nodes[0], other) for other in farm.nodes[1:]], seconds)
+def rest(farm):
+    """Nobody dials a connection anew for a while, and all hear one another."""
+    before = [node.connections() for node in farm.nodes]
+    time.sleep(QUIET)
+    more = [line for node, lines in zip(farm.nodes, before) for line in node.connections()[len(lines):]]
+    want(f"connections are dialed anew: {more[:3]}", not more)
+    want(f"after {QUIET} quiet seconds: {farm.unlike([])}", not farm.unlike([]))
 
 
-def deaf(farm, seconds):
-    return waits(farm, [(other, farm.nodes[0]) for other in farm.nodes[1:]], seconds)
+def waits(farm, name, seconds):
+    """A publish waits while links are silent, and is published soon after: what was seen, in seconds."""
+    silenced, before = CASES[name](farm.nodes), farm.top()
+    waiting = farm.nodes if name == "each" else farm.nodes[:1]
+    ends = ("published", "overtaken") if name in ("each", "away") else ("published",)
 
+    def publish():
+        answers = [node.publish(farm.next()) for node in waiting]
+        want(f"the publishes were answered by {answers}", all(answer[0] == 202 for answer in answers))
+        if name == "away":
+            published = farm.control("publish", str(map_file(farm)))
+            first = (len(farm.nodes) - 1) // 2
+            want(f"wfarmctl publish: {published}", published[:2] == (0, f"published {before + 1} at node {first}\n"))
 
-def each(farm, seconds):
-    farm.silence(pairs_of(farm))
-    begun = time.monotonic()
-    time.sleep(1)
-    answers = [node.publish(farm.next()) for node in farm.nodes]
-    want(f"answered by {answers}", all(status == 202 for status, _ in answers))
-    time.sleep(max(0, begun + seconds - time.monotonic()))
-    farm.network.heal()
-    took = until(lambda: all(node.proposal() in ("published", "overtaken") for node in farm.nodes))
-    ends = [node.proposal() for node in farm.nodes]
-    level = farm.level()
-    want(f"{ends} {took} s after, level {level} s later", took is not None and took <= HEALED and ends.count("published") >= 1 and level is not None)
-    return f"{seconds} s silent, {ends} {took} s after"
-
-
-def away(farm, seconds):
-    cut, others = farm.nodes[0], farm.nodes[1:]
-    farm.silence([pair for other in others for pair in ((cut, other), (other, cut))])
-    noticed = until(lambda: cut.votes() == (503, "no majority"), NOTICED)
-    want(f"ten seconds later /votez is {cut.votes()}", noticed is not None)
-    counts = [cut.metric(name) for name in ("wfarm_peers_connected", "wfarm_majority_connected")]
-    want(f"connected peers, majority: {counts}", counts == [0, 0])
-    want(f"the others: {[node.votes() for node in others]}", all(node.votes() == (200, "votes") for node in others))
-    published = farm.control("publish", str(map_file(farm)))
-    want(f"publish: {published}", published[0] == 0 and published[1].endswith(" at node 1\n"))
-    told = farm.control("status")
-    rows = told[1].splitlines()[1:]
-    want(f"status: {told}", told[0] == 1 and rows[0].endswith(" no majority"))
-    for _ in range(5):
-        others[0].publish(farm.next())
-        time.sleep(0.2)
-    time.sleep(seconds)
-    farm.network.heal()
-    level = farm.level()
-    votes = until(lambda: cut.votes()[0] == 200)
-    want(f"healed: level {level} s after, /votez {cut.votes()} {votes} s later", None not in (level, votes) and level + votes <= HEALED)
-    want("status isn't well", until(lambda: farm.control("status")[0] == 0) is not None)
-    return f"noticed after {noticed} s; level {level} s after the healing"
+    fell = silence(farm, silenced, seconds, publish)
+    seen = {"fell": fell, **healed(farm, waiting, ends)}
+    states = [node.proposal() for node in waiting]
+    want(f"what waited is {states}", name == "away" or "published" in states)
+    if name == "last":
+        want(f"published {farm.top()}", farm.top() == MOST_MAPS)
+        rest(farm)
+        again = {"fell": silence(farm, silenced, AGAIN), **healed(farm, [], ends)}
+        rest(farm)
+        want("a further publish", farm.nodes[0].publish(farm.next())[0] == 409)
+        seen["words"] = f"when full: fell {again['fell']}, heard {again['heard']}"
+    else:
+        for node in farm.nodes:
+            farm.publish(node)
+        seen["words"] = ", ".join(states)
+    return seen
 
 
 def map_file(farm):
@@ -222,70 +292,73 @@ def map_file(farm):
     return path
 
 
-def ring(farm, seconds):
-    count = len(farm.nodes)
-    farm.silence([(node, farm.nodes[(at + step) % count]) for at, node in enumerate(farm.nodes) for step in range(1, count // 2 + 1)])
-    noticed = until(lambda: all(node.votes() == (503, "no majority") for node in farm.nodes), NOTICED)
-    want(f"ten seconds later /votez is {[node.votes() for node in farm.nodes]}", noticed is not None)
-    counts = [node.metric("wfarm_peers_connected") for node in farm.nodes]
-    want(f"connected peers: {counts}", set(counts) == {0})
-    time.sleep(seconds)
-    farm.network.heal()
-    heard = until(lambda: all(node.votes()[0] == 200 for node in farm.nodes))
-    want(f"/votez is 200 {heard} s after the healing", heard is not None and heard <= HEALED)
-    farm.publish(farm.nodes[-1])
-    return f"503 after {noticed} s, 200 again {heard} s after the healing"
-
-
-LONG = [both, mute, deaf]
-CASES = [*LONG, each, away, ring]
-
-
-def attempt(case, options, seconds):
-    """What a case saw; raises what was wrong, and where the nodes' logs are then."""
-    folder = pathlib.Path(tempfile.mkdtemp(prefix="silent-"))
-    farm = Farm(options, folder)
+def attempt(name, count, seconds, options, networks):
+    """What a case saw; words about what was wrong, and where the nodes' logs are then, are in it under `wrong`."""
+    folder, network, farm = pathlib.Path(tempfile.mkdtemp(prefix="silent-")), networks.get(), None
     try:
-        farm.start()
-        said = case(farm, seconds)
+        tape = options.tape if name == "last" else None
+        farm = Farm(options, count, network, folder, tape)
+        farm.start(MOST_MAPS - 1 if tape else 0)
+        seen = waits(farm, name, seconds)
         ends = [node.last_line() for node in farm.nodes if node.ended() is not None]
         want(f"ended by themselves: {ends}", not ends)
     except Wrong as wrong:
-        raise Wrong(f"{wrong}; the logs are in {folder}") from wrong
+        return {"wrong": f"{wrong}; the logs are in {folder}"}
     finally:
-        farm.stop()
+        if farm is not None:
+            farm.stop()
+        networks.put(network)
     shutil.rmtree(folder)
-    return said
+    return seen
 
 
-def words():
+# ---- the command line
+
+def numbers(text):
+    return [int(word) for word in text.split(",")]
+
+
+def options_of():
     parser = argparse.ArgumentParser(description=__doc__, formatter_class=argparse.RawDescriptionHelpFormatter)
     parser.add_argument("--program", type=pathlib.Path, default=PROGRAM)
-    parser.add_argument("--nodes", type=int, default=3)
-    parser.add_argument("--seconds", default="10,60")
-    parser.add_argument("--network", type=int, default=1, help="the number of the network, 0 to 255")
-    parser.add_argument("cases", nargs="*", metavar="CASE", choices=[[], *(case.__name__ for case in CASES)])
+    parser.add_argument("--nodes", type=numbers, default=[3, 5], help="how many, with commas between them (3,5)")
+    parser.add_argument("--seconds", type=numbers, default=[10, 60, 300], help="how long links are silent (10,60,300)")
+    parser.add_argument("--at-once", type=int, default=3, help="how many farms at a time (3)")
+    parser.add_argument("--slack", type=float, default=0, help="seconds that are added to each limit (0)")
+    parser.add_argument("--network", type=int, default=1, help="the number of the first network, 0 to 255")
+    parser.add_argument("cases", nargs="*", metavar="CASE", choices=[[], *CASES])
     return parser.parse_args()
 
 
 def main():
-    options = words()
+    options = options_of()
     options.program = options.program.resolve()
-    lacks = hosts.missing()
+    lacks = hosts.missing(options.network)
     if lacks:
         print("missing: " + ", ".join(lacks), file=sys.stderr)
         return 2
-    times, wrong = [int(word) for word in options.seconds.split(",")], 0
-    for case in CASES:
-        if options.cases and case.__name__ not in options.cases:
-            continue
-        for seconds in times if case in LONG else times[:1]:
-            try:
-                print(f"{case.__name__}: {attempt(case, options, seconds)}", flush=True)
-            except Wrong as found:
-                wrong += 1
-                print(f"{case.__name__}: FAILED: {found}", flush=True)
-    print(f"{wrong} wrong")
+    # the longest begin first
+    rows = [(name, count, seconds) for seconds in sorted(options.seconds, reverse=True) for count in options.nodes
+            for name in CASES if not options.cases or name in options.cases]
+    networks = queue.SimpleQueue()
+    for number in range(options.at_once):
+        networks.put(options.network + number)
+    with tempfile.TemporaryDirectory(prefix="silent-tape-") as folder, concurrent.futures.ThreadPoolExecutor(options.at_once) as pool:
+        options.tape = pathlib.Path(folder) / "tape"
+        tape_of(options.program, options.tape, MOST_MAPS - 1, 0)
+        attempts = {pool.submit(attempt, *row, options, networks): row for row in rows}
+        seen = {}
+        for done in concurrent.futures.as_completed(attempts):
+            row = attempts[done]
+            seen[row] = done.result()
+            said = f"FAILED: {seen[row]['wrong']}" if "wrong" in seen[row] else "as it should"
+            print(f"{row[0]}, {row[1]} nodes, {row[2]} s: {said}", flush=True)
+    print(TABLE.format("case", "nodes", "silent", "fell", "published", "level", "heard", ""))
+    for row in sorted(rows, key=lambda row: (row[1], list(CASES).index(row[0]), row[2])):
+        told = [seen[row].get(key, "-") for key in ("fell", "published", "level", "heard")]
+        print(TABLE.format(row[0], row[1], row[2], *told, seen[row].get("words", "FAILED")))
+    wrong = sum("wrong" in each for each in seen.values())
+    print(f"{wrong} wrong of {len(rows)}")
     return int(bool(wrong))
 
 

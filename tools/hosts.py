@@ -14,12 +14,20 @@ def run(*words, check=True):
     return subprocess.run(words, check=check, capture_output=True, text=True).stdout
 
 
-def missing():
-    """Which commands aren't there, or that nothing is permitted here."""
+def missing(number):
+    """What isn't there that a network of this number wants: commands, root, or what the kernel refuses."""
     lacks = [name for name in ("ip", "nft", "nsenter") if shutil.which(name) is None]
     if os.geteuid() != 0:
         lacks.append("root")
-    return lacks
+    if lacks:
+        return lacks
+    try:
+        network = Network(number, 2)
+        network.silence([network.hosts])
+        network.stop()
+    except subprocess.CalledProcessError as refused:
+        return [f"what `{' '.join(refused.cmd)}` wants: {refused.stderr.strip()}"]
+    return []
 
 
 class Network:

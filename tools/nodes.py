@@ -56,12 +56,12 @@ def is_so_within(is_so, seconds):
 class Nodes:
     """The nodes of a farm, each with its folder, ports and log."""
 
-    def __init__(self, program, folder):
-        self.program, self.folder = program, pathlib.Path(folder)
-        ports = free_ports(3 * NODES)
-        self.peer, self.http, self.admin = ports[:NODES], ports[NODES:2 * NODES], ports[2 * NODES:]
-        self.processes = [None] * NODES
-        self.folders = [0] * NODES
+    def __init__(self, program, folder, count=NODES):
+        self.program, self.folder, self.count = program, pathlib.Path(folder), count
+        ports = free_ports(3 * count)
+        self.peer, self.http, self.admin = ports[:count], ports[count:2 * count], ports[2 * count:]
+        self.processes = [None] * count
+        self.folders = [0] * count
         self.writers = []
 
     def place(self, i):
@@ -86,7 +86,7 @@ class Nodes:
 
     def init(self, i, *more):
         self.place(i).mkdir(exist_ok=True)
-        words = ["init", "--state", self.place(i), "--farm", "tried", "--id", i, "--nodes", NODES, *more]
+        words = ["init", "--state", self.place(i), "--farm", "tried", "--id", i, "--nodes", self.count, *more]
         return self.run(*words)
 
     def run(self, *words):
@@ -126,10 +126,10 @@ class Nodes:
         until(lambda: self.published(i) >= 0)
 
     def start_all(self):
-        for i in range(NODES):
+        for i in range(self.count):
             want("init", self.init(i).returncode == 0)
             self.start(i)
-        until(lambda: all(self.published(i) == 0 for i in range(NODES)))
+        until(lambda: all(self.published(i) == 0 for i in range(self.count)))
 
     def kill(self, i):
         self.processes[i].kill()
@@ -204,11 +204,11 @@ class Nodes:
 
     def level(self):
         """The seconds until all nodes stand at one sequence; their histories are compared."""
-        seconds = until(lambda: len({self.published(i) for i in range(NODES)}) == 1)
+        seconds = until(lambda: len({self.published(i) for i in range(self.count)}) == 1)
         top = self.published(0)
         for start in range(1, top + 1, 256):
             # (more may be published between two answers)
-            told = {b"\n".join(self.get(i, f"/history?from={start}", self.admin[i])[1].splitlines()[:top - start + 1]) for i in range(NODES)}
+            told = {b"\n".join(self.get(i, f"/history?from={start}", self.admin[i])[1].splitlines()[:top - start + 1]) for i in range(self.count)}
             want("histories differ", len(told) == 1 and told != {b""})
         return seconds
 
@@ -235,7 +235,7 @@ class Watch:
     def __init__(self, nodes):
         self.nodes, self.over, self.lock = nodes, threading.Event(), threading.Lock()
         self.answers, self.told, self.wrong, self.count = {}, collections.Counter(), [], 0
-        self.threads = [threading.Thread(target=self.ask, args=(i,)) for i in range(NODES)]
+        self.threads = [threading.Thread(target=self.ask, args=(i,)) for i in range(nodes.count)]
         for thread in self.threads:
             thread.start()
 

@@ -24,12 +24,14 @@ pictures with and without MAPSEQ. Faults:
 
 Compared: no sequence has two pictures, two capabilities or two maps, whenever and from whichever process they come; no published
 sequence of a process goes back, but for a replica's that lost its folder; what a node reported as published stays and is the map that
-was sent; no process ends by itself; and five seconds after the last fault, once all answer, a publish was made at each node, and all have
-published equally many.
+was sent; no process ends by itself. Healing: after each silent partition and each full disk, after every 25th fault (or as --healing
+says) and after the last one the clients pause, and five seconds after the end of that fault (a disk that has room again, a program that
+was started) a publish was made at each node, none is running, and all processes have published equally many.
 
 Usage: tools/rehearse.py [--program PROGRAM] [--faults N] [--seed S] [--seconds T] [--replicas N] [--plant init|replica]
-500 faults by default, in T seconds (2,400) at most; fewer in that time is an error. A line per kind of fault and per violation, and
-their number at the end; status 1 where there is one. It ends at the twentieth violation. To show that it finds what it is for,
+500 faults by default, in T seconds (2,400) at most; fewer in that time is an error. A line per kind of fault, with how often and in which
+time all was healed after it, and per violation, and their number at the end; status 1 where there is one. It ends at the twentieth
+violation. --kinds has it draw these faults alone. To show that it finds what it is for,
 `--plant init` makes a voter anew at half time while its peers' memory of it is gone, and `--plant replica` gives a replica the folder
 of another farm of the same name. Two rehearsals may run at a time with another `--network`. Wants root, iproute2, nftables, FUSE, and
 the program's `node` and `init`.
@@ -52,7 +54,7 @@ import threading
 import time
 
 import hosts
-from device import Machine, formatted
+from device import Machine, formatted, is_permitted
 from farm import CAPABILITIES, PROGRAM
 from kill_nodes import PIXEL, STATUS, map_of, picture_of
 
@@ -64,6 +66,8 @@ KINDS = {"kill": "life", "power": "life", "all": "life", "full": "disk", "slow":
          "silent": "network", "delay": "network", "stall": "network", "cut": "network", "drop": "network", "repeat": "network", "reorder": "network",
          "replica": "renderer", "anew": "renderer", "alone": "renderer"}
 OFTEN = ("kill", "kill", "replica")
+# after each of these all has to be healed soon
+HEALING = ("silent", "full")
 READY = 0.6
 PATIENCE = 60
 LENGTHS = (0,) * 12 + (4_000,) * 3 + (29_000,)
@@ -278,8 +282,10 @@ class Rehearsal:
         empty = formatted(DISK, above)
         self.voters = [Voter(host, above, empty, options.program, peers, options.replicas > 0) for host in voters]
         self.replicas = [Replica(host, above, options.program, readers) for host in renderers]
-        self.kinds = [kind for kind in (*KINDS, *OFTEN) if self.replicas or KINDS[kind] != "renderer"]
-        self.timeline, self.last_fault = (pathlib.Path(above) / "faults").open("w"), ""
+        self.kinds = [kind for kind in (*KINDS, *OFTEN) if kind in options.kinds and (self.replicas or KINDS[kind] != "renderer")]
+        self.timeline, self.last_fault, self.last_end = (pathlib.Path(above) / "faults").open("w"), "", time.monotonic()
+        # clients publish nothing while it is asked how soon all is healed
+        self.pausing, self.healed = threading.Event(), collections.defaultdict(list)
 
     # ---- clients
 
@@ -308,6 +314,8 @@ class Rehearsal:
         draw = random.Random(self.options.seed + 100 + voter.host.number)
         while not self.over.is_set():
             time.sleep(draw.uniform(0.02, 0.4))
+            if self.pausing.is_set():
+                continue
             number = next(self.numbers)
             self.ledger.sent.add(picture_of(number))
             answer = ask(voter.host.address, "/publish", map_of(number, draw.choice(LENGTHS)))
@@ -335,7 +343,7 @@ class Rehearsal:
     # ---- faults
 
     def fault(self, kind):
-        """Lets one fault happen, and ends it."""
+        """Lets one fault happen, and ends it. After some all has to be healed soon."""
         pause = self.draw.uniform(0.05, 0.8)
         calls = {"renderer": self.renderer_fault, "life": self.life_fault, "disk": self.disk_fault, "network": self.network_fault}
         process = self.draw.choice(self.replicas if KINDS[kind] == "renderer" else self.voters)
@@ -343,6 +351,8 @@ class Rehearsal:
         print(time.strftime("%H:%M:%S ") + self.last_fault, file=self.timeline, flush=True)
         calls[KINDS[kind]](kind, process, pause)
         self.done[kind] += 1
+        if kind in HEALING or sum(self.done.values()) % self.options.healing == 0:
+            self.heal(kind)
 
     def life_fault(self, kind, voter, pause):
         """Ends one voter or all, and starts what was ended."""
@@ -354,6 +364,7 @@ class Rehearsal:
         time.sleep(pause / 2)
         for each in ends:
             each.start()
+        self.last_end = time.monotonic()
         if self.draw.random() < READY:
             self.await_answers(ends)
         time.sleep(pause / 2)
@@ -368,6 +379,7 @@ class Rehearsal:
             voter.slow_down(self.draw.uniform(0.02, 0.1))
             time.sleep(pause)
             voter.slow_down(0)
+        self.last_end = time.monotonic()
 
     def network_fault(self, kind, voter, pause):
         """Links that are cut, or connections that lose, repeat or hold back what goes over them."""
@@ -388,6 +400,7 @@ class Rehearsal:
         else:
             voter.order(f"{kind} {self.draw.choice(others).host.address}")
             time.sleep(pause / 4)
+        self.last_end = time.monotonic()
 
     def silence(self, voter, others):
         """The bridge forwards nothing for a while: nothing between voters, or nothing from or to this one."""
@@ -403,12 +416,15 @@ class Rehearsal:
         if kind == "alone":
             replica.host.cut([voter.host for voter in self.voters])
             time.sleep(pause * 2)
-            return replica.host.mend()
+            replica.host.mend()
+            self.last_end = time.monotonic()
+            return
         replica.kill()
         if kind == "anew":
             replica.anew()
         time.sleep(pause / 2)
         replica.start()
+        self.last_end = time.monotonic()
         if self.draw.random() < READY:
             self.await_answers([replica])
         time.sleep(pause / 2)
@@ -425,6 +441,7 @@ class Rehearsal:
                 self.ledger.violation(f"{process.name} ended by itself with {code} after {self.last_fault}: {process.last_line()}")
             process.kill()
             process.start()
+            self.last_end = time.monotonic()
 
     def plant(self):
         """Does at half time what no operator may do."""
@@ -473,30 +490,38 @@ class Rehearsal:
         while any(each.published() is None and each.ended() is None for each in processes) and time.monotonic() < until:
             time.sleep(0.05)
 
-    def settle(self):
-        """Whether a publish is made at each voter and all processes stand at one sequence in time, once all answer; what they told last."""
-        self.await_answers(self.voters + self.replicas)
-        begun, waiting = time.monotonic(), list(self.voters)
+    def heal(self, kind):
+        """All has to be healed soon after the end of the last fault: a publish is made at each voter, none is running, and all processes stand
+        at one sequence. What ended by itself is started again before."""
+        self.watch()
+        self.pausing.set()
+        waiting, processes = list(self.voters), self.voters + self.replicas
         while True:
             waiting = [voter for voter in waiting if not self.is_taken(voter)]
-            told = [process.published(PATIENCE) for process in self.voters + self.replicas]
-            took = time.monotonic() - begun
-            if not waiting and None not in told and len(set(told)) == 1 and not any(self.is_proposing(voter) for voter in self.voters):
-                return True, told, took
-            if took > self.options.settled:
-                return False, told, took
+            told = [process.published(1) for process in processes]
+            is_healed = not waiting and None not in told and len(set(told)) == 1 and not any(self.is_proposing(voter) for voter in self.voters)
+            took = time.monotonic() - self.last_end
+            if is_healed or took > self.options.settled:
+                break
             time.sleep(0.05)
+        self.pausing.clear()
+        if is_healed and took <= self.options.settled:
+            self.healed[kind].append(took)
+        else:
+            running = [voter.name for voter in self.voters if self.is_proposing(voter)]
+            self.ledger.violation(f"{took:.1f} s after the end of {self.last_fault} no publish was taken at {[voter.name for voter in waiting]}, "
+                                  f"one runs at {running}, and the processes stand at {told}")
 
     def is_taken(self, voter):
-        """Whether a voter takes a map."""
+        """Whether a voter takes a map, or has no sequence left for one."""
         number = next(self.numbers)
         self.ledger.sent.add(picture_of(number))
-        answer = ask(voter.host.address, "/publish", map_of(number, 0))
-        return answer is not None and answer[0] == 202
+        answer = ask(voter.host.address, "/publish", map_of(number, 0), seconds=1)
+        return answer is not None and (answer[0] == 202 or (answer[0], answer[1].strip()) == (409, b"N3"))
 
     def is_proposing(self, voter):
         """Whether a voter's proposal is running, or the voter doesn't answer."""
-        answer = ask(voter.host.address, "/status")
+        answer = ask(voter.host.address, "/status", seconds=1)
         line = answer and STATUS.fullmatch(answer[1])
         return line is None or line[3] == b"running"
 
@@ -516,17 +541,10 @@ class Rehearsal:
                 self.plant()
             self.fault(self.draw.choice(self.kinds))
             self.watch()
+        self.heal("the last one")
         self.over.set()
         for thread in threads:
             thread.join()
-        settled, told, took = self.settle()
-        for process, last in zip(self.voters + self.replicas, told):
-            if last is not None:
-                self.ledger.published(process.name, last)
-        if not settled:
-            self.ledger.violation(f"{took:.1f} seconds after the last fault the processes stand at {told}")
-        else:
-            print(f"{took:.1f} seconds after the last fault all stand at {told[0]}")
         self.watch()
         self.look_again()
 
@@ -548,10 +566,19 @@ class Rehearsal:
     def report(self):
         for kind, count in sorted(self.done.items()):
             print(f"{count:5} {kind}")
+        for kind, times in sorted(self.healed.items()):
+            print(f"{len(times):5} times healed after {kind}: {sum(times) / len(times):.1f} s, {max(times):.1f} at most")
         for what, count in sorted(self.ledger.counts.items()):
             print(f"{count:5} {what}")
         print(f"seed {self.options.seed}: {sum(self.done.values())} faults, {max(self.ledger.most.values(), default=0)} sequences, "
               f"{len(self.ledger.violations)} violations")
+
+
+def missing(options):
+    """What isn't there that a rehearsal wants."""
+    lacks = hosts.missing(options.network)
+    with tempfile.TemporaryDirectory(prefix="rehearsal-") as above:
+        return lacks or ([] if is_permitted(above) else ["losetup, mkfs.ext4, or a device over FUSE"])
 
 
 def main():
@@ -560,14 +587,16 @@ def main():
     parser.add_argument("--faults", type=int, default=500)
     parser.add_argument("--seed", type=int, default=1)
     parser.add_argument("--seconds", type=float, default=2_400, help="how long the faults may take")
-    parser.add_argument("--settled", type=float, default=5, help="seconds after the last fault until all stand at one sequence")
+    parser.add_argument("--settled", type=float, default=5, help="seconds after the end of a fault until all stand at one sequence")
+    parser.add_argument("--healing", type=int, default=25, help="after how many faults that is asked")
+    parser.add_argument("--kinds", type=lambda words: words.split(","), default=[*KINDS], help="which faults, with commas between them")
     parser.add_argument("--replicas", type=int, default=2, help="how many")
     parser.add_argument("--plant", choices=["init", "replica"])
     parser.add_argument("--greeting", type=int, default=132, help="the length of a greeting in bytes")
     parser.add_argument("--network", type=int, default=0, help="the number of the network, 0 to 255")
     parser.add_argument("--keep", action="store_true", help="leave the processes' logs, and say where")
     options = parser.parse_args()
-    lacks = hosts.missing()
+    lacks = missing(options)
     if lacks:
         print("missing: " + ", ".join(lacks), file=sys.stderr)
         return 2

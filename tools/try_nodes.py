@@ -3,7 +3,7 @@
 
     python3 tools/try_nodes.py [--program PROGRAM] [--stopped SECONDS] [--missed MAPS] [CASE ..]
 
-Each case starts three nodes on new folders and does something to them, while each node is asked again and again for its capabilities
+Each case starts three nodes, or five, on new folders and does something to them, while each node is asked again and again for its capabilities
 and for a picture with MAPSEQ: no two answers may differ for one sequence, whenever and from whichever node they come, and no node goes
 back. At its end all must stand at one sequence, with equal histories. Cases:
 
@@ -39,8 +39,14 @@ back. At its end all must stand at one sequence, with equal histories. Cases:
     cleared     `wfarm clear`
     unwritten   a node that can't write what it hears of its peers
     taken       `wfarm init --from` with tapes of other nodes and farms
+    changed     a byte has changed on a disk: its node alone answers nobody, and nobody is answered while another one is down
+    split       two nodes of different histories, and the third is down; then it comes
+    behind      the same, and the third has only what is common to both
+    lagging     one of another history, and one that lacks the last sequence
+    halves      two nodes of one history, two of another, and the fifth is down; then it comes
+    alone       a suspended node, and one that is down; then that one comes with another history
 
-A line says what each saw; the status is 0 where all went as they should. A run takes ten minutes.
+A line says what each saw; the status is 0 where all went as they should. A run takes 13 minutes.
 """
 
 import argparse
@@ -57,6 +63,7 @@ import tempfile
 import threading
 import time
 
+import differing_histories
 import halted_nodes
 import returned_folders
 from farm import PROGRAM, Wrong, free_ports, want
@@ -530,15 +537,15 @@ def full(nodes, _):
 
 
 CASES = [publish, pieces, kill, stop, unheard, clients, strangers, unknown, dual, forged, forgot, missed, used_up, refused, zeros, full, *halted_nodes.CASES,
-         *returned_folders.CASES]
+         *returned_folders.CASES, *differing_histories.CASES]
 # at the end of these not all nodes run
-UNEVEN = [forgot, *halted_nodes.CASES, *returned_folders.CASES]
+UNEVEN = [forgot, *halted_nodes.CASES, *returned_folders.CASES, *differing_histories.CASES]
 
 
 def attempt(case, options):
     """What a case saw; raises what was wrong."""
     with tempfile.TemporaryDirectory() as folder:
-        nodes = Nodes(options.program, folder)
+        nodes = Nodes(options.program, folder, differing_histories.COUNTS.get(case, NODES))
         watch = None
         try:
             nodes.start_all()

@@ -394,9 +394,9 @@ def lags_in(seen):
     return lags
 
 
-def tape_of(program, path, count):
-    """Writes a tape on which so many maps of about 2 KB are published; their size."""
-    text = subprocess.run([str(program), "canon"], input=map_of(1, 2_000), stdout=subprocess.PIPE, check=True).stdout
+def tape_of(program, path, count, length=2_000):
+    """Writes a tape on which so many maps are published that take about so many bytes; their size."""
+    text = subprocess.run([str(program), "canon"], input=map_of(1, length), stdout=subprocess.PIPE, check=True).stdout
     with open(path, "wb") as out:
         for number in range(1, count + 1):
             canon = text.replace(b'"map 1"', b'"map %d"' % number)

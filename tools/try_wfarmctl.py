@@ -223,8 +223,8 @@ def try_verify(trial):
 
 
 def try_changed(trial):
-    """A byte that changed on a disk: its node doesn't start. Where its file `farm` doesn't know of the history, as one of version 1, of two nodes
-    whose histories differ the one that started last ends."""
+    """A byte that changed on a disk: its node doesn't start. Where its file `farm` doesn't know of the history, as one of version 1, it answers
+    nobody, and the others go on."""
     node = trial.nodes[2]
     tape, farm = node.folder / "node-2.tape", node.folder / "farm"
     tape.write_bytes(tape.read_bytes().replace(b"another title", b"Another title"))
@@ -237,8 +237,13 @@ def try_changed(trial):
     trial.see("its last line", last == "bad folder: the tape has another history up to 7", last)
     farm.write_text(re.sub("(?m)^known .*\n", "", farm.read_text()).replace("wfarm folder 2", "wfarm folder 1"))
     node.start()
-    trial.wait("status: a history differs, and from which sequence on", lambda: "history differs from node 2 at sequence 7" in trial.call("status")[1])
-    trial.wait("and that node has ended", lambda: "unreachable" in trial.call("status")[1].splitlines()[3])
+    trial.wait("status: whose history differs from its own, at which address and sequence", lambda: re.search(
+        r" history differs.* node [01]\b.*127\.0\.0\.1:\d+.* sequence 7\b", trial.call("status")[1].splitlines()[3]))
+    code, told, error = trial.call("status")
+    trial.see("status: the others are well", code == 1 and told.count(" ok\n") == 2, told)
+    code, told, error = trial.call("publish", trial.map("eighth"))
+    trial.see("publish: by the others", (code, told) == (0, "published 8 at node 0\n"), (told, error))
+    trial.see("and nobody has ended", [each.process.poll() for each in trial.nodes] == [None] * 3)
 
 
 def try_words(trial):
