@@ -9,9 +9,9 @@
 //!
 //! Promises: each greeting and each reply to one has exactly one encoding, and nothing else is decoded as it
 //! (`specs/Greeting.antt`). A peer is let in iff it meets the definition, and a cause that is returned is one (`specs/Admission.antt`). What was heard never
-//! falls (`specs/Progress.antt`, `specs/Sender.antt`), and has exactly one text (`specs/PeerProgressText.antt`). If
-//! a node's volatile state goes with what it has stored, a transition's messages tell no more of it than is stored by then
-//! (`specs/Reported.antt`).
+//! falls (`specs/Progress.antt`, `specs/Sender.antt`), and has exactly one text (`specs/PeerProgressText.antt`).
+//! Whatever a node handled and however often it restarted, its next transition's messages tell no
+//! more of it than is stored by then (`specs/Reported.antt`).
 //!
 //! Not here: connections, who is at an address, files, and time.
 #![tactic(auto)]
