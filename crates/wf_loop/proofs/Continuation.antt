@@ -1,5 +1,5 @@
 -- Whatever is done to a process, its run goes on.
-use Rattle.std.proofs.Common.{◌≡◌, ◌⊎◌, ℕ, ◌<◌, ◌≤◌, Bool, true, false, List, [], ◌∷◌, ◌++◌, length, Option, Some, None, Result, Ok, Err, OnErr, OnOk, refl, sym, subst, ap, ◌∙◌, inl, inr, append-nil, append_assoc}
+use Rattle.std.proofs.Common.{◌≡◌, ◌⊎◌, ℕ, ◌<◌, ◌≤◌, Bool, true, false, List, [], ◌∷◌, ◌++◌, length, Option, Some, None, Result, refl, sym, subst, ap, ◌∙◌, inl, inr, append-nil, append_assoc}
 use Rattle.std.proofs.lemmas.Bool.{cases_Bool, cases_lt}
 use Rattle.wf_actor.specs.Life.{logged}
 use Rattle.wf_actor.specs.Process.{ReceivesFrom, ReceivesOwn, IsActed, IsGoingOn, IsLinkChanged, IsReception, IsSameActor, is_peer, emitted_by}
@@ -18,7 +18,7 @@ use Rattle.wf_mail.specs.Mail.{IsBeginning}
 use Rattle.wf_node.specs.declared.fault.NodeFault.{NodeFault}
 use Rattle.wf_tape.specs.declared.tape.Tape.{Ghosts as Tape}
 use Rattle.wf_codec.specs.declared.fault.DecodeFault.{DecodeFault}
-use Rattle.wf_loop.specs.Answer.{HasResponded, IsAnswer, IsResponse}
+use Rattle.wf_loop.specs.Answer.{HasResponded, IsAnswer}
 use Rattle.wf_loop.specs.Continuation.{Continues, GoesOn, HasServed, IsEarlier, IsLater, IsOfRuns, KeepsEarlier, StaysSuspended}
 use Rattle.wf_loop.specs.declared.clients.Clients.{Clients}
 use Rattle.wf_loop.specs.declared.gate.Gate.TheVariants as gates
