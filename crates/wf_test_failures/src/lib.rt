@@ -23,6 +23,7 @@ mod kept;
 mod limits;
 #[cfg(test)]
 mod long_listing;
+#[cfg(test)]
 mod machine;
 #[cfg(test)]
 mod many;
