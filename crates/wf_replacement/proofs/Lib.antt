@@ -1,0 +1,13 @@
+mod Prefixes
+mod Deeds
+mod Moves
+mod Courses
+mod Guard
+mod Growth
+mod Agreement
+mod Continuation
+mod Careers
+mod Farms
+mod Others
+mod Copies
+mod Example

@@ -1,0 +1,4 @@
+pub mod Timeline
+pub mod Rejoining
+pub mod Theorems
+pub mod Examples
