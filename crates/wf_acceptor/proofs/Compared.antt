@@ -1,9 +1,8 @@
 -- Votes of two acceptors that are the same, except at a slot.
-use Rattle.std.proofs.Common.{◌≡◌, ℕ, Bool, true, false, cond, List, [], ◌∷◌, ◌+◌, Option, Some, None, nat_eq, nat_le, if◌then◌else◌, refl, sym, ◌∙◌, ap, subst, arith, eqb-true}
+use Rattle.std.proofs.Common.{◌≡◌, ℕ, Bool, true, false, cond, List, [], ◌∷◌, ◌+◌, ◌<◌, ◌≤◌, length, get_or, drop, Option, Some, None, nat_eq, nat_le, if◌then◌else◌, refl, sym, ◌∙◌, ap, subst, arith, eqb-true}
+use Rattle.std.proofs.lemmas.List.{drop_all, drop_more}
 use Rattle.std.proofs.lemmas.Option.{none-some}
 use Rattle.std.specs.Cmp.{nat_cmp_total, unsigned_tied}
-use Rattle.std.specs.HashMap.{HashMap}
-use Rattle.std.specs.Map.{lookup}
 use Rattle.std.specs.Ordering.{nat_cmp}
 use Rattle.std.specs.FinMap as map
 use Rattle.std.specs.FinMap.{FinMap}
@@ -14,25 +13,37 @@ use Rattle.wf_journal.specs.declared.record.Record.TheVariants.{Accepted}
 use Rattle.wf_acceptor.specs.Acceptor.{Part}
 use Rattle.wf_acceptor.specs.Comparison.{Agrees, AreSameBut, HasAllBut}
 use Rattle.wf_acceptor.specs.Prepared.{with_open, with_promise, with_published}
-use Rattle.wf_acceptor.specs.Slots.{by_slot}
-use Rattle.wf_acceptor.proofs.BySlot.{get-by_slot}
 
 -- ---- entry by entry
 
-pub has_all_of_none : {A : Type 0} (but : Option ℕ) (others : FinMap nat_cmp A) → HasAllBut but [] others
+pub has_all_of_none : {A : Type 0} (but : Option ℕ) (others : FinMap nat_cmp A) → HasAllBut but (map.from_entries []) others
 unfolding HasAllBut
-has_all_of_none but others s x open_ found = absurd (none-some x found)
+has_all_of_none {A = A} but others s x open_ found = absurd (none-some x (sym (map.get-empty {X = A} nat_cmp s) ∙ found))
 
 -- One more entry, which the other map has, unless it is that of the slot.
 pub has_one_more : {A : Type 0} (but : Option ℕ) (k : ℕ) (v : A) (rest : List (ℕ × A)) (others : FinMap nat_cmp A) →
-    ((but ≡ Some k → ⊥) → map.get others k ≡ Some v) → HasAllBut but rest others → HasAllBut but ((k, v) ∷ rest) others
+    ((but ≡ Some k → ⊥) → map.get others k ≡ Some v) → HasAllBut but (map.from_entries rest) others → HasAllBut but (map.from_entries ((k, v) ∷ rest)) others
 unfolding HasAllBut
-has_one_more {A = A} but k v rest others has all s x open_ found = by_key (nat_eq s k) refl found where
-  by_key : (is_key : Bool) → nat_eq s k ≡ is_key → cond is_key (Some v) (lookup (nat_eq s) rest) ≡ Some x → map.get others s ≡ Some x
-  by_key true same is =
-      let key : s ≡ k = eqb-true s k same in
-      ap (map.get others) key ∙ (has (λ at. open_ (at ∙ ap (λ (t : ℕ). Some t) (sym key))) ∙ is)
-  by_key false other is = all s x open_ is
+has_one_more {A = A} but k v rest others has all s x open_ found =
+    by_key (nat_eq s k) refl (sym (map.get-insert nat_cmp_total (map.from_entries {R = nat_cmp} rest) k v s ∙ ap (λ b. cond b (Some v) (map.get (map.from_entries {R = nat_cmp} rest) s)) (unsigned_tied s k)) ∙ found) where
+      by_key : (is_key : Bool) → nat_eq s k ≡ is_key → cond is_key (Some v) (map.get (map.from_entries {R = nat_cmp} rest) s) ≡ Some x → map.get others s ≡ Some x
+      by_key true same is =
+          let key : s ≡ k = eqb-true s k same in
+          ap (map.get others) key ∙ (has (λ at. open_ (at ∙ ap (λ (t : ℕ). Some t) (sym key))) ∙ is)
+      by_key false other is = all s x open_ is
+
+-- the entry at this index, and then those after it
+pub has_next : {A : Type 0} (but : Option ℕ) (entries : List (ℕ × A)) (i k : ℕ) (v : A) (others : FinMap nat_cmp A) → i < length entries → get_or entries i (k, v) ≡ (k, v) →
+    ((but ≡ Some k → ⊥) → map.get others k ≡ Some v) → (HasAllBut but (map.from_entries (drop i entries)) others → HasAllBut but (map.from_entries entries) others) →
+    HasAllBut but (map.from_entries (drop (i + 1) entries)) others → HasAllBut but (map.from_entries entries) others
+has_next {A = A} but entries i k v others within here has so_far rest =
+    let split : drop i entries ≡ (k, v) ∷ drop (i + 1) entries = drop_more entries i (k, v) within ∙ ap (λ (e : ℕ × A). e ∷ drop (i + 1) entries) here in
+    so_far (subst (λ (xs : List (ℕ × A)). HasAllBut but (map.from_entries xs) others) (sym split) (has_one_more but k v (drop (i + 1) entries) others has rest))
+
+pub has_each : {A : Type 0} (but : Option ℕ) (entries : List (ℕ × A)) (i : ℕ) (others : FinMap nat_cmp A) → length entries ≤ i →
+    (HasAllBut but (map.from_entries (drop i entries)) others → HasAllBut but (map.from_entries entries) others) → HasAllBut but (map.from_entries entries) others
+has_each {A = A} but entries i others past so_far =
+    so_far (subst (λ (xs : List (ℕ × A)). HasAllBut but (map.from_entries xs) others) (sym (drop_all i entries past)) (has_all_of_none but others))
 
 -- ---- both ways
 
@@ -41,13 +52,10 @@ both None None there back = refl
 both None (Some v) there back = back v refl
 both (Some v) y there back = sym (there v refl)
 
-pub same_both_ways : {A S : Type 0} (but : Option ℕ) (m n : HashMap ℕ A S) → HasAllBut but m.entries (by_slot n) → HasAllBut but n.entries (by_slot m) →
-    AreSameBut but (by_slot m) (by_slot n)
+pub same_both_ways : {A : Type 0} (but : Option ℕ) (m n : FinMap nat_cmp A) → HasAllBut but m n → HasAllBut but n m → AreSameBut but m n
 unfolding HasAllBut AreSameBut
 same_both_ways but m n there back s open_ =
-    both (map.get (by_slot m) s) (map.get (by_slot n) s)
-    (λ v is. there s v open_ (sym (get-by_slot m s) ∙ is))
-    (λ v is. back s v open_ (sym (get-by_slot n s) ∙ is))
+    both (map.get m s) (map.get n s) (λ v is. there s v open_ is) (λ v is. back s v open_ is)
 
 -- ---- parts
 

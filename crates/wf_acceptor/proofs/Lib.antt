@@ -1,4 +1,5 @@
-pub mod BySlot
+pub mod Entries
+pub mod Search
 pub mod Applied
 pub mod Answered
 pub mod Reported

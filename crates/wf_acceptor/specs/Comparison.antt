@@ -1,14 +1,13 @@
 -- Used only in this crate's contracts: votes that are the same, except at a slot.
-use Rattle.std.specs.Prelude.{◌≡◌, ℕ, List, Option, Some, nat_eq}
-use Rattle.std.specs.Map.{lookup}
+use Rattle.std.specs.Prelude.{◌≡◌, ℕ, Option, Some}
 use Rattle.std.specs.Ordering.{nat_cmp}
 use Rattle.std.specs.FinMap.{FinMap, get}
 use Rattle.wf_ballot.specs.Ballot.{Ballot}
 use Rattle.wf_acceptor.specs.Acceptor.{Part}
 
--- the map has each of the entries, except that of the slot
-unfoldable pub HasAllBut : {A : Type 0} → Option ℕ → List (ℕ × A) → FinMap nat_cmp A → Type 0
-HasAllBut {A} but entries others = (s : ℕ) (x : A) → (but ≡ Some s → ⊥) → lookup (nat_eq s) entries ≡ Some x → get others s ≡ Some x
+-- the second map has each entry of the first one, except that of the slot
+unfoldable pub HasAllBut : {A : Type 0} → Option ℕ → FinMap nat_cmp A → FinMap nat_cmp A → Type 0
+HasAllBut {A} but votes others = (s : ℕ) (x : A) → (but ≡ Some s → ⊥) → get votes s ≡ Some x → get others s ≡ Some x
 
 -- the two maps have the same at each slot but this one
 unfoldable pub AreSameBut : {A : Type 0} → Option ℕ → FinMap nat_cmp A → FinMap nat_cmp A → Type 0

@@ -1,4 +1,4 @@
-pub mod Slots
+pub mod OpenVotes
 pub mod Acceptor
 pub mod Prepared
 pub mod AcceptorAnswer

@@ -5,9 +5,8 @@ ghost use Rattle.wf_acceptor.specs.Prepared.{definition_of};
 use crate::comparison::{has_vote, have_same_votes};
 use crate::report::report_from;
 use crate::same::is_same_record;
-use crate::slots::{forget, make_room, put, value_at};
+use crate::votes::OpenVotes;
 use std::alloc::{AllocError, Global};
-use std::collections::HashMap;
 use std::marker::Model;
 use wf_ballot::{Ballot, NodeId, Slot};
 use wf_canon::Canon;
@@ -30,7 +29,7 @@ pub struct Acceptor {
     // The last published slot.
     published: Option<Slot>,
     promise: Option<Ballot>,
-    votes: HashMap<Slot, (Ballot, Canon)>,
+    votes: OpenVotes,
     // The prepared record: there is room for its vote.
     prepared: Option<Record>,
 }
@@ -51,10 +50,9 @@ impl Drop for Acceptor {
 }
 
 impl Model for Acceptor {
-    ghost use Rattle.std.specs.Prelude.{unwrap_or, IfSome};
+    ghost use Rattle.std.specs.Prelude.{◌<◌, unwrap_or, IfSome};
     ghost use Rattle.std.specs.Coded.{codes};
     ghost use Rattle.std.specs.FinMap as map;
-    ghost use Rattle.wf_acceptor.specs.Slots.{by_slot, HasRoom};
     ghost use Rattle.wf_acceptor.specs.Acceptor.{Acceptor};
 
     ghost Value = { Acceptor };
@@ -66,12 +64,12 @@ impl Model for Acceptor {
         id = a.id;
         published = unwrap_or a.published 0;
         promise = a.promise;
-        votes = by_slot a.votes;
+        votes = a.votes.by_slot;
       };
       prepared = a.prepared;
     } };
 
-    ghost invariant = { λ a. IfSome a.prepared (λ r. HasRoom a.votes) };
+    ghost invariant = { λ a. IfSome a.prepared (λ r. 0 < a.votes.room) };
 }
 
 impl Acceptor {
@@ -98,7 +96,7 @@ impl Acceptor {
             id,
             published: None,
             promise: None,
-            votes: HashMap::new(alloc),
+            votes: OpenVotes::new(alloc),
             prepared: None,
         }
     }
@@ -124,14 +122,14 @@ impl Acceptor {
     pub fn vote_at(&self, slot: Slot) -> Option<&(Ballot, Canon)>
         ensures { view_vote (option_copied result) ≡ votes_of self.now.part slot }
     {
-        value_at(&self.votes, slot)
+        self.votes.value_at(slot)
     }
 
     /// Whether the vote at the slot is at this ballot.
     pub fn is_voted_at(&self, slot: Slot, ballot: Ballot) -> bool
         ensures { result ≡ votes_at (votes_of self.now.part slot) ballot }
     {
-        match value_at(&self.votes, slot) {
+        match self.votes.value_at(slot) {
             Some((voted, _)) => *voted == ballot,
             None => false,
         }
@@ -269,7 +267,7 @@ impl Acceptor {
         ensures { IsTrue result → self.now.part ≡ with_published other.now.part slot }
     {
         self.agrees(other, other.promise, Some(slot), Some(slot))
-            && value_at(&self.votes, slot).is_none()
+            && self.votes.value_at(slot).is_none()
     }
 
     // Whether this acceptor is of the other one's node, has this promise and this last published slot, and the other one's votes,
@@ -449,7 +447,7 @@ impl Acceptor {
         ensures ok { OnOk result (self.new ≡ record self.old { prepared = Some entry.now }) }
         ensures err { OnErr result (self.new ≡ self.old) }
     {
-        make_room(&mut self.votes)?;
+        self.votes.make_room()?;
         let copy = entry.copy()?;
         keep(&mut self.prepared, copy);
         Ok(())
@@ -465,7 +463,7 @@ impl Acceptor {
             let ballot = *ballot;
             self.promise = higher_ballot(self.promise, ballot);
             if let Some(canon) = take_definition(&mut self.prepared) {
-                put(&mut self.votes, slot, (ballot, canon));
+                self.votes.put(slot, (ballot, canon));
             }
         }
         self.prepared = None;
@@ -476,7 +474,7 @@ impl Acceptor {
         ensures { self.new ≡ unprepared (with_published self.old.part slot) }
     {
         self.published = Some(slot);
-        forget(&mut self.votes, slot);
+        self.votes.forget(slot);
         self.prepared = None;
     }
 }

@@ -11,14 +11,14 @@
 //! and leaves no record prepared.
 //!
 //! Not here: storing records (the node writes an answer's record to its tape, then has it applied), and answers for a published
-//! slot. That a call doesn't take longer with more slots, since slots are found by their hash, is measured
-//! (`bench/node_open.py`), not proved.
+//! slot. That a call takes hardly longer with more votes, since one is found by binary search, is measured
+//! (`bench/votes.py`), not proved.
 #![tactic(auto)]
 
 mod acceptor;
 mod comparison;
 mod report;
 mod same;
-mod slots;
+mod votes;
 
 pub use acceptor::{Acceptor, AcceptorAnswer};

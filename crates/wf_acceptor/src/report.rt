@@ -4,21 +4,19 @@ ghost use Rattle.std.specs.Prelude.{◌≡◌, ◌+◌, ◌≤◌, ◌++◌, IfO
 ghost use Rattle.std.specs.FinMap as map;
 ghost use Rattle.arrayvec.specs.ArrayVec.{array_vec_len};
 ghost use Rattle.wf_model.specs.VolatileState.{window};
-ghost use Rattle.wf_acceptor.specs.Slots.{by_slot};
 ghost use Rattle.wf_acceptor.specs.Prepared.{reported};
 
-use crate::slots::value_at;
+use crate::votes::OpenVotes;
 use arrayvec::ArrayVec;
 use std::alloc::AllocError;
-use std::collections::HashMap;
 use wf_ballot::{Ballot, Slot};
 use wf_canon::Canon;
 use wf_codec::{MOST_VOTES, Report, Votes};
 
 /// The report of the votes from the slot on.
-pub fn report_from(votes: &HashMap<Slot, (Ballot, Canon)>, slot: Slot) -> Result<Report, AllocError>
+pub fn report_from(votes: &OpenVotes, slot: Slot) -> Result<Report, AllocError>
     ensures { IfOk result (λ report. report ≡
-        record { slot = slot; votes = reported (by_slot votes.now) slot window }) }
+        record { slot = slot; votes = reported votes.now.by_slot slot window }) }
 {
     let mut copies = ArrayVec::new();
     copy_votes(votes, slot, MOST_VOTES, &mut copies)?;
@@ -27,14 +25,14 @@ pub fn report_from(votes: &HashMap<Slot, (Ballot, Canon)>, slot: Slot) -> Result
 
 /// Appends copies of so many votes from the slot on, as far as there are slots. There must be room for them.
 fn copy_votes(
-    votes: &HashMap<Slot, (Ballot, Canon)>,
+    votes: &OpenVotes,
     slot: Slot,
     count: usize,
     copies: &mut Votes,
 ) -> Result<(), AllocError>
     requires { array_vec_len copies.old + count ≤ 4 }
     ensures { OnOk result (copies.new.items ≡
-        copies.old.items ++ reported (by_slot votes.now) slot count) }
+        copies.old.items ++ reported votes.now.by_slot slot count) }
 {
     if count == 0 {
         return Ok(());
@@ -48,13 +46,10 @@ fn copy_votes(
 }
 
 /// A copy of the slot's vote.
-fn copy_of_vote(
-    votes: &HashMap<Slot, (Ballot, Canon)>,
-    slot: Slot,
-) -> Result<Option<(Ballot, Canon)>, AllocError>
-    ensures { IfOk result (λ vote. vote ≡ map.get (by_slot votes.now) slot) }
+fn copy_of_vote(votes: &OpenVotes, slot: Slot) -> Result<Option<(Ballot, Canon)>, AllocError>
+    ensures { IfOk result (λ vote. vote ≡ map.get votes.now.by_slot slot) }
 {
-    match value_at(votes, slot) {
+    match votes.value_at(slot) {
         Some((ballot, canon)) => Ok(Some((*ballot, canon.copy()?))),
         None => Ok(None),
     }

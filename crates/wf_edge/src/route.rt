@@ -4,7 +4,7 @@ ghost use Rattle.wf_http.specs.Checks.{first_failing};
 ghost use Rattle.wf_edge.specs.Route.{resource_at, method_of, check_path, check_method, head_checks, resolve_at, resolved};
 
 use crate::resource::{RequestedResource, Resource};
-use wf_http::{Allowed, Fields, Front, HttpError, body_length, check_target, method_name, path_of};
+use wf_http::{Allowed, Fields, Front, HttpError, body_length, check_target, path_of};
 
 /// The resource at a path.
 #[tactic(auto, unfolding(crate::specs::Route::resource_at))]
@@ -54,7 +54,7 @@ fn check_method_of(resource: Resource, method: &[u8]) -> Option<HttpError>
     ensures { result ≡ check_method (Some resource) method.now }
 {
     let allowed = method_of(resource);
-    if method == method_name(allowed) {
+    if method == allowed.method().as_str().as_bytes() {
         None
     } else {
         Some(HttpError::MethodNotAllowed(allowed))

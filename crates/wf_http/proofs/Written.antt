@@ -1,8 +1,10 @@
 -- The pieces written are the lines of a response.
-use Rattle.std.proofs.Common.{◌≡◌, ◌∙◌, ℕ, List, [], ◌++◌, length, refl, ap}
-use Rattle.std.specs.Prelude.{codes, decimal}
+use Rattle.std.proofs.Common.{◌≡◌, ◌∙◌, ℕ, List, [], ◌++◌, length, refl, sym, ap}
+use Rattle.std.specs.Prelude.{codes, decimal, Option, Some}
 use Rattle.std.proofs.lemmas.List.{append_assoc}
 use Rattle.http.specs.StatusCode.{code_digits}
+use Rattle.wf_http.specs.Method.{method_name}
+use Rattle.wf_http.specs.declared.http_error.Allowed.{Allowed}
 use Rattle.wf_http.specs.Response.{Response, line, reason, allow_line, head_bytes}
 
 -- what is written when the pieces between the parts are these
@@ -34,6 +36,16 @@ pieces_are_lines s r m l w =
     ∙ ap (λ k. pieces (codes "\r\n" ++ codes "Content-Type: ") k (codes "Connection: close\r\n\r\n") s r m l w) length_is
     ∙ ap (λ e. pieces (codes "\r\n" ++ codes "Content-Type: ") (codes "\r\n" ++ codes "Content-Length: ") e s r m l w) close_is
     ∙ regroup (codes "HTTP/1.1 ") (codes " ") (codes "\r\n") (codes "Content-Type: ") (codes "Content-Length: ") (codes "Connection: close") s r m l w
+
+-- the pieces written are the line with the allowed method
+line_of : (bytes begin name end : List ℕ) → ((bytes ++ begin) ++ name) ++ end ≡ bytes ++ ((begin ++ name) ++ end)
+line_of bytes begin name end = simp append_assoc
+
+pub allow_line_is : (bytes name : List ℕ) (allowed : Option Allowed) (method : Allowed) → allowed ≡ Some method → name ≡ method_name method →
+    ((bytes ++ codes "Allow: ") ++ name) ++ codes "\r\n" ≡ bytes ++ allow_line allowed
+allow_line_is bytes name allowed method is named =
+    line_of bytes (codes "Allow: ") name (codes "\r\n")
+    ∙ (ap (λ name. bytes ++ ((codes "Allow: " ++ name) ++ codes "\r\n")) named ∙ ap (λ allowed. bytes ++ allow_line allowed) (sym is))
 
 -- the pieces written are the lines of a response
 pub lines_are_head : (response : Response) (s r m l w : List ℕ) → s ≡ code_digits response.status → r ≡ reason response.status → m ≡ response.media

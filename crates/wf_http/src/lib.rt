@@ -44,6 +44,5 @@ pub use fault::RequestFault;
 pub use fields::Fields;
 pub use front::{Front, MOST_HEAD_BYTES, limits_are_as_defined};
 pub use http_error::{Allowed, HttpError};
-pub use method::method_name;
 pub use response::Response;
 pub use target::{path_of, query_of};

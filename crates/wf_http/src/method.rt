@@ -3,13 +3,16 @@ ghost use Rattle.std.specs.Prelude.{◌≡◌};
 ghost use Rattle.wf_http.specs.Method.{method_name};
 
 use crate::http_error::Allowed;
+use http::Method;
 
-/// A method's name (RFC 9110, section 9.1).
-pub fn method_name(method: Allowed) -> &'static [u8]
-    ensures { result.now ≡ method_name method }
-{
-    match method {
-        Allowed::Get => b"GET",
-        Allowed::Post => b"POST",
+impl Allowed {
+    /// The method, of which `as_str` is the name (RFC 9110, section 9.1).
+    pub fn method(self) -> Method
+        ensures { result ≡ method_name self }
+    {
+        match self {
+            Allowed::Get => Method::GET,
+            Allowed::Post => Method::POST,
+        }
     }
 }

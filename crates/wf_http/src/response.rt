@@ -111,14 +111,18 @@ fn reason(status: StatusCode) -> &'static str
     }
 }
 
-// The line with the allowed method.
-fn allow_line(allowed: Option<Allowed>) -> &'static [u8]
-    ensures { result.now ≡ allow_line allowed }
+// Writes the line with the allowed method, if there is one.
+fn put_allow_line<K: Sink>(sink: &mut K, progress: &mut WriteProgress, allowed: Option<Allowed>)
+    ensures { (first : K) (bytes : List ℕ) →
+        IsWriting K.Sink first bytes sink.old progress.old.written progress.old.failed →
+        IsWriting K.Sink first (bytes ++ allow_line allowed)
+        sink.new progress.new.written progress.new.failed }
 {
-    match allowed {
-        None => b"",
-        Some(Allowed::Get) => b"Allow: GET\r\n",
-        Some(Allowed::Post) => b"Allow: POST\r\n",
+    if let Some(allowed) = allowed {
+        let method = allowed.method();
+        put(sink, progress, b"Allow: ");
+        put(sink, progress, method.as_str().as_bytes());
+        put(sink, progress, b"\r\n");
     }
 }
 
@@ -178,7 +182,7 @@ impl<'b> Response<'b> {
         put(sink, progress, b"\r\nContent-Length: ");
         put(sink, progress, digits.format(self.body.len()).as_bytes());
         put(sink, progress, b"\r\n");
-        put(sink, progress, allow_line(self.allowed));
+        put_allow_line(sink, progress, self.allowed);
         put(sink, progress, b"Connection: close\r\n\r\n");
     }
 

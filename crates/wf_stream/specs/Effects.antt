@@ -1,5 +1,5 @@
 -- The effect of a reader's or a writer's calls on known bytes, and on the count of failures.
-use Rattle.std.specs.Prelude.{◌≡◌, ◌≢◌, ◌+◌, ◌-◌, ◌^◌, ◌≤◌, ◌++◌, ℕ, min, List, length, Option, Result, MatchResult, IfOk, IfSome}
+use Rattle.std.specs.Prelude.{◌≡◌, ◌≢◌, ◌+◌, ◌-◌, ◌^◌, ◌≤◌, ◌++◌, ℕ, max, min, List, length, Option, Result, MatchResult, IfOk, IfSome}
 use Rattle.std.specs.IoError.{error_kind}
 use Rattle.std.specs.Io.KnownBytes.{Appends, Consumes}
 use Rattle.std.specs.declared.io.Error.{Error}
@@ -16,6 +16,14 @@ IsOneMore old new = new ≡ min (old + 1) (2 ^ 64 - 1)
 -- the count increased if the call failed, and is unchanged otherwise
 abbrev pub Counts : {T E : Type 0} → Result T E → ℕ → ℕ → Type 0
 Counts result old new = MatchResult result (λ _. new ≡ old) (λ _. Rises old new)
+
+-- the most calls of one stream that signals may interrupt
+abbrev pub most_interruptions : ℕ
+most_interruptions = 200000
+
+-- some more calls were interrupted, and none past the most
+abbrev pub Interrupts : ℕ → ℕ → Type 0
+Interrupts old new = (old ≤ new) × (new ≤ max old most_interruptions)
 
 -- an error of reading into memory: an allocation or a read failed
 abbrev pub IsReadError : ℕ → ℕ → Error → Type 0

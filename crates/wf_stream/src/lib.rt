@@ -10,11 +10,12 @@
 //! **Promises.**
 //! - What is read is a prefix of what is left, of at most the requested length.
 //! - What is written is all of the bytes, or the reported number of them if a call failed. No call comes after one that failed.
-//! - The count of failures increases iff a call fails. A call interrupted by a signal isn't reported as failed, and a reader's
-//!   own error is never reported as allocation failure.
+//! - The count of failures increases iff a call fails. A call interrupted by a signal isn't reported as failed, but made again:
+//!   of one [`Stream`] 200,000 are interrupted at most. A reader's own error is never reported as allocation failure.
 //!
 //! **Doesn't.** It doesn't promise that a reader ever returns its next byte, nor what a writer of std does with bytes that it has
-//! taken. That no failed call is repeated, unless it was interrupted, is tested (`wf_test_map`).
+//! taken. That no failed call is repeated, unless it was interrupted, and that 200,000 interruptions end it, is tested
+//! (`wf_test_map`).
 #![tactic(auto)]
 
 mod memory;

@@ -3,7 +3,7 @@ ghost use Rattle.std.specs.Prelude.{◌≡◌, ◌≢◌, ◌<◌, ◌≤◌, �
 ghost use Rattle.std.specs.Io.{ReadsAtMost, WritesAtMost};
 ghost use Rattle.std.specs.Io.KnownBytes.{Appends, Consumes, IsAtEnd, Keeps, ReadConsumes, WriteAppends};
 ghost use Rattle.std.specs.IoError.{error_kind};
-ghost use Rattle.wf_stream.specs.Effects.{Counts, EndsByFailing, GivesUpTo, IsMemoryAlone, IsOneMore, IsReadError, ReadsPiece, Rises, TakesUpTo};
+ghost use Rattle.wf_stream.specs.Effects.{Counts, EndsByFailing, GivesUpTo, Interrupts, IsMemoryAlone, IsOneMore, IsReadError, ReadsPiece, Rises, TakesUpTo};
 
 use std::alloc::Global;
 use std::io;
@@ -66,10 +66,15 @@ pub trait Sink {
     }
 }
 
-/// Any reader or writer of std, with a count of its failed calls.
+/// The most calls of one stream that signals may interrupt. It is above the 139,265 reads that the other limits of a request allow.
+const MOST_INTERRUPTIONS: u32 = 200_000;
+
+/// Any reader or writer of std, with a count of its failed calls. A call that a signal interrupts is made again. Once 200,000 calls
+/// of the stream were interrupted, each further one fails at once, by `TimedOut`.
 #[derive(Drop)]
 pub struct Stream<S> {
     inner: S,
+    interruptions: u32,
     failures: u64,
 }
 
@@ -81,7 +86,11 @@ impl<S> Stream<S> {
         ensures inner { inner_of result ≡ inner }
         ensures failures { failures_of result ≡ 0 }
     {
-        Stream { inner, failures: 0 }
+        Stream {
+            inner,
+            interruptions: 0,
+            failures: 0,
+        }
     }
 
     /// The reader or writer.
@@ -92,16 +101,18 @@ impl<S> Stream<S> {
     }
 }
 
-/// Reads once; repeats the read if a signal interrupted it, and after no other error.
+/// Reads once; repeats the read if a signal interrupted it, and after no other error. `TimedOut` without a further read once the most
+/// calls were interrupted.
 #[tactic(auto, using(crate::specs::KnownTheorems::keeps_same, crate::specs::KnownTheorems::keeps_twice, crate::specs::KnownTheorems::reads_after))]
-fn read_again<R: Read>(reader: &mut R, buf: &mut [u8]) -> io::Result<usize>
+fn read_again<R: Read>(reader: &mut R, interruptions: &mut u32, buf: &mut [u8]) -> io::Result<usize>
     ensures bound { ReadsAtMost result buf.new }
     ensures bytes { ReadConsumes (R.remaining reader.old) (R.remaining reader.new) result buf.new }
     ensures retried { IfErr result (λ error. error_kind error ≢ ErrorKind.Interrupted) }
+    ensures counted { Interrupts interruptions.old interruptions.new }
 {
-    for _ in 0..u64::MAX {
+    while *interruptions < MOST_INTERRUPTIONS {
         match reader.read(buf) {
-            Err(error) if error.kind() == ErrorKind::Interrupted => {}
+            Err(error) if error.kind() == ErrorKind::Interrupted => *interruptions += 1,
             outcome => return outcome,
         }
     }
@@ -114,7 +125,7 @@ impl<R: Read> Source for Stream<R> {
     ghost failures = { λ stream. stream.failures };
 
     fn read(&mut self, buf: &mut [u8]) -> io::Result<usize> {
-        match read_again(&mut self.inner, buf) {
+        match read_again(&mut self.inner, &mut self.interruptions, buf) {
             Ok(count) => Ok(count),
             Err(error) => {
                 self.failures = self.failures.saturating_add(1);
@@ -124,18 +135,20 @@ impl<R: Read> Source for Stream<R> {
     }
 }
 
-/// Writes once; repeats the write if a signal interrupted it. A writer that takes no byte has failed.
+/// Writes once; repeats the write if a signal interrupted it. A writer that takes no byte has failed. `TimedOut` without a further
+/// write once the most calls were interrupted.
 #[tactic(auto, using(crate::specs::KnownTheorems::keeps_same, crate::specs::KnownTheorems::keeps_twice, crate::specs::KnownTheorems::writes_after))]
-fn write_again<W: Write>(writer: &mut W, buf: &[u8]) -> io::Result<usize>
+fn write_again<W: Write>(writer: &mut W, interruptions: &mut u32, buf: &[u8]) -> io::Result<usize>
     ensures bound { WritesAtMost result buf.now }
     ensures some { IfOk result (λ count. 0 < length buf.now → 0 < count) }
     ensures bytes { WriteAppends (W.contents writer.old) (W.contents writer.new) result buf.now }
     ensures retried { IfErr result (λ error. error_kind error ≢ ErrorKind.Interrupted) }
+    ensures counted { Interrupts interruptions.old interruptions.new }
 {
-    for _ in 0..u64::MAX {
+    while *interruptions < MOST_INTERRUPTIONS {
         match writer.write(buf) {
             Ok(0) if !buf.is_empty() => return Err(io::Error::from(ErrorKind::WriteZero)),
-            Err(error) if error.kind() == ErrorKind::Interrupted => {}
+            Err(error) if error.kind() == ErrorKind::Interrupted => *interruptions += 1,
             outcome => return outcome,
         }
     }
@@ -151,7 +164,7 @@ impl<W: Write> Sink for Stream<W> {
     ghost fails = { λ before after. IsOneMore before.failures after.failures × Keeps (W.contents before.inner) (W.contents after.inner) };
 
     fn write(&mut self, buf: &[u8]) -> io::Result<usize> {
-        match write_again(&mut self.inner, buf) {
+        match write_again(&mut self.inner, &mut self.interruptions, buf) {
             Ok(count) => Ok(count),
             Err(error) => {
                 self.failures = self.failures.saturating_add(1);

@@ -5,9 +5,12 @@
 //! hear by N                  the same, where a read gives at most N bytes
 //! hear by N failing at K     the same, where the K-th read fails, as one whose connection is reset; `interrupted`, `timed-out` or
 //!                            `out-of-memory` in place of `failing`: it fails so. The reads after it go on
+//! hear by N HOW each K       the same, where K reads fail before each one that doesn't, and how many reads were tried
+//! hear by N HOW always       the same, where each read fails
 //! hear room N                the same, where the writer takes N bytes and then fails
 //! hear writing N             the same, where a write takes at most N bytes, and how many writes were tried
-//! hear writing N HOW at K    the same, where the K-th write fails; HOW is one of the words above. The writes after it go on
+//! hear writing N HOW at K    the same, where the K-th write fails; HOW is one of the words above. The writes after it go on.
+//!                            `each K` and `always` as above
 //! serve NODE of NODES [WAY]  what a new node NODE, of NODES, answers to the request, and the messages that it sends. Bytes of 0
 //!                            separate several requests; each is read and answered in the same way: `by N`, `by N failing at K` and
 //!                            so on, `room N`, `writing N` and so on

@@ -1,5 +1,5 @@
 //! How a request is read and its response written; and a request that is read, or answered at once.
-use crate::failing_streams::{Failure, Faltering, Taking};
+use crate::failing_streams::{FailingCalls, Failure, Faltering, Taking};
 use std::alloc::Global;
 use std::io::ErrorKind;
 use wf_edge::{Outcome, Request, RequestedResource as Resource, write_error};
@@ -14,7 +14,7 @@ const ALL: usize = 4_194_304;
 pub(crate) struct Exchange {
     // how many bytes a read gives at most
     piece: usize,
-    // which read fails, and how
+    // which reads fail, and how
     failure: Option<Failure>,
     // how many bytes the writer takes
     room: usize,
@@ -22,7 +22,7 @@ pub(crate) struct Exchange {
     writing: Option<Writing>,
 }
 
-/// How many bytes a write takes at most, and which write fails.
+/// How many bytes a write takes at most, and which writes fail.
 #[derive(Clone, Copy)]
 struct Writing {
     piece: usize,
@@ -52,7 +52,7 @@ impl Exchange {
         }
     }
 
-    // Reads `N` or `N HOW at K`: so the K-th call of the reader fails, counted from 1.
+    // Reads `N` or `N HOW WHICH`: so these calls of the reader fail.
     fn read_piece(mut words: CaseWords<'_>) -> Result<Exchange, Unanswered> {
         let piece = words.count()?;
         let failure = read_failure(words)?;
@@ -90,6 +90,14 @@ impl Exchange {
         Stream::new(Taking::new(alloc, self.room, piece, failure))
     }
 
+    /// Appends how many reads there were, where more than one may have failed.
+    fn write_reads(self, reader: &Faltering<'_>, answer: &mut Transcript) {
+        if self.failure.is_some_and(|failure| failure.is_repeated()) {
+            answer.value(reader.calls());
+            answer.line(" reads");
+        }
+    }
+
     /// Appends what was written, in whole lines, and by how many writes, where that is told.
     pub(crate) fn write_written(self, writer: &Taking, answer: &mut Transcript) {
         write_lines(writer.bytes(), answer);
@@ -100,7 +108,7 @@ impl Exchange {
     }
 }
 
-// Reads `HOW at K`, or nothing.
+// Reads `HOW WHICH`, or nothing.
 fn read_failure(mut words: CaseWords<'_>) -> Result<Option<Failure>, Unanswered> {
     let kind = match words.word() {
         "" => return Ok(None),
@@ -110,17 +118,21 @@ fn read_failure(mut words: CaseWords<'_>) -> Result<Option<Failure>, Unanswered>
         "out-of-memory" => ErrorKind::OutOfMemory,
         _ => return Err(Unanswered::BadWords),
     };
-    let after = read_call(words)?;
-    Ok(Some(Failure { after, kind }))
+    let calls = read_calls(words)?;
+    Ok(Some(Failure { calls, kind }))
 }
 
-// How many calls come before the one that `at K` names.
-fn read_call(mut words: CaseWords<'_>) -> Result<u64, Unanswered> {
-    if words.word() != "at" {
-        return Err(Unanswered::BadWords);
+// Reads `at K`, where the K-th call fails, counted from 1; `each K`, where K calls fail before each one that doesn't; or `always`.
+fn read_calls(mut words: CaseWords<'_>) -> Result<FailingCalls, Unanswered> {
+    match words.word() {
+        "at" => Ok(FailingCalls::One(words.count()?.saturating_sub(1) as u64)),
+        "each" => match u32::try_from(words.count()?) {
+            Ok(count) => Ok(FailingCalls::BeforeEach(count)),
+            Err(_) => Err(Unanswered::BadWords),
+        },
+        "always" => Ok(FailingCalls::All),
+        _ => Err(Unanswered::BadWords),
     }
-    let call = words.count()?;
-    Ok(call.saturating_sub(1) as u64)
 }
 
 fn write_counted(what: &str, status: u16, count: u64, answer: &mut Transcript) {
@@ -183,6 +195,7 @@ pub(crate) fn write_received(
         Err(fault) => write_outcome(write_error(&mut writer, fault), answer),
     }
     way.write_written(writer.inner(), answer);
+    way.write_reads(reader.inner(), answer);
     drop(writer);
     drop(reader);
     Ok(())

@@ -1,38 +1,49 @@
-//! A reader and a writer with one failing call.
+//! A reader and a writer some of whose calls fail.
 use std::alloc::Global;
 use std::io;
 use std::io::{ErrorKind, Read, Write};
 
-/// Which call fails, and with which error.
+/// Which calls fail.
+#[derive(Clone, Copy)]
+pub(crate) enum FailingCalls {
+    /// The one after so many.
+    One(u64),
+    /// So many before each one that doesn't.
+    BeforeEach(u32),
+    All,
+}
+
+/// Which calls fail, and with which error.
 #[derive(Clone, Copy)]
 pub(crate) struct Failure {
-    /// The number of calls before it.
-    pub(crate) after: u64,
+    pub(crate) calls: FailingCalls,
     pub(crate) kind: ErrorKind,
 }
 
-// Counts a call and returns its error, if it fails.
-fn error_of_call(failure: &mut Option<Failure>) -> Option<ErrorKind> {
-    let Some(Failure { after, kind }) = *failure else {
-        return None;
-    };
-    if after > 0 {
-        *failure = Some(Failure {
-            after: after - 1,
-            kind,
-        });
-        return None;
+impl Failure {
+    /// Whether more than one call may fail.
+    pub(crate) fn is_repeated(self) -> bool {
+        !matches!(self.calls, FailingCalls::One(_))
     }
-    *failure = None;
-    Some(kind)
+
+    // The error of the call after so many, if it fails.
+    fn error_after(self, calls: u64) -> Option<ErrorKind> {
+        let fails = match self.calls {
+            FailingCalls::One(before) => calls == before,
+            FailingCalls::BeforeEach(count) => { calls % (u64::from(count) + 1) < u64::from(count) }
+            FailingCalls::All => true,
+        };
+        fails.then_some(self.kind)
+    }
 }
 
-/// A reader of bytes in pieces. At most one call fails, and later calls continue: so a retry can be observed.
+/// A reader of bytes in pieces that counts its calls. Calls after one that failed continue: so a retry can be observed.
 #[derive(Drop)]
 pub(crate) struct Faltering<'b> {
     rest: &'b [u8],
     piece: usize,
     failure: Option<Failure>,
+    calls: u64,
 }
 
 impl<'b> Faltering<'b> {
@@ -42,13 +53,21 @@ impl<'b> Faltering<'b> {
             rest: bytes,
             piece,
             failure,
+            calls: 0,
         }
+    }
+
+    /// The number of calls, failed ones included.
+    pub(crate) fn calls(&self) -> u64 {
+        self.calls
     }
 }
 
 impl<'b> Read for Faltering<'b> {
     fn read(&mut self, buf: &mut [u8]) -> io::Result<usize> {
-        if let Some(kind) = error_of_call(&mut self.failure) {
+        let before = self.calls;
+        self.calls = before.saturating_add(1);
+        if let Some(kind) = self.failure.and_then(|failure| failure.error_after(before)) {
             return Err(io::Error::from(kind));
         }
         let count = self.piece.min(self.rest.len()).min(buf.len());
@@ -59,7 +78,7 @@ impl<'b> Read for Faltering<'b> {
     }
 }
 
-/// A writer into memory that counts its calls. At most one call fails, and later calls continue: so a retry can be observed.
+/// A writer into memory that counts its calls. Calls after one that failed continue: so a retry can be observed.
 #[derive(Drop)]
 pub(crate) struct Taking {
     bytes: Vec<u8>,
@@ -95,8 +114,9 @@ impl Taking {
 
 impl Write for Taking {
     fn write(&mut self, buf: &[u8]) -> io::Result<usize> {
-        self.calls = self.calls.saturating_add(1);
-        if let Some(kind) = error_of_call(&mut self.failure) {
+        let before = self.calls;
+        self.calls = before.saturating_add(1);
+        if let Some(kind) = self.failure.and_then(|failure| failure.error_after(before)) {
             return Err(io::Error::from(kind));
         }
         let count = self.piece.min(self.room).min(buf.len());

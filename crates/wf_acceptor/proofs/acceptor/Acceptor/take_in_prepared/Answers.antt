@@ -8,7 +8,6 @@ use Rattle.wf_model.specs.DurableState.{raised}
 use Rattle.wf_def.specs.Definition.{Definition}
 use Rattle.wf_journal.specs.declared.record.Record.{Record}
 use Rattle.wf_journal.specs.declared.record.Record.TheVariants.{Accepted}
-use Rattle.wf_acceptor.specs.Slots.{by_slot}
 use Rattle.wf_acceptor.specs.Acceptor.{Acceptor, Part}
 use Rattle.wf_acceptor.specs.Prepared.{definition_of, with_open}
 use Rattle.wf_acceptor.proofs.acceptor.Acceptor.take_in_prepared.Goals as goal
@@ -34,10 +33,10 @@ returns c =
           let add_vote = ap (λ (a : Acceptor). insert a.part.votes w.in-Some-Accepted.slot (w.in-Some-Accepted.ballot, w.in-Some.canon)) c.self.view_is in
           let vote =
           voted c.args.self.now.part w.in-Some-Accepted.slot w.in-Some-Accepted.ballot w.in-Some-Accepted.field-0-2 w.in-Some-Accepted.field-0 w.in-Some.canon
-          w.higher_ballot-self-inside.result (by_slot w.put.new.values) vote_is definition (w.higher_ballot-self-inside.ensures ∙ add_promise) (w.put.ensures ∙ add_vote) in
+          w.higher_ballot-self-inside.result w.put.new.self.by_slot vote_is definition (w.higher_ballot-self-inside.ensures ∙ add_promise) (w.put.ensures ∙ add_vote) in
           rw (prepared, w.self-inside-is)
           (ap (λ (a : Acceptor). record {
-            part = record a.part { promise = w.higher_ballot-self-inside.result; votes = by_slot w.put.new.values };
+            part = record a.part { promise = w.higher_ballot-self-inside.result; votes = w.put.new.self.by_slot };
             prepared = None;
           }) c.self.view_is ∙ ap (λ (part : Part). record { part = part; prepared = None }) vote)
       | in-Some-Accepted+in_default-take_definition w ↦ search rules
