@@ -6,7 +6,7 @@ use Rattle.std.proofs.lemmas.Bool.{cases_order}
 use Rattle.std.proofs.lemmas.Bool.Decides.{nat_tests}
 use Rattle.wf_def.specs.Definition.{Definition}
 use Rattle.wf_mapfile.specs.Meaning.{meaning, Means, MeansNothing, longest_mapfile}
-use Rattle.wf_commands.specs.Run.{most_input_bytes, examined, IsMapFault, IsReadingFault}
+use Rattle.wf_commands.specs.Run.{most_input_bytes, examined, IsMapFault, IsReadingFault, OfInput}
 use Rattle.wf_commands.specs.declared.fault.RunFault.{RunFault}
 use Rattle.wf_commands.specs.declared.fault.RunFault.TheVariants as faults
 
@@ -34,14 +34,14 @@ examined_meaning : (input : List ℕ) → meaning (examined input) ≡ meaning i
 examined_meaning input = cut_meaning most_input_bytes input (omega arith)
 
 pub means_known : (known : Option (List ℕ)) (bytes : List ℕ) (d : Definition) → IfSome known (λ input. bytes ≡ examined input)
-    → Means bytes d → IfSome known (λ input. Means input d)
-means_known None bytes d is means = tt
-means_known (Some input) bytes d is means = sym (examined_meaning input) ∙ ap meaning (sym is) ∙ means
+    → Means bytes d → OfInput (λ text. Means text d) known
+means_known None bytes d is means = record { text = bytes; is = tt; has = means }
+means_known (Some input) bytes d is means = record { text = input; is = refl; has = sym (examined_meaning input) ∙ ap meaning (sym is) ∙ means }
 
 nothing_known : (known : Option (List ℕ)) (bytes : List ℕ) → IfSome known (λ input. bytes ≡ examined input)
-    → MeansNothing bytes → IfSome known MeansNothing
-nothing_known None bytes is nothing = tt
-nothing_known (Some input) bytes is nothing = λ d means. nothing d (ap meaning is ∙ examined_meaning input ∙ means)
+    → MeansNothing bytes → OfInput MeansNothing known
+nothing_known None bytes is nothing = record { text = bytes; is = tt; has = nothing }
+nothing_known (Some input) bytes is nothing = record { text = input; is = refl; has = λ d means. nothing d (ap meaning is ∙ examined_meaning input ∙ means) }
 
 pub fault_known : (known : Option (List ℕ)) (bytes : List ℕ) (fault : RunFault) → IfSome known (λ input. bytes ≡ examined input)
     → IsMapFault bytes fault → IsReadingFault known fault

@@ -1,18 +1,18 @@
 -- From what is written about a definition, or a read error, to the outcome of a run.
 use Rattle.std.proofs.Common.{◌≡◌, ◌∙◌, ℕ, List, true, false, sym, refl}
-use Rattle.std.specs.Prelude.{Option, Result, Ok, Err, IfSome}
+use Rattle.std.specs.Prelude.{Option, Result, Ok, Err}
 use Rattle.wf_def.specs.Definition.{Definition}
 use Rattle.wf_def.specs.Limits.{IsWithinLimits}
 use Rattle.wf_mapfile.specs.Meaning.{Means}
 use Rattle.wf_spelling.specs.declared.fault.CanonFault.{CanonFault}
-use Rattle.wf_commands.specs.Run.{IsReadingFault, IsWriting, IsWritingOf, IsOutcome}
+use Rattle.wf_commands.specs.Run.{IsReadingFault, IsWriting, IsWritingOf, IsOutcome, OfInput}
 use Rattle.wf_commands.specs.FailureCount.{CountsReads, CountsWrites}
 use Rattle.wf_commands.specs.declared.fault.RunFault.{RunFault}
 use Rattle.wf_commands.specs.declared.fault.RunFault.TheVariants as faults
 use Rattle.wf_stream.specs.KnownTheorems.{keeps_same}
 
 module _ (HasOutput : Definition → List ℕ → Type 0) (rejects : CanonFault → Definition → Type 0) (input old new : Option (List ℕ)) where
-  pub written_outcome : (result : Result (Unit {0}) RunFault) (d : Definition) (bytes : List ℕ) → IfSome input (λ known. Means known d) → IsWithinLimits d
+  pub written_outcome : (result : Result (Unit {0}) RunFault) (d : Definition) (bytes : List ℕ) → OfInput (λ text. Means text d) input → IsWithinLimits d
       → HasOutput d bytes → IsWriting bytes (λ fault. rejects fault d) old new result → IsOutcome HasOutput rejects input old new result
   written_outcome (Ok done) d bytes means within has writes = (d, means, within, (bytes, has, writes))
   written_outcome (Err faults.Write) d bytes means within has writes = (d, means, within, (bytes, has, writes))
@@ -37,7 +37,7 @@ module _ (HasOutput : Definition → List ℕ → Type 0) (rejects : CanonFault 
 
 -- the same for one of several outputs
 pub one_written_outcome : (HasOutput : Definition → List ℕ → Type 0) (input old new : Option (List ℕ)) (result : Result (Unit {0}) RunFault) (d : Definition)
-    → IfSome input (λ known. Means known d) → IsWithinLimits d → IsWritingOf (HasOutput d) old new result → IsOutcome HasOutput (λ _ _. ⊥) input old new result
+    → OfInput (λ text. Means text d) input → IsWithinLimits d → IsWritingOf (HasOutput d) old new result → IsOutcome HasOutput (λ _ _. ⊥) input old new result
 one_written_outcome HasOutput input old new (Ok done) d means within writes = (d, means, within, writes)
 one_written_outcome HasOutput input old new (Err faults.Write) d means within writes = (d, means, within, writes)
 one_written_outcome HasOutput input old new (Err (faults.Canon fault)) d means within writes = absurd writes

@@ -56,9 +56,15 @@ examined input = take most_input_bytes input
 
 -- ---- the outcome of a run
 
--- a definition within the limits with the property; the input means it, if the input is known
+-- A text with the property, which is the whole input, if that is known.
+pub record OfInput (P : List ℕ → Type 0) (input : Option (List ℕ)) : Type 0 where
+  pub text : List ℕ
+  pub is : IfSome input (λ known. text ≡ known)
+  pub has : P text
+
+-- a definition within the limits with the property, which the input means
 abbrev pub MeansOne : (Definition → Type 0) → Option (List ℕ) → Type 0
-MeansOne P input = (d : Definition) × IfSome input (λ bytes. Means bytes d) × IsWithinLimits d × P d
+MeansOne P input = (d : Definition) × OfInput (λ text. Means text d) input × IsWithinLimits d × P d
 
 -- why an input can't be read: an allocation or a read failed
 abbrev pub IsInputFault : RunFault → Type 0
@@ -84,7 +90,7 @@ IsMapFault bytes faults.Wire = ⊥
 
 -- why an input gives no definition: a map error is returned only if the input means none, unless an allocation failed
 abbrev pub IsReadingFault : Option (List ℕ) → RunFault → Type 0
-IsReadingFault input (faults.Map fault) = is_memory fault ≡ false → IfSome input MeansNothing
+IsReadingFault input (faults.Map fault) = is_memory fault ≡ false → OfInput MeansNothing input
 IsReadingFault input faults.Read = Unit {0}
 IsReadingFault input (faults.Canon fault) = ⊥
 IsReadingFault input (faults.Script fault) = ⊥
@@ -128,7 +134,7 @@ abbrev pub IsOutcome : (Definition → List ℕ → Type 0) → (CanonFault → 
 IsOutcome HasOutput rejects input old new (Ok done) = MeansOne (λ d. (bytes : List ℕ) × HasOutput d bytes × Appends old new bytes) input
 IsOutcome HasOutput rejects input old new (Err faults.Write) = MeansOne (λ d. (bytes : List ℕ) × HasOutput d bytes × AppendsPart old new bytes) input
 IsOutcome HasOutput rejects input old new (Err (faults.Canon fault)) = MeansOne (rejects fault) input × Keeps old new
-IsOutcome HasOutput rejects input old new (Err (faults.Map fault)) = (is_memory fault ≡ false → IfSome input MeansNothing) × Keeps old new
+IsOutcome HasOutput rejects input old new (Err (faults.Map fault)) = (is_memory fault ≡ false → OfInput MeansNothing input) × Keeps old new
 IsOutcome HasOutput rejects input old new (Err faults.Read) = Keeps old new
 IsOutcome HasOutput rejects input old new (Err (faults.Script fault)) = ⊥
 IsOutcome HasOutput rejects input old new (Err (faults.Tape fault)) = ⊥

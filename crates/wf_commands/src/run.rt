@@ -9,7 +9,7 @@ ghost use Rattle.wf_ballot.specs.Sequence.{last_sequence};
 ghost use Rattle.wf_line.specs.Line.{IsInRange, IsOfInput};
 ghost use Rattle.wf_stream.specs.Effects.{TakesUpTo};
 ghost use Rattle.wf_script.specs.Lines.{most_script_bytes};
-ghost use Rattle.wf_commands.specs.Run.{most_checked_bytes, most_input_bytes, most_read, IsInputFault, IsMapFault, IsReadingFault, IsWriting, IsWritingOf, IsOutcome, IsOutcomeOf, IsCanonical, IsDescription, IsPreview, IsPlayed};
+ghost use Rattle.wf_commands.specs.Run.{most_checked_bytes, most_input_bytes, most_read, IsInputFault, IsMapFault, IsReadingFault, IsWriting, IsWritingOf, IsOutcome, IsOutcomeOf, IsCanonical, IsDescription, IsPreview, IsPlayed, OfInput};
 ghost use Rattle.wf_commands.specs.FailureCount.{CountsReads, CountsWrites, FailsLast};
 
 use crate::fault::RunFault;
@@ -75,7 +75,7 @@ fn map_of(alloc: Global, bytes: &[u8]) -> Result<MapDef, RunFault>
 // The map that the input means.
 fn map<S: Source>(alloc: Global, source: &mut S) -> Result<MapDef, RunFault>
     ensures ok { IfOk result
-        (λ map. IfSome (S.left source.old) (λ known. Means known map) × IsWithinLimits map) }
+        (λ map. OfInput (λ text. Means text map) (S.left source.old) × IsWithinLimits map) }
     ensures err { IfErr result (IsReadingFault (S.left source.old)) }
     ensures most { TakesUpTo most_input_bytes (S.left source.old) (S.left source.new) }
     ensures reads { CountsReads result (S.failures source.old) (S.failures source.new) }

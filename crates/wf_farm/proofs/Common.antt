@@ -46,7 +46,7 @@ pub use Rattle.wf_farm.specs.Exchange.{IsAsked, IsExchange}
 unfoldable pub use Rattle.wf_farm.specs.Exchange.{IsReadyFor, ReachabilityGoesOn}
 pub use Rattle.wf_farm.specs.Farm.{IsAtOnce, IsFarm, IsMemoryFarm, IsReachable, MemoryFarm, Runs, running_in, size}
 pub use Rattle.wf_farm.specs.Fault.{reported}
-pub use Rattle.wf_farm.specs.Fused.{FailsWithin, GoesOn, HappensAs, HasFaredTo, HaveFared, HaveRun, IsArmed, IsHappened, IsPumpEnd, IsStepOf, IsStepOfNode, IsStepOfWatched, IsWatchedStep, PumpsOrTears, RunsOrTears, Stands, TearsAt, TearsOnly, ReportsLast, ReportsUnless, ReportsWhyUnlessTorn, crash_at, crash_within, torn_at, with_torn}
+pub use Rattle.wf_farm.specs.Fused.{FailsWithin, GoesOn, HappensAs, HasFaredTo, HaveFared, HaveRun, IsArmed, IsHappened, IsStepOf, IsStepOfNode, IsStepOfWatched, IsWatchedStep, RunsOrTears, Stands, TearsAt, TearsOnly, ReportsLast, ReportsUnless, ReportsWhyUnlessTorn, crash_at, crash_within, torn_at, with_torn}
 unfoldable pub use Rattle.wf_farm.specs.Fused.{FailsOnly, NoneFails, step_of}
 pub use Rattle.wf_delivery.specs.Reachability.{AreReachable, AreReachableFrom, AreReachableSending, IsFresh, fresh_node}
 unfoldable pub use Rattle.wf_delivery.specs.Reachability.{Reach}
@@ -58,8 +58,6 @@ unfoldable pub use Rattle.wf_farm.specs.NodeHost.{KeepsMember, Restarts, Stays}
 pub use Rattle.wf_delivery.specs.IndexTheorems.{get_set_other, get_set_same, set_same, set_there, set_twice}
 pub use Rattle.wf_delivery.specs.Progress.{begun, most_deliveries, next}
 pub use Rattle.wf_farm.specs.PumpProgress.{IsEnd, IsForMemory, IsMade, MayEnd, outcome}
-pub use Rattle.wf_publication.specs.Publication.{ArePumped}
-pub use Rattle.wf_farm.specs.Publication.{PublishedByPump, PumpedAlike}
 pub use Rattle.wf_publication.specs.Rounds.{AreTargets}
 pub use Rattle.wf_farm.specs.Pump.{IsPumped, IsPumpedPart, Pumps, count}
 unfoldable pub use Rattle.wf_publication.specs.Rounds.{deliveries, rounds}

@@ -10,7 +10,6 @@ mod Worlds
 mod Listed
 mod PumpResult
 mod Answered
-mod Published
 pub mod Nodes
 pub mod Exchanges
 mod CutTapes

@@ -1,6 +1,6 @@
 -- Runs in which one step may be torn: one event more.
-use Rattle.std.proofs.Common.{◌≡◌, ◌∙◌, ℕ, zero, suc, ◌+◌, ◌<◌, ◌≤◌, Bool, true, false, List, [], ◌∷◌, ◌++◌, map, length, take, drop, get_or, slice_get, nat_lt, Option, Some, None, Result, Ok, Err, IfOk, OnErr, refl, sym, ap, subst, arith, length-append, if◌then◌else◌, ◌==◌, inl, inr}
-use Rattle.wf_farm.proofs.Common.{cases_eq, nat_tests, append-nil, append_assoc, none-some, same_Some, slice_get_within, Message, Definition, definition_eq, Event, deliver, refused, steps, Kept, IsImageOf, CarrierFault, Happened, PumpEnd, PumpProgress, Rejection, HistoriesGrow, MayAllocate, MayAllocateAt, KeepMembers, Moves, StayShown, ReportsWhy, last_rejected, view, MemoryFarm, IsReachable, size, reported, FailsOnly, GoesOn, HappensAs, HasFaredTo, HaveFared, HaveRun, IsArmed, IsHappened, IsPumpEnd, IsStepOf, IsStepOfNode, IsStepOfWatched, IsWatchedStep, PumpsOrTears, Stands, TearsOnly, ReportsLast, ReportsUnless, ReportsWhyUnlessTorn, crash_at, torn_at, with_torn, MemoryHost, IsEnd, IsMade, next, AreTargets, NextMayAllocate, begun, deliveries, most_deliveries}
+use Rattle.std.proofs.Common.{◌≡◌, ◌∙◌, ℕ, zero, suc, ◌+◌, ◌<◌, ◌≤◌, Bool, true, false, List, [], ◌∷◌, ◌++◌, map, length, take, drop, get_or, slice_get, Option, Some, None, Result, Ok, Err, IfOk, OnErr, refl, sym, ap, subst, arith, length-append, if◌then◌else◌, ◌==◌, inl, inr}
+use Rattle.wf_farm.proofs.Common.{cases_eq, append-nil, append_assoc, none-some, same_Some, slice_get_within, Message, Definition, definition_eq, Event, deliver, refused, steps, Kept, CarrierFault, Happened, PumpEnd, PumpProgress, Rejection, MayAllocate, MayAllocateAt, KeepMembers, Moves, StayShown, ReportsWhy, last_rejected, view, reported, FailsOnly, GoesOn, HappensAs, HasFaredTo, HaveFared, HaveRun, IsArmed, IsHappened, IsStepOf, IsStepOfNode, IsStepOfWatched, IsWatchedStep, Stands, TearsOnly, ReportsLast, ReportsUnless, ReportsWhyUnlessTorn, crash_at, torn_at, with_torn, MemoryHost, IsMade, next, NextMayAllocate, begun, deliveries, most_deliveries}
 use Rattle.wf_model.specs.Kept.{view as view_kept}
 use Rattle.wf_model.specs.World as world
 use Rattle.wf_farm.specs.declared.event.Event as declared
@@ -11,7 +11,7 @@ use Rattle.wf_delivery.proofs.DeliveryCount.{begun_most}
 use Rattle.wf_publication.proofs.Rounds.{no_deliveries, one_more, whole_round}
 use Rattle.wf_farm.proofs.Runs.{last_more, stays_run, take_more}
 use Rattle.wf_farm.proofs.TriedEvents.{absent_armed, moves_then}
-use Rattle.wf_farm.proofs.Worlds.{grown, sturdy_on}
+use Rattle.wf_farm.proofs.Worlds.{sturdy_on}
 
 -- ---- lists with one event more
 
@@ -148,13 +148,6 @@ module _ (watched : Option ℕ) (events : List (Event Definition)) (event : Even
   reported_on None (Some now) k why fared goes reports = λ last. reports refl
   reported_on None None k why fared goes reports = λ w refines. reports refl (steps definition_eq w events) (fared.moves w refines) ∙ sym (ap reported (last_more w events event))
 
--- A run of one event.
-pub one_reported : (i : ℕ) (event : Event Definition) (torn : Option (ℕ × Kept)) (why : Option Rejection) (hosts : List MemoryHost) (sent : List Message) → IsStepOfNode i (event ∷ []) torn → ReportsLast (event ∷ []) torn why hosts sent →
-    ReportsWhyUnlessTorn event torn why hosts sent
-unfolding last_rejected
-one_reported i event None why hosts sent step reports = reports
-one_reported i event (Some torn) why hosts sent step reports = reports (omega (arith, slice_get_within (event ∷ []) torn.0 step.0 step.1))
-
 -- Where no tape fails, nothing was torn.
 pub whole_events : (events : List (Event Definition)) (torn : Option (ℕ × Kept)) → IsStepOfWatched None events torn → torn ≡ None
 whole_events events None step = refl
@@ -194,12 +187,6 @@ module _ (event : Event Definition) (hosts after : List MemoryHost) (sent more :
   moves_some (Ok what) tears happened stays = (event ∷ [], happened_moves what tears happened)
   moves_some (Err fault) tears happened stays = ([], stays_moves hosts after sent more stays)
 
-pub laid_reports : (events : List (Event Definition)) (torn : Option (ℕ × Kept)) (why : Option Rejection) (hosts armed : List MemoryHost) (sent outputs : List Message) → StayShown hosts sent armed outputs → ReportsLast events torn why armed outputs →
-    ReportsLast events torn why hosts sent
-unfolding StayShown
-laid_reports events None why hosts armed sent outputs stays reports = λ w refines. reports w (stays w refines)
-laid_reports events (Some torn) why hosts armed sent outputs stays reports = reports
-
 -- ---- runs of a list of events
 
 module _ (watched : Option ℕ) (events : List declared.Event) (done more_done : ℕ) (event : declared.Event) (hosts middle after : List MemoryHost) (sent outputs more : List Message) (one : more_done ≡ suc done) (at : slice_get events done ≡ Some event) where
@@ -230,13 +217,6 @@ module _ (watched : Option ℕ) (none : watched ≡ None) (events : List declare
 
   pub part_may : (event : declared.Event) → slice_get events done ≡ Some event → MayAllocate (view event) middle outputs → MayAllocateAt done (map view events) hosts sent
   part_may event at may = next_may hosts middle sent outputs events done event at (whole_moves watched (take done (map view events)) torn hosts middle sent outputs none ran.fared) may
-
--- A farm after such a run: what its nodes have published is a beginning of what they publish then.
-pub farm_grown : (before after : MemoryFarm) (events : List (Event Definition)) → length after.hosts ≡ length before.hosts →
-    (Unit {0} → IsReachable IsImageOf before.complete before.hosts before.sent) → Moves events before.hosts before.sent after.hosts after.sent → HistoriesGrow before after
-unfolding HistoriesGrow
-farm_grown before after events long reached moves = λ i old new had has.
-    grown before.hosts after.hosts before.sent after.sent before.complete events long reached moves i old new had has
 
 -- ---- the deliveries of a pump
 
@@ -317,28 +297,3 @@ module _ (watched : Option ℕ) (targets : List ℕ) (first : ℕ) (p : PumpProg
 module _ (watched : Option ℕ) (targets : List ℕ) (first : ℕ) (p : PumpProgress) (torn : Option (ℕ × Kept)) (hosts after : List MemoryHost) (sent more : List Message) (come : HasFaredTo watched targets first p torn hosts sent after more) where
   pub pump_done : length more ≤ first + p.whole → (p.some ≡ 0) × (first + p.whole ≡ length more)
   pump_done all = (none_begun p.some (omega (arith, all, come.within)), omega (arith, all, come.within))
-
--- What a pump has done to a farm, where the tape of a node could fail.
-pump_end : (first : ℕ) (p : PumpProgress) (end : PumpEnd) (long sent : ℕ) (left : Bool) (count : ℕ) → count ≡ sent → nat_lt (first + p.whole) count ≡ left → Stands (Some 0) end → long ≡ p.done → p.done ≤ most_deliveries → IsEnd first sent p end →
-    IsPumpEnd left long (first + p.whole) p.some sent
-pump_end first p (end_case.Failed fault) long sent left count same is stands counted most end = absurd stands
-pump_end first p end_case.Done long sent true count same is stands counted most end = absurd (grind (arith, nat_tests, is, same, end.1))
-pump_end first p end_case.Done long sent false count same is stands counted most end = (omega (arith, counted, most), end.0, end.1)
-pump_end first p end_case.Stopped long sent true count same is stands counted most end = (counted ∙ end.0, end.1)
-pump_end first p end_case.Stopped long sent false count same is stands counted most end = absurd (grind (arith, nat_tests, is, same, end.1))
-
-pub pumps : (node : ℕ) (names : List ℕ) (before after : MemoryFarm) (n count : ℕ) (targets items : List ℕ) (p : PumpProgress) (end : PumpEnd) (torn : Option (ℕ × Kept)) → n ≡ size before → targets ≡ items → AreTargets n names items →
-    HaveFared (Some node) (deliveries targets before.pumped p.whole p.some) torn before.hosts before.sent after.hosts after.sent → length (deliveries targets before.pumped p.whole p.some) ≡ p.done → p.some < length targets →
-    before.pumped + p.whole + begun p.some ≤ length after.sent → p.done ≤ most_deliveries → after.pumped ≡ before.pumped + p.whole + begun p.some → Stands (Some 0) end → IsEnd before.pumped (length after.sent) p end →
-    count ≡ length after.sent → PumpsOrTears node names torn (nat_lt (before.pumped + p.whole) count) before after
-pumps node names before after n count targets items p end torn many same are fared counted part within most pumped stands ended all = record {
-  targets = targets;
-  are_targets = subst (λ k. AreTargets k names targets) many (subst (AreTargets n names) (sym same) are);
-  whole = p.whole;
-  some = p.some;
-  part = part;
-  runs = record { runs = fared.moves; step = step_of_node node (deliveries targets before.pumped p.whole p.some) torn fared.step };
-  pumped = pumped;
-  within = subst (λ k. k ≤ length after.sent) (sym pumped) within;
-  end = pump_end before.pumped p end (length (deliveries targets before.pumped p.whole p.some)) (length after.sent) (nat_lt (before.pumped + p.whole) count) count all refl stands counted most ended;
-}

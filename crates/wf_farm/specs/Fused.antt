@@ -11,11 +11,11 @@ use Rattle.wf_farm.specs.declared.progress.PumpEnd.{PumpEnd}
 use Rattle.wf_delivery.specs.declared.progress.PumpProgress.{PumpProgress}
 use Rattle.wf_farm.specs.declared.rejection.Rejection.{Rejection}
 use Rattle.wf_farm.specs.Cluster.{Turns, Moves, ReportsWhy, last_rejected}
-use Rattle.wf_farm.specs.Farm.{MemoryFarm, Runs, size}
+use Rattle.wf_farm.specs.Farm.{MemoryFarm, Runs}
 use Rattle.wf_farm.specs.NodeHost.{MemoryHost, tape_in}
 use Rattle.wf_farm.specs.PumpProgress.{IsMade}
 use Rattle.wf_delivery.specs.Progress.{begun, most_deliveries}
-use Rattle.wf_publication.specs.Rounds.{AreTargets, deliveries}
+use Rattle.wf_publication.specs.Rounds.{deliveries}
 
 -- ---- the events of such a run
 
@@ -71,29 +71,6 @@ pub record RunsOrTears (i : ℕ) (events : List (Event Definition)) (torn : Opti
 abbrev pub ReportsWhyUnlessTorn : Event Definition → Option (ℕ × Kept) → Option Rejection → List MemoryHost → List Message → Type 0
 ReportsWhyUnlessTorn event None rejection hosts sent = ReportsWhy (λ w. refused w event) rejection hosts sent
 ReportsWhyUnlessTorn event (Some torn) rejection hosts sent = rejection ≡ None
-
--- the same of a farm
-abbrev pub ReportsUnlessTorn : Event Definition → Option (ℕ × Kept) → MemoryFarm → MemoryFarm → Type 0
-ReportsUnlessTorn event torn before after = ReportsWhyUnlessTorn event torn after.refused before.hosts before.sent
-
--- Stopped early, after this many deliveries: the limit is reached and some are left. Otherwise each message sent by now was delivered to
--- each target.
-abbrev pub IsPumpEnd : Bool → (count next some sent : ℕ) → Type 0
-IsPumpEnd true count next some sent = (count ≡ most_deliveries) × (next < sent)
-IsPumpEnd false count next some sent = (count ≤ most_deliveries) × (some ≡ 0) × (next ≡ sent)
-
--- A pump to the named nodes, as it would be without a failure (Pump.antt); or one of its deliveries is a step of node i, within which
--- the node crashes, and then it restarts.
-pub record PumpsOrTears (i : ℕ) (names : List ℕ) (torn : Option (ℕ × Kept)) (stopped : Bool) (before after : MemoryFarm) : Type 0 where
-  pub targets : List ℕ
-  pub are_targets : AreTargets (size before) names targets
-  pub whole : ℕ
-  pub some : ℕ
-  pub part : some < length targets
-  pub runs : RunsOrTears i (deliveries targets before.pumped whole some) torn before after
-  pub pumped : after.pumped ≡ before.pumped + whole + begun some
-  pub within : after.pumped ≤ length after.sent
-  pub end : IsPumpEnd stopped (length (deliveries targets before.pumped whole some)) (before.pumped + whole) some (length after.sent)
 
 -- no tape has a fuse
 unfoldable pub NoneFails : List MemoryHost → Type 0

@@ -17,4 +17,3 @@ pub mod NodesTheorems
 pub mod Exchange
 pub mod Fused
 pub mod FallibleStep
-pub mod Publication

@@ -126,12 +126,4 @@ impl Cluster<MemoryTape> {
             self.hosts[node].set_fuse(0, 0);
         }
     }
-
-    /// The number of the call of a node's tape that will fail, counted from 1 from now; 0 if none will.
-    pub(crate) fn fuse(&self, node: usize) -> usize {
-        match self.hosts.get(node) {
-            Some(host) => host.fuse(),
-            None => 0,
-        }
-    }
 }

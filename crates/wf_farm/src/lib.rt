@@ -15,9 +15,7 @@
 //!   not delivered.
 //! - A run in which one call of a node's tape fails ([`run_fused`]) is the model's run of the same events, but for the event within
 //!   whose step the tape failed a crash within that step and a restart of the node (`specs/Fused.antt`). No other tape of a farm
-//! fails.
-//!   [`happen_failing`], [`deliver_failing`] and [`pump_failing`] do likewise one event, deliveries to one node and a pump of a farm that
-//!   a caller holds. They are the same steps as those of a farm whose tapes don't fail: there is one way to apply an event.
+//!   fails. There is one way to apply an event, whether a tape may fail or not.
 //! - What a node published stays a prefix of what it publishes after a run, a pump or a delivery.
 //! - No two nodes, running or stopped, publish different definitions under one sequence, since every farm is reached from the
 //!   start: [`Farm::agree`].
@@ -33,14 +31,8 @@
 //! - [`Farm::nodes_agree`]: over durable tapes some events led to the farm from the start, so no two of its nodes publish different
 //!   definitions under one sequence; over others, if some events did.
 //!
-//! A farm's pump and `deliver_all` of `wf_delivery` deliver alike: where no delivery is lost and no tape fails, both are the same
-//! deliveries of the model, and from one world, until no message is left, both lead to one world ([`a_pump_delivers_alike`],
-//! `specs/Publication.antt`).
-//! So what one of three new nodes proposes is published on all three, in a farm that pumps as on nodes that a caller holds
-//! ([`a_proposal_is_published`]).
-//!
-//! **Doesn't.** There is no time, and no promise that an allocation had to fail, that a carrier is used, or that anything is ever published
-//! where messages or deliveries are lost, or by other numbers of nodes than three.
+//! **Doesn't.** There is no time, and no promise that an allocation had to fail, that a carrier is used, or that anything is ever
+//! published.
 #![tactic(auto)]
 
 mod carrier;
@@ -60,7 +52,6 @@ mod fused;
 mod node_access;
 mod node_step;
 mod progress;
-mod publication;
 mod pump;
 mod rejection;
 mod same;
@@ -73,10 +64,7 @@ pub use event::Event;
 pub use exchange::NodeClient;
 pub use farm::Farm;
 pub use fault::FarmFault;
-pub use fused::{
-    Fused, FusedPump, NodeFuse, deliver_failing, happen_failing, pump_failing, run_fused,
-};
-pub use publication::{a_proposal_is_published, a_pump_delivers_alike};
+pub use fused::{Fused, run_fused};
 pub use rejection::Rejection;
 pub use wf_delivery::{
     Pumped, agreement, deliver_all, kept_promises, own_ballots, promised_majority,

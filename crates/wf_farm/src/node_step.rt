@@ -115,14 +115,6 @@ impl NodeHost<MemoryTape> {
         }
     }
 
-    /// The number of the tape's call that will fail, counted from 1 from now; 0 if none will.
-    pub(crate) fn fuse(&self) -> usize {
-        match self {
-            NodeHost::Running(node) => node.tape().fuse(),
-            NodeHost::Stopped(tape) => tape.fuse(),
-        }
-    }
-
     /// The placeholder of an entry while its node is moved: an empty tape. Allocates nothing.
     fn blank(alloc: Global) -> NodeHost<MemoryTape> {
         NodeHost::Stopped(MemoryTape::new(Vec::new(alloc)))

@@ -1,6 +1,5 @@
-ghost use Rattle.std.specs.Prelude.{◌≡◌, IfErr, OnOk};
-ghost use Rattle.wf_farm.specs.PumpProgress.{IsMade, last_end, outcome};
-ghost use Rattle.wf_farm.specs.declared.progress.PumpEnd.TheVariants.{Failed};
+ghost use Rattle.std.specs.Prelude.{◌≡◌};
+ghost use Rattle.wf_farm.specs.PumpProgress.{last_end, outcome};
 
 use crate::carrier::CarrierFault;
 use crate::fault::{FarmFault, fault_after};
@@ -45,17 +44,5 @@ pub(crate) fn last_end(left: bool) -> PumpEnd
         PumpEnd::Stopped
     } else {
         PumpEnd::Done
-    }
-}
-
-/// Whether each delivery was made; else why one wasn't.
-pub(crate) fn check_made(end: PumpEnd) -> Result<(), CarrierFault>
-    ensures made { OnOk result (IsMade end) }
-    ensures failed { IfErr result (λ fault. end ≡ Failed fault) }
-{
-    match end {
-        PumpEnd::Done => Ok(()),
-        PumpEnd::Stopped => Ok(()),
-        PumpEnd::Failed(fault) => Err(fault),
     }
 }

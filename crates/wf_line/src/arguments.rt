@@ -33,26 +33,24 @@ A service exception is an answer: the status is 0.
 Limits: a mapfile has at most 131,072 bytes, a picture 1,024 by 1,024 pixels
 Errors (status 1): map fault M1 to M12, read fault";
 
-const CANON_HELP: &str =
-    "The canonical text is the one spelling of a map that nodes compare and store.
+const CANON_HELP: &str = "A file is read as standard input: wfarm canon < FILE
+The canonical text is the one spelling of a map that nodes compare and store.
 
 Limits: a mapfile has at most 131,072 bytes, a canonical text 65,536
 Errors (status 1): map fault M1 to M12, canon fault K1 and K3, read fault";
 
-const CHECK_HELP: &str =
-    "Nothing is written where a farm would publish the map. Else the first error: its line, column and number, the line itself
+const CHECK_HELP: &str = "A file is read as standard input: wfarm check < FILE
+Nothing is written where a farm would publish the map. Else the first error: its line, column and number, the line itself
 with a mark under the place, what was found there and what is allowed there; the status is 1 then, with no other line.
 
 Limits: a mapfile has at most 131,072 bytes, a canonical text 65,536
 Errors (status 1): map fault M1, read fault";
 
 const RUN_HELP: &str = "The first line is nodes N; each later line is an order or a question.
-Orders: map NAME, the lines of a mapfile, endmap; fuse I C KEPT CRASH; propose I NAME, retry I, catchup I,
-  deliver I K .., cut I K B, stop I, restart I, torn I before E, torn I after E, pump, pump I .., skip
+Orders: map NAME, the lines of a mapfile, endmap; propose I NAME, retry I, catchup I, deliver I K ..,
+  cut I K B, stop I, restart I, torn I before E, torn I after E, pump, pump I .., skip
 Questions: published, sent, proposal I, definition I S, same, get I QUERY, equal I J QUERY
 I and J are nodes, K is a message, B a number of its bytes, S an update sequence, E an event without its node
-fuse, once and before the first event: call C of the tape of node I fails, a failing append keeps KEPT bytes, and the
-crash keeps CRASH of those not synced; torn I before or torn I after is printed where a step fails by it
 cut does nothing here; wfarm wire cuts the message off
 
 Limits: a script has at most 1,048,576 bytes, 10,000 lines and 64 maps

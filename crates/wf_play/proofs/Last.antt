@@ -8,13 +8,12 @@ use Rattle.wf_stream.specs.Effects.{EndsByFailing}
 use Rattle.wf_stream.specs.declared.stream.Sink.{Ghosts as Sink}
 use Rattle.wf_play.specs.Fault.{EndsWriting, IsOrderFault}
 use Rattle.wf_play.specs.ScriptRun.{HavePlayed, IsStepRejectionOf}
-use Rattle.wf_play.specs.Session.{Stage}
 use Rattle.wf_play.specs.declared.fault.PlayFault.{PlayFault}
 use Rattle.wf_play.specs.declared.fault.PlayFault.TheVariants as play
 
 module _ {K : Type 0} (sinks : Sink K) where
   -- the texts of the orders before were written without a failure
-  pub written_last : (n : ℕ) (script : Script) (before between : Stage) (old now new : K) (bytes : List ℕ) → HavePlayed n script before between (sinks.written old) (sinks.written now)
+  pub written_last : (n : ℕ) (script : Script) (before between : MemoryFarm) (old now new : K) (bytes : List ℕ) → HavePlayed n script before between (sinks.written old) (sinks.written now)
       → sinks.failures now ≡ sinks.failures old → EndsByFailing sinks.written sinks.failures sinks.fails bytes now new → EndsWriting sinks old new play.Write
   written_last n script before between old now new bytes played calm ends = (
     played.0 ++ bytes,

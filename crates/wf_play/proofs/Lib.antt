@@ -3,7 +3,6 @@ mod Comparison
 mod PlayEnd
 mod Faults
 mod Last
-mod TornOrders
 mod OrderEffect
 mod FarmCalls
 mod ScriptRun

@@ -9,20 +9,18 @@ use Rattle.std.proofs.lemmas.Option.{same_Some}
 use Rattle.wf_script.specs.declared.fault.ScriptFault.{ScriptFault}
 use Rattle.wf_script.specs.declared.fault.ScriptFault.TheVariants.{Memory}
 use Rattle.wf_script.specs.Fault.{IsMemory}
-use Rattle.wf_model.specs.declared.action.Kept.{Kept}
-use Rattle.wf_play.specs.Session.{Stage}
-use Rattle.wf_play.specs.OrderEffect.{ArePumped, Happens, HappensIf, IsPerformed, PerformsAt, fault_at, may_use, may_use_at}
+use Rattle.wf_play.specs.OrderEffect.{ArePumped, Happens, HappensIf, Performs, PerformsAt, fault_at, may_use, may_use_at}
 use Rattle.wf_script.specs.Script.{Numbered}
 
 -- where there is an order
-pub performed_at : (maps : List Definition) (there : Option Numbered) (n : Numbered) (torn : Option (ℕ × Kept)) (before after : Stage) → Some n ≡ there → IsPerformed maps n.order torn before after → PerformsAt maps there torn before after
+pub performed_at : (maps : List Definition) (there : Option Numbered) (n : Numbered) (before after : MemoryFarm) → Some n ≡ there → Performs maps n.order before after → PerformsAt maps there before after
 unfolding PerformsAt
-performed_at maps there n torn before after is does = subst (λ o. PerformsAt maps o torn before after) is does
+performed_at maps there n before after is does = subst (λ o. PerformsAt maps o before after) is does
 
 -- where there is none
-pub nothing_performed : (maps : List Definition) (there : Option Numbered) (torn : Option (ℕ × Kept)) (before after : Stage) → None ≡ there → after ≡ before → torn ≡ None → PerformsAt maps there torn before after
+pub nothing_performed : (maps : List Definition) (there : Option Numbered) (before after : MemoryFarm) → None ≡ there → after ≡ before → PerformsAt maps there before after
 unfolding PerformsAt
-nothing_performed maps there torn before after is same none = subst (λ o. PerformsAt maps o torn before after) is (same, none)
+nothing_performed maps there before after is same = subst (λ o. PerformsAt maps o before after) is same
 
 -- its error has its line
 pub fault_there : (there : Option Numbered) (n : Numbered) → Some n ≡ there → fault_at there ≡ Some (Memory n.line)

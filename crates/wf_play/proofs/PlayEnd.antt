@@ -1,10 +1,8 @@
 -- A play that ends before its last order has written a beginning of its text.
 use Rattle.std.proofs.Common.{◌≡◌, ◌∙◌, ℕ, true, List, [], ◌++◌, slice_get, take, ap, subst, inl, inr}
-use Rattle.std.specs.Prelude.{Option, Some, None, Ok, Err, Result, IfErr, IfSome}
+use Rattle.std.specs.Prelude.{Option, Some, Ok, Err, Result, IfErr, IfSome}
 use Rattle.std.specs.Io.KnownBytes.{Appends}
-use Rattle.wf_farm.specs.Farm.{Refines}
-use Rattle.wf_model.specs.declared.action.Kept.{Kept}
-use Rattle.wf_play.specs.Session.{Stage}
+use Rattle.wf_farm.specs.Farm.{MemoryFarm, Refines}
 use Rattle.wf_model.specs.World.{start}
 use Rattle.wf_stream.specs.KnownTheorems.{appends_more, keeps_same}
 use Rattle.wf_play.specs.PlayEnd.{BreaksOffAtOrder, IsEnded, LosesAtOrder, MayBeBegun, StopsAtOrder, WritesBeginning}
@@ -19,7 +17,7 @@ use Rattle.wf_script.specs.Text.{script_of}
 use Rattle.wf_script.specs.declared.fault.ScriptFault.{ScriptFault}
 use Rattle.wf_script.specs.declared.fault.ScriptFault.TheVariants as script_fault
 
-module _ (n : ℕ) (script same : Script) (before between : Stage) (old now : Option (List ℕ)) (is : same ≡ script) (played : HavePlayed n script before between old now) where
+module _ (n : ℕ) (script same : Script) (before between : MemoryFarm) (old now : Option (List ℕ)) (is : same ≡ script) (played : HavePlayed n script before between old now) where
   -- An allocation failed at the next order.
   stops_there : (fault : ScriptFault) → fault_at (slice_get same.orders n) ≡ Some fault → StopsAtOrder script before old now fault
   stops_there fault line = record {
@@ -32,38 +30,37 @@ module _ (n : ℕ) (script same : Script) (before between : Stage) (old now : Op
   }
 
   -- A message wasn't carried at the next order.
-  loses_there : may_use_at (slice_get same.orders n) between.farm ≡ true → LosesAtOrder script before old now
+  loses_there : may_use_at (slice_get same.orders n) between ≡ true → LosesAtOrder script before old now
   loses_there carries = record {
     count = n;
     between = between;
     text = played.0;
     performed = played.1;
-    carries = subst (λ (s : Script). may_use_at (slice_get s.orders n) between.farm ≡ true) is carries;
+    carries = subst (λ (s : Script). may_use_at (slice_get s.orders n) between ≡ true) is carries;
     written = played.2;
   }
 
   -- The next order ended with this error.
-  pub ends_there : (fault : PlayFault) → IsOrderFault (slice_get same.orders n) between.farm fault → IsEnded script before old now fault
+  pub ends_there : (fault : PlayFault) → IsOrderFault (slice_get same.orders n) between fault → IsEnded script before old now fault
   ends_there (play.Script fault) why = stops_there fault why
   ends_there play.Wire why = loses_there why
   ends_there play.Read why = absurd why
   ends_there play.Write why = absurd why
 
   -- A write failed at the text of the next order.
-  pub breaks_there : (torn : Option (ℕ × Kept)) (after : Stage) (new : Option (List ℕ)) (out done : List ℕ) (some : ℕ) → PerformsAt same.maps (slice_get same.orders n) torn between after → out ≡ []
-      → Adds (WritesAt same (slice_get same.orders n) torn between.farm after.farm) out done → Appends now new (take some done) → BreaksOffAtOrder script before old new
-  breaks_there torn after new out done some performs empty adds appends =
+  pub breaks_there : (after : MemoryFarm) (new : Option (List ℕ)) (out done : List ℕ) (some : ℕ) → PerformsAt same.maps (slice_get same.orders n) between after → out ≡ []
+      → Adds (WritesAt same (slice_get same.orders n) between after) out done → Appends now new (take some done) → BreaksOffAtOrder script before old new
+  breaks_there after new out done some performs empty adds appends =
       let bytes : done ≡ adds.0 = adds.2 ∙ ap (λ front. front ++ adds.0) empty in
       record {
         count = n;
         between = between;
         after = after;
-        torn = torn;
         text = played.0;
         last = adds.0;
         performed = played.1;
-        does = subst (λ (s : Script). PerformsAt s.maps (slice_get s.orders n) torn between after) is performs;
-        reports = subst (λ (s : Script). WritesAt s (slice_get s.orders n) torn between.farm after.farm adds.0) is adds.1;
+        does = subst (λ (s : Script). PerformsAt s.maps (slice_get s.orders n) between after) is performs;
+        reports = subst (λ (s : Script). WritesAt s (slice_get s.orders n) between after adds.0) is adds.1;
         some = some;
         written = appends_more old now new played.0 (take some adds.0) played.2 (subst (λ text. Appends now new (take some text)) bytes appends);
       }
@@ -78,10 +75,10 @@ both_faults (Ok x) so is also = tt
 both_faults (Err e) so is also = so e is also
 
 -- A play on a new farm.
-pub begun : (script same : Script) (opening : Stage) (old new : Option (List ℕ)) (fault : PlayFault) → same ≡ script → Refines opening.farm (start script.nodes) → opening.farm.pumped ≡ 0 → opening.fuse ≡ None → IsEnded same opening old new fault
+pub begun : (script same : Script) (opening : MemoryFarm) (old new : Option (List ℕ)) (fault : PlayFault) → same ≡ script → Refines opening (start script.nodes) → opening.pumped ≡ 0 → IsEnded same opening old new fault
     → MayBeBegun script old new fault
-begun script same opening old new fault is starts fresh whole ended =
-    inr (record { opening = opening; start = starts; fresh = fresh; whole = whole; ended = subst (λ (s : Script). IsEnded s opening old new fault) is ended })
+begun script same opening old new fault is starts fresh ended =
+    inr (record { opening = opening; start = starts; fresh = fresh; ended = subst (λ (s : Script). IsEnded s opening old new fault) is ended })
 
 -- Before the farm is made nothing is written.
 pub not_begun : (script : Script) (written : Option (List ℕ)) (fault : ScriptFault) → fault ≡ script_fault.Memory 1 → MayBeBegun script written written (play.Script fault)

@@ -14,10 +14,9 @@ use Rattle.wf_farm.specs.NodeHost.{MemoryHost}
 use Rattle.wf_farm.specs.Pump.{IsPumped}
 use Rattle.wf_farm.specs.declared.fault.FarmFault.{FarmFault}
 use Rattle.wf_farm.specs.declared.fault.FarmFault.TheVariants.{NoNode}
-use Rattle.wf_model.specs.declared.action.Kept.{Kept}
 use Rattle.wf_play.specs.Comparison.{IsUncompared}
 use Rattle.wf_script.specs.Script.{Numbered, Script}
-use Rattle.wf_play.specs.Report.{Adds, IsOfAnswer, IsReportedAbsent, ReportsAnswer, ReportsEqual, ReportsPump, WritesAt, WritesWith, no_node, published_word, pump_line}
+use Rattle.wf_play.specs.Report.{Adds, IsOfAnswer, IsReportedAbsent, ReportsAnswer, ReportsEqual, ReportsPump, Writes, WritesAt, no_node, published_word, pump_line}
 
 -- a consequence of a property holds where the property is reported
 pub also_ok : {T E P Q : Type 0} → (result : Result T E) → (P → Q) → OnOk result P → OnOk result Q
@@ -99,12 +98,12 @@ pub pump_reported : (nodes : List ℕ) (before after : MemoryFarm) (stopped : Bo
 pump_reported nodes before after stopped old new done is = (pump_line stopped, (stopped, done, refl), is)
 
 -- what the order at an index writes, where that order is there
-pub written_at : (script : Script) (there : Option Numbered) (n : Numbered) (torn : Option (ℕ × Kept)) (before after : MemoryFarm) (old new : List ℕ) → Some n ≡ there → Adds (WritesWith script n.order torn before after) old new
-    → Adds (WritesAt script there torn before after) old new
+pub written_at : (script : Script) (there : Option Numbered) (n : Numbered) (before after : MemoryFarm) (old new : List ℕ) → Some n ≡ there → Adds (Writes script n.order before after) old new
+    → Adds (WritesAt script there before after) old new
 unfolding WritesAt
-written_at script there n torn before after old new is reports = subst (λ o. Adds (WritesAt script o torn before after) old new) is reports
+written_at script there n before after old new is reports = subst (λ o. Adds (WritesAt script o before after) old new) is reports
 
 -- where there is none
-pub nothing_written : (script : Script) (there : Option Numbered) (torn : Option (ℕ × Kept)) (before after : MemoryFarm) (old : List ℕ) → None ≡ there → Adds (WritesAt script there torn before after) old old
+pub nothing_written : (script : Script) (there : Option Numbered) (before after : MemoryFarm) (old : List ℕ) → None ≡ there → Adds (WritesAt script there before after) old old
 unfolding WritesAt
-nothing_written script there torn before after old is = ([], subst (λ o. WritesAt script o torn before after []) is refl, sym (append-nil old))
+nothing_written script there before after old is = ([], subst (λ o. WritesAt script o before after []) is refl, sym (append-nil old))

@@ -1,6 +1,5 @@
 -- What an order of a script does to the farm on which it is played, by the order's kind.
-use Rattle.wf_farm.specs.Fused.{PumpsOrTears, RunsOrTears}
-use Rattle.wf_play.specs.Session.{Session, Stage, node_at, stage}
+use Rattle.wf_play.specs.Session.{Session, node_at}
 use Rattle.std.specs.Prelude.{◌≡◌, ℕ, Bool, true, false, ◌&&◌, List, [], ◌∷◌, length, map, slice_get, Option, Some, None, option_map, is_some}
 use Rattle.wf_def.specs.Definition.{Definition}
 use Rattle.wf_model.specs.Table as table
@@ -12,7 +11,6 @@ use Rattle.wf_farm.specs.Pump.{IsPumped}
 use Rattle.wf_model.specs.Kept.{view as view_kept}
 use Rattle.wf_model.specs.declared.action.Action.{Action}
 use Rattle.wf_model.specs.declared.action.Action.TheVariants as action
-use Rattle.wf_model.specs.declared.action.Kept.{Kept}
 use Rattle.wf_script.specs.declared.fault.ScriptFault.{ScriptFault}
 use Rattle.wf_script.specs.declared.fault.ScriptFault.TheVariants as fault
 use Rattle.wf_script.specs.Order.{Order}
@@ -67,70 +65,10 @@ Performs maps (order.Pump nodes) before after = ArePumped nodes before after
 Performs maps order.Skip before after = after ≡ record before { pumped = length before.sent }
 Performs maps other before after = HappensIf (event_at maps other) before after
 
--- ---- orders where a tape may fail
-
--- These events have happened, but one of them is a step of node i, within which its tape failed: the node crashed there, which kept
--- this, and was opened again.
-pub record Tears (i : ℕ) (kept : Kept) (events : List (Event Definition)) (before after : MemoryFarm) : Type 0 where
-  pub at : ℕ
-  pub runs : RunsOrTears i events (Some (at, kept)) before after
-  pub pumped : after.pumped ≡ before.pumped
-
--- The order's one event was torn so; the farm reports no rejection.
-pub record TearsEvent (torn : ℕ × Kept) (event : Option (Event Definition)) (before after : MemoryFarm) : Type 0 where
-  pub the_event : Event Definition
-  pub is_event : event ≡ Some the_event
-  pub tears : Tears torn.0 torn.1 (the_event ∷ []) before after
-  pub refused : after.refused ≡ None
-
--- One of the deliveries was; the farm reports the rejection that it reported before.
-pub record TearsDelivery (torn : ℕ × Kept) (i : ℕ) (messages : List ℕ) (before after : MemoryFarm) : Type 0 where
-  pub tears : Tears torn.0 torn.1 (map (λ k. world.deliver i k) messages) before after
-  pub refused : after.refused ≡ before.refused
-
--- One of the deliveries of a pump was.
-pub record TearsPump (torn : ℕ × Kept) (nodes : List ℕ) (stopped : Bool) (before after : MemoryFarm) : Type 0 where
-  pub at : ℕ
-  pub pumps : PumpsOrTears torn.0 nodes (Some (at, torn.1)) stopped before after
-
--- What an order does within which the tape of a node failed. It is an event, or deliveries.
-abbrev pub PerformsTorn : List Definition → Order → ℕ × Kept → MemoryFarm → MemoryFarm → Type 0
-PerformsTorn maps (order.Deliver i messages) torn before after = TearsDelivery torn i messages before after
-PerformsTorn maps (order.Pump nodes) torn before after = (stopped : Bool) × TearsPump torn nodes stopped before after
-PerformsTorn maps other torn before after = TearsEvent torn (event_at maps other) before after
-
--- What an order does where the tape of this node may fail, by whether it did within the order.
-abbrev pub Does : List Definition → Order → Option ℕ → Option (ℕ × Kept) → MemoryFarm → MemoryFarm → Type 0
-Does maps order fuse None before after = Performs maps order before after
-Does maps order fuse (Some torn) before after = (fuse ≡ Some torn.0) × PerformsTorn maps order torn before after
-
--- for the crate's own contracts: the same of one event, and of deliveries
-abbrev pub HappensOrTears : ℕ → Event Definition → Option (ℕ × Kept) → MemoryFarm → MemoryFarm → Type 0
-HappensOrTears i event None before after = Happens (event ∷ []) before after
-HappensOrTears i event (Some torn) before after = (torn.0 ≡ i) × TearsEvent torn (Some event) before after
-
-abbrev pub DeliversOrTears : ℕ → ℕ → List ℕ → Option (ℕ × Kept) → MemoryFarm → MemoryFarm → Type 0
-DeliversOrTears i to messages None before after = Delivers to messages before after
-DeliversOrTears i to messages (Some torn) before after = (torn.0 ≡ i) × TearsDelivery torn to messages before after
-
--- the node whose tape will fail after an order: it fails once
-abbrev pub left_by : Option ℕ → Option (ℕ × Kept) → Option ℕ
-left_by fuse None = fuse
-left_by fuse (Some torn) = None
-
--- an order may name one
-abbrev pub fuse_set : Order → Option ℕ → Option ℕ
-fuse_set (order.Fuse i call kept crash) fuse = Some i
-fuse_set other fuse = fuse
-
-pub record IsPerformed (maps : List Definition) (order : Order) (torn : Option (ℕ × Kept)) (before after : Stage) : Type 0 where
-  pub does : Does maps order before.fuse torn before.farm after.farm
-  pub fuse : after.fuse ≡ fuse_set order (left_by before.fuse torn)
-
 -- what the order at an index does: nothing where there is none
-unfoldable pub PerformsAt : List Definition → Option Numbered → Option (ℕ × Kept) → Stage → Stage → Type 0
-PerformsAt maps None torn before after = (after ≡ before) × (torn ≡ None)
-PerformsAt maps (Some numbered) torn before after = IsPerformed maps numbered.order torn before after
+unfoldable pub PerformsAt : List Definition → Option Numbered → MemoryFarm → MemoryFarm → Type 0
+PerformsAt maps None before after = after ≡ before
+PerformsAt maps (Some numbered) before after = Performs maps numbered.order before after
 
 -- allocation failure at the line of that order; there is none where there is no order
 abbrev pub fault_at : Option Numbered → Option ScriptFault
@@ -161,11 +99,8 @@ order_at session n = slice_get session.script.orders n
 
 -- what that order does
 abbrev pub PerformsOrder : ℕ → Session → Session → Type 0
-PerformsOrder n before after = PerformsAt before.script.maps (order_at before n) after.torn (stage before) (stage after)
+PerformsOrder n before after = PerformsAt before.script.maps (order_at before n) before.farm after.farm
 
--- for the crate's own contracts: what this order of its script does, where a tape may fail and where none does
-abbrev pub Obeys : Order → Session → Session → Type 0
-Obeys order before after = Does before.script.maps order before.fuse after.torn before.farm after.farm
-
+-- for the crate's own contracts: what this order of its script does
 abbrev pub Acts : Order → Session → Session → Type 0
 Acts order before after = Performs before.script.maps order before.farm after.farm

@@ -1,9 +1,7 @@
 -- How a play of a script ends before its last order, and what is written of it by then: a beginning of it.
 use Rattle.std.specs.Io.KnownBytes.{Appends, Keeps}
-use Rattle.std.specs.Prelude.{◌≡◌, ◌⊎◌, ◌++◌, ℕ, true, Option, Some, None, Ok, List, slice_get, take, IfSome}
-use Rattle.wf_farm.specs.Farm.{Refines}
-use Rattle.wf_model.specs.declared.action.Kept.{Kept}
-use Rattle.wf_play.specs.Session.{Stage}
+use Rattle.std.specs.Prelude.{◌≡◌, ◌⊎◌, ◌++◌, ℕ, true, Option, Some, Ok, List, slice_get, take, IfSome}
+use Rattle.wf_farm.specs.Farm.{MemoryFarm, Refines}
 use Rattle.wf_model.specs.World.{start}
 use Rattle.wf_play.specs.OrderEffect.{PerformsAt, fault_at, may_use_at}
 use Rattle.wf_play.specs.ScriptRun.{ArePerformed}
@@ -17,9 +15,9 @@ use Rattle.wf_script.specs.declared.fault.ScriptFault.TheVariants as script_faul
 
 -- An allocation failed at the order after the first `count` ones, and the error is that of its line. What these wrote is written,
 -- and nothing more.
-pub record StopsAtOrder (script : Script) (before : Stage) (old new : Option (List ℕ)) (fault : ScriptFault) : Type 0 where
+pub record StopsAtOrder (script : Script) (before : MemoryFarm) (old new : Option (List ℕ)) (fault : ScriptFault) : Type 0 where
   pub count : ℕ
-  pub between : Stage
+  pub between : MemoryFarm
   pub text : List ℕ
   pub performed : ArePerformed script count before between text
   pub line : fault_at (slice_get script.orders count) ≡ Some fault
@@ -27,32 +25,31 @@ pub record StopsAtOrder (script : Script) (before : Stage) (old new : Option (Li
 
 -- A message wasn't carried at the order after the first `count` ones, which carries messages. What these wrote is written, and nothing
 -- more.
-pub record LosesAtOrder (script : Script) (before : Stage) (old new : Option (List ℕ)) : Type 0 where
+pub record LosesAtOrder (script : Script) (before : MemoryFarm) (old new : Option (List ℕ)) : Type 0 where
   pub count : ℕ
-  pub between : Stage
+  pub between : MemoryFarm
   pub text : List ℕ
   pub performed : ArePerformed script count before between text
-  pub carries : may_use_at (slice_get script.orders count) between.farm ≡ true
+  pub carries : may_use_at (slice_get script.orders count) between ≡ true
   pub written : Appends old new text
 
 -- A write failed after the order after the first `count` ones. What these wrote is written, and then a beginning of what that order
 -- writes.
-pub record BreaksOffAtOrder (script : Script) (before : Stage) (old new : Option (List ℕ)) : Type 0 where
+pub record BreaksOffAtOrder (script : Script) (before : MemoryFarm) (old new : Option (List ℕ)) : Type 0 where
   pub count : ℕ
-  pub between : Stage
-  pub after : Stage
+  pub between : MemoryFarm
+  pub after : MemoryFarm
   pub text : List ℕ
   pub last : List ℕ
   pub performed : ArePerformed script count before between text
-  pub torn : Option (ℕ × Kept)
-  pub does : PerformsAt script.maps (slice_get script.orders count) torn between after
-  pub reports : WritesAt script (slice_get script.orders count) torn between.farm after.farm last
+  pub does : PerformsAt script.maps (slice_get script.orders count) between after
+  pub reports : WritesAt script (slice_get script.orders count) between after last
   -- the number of bytes of that beginning
   pub some : ℕ
   pub written : Appends old new (text ++ take some last)
 
 -- a play of the script from this farm on ended with this error
-abbrev pub IsEnded : Script → Stage → Option (List ℕ) → Option (List ℕ) → PlayFault → Type 0
+abbrev pub IsEnded : Script → MemoryFarm → Option (List ℕ) → Option (List ℕ) → PlayFault → Type 0
 IsEnded script before old new (play.Script fault) = StopsAtOrder script before old new fault
 IsEnded script before old new play.Read = ⊥
 IsEnded script before old new play.Write = BreaksOffAtOrder script before old new
@@ -60,10 +57,9 @@ IsEnded script before old new play.Wire = LosesAtOrder script before old new
 
 -- A play of the script on a new farm, the model's start, ended with this error.
 pub record IsBegun (script : Script) (old new : Option (List ℕ)) (fault : PlayFault) : Type 0 where
-  pub opening : Stage
-  pub start : Refines opening.farm (start script.nodes)
-  pub fresh : opening.farm.pumped ≡ 0
-  pub whole : opening.fuse ≡ None
+  pub opening : MemoryFarm
+  pub start : Refines opening (start script.nodes)
+  pub fresh : opening.pumped ≡ 0
   pub ended : IsEnded script opening old new fault
 
 -- for the crate's own contracts: the same, or an allocation failed before the farm was made

@@ -24,9 +24,7 @@ use Rattle.wf_farm.specs.declared.rejection.Rejection.{Rejection}
 use Rattle.wf_play.specs.Comparison.{Compares}
 use Rattle.wf_script.specs.Order as order
 use Rattle.wf_script.specs.Order.{Order}
-use Rattle.wf_model.specs.declared.action.Kept.{Kept}
-use Rattle.wf_model.specs.declared.action.Kept.TheVariants as kept
-use Rattle.wf_play.specs.OrderEffect.{TearsPump, event_at, order_at}
+use Rattle.wf_play.specs.OrderEffect.{event_at, order_at}
 use Rattle.wf_play.specs.Session.{Session, node_at}
 use Rattle.wf_script.specs.Script.{Numbered, Script, name_of}
 use Rattle.wf_script.specs.declared.order.FarmQuestion.{FarmQuestion}
@@ -150,41 +148,10 @@ Writes script (order.Get i query) before after text = ReportsAnswer after i quer
 Writes script (order.Equal i j query) before after text = ReportsEqual after i j query text
 Writes script other before after text = text ≡ happened_text (event_at script.maps other) after.refused
 
--- the line about a node that crashed within a step, by what the crash kept
-abbrev pub kept_word : Kept → List ℕ
-kept_word kept.Before = codes " before\n"
-kept_word kept.After = codes " after\n"
-
-abbrev pub torn_line : ℕ × Kept → List ℕ
-torn_line torn = codes "torn " ++ decimal torn.0 ++ kept_word torn.1
-
--- for the crate's own contracts: the line, if there is one; and what is written of one event
-abbrev pub torn_text : Option (ℕ × Kept) → List ℕ
-torn_text None = []
-torn_text (Some torn) = torn_line torn
-
-abbrev pub event_text : Option (ℕ × Kept) → Option Rejection → List ℕ
-event_text None refused = step_rejection_line refused
-event_text (Some torn) refused = torn_line torn
-
--- One delivery of a pump was torn, and it is written whether the pump stopped early, and then that.
-abbrev pub ReportsTornPump : List ℕ → ℕ × Kept → MemoryFarm → MemoryFarm → List ℕ → Type 0
-ReportsTornPump nodes torn before after text = (stopped : Bool) × TearsPump torn nodes stopped before after × (text ≡ pump_line stopped ++ torn_line torn)
-
--- What an order writes within which the tape of a node failed. No event of it was rejected.
-abbrev pub WritesTorn : Order → ℕ × Kept → MemoryFarm → MemoryFarm → List ℕ → Type 0
-WritesTorn (order.Pump nodes) torn before after text = ReportsTornPump nodes torn before after text
-WritesTorn other torn before after text = text ≡ torn_line torn
-
--- what an order writes, by whether a tape failed within it
-abbrev pub WritesWith : Script → Order → Option (ℕ × Kept) → MemoryFarm → MemoryFarm → List ℕ → Type 0
-WritesWith script order None before after text = Writes script order before after text
-WritesWith script order (Some torn) before after text = WritesTorn order torn before after text
-
 -- what the order at an index writes: nothing where there is none
-unfoldable pub WritesAt : Script → Option Numbered → Option (ℕ × Kept) → MemoryFarm → MemoryFarm → List ℕ → Type 0
-WritesAt script None torn before after text = text ≡ []
-WritesAt script (Some numbered) torn before after text = WritesWith script numbered.order torn before after text
+unfoldable pub WritesAt : Script → Option Numbered → MemoryFarm → MemoryFarm → List ℕ → Type 0
+WritesAt script None before after text = text ≡ []
+WritesAt script (Some numbered) before after text = Writes script numbered.order before after text
 
 -- ---- what a call appends to the output
 
@@ -198,15 +165,8 @@ IsOneAppended P old new = Adds P (string_bytes old) (string_bytes new)
 
 -- what the session's order of this number writes
 abbrev pub ReportsOrder : {Z : Type 0} → ℕ → Session → Session → String Z → String Z → Type 0
-ReportsOrder n before after old new = IsOneAppended (WritesAt before.script (order_at before n) after.torn before.farm after.farm) old new
+ReportsOrder n before after old new = IsOneAppended (WritesAt before.script (order_at before n) before.farm after.farm) old new
 
--- what this order of its script writes, where a tape may fail and where none does
-abbrev pub WritesOne : {Z : Type 0} → Order → Session → Session → String Z → String Z → Type 0
-WritesOne order before after old new = IsOneAppended (WritesWith before.script order after.torn before.farm after.farm) old new
-
+-- what this order of its script writes
 abbrev pub Reports : {Z : Type 0} → Order → Session → Session → String Z → String Z → Type 0
 Reports order before after old new = IsOneAppended (Writes before.script order before.farm after.farm) old new
-
--- what one event of it writes: the crash within its step, or its rejection
-abbrev pub ReportsEvent : {Z : Type 0} → Session → String Z → String Z → Type 0
-ReportsEvent after old new = IsAppended (event_text after.torn after.farm.refused) old new

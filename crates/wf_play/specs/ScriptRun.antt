@@ -1,9 +1,7 @@
 -- What a run of a script makes of its input.
 use Rattle.std.specs.Io.KnownBytes.{Appends, IsAtEnd}
-use Rattle.std.specs.Prelude.{◌≡◌, ◌≤◌, ◌++◌, ℕ, zero, suc, ⊤, false, Option, None, List, [], length, slice_get, Result, Ok, Err, IfSome}
-use Rattle.wf_farm.specs.Farm.{Refines}
-use Rattle.wf_model.specs.declared.action.Kept.{Kept}
-use Rattle.wf_play.specs.Session.{Stage}
+use Rattle.std.specs.Prelude.{◌≡◌, ◌≤◌, ◌++◌, ℕ, zero, suc, ⊤, false, Option, List, [], length, slice_get, Result, Ok, Err, IfSome}
+use Rattle.wf_farm.specs.Farm.{MemoryFarm, Refines}
 use Rattle.wf_model.specs.World.{start}
 use Rattle.wf_script.specs.Fault.{is_memory}
 use Rattle.wf_script.specs.Lines.{line_feeds, most_lines, most_script_bytes}
@@ -42,25 +40,24 @@ ReadsWhole input left (Err play.Wire) = IfSome input IsScriptText × IsAtEnd lef
 ReadsWhole input left (Err (play.Script fault)) = IsFaultOf input fault
 ReadsWhole input left (Err play.Read) = ⊤
 
--- The first n orders of a script are performed, one after the other, each on the farm that the one before left; within an order the tape
--- that will fail may have failed. Their outputs, joined, are one text.
-unfoldable pub ArePerformed : Script → ℕ → Stage → Stage → List ℕ → Type 0
+-- The first n orders of a script are performed, one after the other, each on the farm that the one before left. Their outputs, joined,
+-- are one text.
+unfoldable pub ArePerformed : Script → ℕ → MemoryFarm → MemoryFarm → List ℕ → Type 0
 ArePerformed script zero before after text = (after ≡ before) × (text ≡ [])
 ArePerformed script (suc n) before after text =
-    (between : Stage) × (front : List ℕ) × (last : List ℕ) × (torn : Option (ℕ × Kept)) × ArePerformed script n before between front
-    × PerformsAt script.maps (slice_get script.orders n) torn between after × WritesAt script (slice_get script.orders n) torn between.farm after.farm last × (text ≡ front ++ last)
+    (between : MemoryFarm) × (front : List ℕ) × (last : List ℕ) × ArePerformed script n before between front
+    × PerformsAt script.maps (slice_get script.orders n) between after × WritesAt script (slice_get script.orders n) between after last × (text ≡ front ++ last)
 
 -- the first n orders were performed, and their output was written
-abbrev pub HavePlayed : ℕ → Script → Stage → Stage → Option (List ℕ) → Option (List ℕ) → Type 0
+abbrev pub HavePlayed : ℕ → Script → MemoryFarm → MemoryFarm → Option (List ℕ) → Option (List ℕ) → Type 0
 HavePlayed n script before after old new = (text : List ℕ) × ArePerformed script n before after text × Appends old new text
 
 -- A script is played whole on a new farm, the model's start, and this is the text that it writes.
 pub record IsPlay (script : Script) (text : List ℕ) : Type 0 where
-  pub opening : Stage
-  pub closing : Stage
-  pub start : Refines opening.farm (start script.nodes)
-  pub fresh : opening.farm.pumped ≡ 0
-  pub whole : opening.fuse ≡ None
+  pub opening : MemoryFarm
+  pub closing : MemoryFarm
+  pub start : Refines opening (start script.nodes)
+  pub fresh : opening.pumped ≡ 0
   pub performed : ArePerformed script (length script.orders) opening closing text
 
 -- A play of the script was written.

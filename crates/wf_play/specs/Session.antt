@@ -6,30 +6,12 @@ use Rattle.wf_node.specs.Node.{Node}
 use Rattle.wf_tape.specs.MemoryTape.{TapeValue}
 use Rattle.wf_farm.specs.Agreement.{HistoriesGrow, Publishes}
 use Rattle.wf_farm.specs.Farm.{MemoryFarm, Runs, running_in, size}
-use Rattle.wf_model.specs.declared.action.Kept.{Kept}
 use Rattle.wf_script.specs.Script.{Script}
 
--- The script, and the farm after its orders so far; the node whose tape will fail, if one will; and where the last order was torn: within
--- a step of this node, what the crash there kept.
+-- The script, and the farm after its orders so far.
 pub record Session : Type 0 where
   pub script : Script
   pub farm : MemoryFarm
-  pub fuse : Option ℕ
-  pub torn : Option (ℕ × Kept)
-
--- What an order may change: the farm, and which tape will fail.
-pub record Stage : Type 0 where
-  pub farm : MemoryFarm
-  pub fuse : Option ℕ
-
-abbrev pub stage : Session → Stage
-stage session = record { farm = session.farm; fuse = session.fuse }
-
--- for the crate's own contracts: nothing but the farm has changed
-pub record KeepsRest (before after : Session) : Type 0 where
-  pub script : after.script ≡ before.script
-  pub fuse : after.fuse ≡ before.fuse
-  pub torn : after.torn ≡ before.torn
 
 -- The farm has made some events of the model. Its nodes are as they were, or the list that each had published is a prefix of
 -- the list that it has published now.

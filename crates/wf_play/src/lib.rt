@@ -12,14 +12,11 @@
 //!   event; deliveries are one event each, in turn; a pump is the farm's pump; `skip`, questions and messages that are cut off
 //!   leave the world as it is.
 //! - Its output is the rejection of an event or the answer to a question (`Writes` of `specs/Report.antt`).
-//! - Where the tape of a node may fail, as a `fuse` says, the order does that, or the tape failed within one of its steps: then the
-//!   node crashed there and is opened again, and a line tells what the crash kept. That happens once.
 //! - Its errors are allocation failure, at exactly the order's line, and a message that the carrier doesn't bring. That comes only
 //!   of an order that carries messages, and never of a faithful carrier. No other order uses the carrier.
-//! - Whatever the order, the farm has made some events of the model and no node's list lost a map; where a tape may fail, only
-//! after Ok,
-//!   since an error loses the farm then. Whatever the result, the nodes agree. The theorems beneath agreement hold too: ballots
-//!   belong to their nodes, promises are kept, and each Accept has a majority of promises for it.
+//! - Whatever the order and the result, the farm has made some events of the model, no node's list lost a map, and the nodes agree.
+//!   The theorems beneath agreement hold too: ballots belong to their nodes, promises are kept, and each Accept has a majority of
+//!   promises for it.
 //!
 //! [`Session::differ`]: two running nodes never publish different maps under one sequence. [`Session::equal`]: two nodes at one
 //! sequence, or asked for one map, answer a client equally.
@@ -42,7 +39,6 @@ mod request;
 mod run;
 mod session;
 mod theorem;
-mod torn_orders;
 
 pub use fault::PlayFault;
 pub use run::run_script;

@@ -4,7 +4,7 @@ ghost use Rattle.std.specs.Prelude.{◌≡◌, true, IfErr, OnOk};
 ghost use Rattle.wf_farm.specs.Carriage.{IsMemory};
 ghost use Rattle.wf_farm.specs.declared.carrier.CarrierFault.TheVariants as faults;
 ghost use Rattle.wf_play.specs.OrderEffect.{Delivers};
-ghost use Rattle.wf_play.specs.Session.{KeepsRest, Plays};
+ghost use Rattle.wf_play.specs.Session.{Plays};
 ghost use Rattle.wf_play.specs.Report.{IsAppended, pump_line};
 
 use crate::session::Session;
@@ -25,7 +25,7 @@ impl<'s> Session<'s> {
         node: usize,
         messages: &[usize],
     ) -> Result<(), CarrierFault>
-        ensures rest { KeepsRest self.old self.new }
+        ensures script { self.new.script ≡ self.old.script }
         ensures does { OnOk result (Delivers node messages.now self.old.farm self.new.farm) }
         ensures faithful { C.faithful → IfErr result (λ fault. fault ≡ faults.Memory) }
         ensures plays { Plays self.old.farm self.new.farm }
@@ -42,7 +42,7 @@ impl<'s> Session<'s> {
         nodes: &[usize],
         out: &mut String,
     ) -> Result<(), CarrierFault>
-        ensures rest { KeepsRest self.old self.new }
+        ensures script { self.new.script ≡ self.old.script }
         ensures does { OnOk result (ArePumped nodes.now self.old.farm self.new.farm) }
         ensures reports { OnOk result
             (IsOneAppended (ReportsPump nodes.now self.old.farm self.new.farm) out.old out.new) }
@@ -116,7 +116,7 @@ fn why_not_carried(fault: FarmFault) -> CarrierFault
 }
 
 /// Appends that a pump stopped early, if it did.
-pub(crate) fn write_pump(stopped: bool, out: &mut String) -> Result<(), CarrierFault>
+fn write_pump(stopped: bool, out: &mut String) -> Result<(), CarrierFault>
     ensures reported { OnOk result (IsAppended (pump_line stopped) out.old out.new) }
     ensures memory { IfErr result (λ fault. fault ≡ faults.Memory) }
 {

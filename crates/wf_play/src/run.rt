@@ -8,7 +8,6 @@ ghost use Rattle.wf_play.specs.PlayEnd.{IsEnded, MayBeBegun, WritesBeginning};
 ghost use Rattle.wf_play.specs.Fault.{CountsReads, CountsWrites, EndsWriting, IsInputFault, IsPlayingFault, KeepsQuiet, LosesNone};
 ghost use Rattle.wf_script.specs.Fault.{IsMemory};
 ghost use Rattle.wf_play.specs.ScriptRun.{HavePlayed, IsStepRejectionOf, IsScriptText, PlaysInput, ReadsWhole, WritesPlay};
-ghost use Rattle.wf_play.specs.Session.{stage};
 ghost use Rattle.wf_script.specs.Text.{script_of};
 
 use crate::fault::PlayFault;
@@ -128,10 +127,10 @@ fn perform_all<K: Sink, C: Carrier>(
     sink: &mut K,
 ) -> Result<(), PlayFault>
     ensures plays { OnOk result
-        (HavePlayed count session.old.script (stage session.old) (stage session.new)
+        (HavePlayed count session.old.script session.old.farm session.new.farm
         (K.written sink.old) (K.written sink.new)) }
     ensures ended { IfErr result
-        (IsEnded session.old.script (stage session.old) (K.written sink.old) (K.written sink.new)) }
+        (IsEnded session.old.script session.old.farm (K.written sink.old) (K.written sink.new)) }
     ensures err { IfErr result IsPlayingFault }
     ensures faithful { C.faithful → IfErr result LosesNone }
     ensures writes { CountsWrites result (K.failures sink.old) (K.failures sink.new) }

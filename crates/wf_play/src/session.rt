@@ -7,7 +7,7 @@ use crate::fault::{PlayFault, fault_at_line};
 use crate::theorem::farm_obeys_theorems;
 use std::alloc::{AllocError, Global};
 use std::marker::Model;
-use wf_farm::{Carrier, CarrierFault, Event, Farm, Kept, NodeFuse};
+use wf_farm::{Carrier, CarrierFault, Event, Farm};
 use wf_script::{Order, Script, ScriptFault};
 
 /// The farm on which a script is played. It is changed by the farm's own calls alone.
@@ -15,16 +15,12 @@ use wf_script::{Order, Script, ScriptFault};
 pub struct Session<'s> {
     pub(crate) script: &'s Script,
     pub(crate) farm: Farm,
-    // The node whose tape will fail, and at which call of it from now on.
-    pub(crate) fuse: Option<(usize, NodeFuse)>,
-    // The node within a step of which its tape failed in the last order, and what the crash kept.
-    pub(crate) torn: Option<(usize, Kept)>,
 }
 
 impl<'s> Model for Session<'s> {
     ghost use Rattle.std.specs.Coded.{codes};
     ghost use Rattle.std.specs.FinMap as map;
-    ghost use Rattle.std.specs.Prelude.{◌≡◌, true, option_map};
+    ghost use Rattle.std.specs.Prelude.{◌≡◌, true};
     ghost use Rattle.wf_play.specs.Session.{Session};
 
     ghost Value = { Session };
@@ -34,8 +30,6 @@ impl<'s> Model for Session<'s> {
     ghost view = { λ s. record {
       script = s.script.now;
       farm = s.farm;
-      fuse = option_map (λ f. f.0) s.fuse;
-      torn = s.torn;
     } };
 
     // No order forgets a message of the farm, so it is one world of the model.
@@ -43,7 +37,7 @@ impl<'s> Model for Session<'s> {
 }
 
 impl<'s> Session<'s> {
-    ghost use Rattle.std.specs.Prelude.{[], ◌∷◌, None, false, map, IfOk, IfErr};
+    ghost use Rattle.std.specs.Prelude.{[], ◌∷◌, false, map, IfOk, IfErr};
     ghost use Rattle.wf_farm.specs.Agreement.{HasOneHistory, IsOneWorld};
     ghost use Rattle.wf_farm.specs.Event.{view as event_view};
     ghost use Rattle.wf_farm.specs.Farm.{Refines, size};
@@ -52,9 +46,9 @@ impl<'s> Session<'s> {
     ghost use Rattle.wf_script.specs.Order.{view};
     ghost use Rattle.wf_play.specs.Fault.{IsOrderFault, LosesNone, LosesOnlyOf};
     ghost use Rattle.wf_play.specs.Theorem.{HasKeptPromises, HasOwnBallots, HasPromisedMajorities};
-    ghost use Rattle.wf_play.specs.OrderEffect.{Acts, Happens, HappensIf, IsPerformed, Obeys, PerformsOrder, carries, event_at, fuse_set, left_by, may_use, may_use_at, order_at};
-    ghost use Rattle.wf_play.specs.Session.{KeepsRest, Plays, stage};
-    ghost use Rattle.wf_play.specs.Report.{IsAppended, Reports, WritesOne, ReportsOrder, happened_text, step_rejection_line};
+    ghost use Rattle.wf_play.specs.OrderEffect.{Acts, Happens, HappensIf, PerformsOrder, carries, event_at, may_use, may_use_at, order_at};
+    ghost use Rattle.wf_play.specs.Session.{Plays};
+    ghost use Rattle.wf_play.specs.Report.{IsAppended, Reports, ReportsOrder, happened_text, step_rejection_line};
 
     /// The farm before the script's first order: the model's start. Returns S1 at line 1 where an allocation failed.
     pub fn new(alloc: Global, script: &'s Script) -> Result<Session<'s>, ScriptFault>
@@ -62,16 +56,10 @@ impl<'s> Session<'s> {
         ensures start { IfOk result (λ session. Refines session.farm (start script.now.nodes)) }
         ensures size { IfOk result (λ session. size session.farm ≡ script.now.nodes) }
         ensures fresh { IfOk result (λ session. session.farm.pumped ≡ 0) }
-        ensures whole { IfOk result (λ session. session.fuse ≡ None) }
         ensures memory { IfErr result (λ fault. fault ≡ ScriptFault.Memory 1) }
     {
         match Farm::new(alloc, script.nodes()) {
-            Ok(farm) => Ok(Session {
-                script,
-                farm,
-                fuse: None,
-                torn: None,
-            }),
+            Ok(farm) => Ok(Session { script, farm }),
             Err(_) => Err(ScriptFault::Memory(1)),
         }
     }
@@ -86,12 +74,10 @@ impl<'s> Session<'s> {
     /// Performs the order of that number, counted from 0, and appends its output; nothing where there is no such
     /// order. The carrier brings the messages of a delivery and of a pump to their nodes, and sends those that are cut off; a step
     /// within which a node crashes doesn't use it. Whatever the order and the carrier, the farm has made some events, and the
-    /// theorems hold of it after them. Where the tape of a node fails within a step, the node crashed there and is opened again;
-    /// the session's `torn` tells it then, and it is written.
+    /// theorems hold of it after them.
     ///
     /// Returns S1 at the order's line where an allocation failed, and `Wire` where the carrier failed, or brought another message:
-    /// then a part of the order may have happened, or be written. Of a faithful carrier S1 is the only error. Where a tape could
-    /// fail, the farm is lost with an error: another one, of one node, is in its place.
+    /// then a part of the order may have happened, or be written. Of a faithful carrier S1 is the only error.
     pub fn perform<C: Carrier>(
         &mut self,
         alloc: Global,
@@ -106,25 +92,16 @@ impl<'s> Session<'s> {
         ensures faithful { C.faithful → IfErr result LosesNone }
         ensures unused { may_use_at (order_at self.old number) self.old.farm ≡ false →
             carrier.new ≡ carrier.old }
-        ensures plays { OnOk result (Plays self.old.farm self.new.farm) }
-        ensures whole { self.old.fuse ≡ None → Plays self.old.farm self.new.farm }
+        ensures plays { Plays self.old.farm self.new.farm }
         ensures agree { HasOneHistory self.new.farm }
         ensures world { IsOneWorld self.new.farm }
         ensures ballots { HasOwnBallots self.new.farm }
         ensures promises { HasKeptPromises self.new.farm }
         ensures majorities { HasPromisedMajorities self.new.farm }
     {
-        self.forget_torn();
         let performed = self.perform_order(alloc, carrier, number, out);
         self.obeys_theorems();
         performed
-    }
-
-    /// What the order before tore is told no longer.
-    fn forget_torn(&mut self)
-        ensures { self.new ≡ record self.old { torn = None } }
-    {
-        self.torn = None;
     }
 
     /// The theorems about the farm hold of it as it is.
@@ -147,7 +124,6 @@ impl<'s> Session<'s> {
         number: usize,
         out: &mut String,
     ) -> Result<(), PlayFault>
-        requires torn { self.old.torn ≡ None }
         ensures script { self.new.script ≡ self.old.script }
         ensures does { OnOk result (PerformsOrder number self.old self.new) }
         ensures reports { OnOk result (ReportsOrder number self.old self.new out.old out.new) }
@@ -155,12 +131,11 @@ impl<'s> Session<'s> {
         ensures faithful { C.faithful → IfErr result LosesNone }
         ensures unused { may_use_at (order_at self.old number) self.old.farm ≡ false →
             carrier.new ≡ carrier.old }
-        ensures plays { OnOk result (Plays self.old.farm self.new.farm) }
-        ensures whole { self.old.fuse ≡ None → Plays self.old.farm self.new.farm }
+        ensures plays { Plays self.old.farm self.new.farm }
     {
         let script = self.script;
         match script.order(number) {
-            Some(numbered) => match self.obey_order(alloc, carrier, &numbered.order, out) {
+            Some(numbered) => match self.obey(alloc, carrier, &numbered.order, out) {
                 Ok(()) => Ok(()),
                 Err(fault) => Err(fault_at_line(fault, numbered.line)),
             },
@@ -168,87 +143,16 @@ impl<'s> Session<'s> {
         }
     }
 
-    /// Performs the order, and takes the fuse that it names, if it names one.
-    #[tactic(auto, using(crate::proofs::TornOrders::performed))]
-    fn obey_order<C: Carrier>(
-        &mut self,
-        alloc: Global,
-        carrier: &mut C,
-        order: &Order,
-        out: &mut String,
-    ) -> Result<(), CarrierFault>
-        requires torn { self.old.torn ≡ None }
-        ensures script { self.new.script ≡ self.old.script }
-        ensures does { OnOk result
-            (IsPerformed self.old.script.maps (view order.now) self.new.torn
-            (stage self.old) (stage self.new)) }
-        ensures reports { OnOk result (WritesOne (view order.now) self.old self.new out.old out.new) }
-        ensures lost { IfErr result (LosesOnlyOf (view order.now) self.old.farm) }
-        ensures faithful { C.faithful → IfErr result (λ fault. fault ≡ faults.Memory) }
-        ensures unused { may_use (view order.now) self.old.farm ≡ false →
-            carrier.new ≡ carrier.old }
-        ensures plays { OnOk result (Plays self.old.farm self.new.farm) }
-        ensures whole { self.old.fuse ≡ None → Plays self.old.farm self.new.farm }
-    {
-        let obeyed = self.obey_with_fuse(alloc, carrier, order, out);
-        self.take_fuse(order);
-        obeyed
-    }
-
-    /// Performs the order, with the fuse on the tape of its node, if there is one.
-    #[tactic(auto, using(crate::proofs::TornOrders::does_whole, crate::proofs::TornOrders::reports_whole, crate::proofs::TornOrders::left_whole))]
-    fn obey_with_fuse<C: Carrier>(
-        &mut self,
-        alloc: Global,
-        carrier: &mut C,
-        order: &Order,
-        out: &mut String,
-    ) -> Result<(), CarrierFault>
-        requires torn { self.old.torn ≡ None }
-        ensures script { self.new.script ≡ self.old.script }
-        ensures fuse { OnOk result (self.new.fuse ≡ left_by self.old.fuse self.new.torn) }
-        ensures does { OnOk result (Obeys (view order.now) self.old self.new) }
-        ensures reports { OnOk result (WritesOne (view order.now) self.old self.new out.old out.new) }
-        ensures lost { IfErr result (LosesOnlyOf (view order.now) self.old.farm) }
-        ensures faithful { C.faithful → IfErr result (λ fault. fault ≡ faults.Memory) }
-        ensures unused { may_use (view order.now) self.old.farm ≡ false →
-            carrier.new ≡ carrier.old }
-        ensures plays { OnOk result (Plays self.old.farm self.new.farm) }
-        ensures whole { self.old.fuse ≡ None → Plays self.old.farm self.new.farm }
-    {
-        match self.fuse {
-            Some((node, fuse)) => self.obey_failing(alloc, carrier, order, node, fuse, out),
-            None => self.obey(alloc, carrier, order, out),
-        }
-    }
-
-    /// The fuse that the order names is the one from now on; any other order leaves it as it is.
-    fn take_fuse(&mut self, order: &Order)
-        ensures { self.new ≡ record self.old { fuse = fuse_set (view order.now) self.old.fuse } }
-    {
-        match order {
-            Order::Fuse(node, call, kept, crash) => {
-                let fuse = NodeFuse {
-                    call: *call,
-                    kept: *kept,
-                    crash: *crash,
-                };
-                self.fuse = Some((*node, fuse));
-            }
-            _ => (),
-        }
-    }
-
-    /// Performs the order, where no tape fails.
+    /// Performs the order.
     #[tactic(auto, using(crate::proofs::FarmCalls::nothing_played, crate::proofs::Report::nothing_more))]
-    pub(crate) fn obey<C: Carrier>(
+    fn obey<C: Carrier>(
         &mut self,
         alloc: Global,
         carrier: &mut C,
         order: &Order,
         out: &mut String,
     ) -> Result<(), CarrierFault>
-        ensures rest { KeepsRest self.old self.new }
+        ensures script { self.new.script ≡ self.old.script }
         ensures does { OnOk result (Acts (view order.now) self.old self.new) }
         ensures reports { OnOk result (Reports (view order.now) self.old self.new out.old out.new) }
         ensures lost { IfErr result (LosesOnlyOf (view order.now) self.old.farm) }
@@ -261,8 +165,7 @@ impl<'s> Session<'s> {
             Order::Deliver(node, messages) => self.deliver(alloc, carrier, *node, messages),
             Order::Cut(node, message, bytes) => self.cut(alloc, carrier, *node, *message, *bytes),
             Order::Pump(nodes) => self.pump(alloc, carrier, nodes, out),
-            Order::Fuse(..)
-            | Order::Step(..)
+            Order::Step(..)
             | Order::Stop(_)
             | Order::Restart(_)
             | Order::Torn(..)
@@ -281,7 +184,7 @@ impl<'s> Session<'s> {
         out: &mut String,
     ) -> Result<(), CarrierFault>
         requires { carries (view order.now) ≡ false }
-        ensures rest { KeepsRest self.old self.new }
+        ensures script { self.new.script ≡ self.old.script }
         ensures does { OnOk result (Acts (view order.now) self.old self.new) }
         ensures reports { OnOk result (Reports (view order.now) self.old self.new out.old out.new) }
         ensures memory { IfErr result (λ fault. fault ≡ faults.Memory) }
@@ -296,7 +199,7 @@ impl<'s> Session<'s> {
     #[tactic(auto, using(crate::proofs::FarmCalls::nothing_played, crate::proofs::FarmCalls::skipped_played, crate::proofs::Report::just))]
     fn act(&mut self, alloc: Global, order: &Order, out: &mut String) -> Result<(), AllocError>
         requires { carries (view order.now) ≡ false }
-        ensures rest { KeepsRest self.old self.new }
+        ensures script { self.new.script ≡ self.old.script }
         ensures does { OnOk result (Acts (view order.now) self.old self.new) }
         ensures reports { OnOk result (Reports (view order.now) self.old self.new out.old out.new) }
         ensures plays { Plays self.old.farm self.new.farm }
@@ -309,12 +212,9 @@ impl<'s> Session<'s> {
             Order::Ask(question) => self.answer(*question, out),
             Order::Get(node, query) => self.write_answer(alloc, *node, query, out),
             Order::Equal(node, other, query) => self.write_equal(alloc, *node, *other, query, out),
-            // A fuse is no event: it is taken once the order is performed.
-            Order::Fuse(..)
-            | Order::Step(..)
-            | Order::Stop(_)
-            | Order::Restart(_)
-            | Order::Torn(..) => self.make(alloc, order, out),
+            Order::Step(..) | Order::Stop(_) | Order::Restart(_) | Order::Torn(..) => self.make(
+                alloc, order, out,
+            ),
             Order::Deliver(..) | Order::Cut(..) | Order::Pump(_) => unreachable!(),
         }
     }
@@ -322,7 +222,7 @@ impl<'s> Session<'s> {
     /// Makes the event that the order is, if it is one.
     #[tactic(auto, using(crate::proofs::FarmCalls::nothing_played, crate::proofs::OrderEffect::happened, crate::proofs::OrderEffect::unhappened))]
     fn make(&mut self, alloc: Global, order: &Order, out: &mut String) -> Result<(), AllocError>
-        ensures rest { KeepsRest self.old self.new }
+        ensures script { self.new.script ≡ self.old.script }
         ensures does { OnOk result
             (HappensIf (event_at self.old.script.maps (view order.now))
             self.old.farm self.new.farm) }
@@ -341,7 +241,7 @@ impl<'s> Session<'s> {
     /// Makes the events in turn, and appends the rejection of the last one, if it was rejected.
     #[tactic(auto, using(crate::proofs::FarmCalls::run_played, crate::proofs::FarmCalls::part_played))]
     fn run(&mut self, alloc: Global, events: &[Event], out: &mut String) -> Result<(), AllocError>
-        ensures rest { KeepsRest self.old self.new }
+        ensures script { self.new.script ≡ self.old.script }
         ensures does { OnOk result
             (Happens (map event_view events.now) self.old.farm self.new.farm) }
         ensures reports { OnOk result
@@ -356,7 +256,7 @@ impl<'s> Session<'s> {
 
     /// Makes the event, and appends its rejection, if it was rejected.
     fn happen(&mut self, alloc: Global, event: Event, out: &mut String) -> Result<(), AllocError>
-        ensures rest { KeepsRest self.old self.new }
+        ensures script { self.new.script ≡ self.old.script }
         ensures does { OnOk result (Happens (event_view event ∷ []) self.old.farm self.new.farm) }
         ensures reports { OnOk result
             (IsAppended (step_rejection_line self.new.farm.refused) out.old out.new) }

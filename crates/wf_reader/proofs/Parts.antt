@@ -1,11 +1,14 @@
 -- The parts of bytes that are made of fronts of known lengths.
-use Rattle.std.proofs.Common.{◌≡◌, ◌∙◌, ℕ, ◌-◌, List, ◌++◌, length, take, drop, refl, sym, ap, subst, arith, length-append}
+use Rattle.std.proofs.Common.{◌≡◌, ◌≢◌, ◌≤◌, ◌∙◌, ℕ, ◌-◌, List, ◌++◌, length, take, drop, refl, sym, ap, subst, arith, length-append}
+use Rattle.std.specs.Int.{w16, to_be_bytes}
 use Rattle.std.specs.Prelude.{replicate}
 use Rattle.std.proofs.Math.Seq.{take-append_seam, drop-append_seam}
-use Rattle.std.proofs.lemmas.List.{take-append-drop, length-replicate}
+use Rattle.std.proofs.lemmas.List.{length-take-le, take-append-drop, length-replicate}
 use Rattle.wf_ballot.specs.Sequence.{seq_bytes}
 use Rattle.wf_folder.specs.Name.{IsFarmName, name_text}
-use Rattle.wf_reader.specs.Question.{IsQuestion, question_body}
+use Rattle.wf_reader.specs.Question.{BeginsWithOther, IfOtherVersion, IsOfOtherVersion, IsQuestion, question_body, question_mark, reader_version}
+use Rattle.wf_reader.specs.declared.fault.QuestionFault.{QuestionFault}
+use Rattle.wf_reader.specs.declared.fault.QuestionFault.TheVariants as faults
 use Rattle.wf_reader.specs.declared.question.Question.{Question}
 
 -- the first n bytes, and those after them
@@ -58,3 +61,29 @@ same_question a b farm published digest =
     ap (λ (f : List ℕ). made f a.published a.digest) farm
     ∙ ap (λ (p : ℕ). made b.farm p a.digest) published
     ∙ ap (λ (d : List ℕ). made b.farm b.published d) digest
+
+-- ---- a question's version
+
+-- two bytes that aren't this version's are another's
+pub other_version : (bytes : List ℕ) → 2 ≤ length bytes → ((more : List ℕ) → bytes ≢ to_be_bytes w16 reader_version ++ more) → BeginsWithOther bytes
+other_version bytes two never = record {
+  version = take 2 bytes;
+  rest = drop 2 bytes;
+  two = length-take-le 2 bytes two;
+  other = λ same. never (drop 2 bytes) (sym (take-append-drop 2 bytes) ∙ ap (λ (v : List ℕ). v ++ drop 2 bytes) same);
+  begins = sym (take-append-drop 2 bytes);
+}
+
+-- behind the mark they are a question's of another version
+pub other_question : (bytes behind : List ℕ) (fault : QuestionFault) → bytes ≡ question_mark ++ behind → IfOtherVersion (BeginsWithOther behind) fault → IfOtherVersion (IsOfOtherVersion bytes) fault
+other_question bytes behind (faults.OtherVersion version) is other = record { behind = behind; begins = is; other = other }
+other_question bytes behind faults.Short is other = tt
+other_question bytes behind faults.NotAReader is other = tt
+other_question bytes behind faults.Malformed is other = tt
+
+-- another error isn't about the version
+pub no_other_version : (P : Type 0) (fault : QuestionFault) → IfOtherVersion ⊥ fault → IfOtherVersion P fault
+no_other_version P (faults.OtherVersion version) is = absurd is
+no_other_version P faults.Short is = tt
+no_other_version P faults.NotAReader is = tt
+no_other_version P faults.Malformed is = tt

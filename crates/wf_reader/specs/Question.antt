@@ -1,8 +1,10 @@
 -- A reader's question, and its bytes. Numbers are big-endian.
-use Rattle.std.specs.Prelude.{◌≡◌, ℕ, List, ◌++◌, codes, length}
+use Rattle.std.specs.Prelude.{◌≡◌, ◌≢◌, ℕ, ⊤, List, ◌++◌, codes, length}
 use Rattle.std.specs.Int.{w16, to_be_bytes}
 use Rattle.wf_ballot.specs.Sequence.{IsSequence, seq_bytes}
 use Rattle.wf_folder.specs.Name.{IsFarmName}
+use Rattle.wf_reader.specs.declared.fault.QuestionFault.{QuestionFault}
+use Rattle.wf_reader.specs.declared.fault.QuestionFault.TheVariants as faults
 use Rattle.wf_reader.specs.declared.question.Question.{Question}
 
 -- a question: a farm's name, a sequence, and a digest of 32 bytes
@@ -27,3 +29,26 @@ question_bytes q = question_mark ++ (to_be_bytes w16 reader_version ++ question_
 -- the number of its bytes
 abbrev pub question_length : ℕ
 question_length = 76
+
+-- ---- questions of another version
+
+-- behind the mark: two bytes that aren't this version's
+pub record BeginsWithOther (bytes : List ℕ) : Type 0 where
+  pub version : List ℕ
+  pub rest : List ℕ
+  pub two : length version ≡ 2
+  pub other : version ≢ to_be_bytes w16 reader_version
+  pub begins : bytes ≡ version ++ rest
+
+-- The bytes begin as a question does, but for its version.
+pub record IsOfOtherVersion (bytes : List ℕ) : Type 0 where
+  pub behind : List ℕ
+  pub begins : bytes ≡ question_mark ++ behind
+  pub other : BeginsWithOther behind
+
+-- P holds, if the error is that
+abbrev pub IfOtherVersion : Type 0 → QuestionFault → Type 0
+IfOtherVersion P (faults.OtherVersion version) = P
+IfOtherVersion P faults.Short = ⊤
+IfOtherVersion P faults.NotAReader = ⊤
+IfOtherVersion P faults.Malformed = ⊤

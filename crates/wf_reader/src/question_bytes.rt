@@ -1,7 +1,7 @@
 //! Questions as bytes, and out of bytes.
 ghost use Rattle.std.specs.Prelude.{◌≡◌, ◌≢◌, ◌+◌, ◌<◌, ◌≤◌, ◌++◌, ℕ, List, Ok, Some, length, vec_len, vec_capacity, IfErr, IfNone, IfOk, IfSome, IsErrOf, OnErr, OnOk};
 ghost use Rattle.std.specs.Int.{w16, to_be_bytes};
-ghost use Rattle.wf_reader.specs.Question.{IsQuestion, question_body, question_bytes, question_length, reader_version};
+ghost use Rattle.wf_reader.specs.Question.{BeginsWithOther, IfOtherVersion, IsOfOtherVersion, IsQuestion, question_body, question_bytes, question_length, reader_version};
 ghost use Rattle.wf_reader.specs.declared.question.Question.{Question as QuestionValue};
 
 use crate::fault::QuestionFault;
@@ -48,12 +48,13 @@ fn put_question(out: &mut Vec<u8>, question: &Question)
 }
 
 /// The question that bytes begin with. `Short`: they may go on as one, and more are needed. Any other error stays, whatever follows.
-#[tactic(auto, unfolding(crate::specs::Question::question_bytes))]
+#[tactic(auto, unfolding(crate::specs::Question::question_bytes), using(crate::proofs::Parts::other_question, crate::proofs::Parts::no_other_version))]
 pub fn decode_question(bytes: &[u8]) -> Result<Question, QuestionFault>
     ensures question { IfOk result IsQuestion }
     ensures front { IfOk result (λ q. (rest : List ℕ) × (bytes.now ≡ question_bytes q ++ rest)) }
     ensures each { (q : QuestionValue) (rest : List ℕ) → IsQuestion q → bytes.now ≡ question_bytes q ++ rest → result ≡ Ok q }
     ensures short { IsErrOf result QuestionFault.Short → length bytes.now < question_length }
+    ensures version { IfErr result (IfOtherVersion (IsOfOtherVersion bytes.now)) }
 {
     match after(bytes, QUESTION_MARK) {
         Some(rest) => decode_body(after_version(rest)?),
@@ -63,7 +64,8 @@ pub fn decode_question(bytes: &[u8]) -> Result<Question, QuestionFault>
 
 /// The error of bytes that don't begin as a question does.
 fn fault_of_mark(bytes: &[u8]) -> QuestionFault
-    ensures { result ≡ QuestionFault.Short → length bytes.now < 8 }
+    ensures short { result ≡ QuestionFault.Short → length bytes.now < 8 }
+    ensures version { IfOtherVersion ⊥ result }
 {
     if bytes.len() < QUESTION_MARK.len() {
         QuestionFault::Short
@@ -77,6 +79,7 @@ fn after_version(bytes: &[u8]) -> Result<&[u8], QuestionFault>
     ensures ok { IfOk result (λ rest. bytes.now ≡ to_be_bytes w16 reader_version ++ rest.now) }
     ensures err { IfErr result (λ _. (rest : List ℕ) → bytes.now ≢ to_be_bytes w16 reader_version ++ rest) }
     ensures short { IsErrOf result QuestionFault.Short → length bytes.now < 2 }
+    ensures version { IfErr result (IfOtherVersion (BeginsWithOther bytes.now)) }
 {
     match after(bytes, VERSION_BYTES) {
         Some(rest) => Ok(rest),
@@ -86,7 +89,9 @@ fn after_version(bytes: &[u8]) -> Result<&[u8], QuestionFault>
 
 /// The error of bytes that don't begin with this version.
 fn fault_of_version(bytes: &[u8]) -> QuestionFault
-    ensures { result ≡ QuestionFault.Short → length bytes.now < 2 }
+    requires other { (rest : List ℕ) → bytes.now ≢ to_be_bytes w16 reader_version ++ rest }
+    ensures short { result ≡ QuestionFault.Short → length bytes.now < 2 }
+    ensures version { IfOtherVersion (BeginsWithOther bytes.now) result }
 {
     match bytes {
         [high, low, ..] => QuestionFault::OtherVersion(u16::from_be_bytes([*high, *low])),
@@ -100,6 +105,7 @@ fn decode_body(bytes: &[u8]) -> Result<Question, QuestionFault>
     ensures front { IfOk result (λ q. (rest : List ℕ) × (bytes.now ≡ question_body q ++ rest)) }
     ensures each { (q : QuestionValue) (rest : List ℕ) → IsQuestion q → bytes.now ≡ question_body q ++ rest → result ≡ Ok q }
     ensures short { IsErrOf result QuestionFault.Short → length bytes.now < 66 }
+    ensures version { IfErr result (IfOtherVersion ⊥) }
 {
     if bytes.len() < BODY {
         return Err(QuestionFault::Short);

@@ -2,7 +2,7 @@
 use Rattle.std.specs.Prelude.{◌≡◌, ◌⊎◌, ℕ, ⊤, List, ◌++◌}
 use Rattle.wf_def.specs.Definition.{Definition}
 use Rattle.wf_reader.specs.Answerer.{IsReplyTo}
-use Rattle.wf_reader.specs.Question.{question_bytes}
+use Rattle.wf_reader.specs.Question.{IsOfOtherVersion, question_bytes}
 use Rattle.wf_reader.specs.Reply.{reply_bytes}
 use Rattle.wf_reader.specs.declared.answerer.Answerer.{Answerer}
 use Rattle.wf_reader.specs.declared.question.Question.{Question}
@@ -25,8 +25,8 @@ pub record Replies (own : Answerer) (history : List Definition) (question : Ques
   pub is_reply : IsReplyTo own history question reply
   pub written : new ≡ old ++ reply_bytes reply
 
--- Bytes begin with a question, and its reply was appended; or, that they are of another version.
+-- Bytes begin with a question, and its reply was appended; or they begin as one of another version, and that was said.
 abbrev pub RepliesTo : Answerer → List Definition → List ℕ → List ℕ → List ℕ → Type 0
 RepliesTo own history bytes old new =
     ((question : Question) × (rest : List ℕ) × (bytes ≡ question_bytes question ++ rest) × Replies own history question old new)
-    ⊎ (new ≡ old ++ reply_bytes (Rejected OtherVersion))
+    ⊎ (IsOfOtherVersion bytes × (new ≡ old ++ reply_bytes (Rejected OtherVersion)))

@@ -19,9 +19,10 @@ use Rattle.wf_http.specs.declared.fault.RequestFault.{RequestFault}
 use Rattle.wf_node.specs.Node.{Node}
 use Rattle.wf_wms.specs.Answer.{IsAnswerOf}
 use Rattle.wf_tape.specs.declared.tape.Tape.{Ghosts as Tape}
+use Rattle.wf_serve.specs.Agreement.{AskedAlike, AtOneSequence, ForOneMap}
 use Rattle.wf_runs.specs.Session.{Session}
 use Rattle.wf_runs.specs.Folder.{IsHeld}
-use Rattle.wf_runs.specs.Theorems.{IsOneFarm, FolderIsOneFarm, HasOneHistory, HaveOneDefinition, NoneGoesBack, IsQueryTo, HasResponded, IsReply, AskedAlike, AtOneSequence, ForOneMap, RespondAlike, GetAlike, SessionsAreOneFarm}
+use Rattle.wf_runs.specs.Theorems.{IsOneFarm, FolderIsOneFarm, HasOneHistory, HaveOneDefinition, NoneGoesBack, IsQueryTo, HasResponded, IsReply, RespondAlike, GetAlike, SessionsAreOneFarm}
 
 -- ---- the page of a query
 

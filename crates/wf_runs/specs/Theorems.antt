@@ -15,9 +15,9 @@ use Rattle.wf_http.specs.declared.fault.RequestFault.{RequestFault}
 use Rattle.wf_safety.specs.Theorems.{IsBeginning}
 use Rattle.wf_model.specs.DurableState.{definition_at}
 use Rattle.wf_node.specs.Node.{Node}
+use Rattle.wf_serve.specs.Agreement.{AskedAlike}
 use Rattle.wf_serve.specs.ConnectionEffect.{IsServedAt}
 use Rattle.wf_tape.specs.declared.tape.Tape.{Ghosts as Tape}
-use Rattle.wf_wms.specs.Answer.{AsksForMap}
 use Rattle.wf_runs.specs.Session.{Session}
 use Rattle.wf_runs.specs.Folder.{IsFolder, moments, IsAt, IsHeld}
 
@@ -94,11 +94,6 @@ module _ {T : Type 0} (tapes : Tape T) where
     pub outcome : Outcome
     pub connection : IsServedAt tapes node_index input old new nodes outputs served outcome
     pub reply : IsReply input old new connection.before connection.after outputs outcome connection.served query response
-
--- Two lists of published maps answer a query alike: they are equally long; or it asks both for the map of one sequence (MAPSEQ), however long they are.
-pub data AskedAlike (query : List ℕ) (history other : List Definition) : Type 0 where
-  AtOneSequence : length other ≡ length history → AskedAlike query history other
-  ForOneMap : (m : ℕ) → AsksForMap m (length history) query → AsksForMap m (length other) query → AskedAlike query history other
 
 -- Two nodes, or one at two moments, respond to equal queries with equal bytes, if neither responds that an allocation failed (503).
 unfoldable pub RespondAlike : {T : Type 0} → Tape T → List (Session T) → Type 0

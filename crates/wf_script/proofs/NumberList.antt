@@ -1,11 +1,6 @@
--- The numbers that the words of a line are, and the orders so far.
+-- The numbers that the words of a line are.
 use Rattle.std.proofs.Common.{◌≡◌, ◌∙◌, ℕ, List, [], ◌∷◌, ◌++◌, refl, sym, ap, subst, length, arith}
-use Rattle.std.specs.Prelude.{◌==◌, ◌&&◌, true, false, map, Result, Ok, Err}
-use Rattle.std.specs.List.{list_all}
-use Rattle.wf_script.specs.Order.{view}
-use Rattle.wf_script.specs.Script.{numbered}
-use Rattle.wf_script.specs.Text.{is_question}
-use Rattle.wf_script.specs.declared.order.Numbered as orders
+use Rattle.std.specs.Prelude.{◌==◌, true, false, Result, Ok, Err}
 use Rattle.std.proofs.lemmas.Grind.{common_steps}
 use Rattle.std.proofs.lemmas.List.{append_assoc, append-nil}
 use Rattle.wf_script.specs.Orders.{numbers, some_numbers}
@@ -76,8 +71,3 @@ pub not_even_one : (wrong : Wrong) (words : List (List ℕ)) → numbers words �
 unfolding numbers some_numbers
 not_even_one wrong [] is = absurd (cc)
 not_even_one wrong (word ∷ rest) is = is
-
--- A test of the orders of the code is one of the orders that they are.
-pub all_numbered : (them : List orders.Numbered) → list_all (λ n. is_question (view n.order)) them ≡ list_all (λ n. is_question n.order) (map numbered them)
-all_numbered [] = refl
-all_numbered (n ∷ rest) = ap (λ others. is_question (view n.order) && others) (all_numbered rest)

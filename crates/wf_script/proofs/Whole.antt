@@ -20,17 +20,17 @@ from_first text ls are =
     ∙ ap (λ left. script (record { number = ls.number; left = left })) (sym are.left)
 
 behind_head : (ls : Lines) (head : Result (ℕ × Lines) ScriptFault) → head_from ls ≡ head →
-    script ls ≡ head >>= (λ first. on_from None (nothing_meant first.0) first.1 >>= (λ s. ended first.0 s))
+    script ls ≡ head >>= (λ first. on_from None nothing_meant first.1 >>= (λ s. ended first.0 s))
 unfolding script
-behind_head ls head is = ap (λ h. h >>= (λ first. on_from None (nothing_meant first.0) first.1 >>= (λ s. ended first.0 s))) is
+behind_head ls head is = ap (λ h. h >>= (λ first. on_from None nothing_meant first.1 >>= (λ s. ended first.0 s))) is
 
-pub all_meant : (text : List ℕ) (ls now : Lines) (nodes : ℕ) (s : State) → AreLinesOf text ls → head_from ls ≡ Ok (nodes, now) → on_from None (nothing_meant nodes) now ≡ Ok s
+pub all_meant : (text : List ℕ) (ls now : Lines) (nodes : ℕ) (s : State) → AreLinesOf text ls → head_from ls ≡ Ok (nodes, now) → on_from None nothing_meant now ≡ Ok s
     → script (record { number = 0; left = lines text }) ≡ Ok (record { nodes = nodes; names = s.names; maps = s.maps; orders = s.orders })
 all_meant text ls now nodes s are head rest =
     from_first text ls are ∙ behind_head ls (Ok (nodes, now)) head
     ∙ ap (λ (found : Result State ScriptFault). found >>= (λ t. ended nodes t)) rest
 
-pub none_meant : (text : List ℕ) (ls now : Lines) (nodes : ℕ) (fault : ScriptFault) → AreLinesOf text ls → head_from ls ≡ Ok (nodes, now) → on_from None (nothing_meant nodes) now ≡ Err fault
+pub none_meant : (text : List ℕ) (ls now : Lines) (nodes : ℕ) (fault : ScriptFault) → AreLinesOf text ls → head_from ls ≡ Ok (nodes, now) → on_from None nothing_meant now ≡ Err fault
     → script (record { number = 0; left = lines text }) ≡ Err fault
 none_meant text ls now nodes fault are head rest =
     from_first text ls are ∙ behind_head ls (Ok (nodes, now)) head

@@ -8,7 +8,6 @@ use Rattle.wf_script.specs.declared.order.Order.TheVariants as order
 
 -- A node, a message, a sequence and a map are their numbers, a query is its bytes.
 pub data Order : Type 0 where
-  Fuse : (node call kept crash : ℕ) → Order
   Step : (node : ℕ) (step : Action ℕ ℕ) → Order
   Deliver : (node : ℕ) (messages : List ℕ) → Order
   Cut : (node message bytes : ℕ) → Order
@@ -23,7 +22,6 @@ pub data Order : Type 0 where
 
 -- an order of the code
 abbrev pub view : code.Order → Order
-view (order.Fuse node call kept crash) = Fuse node call kept crash
 view (order.Step node step) = Step node step
 view (order.Deliver node messages) = Deliver node messages.items
 view (order.Cut node message bytes) = Cut node message bytes

@@ -126,14 +126,6 @@ equal_order words = do
   query ← a_word other.1
   Ok (order.Equal node.0 other.0 query.0, query.1)
 
-unfoldable pub fuse_order : List (List ℕ) → Result (Order × List (List ℕ)) Wrong
-fuse_order words = do
-  node ← a_number words
-  call ← a_number node.1
-  kept ← a_number call.1
-  crash ← a_number kept.1
-  Ok (order.Fuse node.0 call.0 kept.0 crash.0, crash.1)
-
 unfoldable pub stop_order : List (List ℕ) → Result (Order × List (List ℕ)) Wrong
 stop_order words = do
   node ← a_number words
@@ -147,7 +139,6 @@ restart_order words = do
 -- The order that a verb and the words after it make, and what is left of them. A map is named among those so far.
 unfoldable pub order_by : List (List ℕ) → Verb → List (List ℕ) → Result (Order × List (List ℕ)) Wrong
 order_by names verb.Map words = Err BadLine
-order_by names verb.Fuse words = fuse_order words
 order_by names verb.Propose words = step_order names verb.Propose words
 order_by names verb.Retry words = step_order names verb.Retry words
 order_by names verb.CatchUp words = step_order names verb.CatchUp words

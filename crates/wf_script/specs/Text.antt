@@ -25,9 +25,8 @@ use Rattle.wf_script.specs.declared.order.Numbered as orders
 use Rattle.wf_script.specs.declared.verb.Verb.{Verb}
 use Rattle.wf_script.specs.declared.verb.Verb.TheVariants as verb
 
--- what was read so far: how many nodes there are, the maps' names and definitions, and the orders with their lines
+-- what was read so far: the maps' names and definitions, and the orders with their lines
 pub record State : Type 0 where
-  pub nodes : ℕ
   pub names : List (List ℕ)
   pub maps : List Definition
   pub orders : List Numbered
@@ -43,8 +42,8 @@ abbrev pub begins : ℕ → List ℕ → Begun
 begins n name = record { line = n; name = name; text = [] }
 
 -- the state that the code's parts hold
-abbrev pub state : ℕ → List maps.Named → List orders.Numbered → State
-state nodes named orders = record { nodes = nodes; names = map name named; maps = map definition named; orders = map numbered orders }
+abbrev pub state : List maps.Named → List orders.Numbered → State
+state named orders = record { names = map name named; maps = map definition named; orders = map numbered orders }
 
 -- the longest name of a map, in bytes
 abbrev pub most_name_bytes : ℕ
@@ -79,49 +78,13 @@ map_of text = do
 unfoldable pub closed : List ℕ → List ℕ → State → Result State Wrong
 closed name text s = if nat_lt (length s.maps) most_maps then (do
   d ← map_of text
-  Ok (record { nodes = s.nodes; names = s.names ++ name ∷ []; maps = s.maps ++ d ∷ []; orders = s.orders })) else Err wrongs.OverLimit
+  Ok (record { names = s.names ++ name ∷ []; maps = s.maps ++ d ∷ []; orders = s.orders })) else Err wrongs.OverLimit
 
--- whether an order is a question
-abbrev pub is_question : Order → Bool
-is_question (order.Fuse node call kept crash) = false
-is_question (order.Step node step) = false
-is_question (order.Deliver node messages) = false
-is_question (order.Cut node message bytes) = false
-is_question (order.Stop node) = false
-is_question (order.Restart node) = false
-is_question (order.Torn node step kept) = false
-is_question (order.Pump nodes) = false
-is_question order.Skip = false
-is_question (order.Ask question) = true
-is_question (order.Get node query) = true
-is_question (order.Equal node other query) = true
-
--- Whether an order may follow these, with so many nodes. A fuse is of a node of the farm, and before it there are questions alone: so
--- there is one fuse, and it comes before any event.
-abbrev pub may_follow : ℕ → List Numbered → Order → Bool
-may_follow nodes orders (order.Fuse node call kept crash) = nat_lt node nodes && list_all (λ n. is_question n.order) orders
-may_follow nodes orders (order.Step node step) = true
-may_follow nodes orders (order.Deliver node messages) = true
-may_follow nodes orders (order.Cut node message bytes) = true
-may_follow nodes orders (order.Stop node) = true
-may_follow nodes orders (order.Restart node) = true
-may_follow nodes orders (order.Torn node step kept) = true
-may_follow nodes orders (order.Pump named) = true
-may_follow nodes orders order.Skip = true
-may_follow nodes orders (order.Ask question) = true
-may_follow nodes orders (order.Get node query) = true
-may_follow nodes orders (order.Equal node other query) = true
-
--- one order more, at the line of this number, where it may follow those so far
-unfoldable pub added : ℕ → State → Order → Result State Wrong
-added n s order = if may_follow s.nodes s.orders order
-    then Ok (record { nodes = s.nodes; names = s.names; maps = s.maps; orders = s.orders ++ (record { line = n; order = order }) ∷ [] })
-    else Err wrongs.BadLine
-
+-- one order more, at the line of this number
 unfoldable pub with_order : ℕ → State → Verb → List (List ℕ) → Result State Wrong
 with_order n s verb words = do
   order ← order_of s.names verb words
-  added n s order
+  Ok (record { names = s.names; maps = s.maps; orders = s.orders ++ (record { line = n; order = order }) ∷ [] })
 
 -- no map is begun
 abbrev pub outside : {E : Type 0} → State → Result (Option Begun × State) E
@@ -184,8 +147,8 @@ unfoldable pub head_from : Lines → Result (ℕ × Lines) ScriptFault
 head_from ls = head (ls.number + 1) ls.left
 
 -- nothing was read but the number of nodes
-abbrev pub nothing_meant : ℕ → State
-nothing_meant nodes = record { nodes = nodes; names = []; maps = []; orders = [] }
+abbrev pub nothing_meant : State
+nothing_meant = record { names = []; maps = []; orders = [] }
 
 -- the script that was read, for `nodes` nodes
 abbrev pub ended : ℕ → State → Result Script ScriptFault
@@ -195,7 +158,7 @@ ended nodes s = Ok (record { nodes = nodes; names = s.names; maps = s.maps; orde
 unfoldable pub script : Lines → Result Script ScriptFault
 script ls = do
   first ← head_from ls
-  s ← on_from None (nothing_meant first.0) first.1
+  s ← on_from None nothing_meant first.1
   ended first.0 s
 
 abbrev pub unless_over : Option ℕ → Result Script ScriptFault → Result Script ScriptFault

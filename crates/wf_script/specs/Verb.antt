@@ -8,7 +8,6 @@ use Rattle.wf_script.specs.declared.verb.Verb.TheVariants as verb
 unfoldable pub verb_of : List ℕ → Option Verb
 verb_of word =
     if bytes_eq word (codes "map") then Some verb.Map
-    else if bytes_eq word (codes "fuse") then Some verb.Fuse
     else if bytes_eq word (codes "propose") then Some verb.Propose
     else if bytes_eq word (codes "retry") then Some verb.Retry
     else if bytes_eq word (codes "catchup") then Some verb.CatchUp

@@ -4,35 +4,31 @@ ghost use Rattle.std.specs.Prelude.{◌≡◌, ◌≤◌, ◌+◌, [], length, m
 ghost use Rattle.wf_script.specs.Drafts.{Closes};
 ghost use Rattle.wf_script.specs.Fault.{IsAtLine};
 ghost use Rattle.wf_script.specs.Lines.{total};
-ghost use Rattle.wf_script.specs.Script.{name, numbered};
-ghost use Rattle.wf_script.specs.Order.{view};
-ghost use Rattle.std.specs.List.{list_all};
+ghost use Rattle.wf_script.specs.Script.{name};
 ghost use Rattle.wf_script.specs.ReadContract.{Gives, GoesOn, Reports};
-ghost use Rattle.wf_script.specs.Text.{a_new_name, added, closed, is_question, line_on, map_on, may_follow, nothing_meant, on_from, state, with_order};
+ghost use Rattle.wf_script.specs.Text.{a_new_name, closed, line_on, map_on, nothing_meant, on_from, state, with_order};
 
 use crate::fault::{ScriptFault, Wrong};
 use crate::lines::Lines;
 use crate::maps::{Maps, canon_of, is_name};
-use crate::order::{Numbered, Order, read_order};
+use crate::order::{Numbered, read_order};
 use crate::verb::Verb;
 use crate::words::{Words, ends_map, is_skipped};
 use std::alloc::Global;
 
-/// How many nodes there are, the maps so far, and the orders with their lines.
+/// The maps so far, and the orders with their lines.
 #[derive(Drop)]
 pub(crate) struct ScriptDraft {
-    pub(crate) nodes: u8,
     pub(crate) maps: Maps,
     pub(crate) orders: Vec<Numbered>,
 }
 
 impl ScriptDraft {
-    pub(crate) fn new(alloc: Global, nodes: u8) -> ScriptDraft
-        ensures { state result.nodes result.maps.named.items result.orders.items
-            ≡ nothing_meant nodes }
+    pub(crate) fn new(alloc: Global) -> ScriptDraft
+        ensures { state result.maps.named.items result.orders.items
+            ≡ nothing_meant }
     {
         ScriptDraft {
-            nodes,
             maps: Maps::new(alloc),
             orders: Vec::new(alloc),
         }
@@ -46,9 +42,9 @@ impl ScriptDraft {
         lines: &mut Lines<'_>,
     ) -> Result<(), ScriptFault>
         ensures value { Reports
-            (λ _. state self.new.nodes self.new.maps.named.items self.new.orders.items) result
+            (λ _. state self.new.maps.named.items self.new.orders.items) result
             (on_from None
-            (state self.old.nodes self.old.maps.named.items self.old.orders.items) lines.old) }
+            (state self.old.maps.named.items self.old.orders.items) lines.old) }
         ensures at { IfErr result (IsAtLine (total lines.old)) }
         ensures orders { length self.new.orders.items + length lines.new.left
             ≤ length self.old.orders.items + length lines.old.left }
@@ -67,10 +63,10 @@ impl ScriptDraft {
     fn take_line(&mut self, alloc: Global, line: &[u8], lines: &mut Lines<'_>) -> Result<(), Wrong>
         ensures value { GoesOn lines.old.number result
             (line_on None
-            (state self.old.nodes self.old.maps.named.items self.old.orders.items)
+            (state self.old.maps.named.items self.old.orders.items)
             line.now lines.old)
             (on_from None
-            (state self.new.nodes self.new.maps.named.items self.new.orders.items) lines.new) }
+            (state self.new.maps.named.items self.new.orders.items) lines.new) }
         ensures total { total lines.new ≡ total lines.old }
         ensures left { length lines.new.left ≤ length lines.old.left }
         ensures orders { length self.new.orders.items ≤ length self.old.orders.items + 1 }
@@ -97,48 +93,17 @@ impl ScriptDraft {
     ) -> Result<(), Wrong>
         ensures maps { self.new.maps ≡ self.old.maps }
         ensures value { Gives
-            (λ _. state self.new.nodes self.new.maps.named.items self.new.orders.items) result
+            (λ _. state self.new.maps.named.items self.new.orders.items) result
             (with_order number
-            (state self.old.nodes self.old.maps.named.items self.old.orders.items) verb words.old) }
+            (state self.old.maps.named.items self.old.orders.items) verb words.old) }
         ensures orders { length self.new.orders.items ≤ length self.old.orders.items + 1 }
     {
         let order = read_order(alloc, &self.maps, verb, words)?;
-        self.add(number, order)
-    }
-
-    /// Adds an order, on the line of this number, where it may follow those so far.
-    #[tactic(auto, unfolding(crate::specs::Text::added))]
-    fn add(&mut self, number: usize, order: Order) -> Result<(), Wrong>
-        ensures maps { self.new.maps ≡ self.old.maps }
-        ensures value { Gives
-            (λ _. state self.new.nodes self.new.maps.named.items self.new.orders.items) result
-            (added number
-            (state self.old.nodes self.old.maps.named.items self.old.orders.items) (view order)) }
-        ensures orders { length self.new.orders.items ≤ length self.old.orders.items + 1 }
-    {
-        if !self.may_follow(&order) {
-            drop(order);
-            return Err(Wrong::BadLine);
-        }
         self.orders.push(Numbered {
             line: number,
             order,
         })?;
         Ok(())
-    }
-
-    /// May the order follow those so far? A fuse is of a node of the farm, and comes once, before any event.
-    #[tactic(auto, using(crate::proofs::NumberList::all_numbered))]
-    fn may_follow(&self, order: &Order) -> bool
-        ensures { result
-            ≡ may_follow self.now.nodes (map numbered self.now.orders.items) (view order.now) }
-    {
-        match order {
-            Order::Fuse(node, _, _, _) => {
-                *node < self.nodes as usize && are_questions(&self.orders)
-            }
-            _ => true,
-        }
     }
 
     /// Reads a map: its name, and its lines up to `endmap`.
@@ -151,10 +116,10 @@ impl ScriptDraft {
     ) -> Result<(), Wrong>
         ensures value { GoesOn lines.old.number result
             (map_on
-            (state self.old.nodes self.old.maps.named.items self.old.orders.items)
+            (state self.old.maps.named.items self.old.orders.items)
             words.old lines.old)
             (on_from None
-            (state self.new.nodes self.new.maps.named.items self.new.orders.items) lines.new) }
+            (state self.new.maps.named.items self.new.orders.items) lines.new) }
         ensures total { total lines.new ≡ total lines.old }
         ensures left { length lines.new.left ≤ length lines.old.left }
         ensures orders { self.new.orders ≡ self.old.orders }
@@ -184,9 +149,9 @@ impl ScriptDraft {
     #[tactic(auto, unfolding(crate::specs::Text::closed))]
     fn close(&mut self, alloc: Global, name: &str, text: &[u8]) -> Result<(), Wrong>
         ensures value { Gives
-            (λ _. state self.new.nodes self.new.maps.named.items self.new.orders.items) result
+            (λ _. state self.new.maps.named.items self.new.orders.items) result
             (closed name.now text.now
-            (state self.old.nodes self.old.maps.named.items self.old.orders.items)) }
+            (state self.old.maps.named.items self.old.orders.items)) }
         ensures orders { self.new.orders ≡ self.old.orders }
     {
         if self.maps.is_full() {
@@ -195,30 +160,6 @@ impl ScriptDraft {
         let canon = canon_of(alloc, text)?;
         self.maps.add(alloc, name, canon)?;
         Ok(())
-    }
-}
-
-/// Are the orders all questions?
-fn are_questions(orders: &[Numbered]) -> bool
-    ensures { result ≡ list_all (λ n. is_question (view n.order)) orders.now }
-{
-    orders.iter().all(|numbered| is_question(&numbered.order))
-}
-
-fn is_question(order: &Order) -> bool
-    ensures { result ≡ is_question (view order.now) }
-{
-    match order {
-        Order::Ask(_) | Order::Get(..) | Order::Equal(..) => true,
-        Order::Fuse(..)
-        | Order::Step(..)
-        | Order::Deliver(..)
-        | Order::Cut(..)
-        | Order::Stop(_)
-        | Order::Restart(_)
-        | Order::Torn(..)
-        | Order::Pump(_)
-        | Order::Skip => false,
     }
 }
 

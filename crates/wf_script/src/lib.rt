@@ -6,7 +6,6 @@
 //!
 //! ```text
 //! map NAME, lines, endmap                names a map definition; NAME is 1 to 32 letters and digits
-//! fuse N K KEPT CRASH                    node N's tape fails at its call K; before any event, and once
 //! propose I NAME, retry I, catchup I     a step of node I
 //! deliver I K ..                         message K to node I, for each K in turn
 //! cut I K B                              message K is cut off on its way to node I after B bytes: no event

@@ -3,7 +3,7 @@
 ghost use Rattle.std.specs.Prelude.{◌≡◌, [], OnOk, map};
 ghost use Rattle.wf_script.specs.Script.{name};
 ghost use Rattle.wf_script.specs.Order.{view};
-ghost use Rattle.wf_script.specs.Orders.{a_kept, a_map, a_step, cut_order, definition_order, deliver_order, equal_order, fuse_order, get_order, numbers, order_by, order_of, proposal_order, pump_order, restart_order, some_numbers, step_by, step_order, stop_order, torn_order};
+ghost use Rattle.wf_script.specs.Orders.{a_kept, a_map, a_step, cut_order, definition_order, deliver_order, equal_order, get_order, numbers, order_by, order_of, proposal_order, pump_order, restart_order, some_numbers, step_by, step_order, stop_order, torn_order};
 ghost use Rattle.wf_script.specs.ReadContract.{Gives};
 ghost use Rattle.wf_script.specs.Words.{a_word};
 
@@ -24,10 +24,6 @@ pub struct Numbered {
 /// What a line does or asks. A node, a message and a sequence are their numbers, a map is its number in the script.
 #[derive(Drop)]
 pub enum Order {
-    /// The tape of the node of the first number will fail at the call of the second, counted from 1 from now; none fails for 0. A
-    /// failing append keeps the third number of bytes, and the crash after it the fourth number of those that aren't synced. No
-    /// event.
-    Fuse(usize, usize, usize, usize),
     /// A step of the node.
     Step(usize, Action<usize, usize>),
     /// The messages go to the node, one after the other.
@@ -96,7 +92,6 @@ fn order_by(alloc: Global, maps: &Maps, verb: Verb, words: &mut Words<'_>) -> Re
     match verb {
         // A map is no order.
         Verb::Map => Err(Wrong::BadLine),
-        Verb::Fuse => fuse(words),
         Verb::Propose | Verb::Retry | Verb::CatchUp => step_order(maps, verb, words),
         Verb::Deliver => deliver(alloc, words),
         Verb::Cut => cut(words),
@@ -124,18 +119,6 @@ fn step_order(maps: &Maps, verb: Verb, words: &mut Words<'_>) -> Result<Order, W
     let node = words.number()?;
     let step = step_by(maps, verb, words)?;
     Ok(Order::Step(node, step))
-}
-
-/// `fuse N K KEPT CRASH`.
-#[tactic(auto, unfolding(crate::specs::Orders::fuse_order))]
-fn fuse(words: &mut Words<'_>) -> Result<Order, Wrong>
-    ensures { Gives (λ o. (view o, words.new)) result (fuse_order words.old) }
-{
-    let node = words.number()?;
-    let call = words.number()?;
-    let kept = words.number()?;
-    let crash = words.number()?;
-    Ok(Order::Fuse(node, call, kept, crash))
 }
 
 /// `stop I`.

@@ -145,14 +145,10 @@ fn read_lines(alloc: Global, bytes: &[u8]) -> Result<Script, ScriptFault>
 {
     let mut lines = Lines::new(bytes);
     let nodes = first_line(&mut lines)?;
-    let mut draft = ScriptDraft::new(alloc, nodes);
+    let mut draft = ScriptDraft::new(alloc);
     match draft.take_lines(alloc, &mut lines) {
         Ok(()) => {
-            let ScriptDraft {
-                nodes: _,
-                maps,
-                orders,
-            } = draft;
+            let ScriptDraft { maps, orders } = draft;
             Ok(Script {
                 nodes,
                 maps,

@@ -7,7 +7,6 @@ ghost use Rattle.wf_script.specs.Verb.{verb_of};
 #[derive(Clone, Copy)]
 pub(crate) enum Verb {
     Map,
-    Fuse,
     Propose,
     Retry,
     CatchUp,
@@ -35,7 +34,6 @@ impl Verb {
     {
         match word {
             "map" => Some(Verb::Map),
-            "fuse" => Some(Verb::Fuse),
             "propose" => Some(Verb::Propose),
             "retry" => Some(Verb::Retry),
             "catchup" => Some(Verb::CatchUp),

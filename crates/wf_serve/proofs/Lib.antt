@@ -1,4 +1,5 @@
 mod Agreed
+mod Asked
 mod Caches
 mod Come
 mod Difference

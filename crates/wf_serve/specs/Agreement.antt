@@ -2,6 +2,7 @@
 use Rattle.std.specs.Prelude.{◌≡◌, ◌≢◌, ℕ, List, length, slice_get, Some, Vec}
 use Rattle.std.specs.declared.alloc.Global.{Global}
 use Rattle.wf_codec.specs.declared.message.Message.{Message}
+use Rattle.wf_def.specs.Definition.{Definition}
 use Rattle.wf_edge.specs.Theorem.{AsksMapService}
 use Rattle.wf_edge.specs.RequestEffect.{Responds}
 use Rattle.wf_delivery.specs.Delivery.{AnyPart, EachGrows}
@@ -9,13 +10,20 @@ use Rattle.wf_delivery.specs.Reachability.{AreReachableFrom, AreReachable, HaveO
 use Rattle.wf_http.specs.Response.{Response, response_bytes}
 use Rattle.wf_node.specs.Node.{Node}
 use Rattle.wf_tape.specs.declared.tape.Tape.{Ghosts as Tape}
+use Rattle.wf_wms.specs.Answer.{AsksForMap}
+
+-- Two lists of published maps answer a query alike: they are equally long; or it asks both for the map of one sequence (MAPSEQ), however
+-- long they are.
+pub data AskedAlike (query : List ℕ) (history other : List Definition) : Type 0 where
+  AtOneSequence : length other ≡ length history → AskedAlike query history other
+  ForOneMap : (m : ℕ) → AsksForMap m (length history) query → AsksForMap m (length other) query → AskedAlike query history other
 
 module _ {T : Type 0} (tapes : Tape T) where
-  -- Two of the nodes with the same last published sequence respond to equal requests to the map service with equal bytes, if neither
-  -- responds with allocation failure.
+  -- Two of the nodes that answer a query alike respond to equal requests to the map service with equal bytes, if neither responds with
+  -- allocation failure.
   pub record RespondAlike (nodes : List (Node T)) : Type 0 where
     pub bytes : (i j : ℕ) (input query : List ℕ) (node node_after other other_after : Node T) (sent other_sent : Vec Message Global) (response another : Response) →
-        slice_get nodes i ≡ Some node → slice_get nodes j ≡ Some other → length other.parts.history ≡ length node.parts.history → AsksMapService input query →
+        slice_get nodes i ≡ Some node → slice_get nodes j ≡ Some other → AskedAlike query node.parts.history other.parts.history → AsksMapService input query →
         Responds tapes (Some input) node response sent node_after → response.status ≢ 503 →
         Responds tapes (Some input) other another other_sent other_after → another.status ≢ 503 →
         response_bytes another ≡ response_bytes response

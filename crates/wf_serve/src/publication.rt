@@ -3,7 +3,7 @@ ghost use Rattle.wf_serve.specs.First.{FirstIsPublished};
 ghost use Rattle.wf_serve.specs.Publication.{AcceptedIsPublished, CaughtUpAreNew};
 
 use wf_catch_up::a_catch_up_is_reachable;
-use wf_farm::a_proposal_is_published;
+use wf_publication::new_nodes_publish;
 use wf_tape::Tape;
 
 /// If a connection to one of three new nodes, served by [`serve_connection`](crate::serve_connection), was answered with the status
@@ -14,7 +14,7 @@ pub fn an_accepted_map_is_published<T: Tape>()
     ensures { AcceptedIsPublished T.Tape }
 {
     a_catch_up_is_reachable::<T>();
-    a_proposal_is_published::<T>();
+    new_nodes_publish::<T>();
 }
 
 /// New nodes that caught up ([`catch_up`](crate::catch_up)), as [`serve_nodes`](crate::serve_nodes) lets them before the first
@@ -32,5 +32,5 @@ pub fn the_first_map_is_published<T: Tape>()
     ensures { FirstIsPublished T.Tape }
 {
     a_catch_up_is_reachable::<T>();
-    a_proposal_is_published::<T>();
+    new_nodes_publish::<T>();
 }

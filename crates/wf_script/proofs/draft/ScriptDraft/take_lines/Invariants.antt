@@ -10,7 +10,7 @@ decreases-loop-line l = length l.lines.left
 
 abbrev pub invariant-loop-line : goal.invariant-loop-line
 invariant-loop-line l = record {
-  value : on_from None (state l.fn.self.nodes l.fn.self.maps.named.items l.fn.self.orders.items) l.fn.lines ≡ on_from None (state l.self.nodes l.self.maps.named.items l.self.orders.items) l.lines;
+  value : on_from None (state l.fn.self.maps.named.items l.fn.self.orders.items) l.fn.lines ≡ on_from None (state l.self.maps.named.items l.self.orders.items) l.lines;
   total : total l.lines ≡ total l.fn.lines;
   orders : length l.self.orders.items + length l.lines.left ≤ length l.fn.self.orders.items + length l.fn.lines.left;
 }
