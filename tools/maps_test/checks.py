@@ -15,6 +15,7 @@ from maps.texts import number
 from . import agency, pictures
 from .case import TOOLS, canonical, run
 from .constructs import table_of_the_page
+from .keywords import a_map_of_each_keyword, keywords_of_the_page
 
 EXAMPLES = TOOLS.parent / "examples"
 DATA = TOOLS / "geojson"
@@ -322,6 +323,6 @@ CHECKS = {
         borders_stay_shared, borders_do_not_cross, weights_of_a_line, numbers_as_written, one_shape_looks_alike,
         neighbours_as_one_look_alike, own_maps_stay, polygons_beside_mapserver, whole_map_beside_mapserver, fast_enough,
         cut_borders_stay_shared, a_part_has_more_detail, preview_of_data, preview_of_many_points, preview_of_a_mapfile, own_map_of_mapserver,
-        query_of_the_map, report_of_what_is_lost, table_of_the_page,
+        query_of_the_map, report_of_what_is_lost, table_of_the_page, keywords_of_the_page, a_map_of_each_keyword,
     )
 }  # fmt: skip

@@ -85,6 +85,9 @@ ADDRESS = 'WEB METADATA "wms_onlineresource" "http://old/?" END END '
 POINTS = " ".join(f'FEATURE POINTS {x} {x} END ITEMS "{name}" END' for x, name in ((1, "a"), (1.01, "b"), (5, "c")))
 LOST = [
     mapped("a raster layer", inline(FILL, "a") + layer('DATA "a.tif"', "r", "RASTER"), notes=("layer r: left out: all of it: it isn't of points",)),
+    mapped("a chart", inline(FILL, "a") + layer(f"{SQUARE.format('a')} {FILL}", "r", "CHART"), notes=("layer r: left out: all of it: it isn't of points",), absent=('NAME "r"',)),
+    mapped("a query layer", inline(FILL, "a") + layer(f"{SQUARE.format('a')} {FILL}", "r", "QUERY"), notes=("layer r: left out: all of it: it isn't of points",), absent=('NAME "r"',)),
+    mapped("an index of tiles", inline(FILL, "a") + layer('DATA "a.shp"', "r", "TILEINDEX"), notes=("layer r: left out: all of it: it isn't of points",), absent=('NAME "r"',)),
     mapped("another server's picture", inline(FILL, "a") + layer('CONNECTIONTYPE WMS CONNECTION "http://localhost/?"', "r", "RASTER"), notes=("layer r: left out: all of it",)),
     mapped("a background", inline(FILL, "a"), head=HEAD + "IMAGECOLOR 9 9 9\n", notes=("map: left out: IMAGECOLOR 9 9 9",)),
     mapped("dashes and opacity", layer("FEATURE POINTS 1 1 5 5 END END CLASS STYLE COLOR 1 2 3 PATTERN 4 2 END OPACITY 50 END END", kind="LINE"), notes=("left out: PATTERN 4 2 of STYLE", "left out: OPACITY 50 of STYLE")),

@@ -1,1 +1,2 @@
 mod Reports
+mod Taken

@@ -27,7 +27,8 @@ IsWhy bytes TooBig = (d : Definition) × Means bytes d × (most_canon_bytes < le
 abbrev pub NoneIsBoth : Type 0
 NoneIsBoth = (bytes : List ℕ) (fault : CheckFault) → IsWhy bytes fault → ¬ (IsPublishable bytes)
 
--- The byte offset of an error, if it has one. That of a file that is too long is the first byte over the limit.
+-- The byte offset of an error, if it has one. That of a file that is too long is the first byte
+-- over the limit.
 unfoldable pub offset_of : MapFault → Option ℕ
 offset_of faults.Memory = None
 offset_of faults.TooLong = Some longest_mapfile
@@ -47,6 +48,11 @@ abbrev pub IsOffsetOf : List ℕ → CheckFault → ℕ → Type 0
 IsOffsetOf bytes (Map fault) offset = IfSome (offset_of fault) (λ o. offset ≡ min o (length bytes))
 IsOffsetOf bytes TooBig offset = offset ≤ length bytes
 
+-- Cut behind its reach, the file has the error too.
+abbrev pub HasStill : List ℕ → CheckFault → ℕ → Type 0
+HasStill bytes (Map fault) reach = (reach ≤ length bytes) × HasError (take reach bytes) fault
+HasStill bytes TooBig reach = reach ≡ length bytes
+
 -- The line is that of the offset, cut there: its number, its bytes before and its bytes after.
 pub record IsLineOf (bytes : List ℕ) (offset : ℕ) (line : NumberedLine) : Type 0 where
   pub number : line.number ≡ line_number (take offset bytes)
@@ -56,15 +62,18 @@ pub record IsLineOf (bytes : List ℕ) (offset : ℕ) (line : NumberedLine) : Ty
 -- The finding is one of the file.
 pub record IsFinding (bytes : List ℕ) (finding : Finding) : Type 0 where
   pub why : IsWhy bytes finding.fault
+  pub file : finding.file.now ≡ bytes
   pub within : finding.offset ≤ length bytes
   pub offset : IsOffsetOf bytes finding.fault finding.offset
+  pub still : HasStill bytes finding.fault finding.reach
   pub line : IsLineOf bytes finding.offset finding.line
 
 -- a line and a column, and something after them
 abbrev pub headed : ℕ → ℕ → List ℕ → List ℕ
 headed number column rest = codes "line " ++ decimal number ++ codes ", column " ++ decimal column ++ codes ": " ++ rest
 
--- The text is a report of the finding: its line and its column, from 1 in characters, and something after them.
+-- The text is a report of the finding: its line and its column, from 1 in characters, and something
+-- after them.
 abbrev pub IsReport : Finding → List ℕ → Type 0
 IsReport finding text = (rest : List ℕ) × (text ≡ headed finding.line.number (characters finding.line.before.now + 1) rest)
 

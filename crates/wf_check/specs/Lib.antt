@@ -1,2 +1,3 @@
 pub mod NumberedLine
 pub mod Finding
+pub mod Keywords

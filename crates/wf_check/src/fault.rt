@@ -3,7 +3,8 @@
 use thiserror::Error;
 use wf_block::MapFault;
 
-/// Why a file isn't a map that a farm publishes. Its text is the error's number, with the byte offset where it has one.
+/// Why a file isn't a map that a farm publishes. Its text is the error's number, with the byte
+/// offset where it has one.
 #[derive(Clone, Copy, Debug, PartialEq, Eq, Error)]
 pub enum CheckFault {
     /// It isn't a mapfile.

@@ -1,32 +1,34 @@
 //! The check of a file.
 ghost use Rattle.std.specs.Prelude.{◌≡◌, ◌<◌, ◌≤◌, length, min, IfNone, IfOk, IfSome, OnSome};
-ghost use Rattle.wf_check.specs.Finding.{IsFinding, IsLineOf, IsPublishable, IsWhy, NoneIsBoth, offset_of};
+ghost use Rattle.wf_check.specs.Finding.{HasStill, IsFinding, IsOffsetOf, IsPublishable, IsWhy};
+ghost use Rattle.wf_check.specs.Finding.{NoneIsBoth, offset_of};
+ghost use Rattle.wf_mapfile.specs.Rejection.{HasError};
 ghost use Rattle.wf_spelling.specs.Canon.{canon, most_canon_bytes};
 
 use crate::fault::CheckFault;
 use crate::finding::Finding;
 use crate::line::NumberedLine;
-use crate::reason::{Reason, reason_of, too_big};
-use crate::size::{TextSize, measure};
+use crate::place::{Place, place_of, place_of_excess};
 use std::alloc::{AllocError, Global};
 use wf_block::MapFault;
 use wf_def::MapDef;
 use wf_mapfile::{MOST_MAPFILE_BYTES, read};
 use wf_spelling::{CanonFault, text_of};
 
-/// Checks a file: `None` if it is a map whose canonical text is within the limit, so that a farm publishes it; else the first error
-/// from the left, with its line. The only error of the check itself is allocation failure.
+/// Checks a file: `None` if it is a map whose canonical text is within the limit, so that a farm
+/// publishes it; else the first error from the left, with its line. The only error of the check
+/// itself is allocation failure.
 pub fn check<'a>(alloc: Global, bytes: &'a [u8]) -> Result<Option<Finding<'a>>, AllocError>
     ensures fine { IfOk result (λ found. IfNone found (IsPublishable bytes.now)) }
     ensures found { IfOk result (λ found. IfSome found (IsFinding bytes.now)) }
 {
     match read(alloc, bytes) {
         Ok(map) => {
-            let over = size_over(alloc, &map);
+            let place = place_if_long(alloc, bytes, &map);
             drop(map);
-            match over? {
+            match place? {
                 None => Ok(None),
-                Some(size) => Ok(Some(finding_of_map(alloc, bytes, size)?)),
+                Some(place) => Ok(Some(finding(bytes, CheckFault::TooBig, place))),
             }
         }
         Err(MapFault::Memory) => Err(AllocError),
@@ -39,34 +41,22 @@ pub fn no_map_with_an_error_is_publishable()
     ensures { NoneIsBoth }
 {}
 
-/// The size of a map's canonical text, if it is over the limit.
-fn size_over(alloc: Global, map: &MapDef) -> Result<Option<TextSize>, AllocError>
+/// The place at which a map's canonical text passes its limit, if it does.
+fn place_if_long(alloc: Global, bytes: &[u8], map: &MapDef) -> Result<Option<Place>, AllocError>
     ensures fine { IfOk result
-        (λ over. IfNone over (length (canon map.now) ≤ most_canon_bytes)) }
+        (λ place. IfNone place (length (canon map.now) ≤ most_canon_bytes)) }
     ensures big { IfOk result
-        (λ over. OnSome over (most_canon_bytes < length (canon map.now))) }
+        (λ place. OnSome place (most_canon_bytes < length (canon map.now))) }
+    ensures reach { IfOk result (λ place. IfSome place (λ p. p.reach ≡ length bytes.now)) }
 {
     match text_of(alloc, map, 0) {
         Ok(text) => {
             drop(text);
             Ok(None)
         }
-        Err(CanonFault::TooBig) => Ok(Some(measure(map))),
+        Err(CanonFault::TooBig) => Ok(Some(place_of_excess(alloc, bytes, map)?)),
         Err(_) => Err(AllocError),
     }
-}
-
-/// The finding for a map whose canonical text is too long.
-fn finding_of_map<'a>(
-    alloc: Global,
-    bytes: &'a [u8],
-    size: TextSize,
-) -> Result<Finding<'a>, AllocError>
-    requires { IsWhy bytes.now CheckFault.TooBig }
-    ensures { IfOk result (IsFinding bytes.now) }
-{
-    let reason = too_big(alloc, bytes, size.bytes, size.item)?;
-    Ok(finding(bytes, CheckFault::TooBig, reason.offset, reason))
 }
 
 /// The finding for an error of the reader.
@@ -78,29 +68,41 @@ fn finding_of_fault<'a>(
     requires { IsWhy bytes.now (CheckFault.Map fault) }
     ensures { IfOk result (IsFinding bytes.now) }
 {
-    let reason = reason_of(alloc, bytes, fault)?;
-    let offset = offset_of(fault).unwrap_or(reason.offset);
-    Ok(finding(bytes, CheckFault::Map(fault), offset, reason))
+    let place = place_of_fault(alloc, bytes, fault)?;
+    Ok(finding(bytes, CheckFault::Map(fault), place))
 }
 
-/// A finding at an offset, or at the end of a file that ends before.
-fn finding<'a>(bytes: &'a [u8], fault: CheckFault, offset: usize, reason: Reason<'a>) -> Finding<'a>
-    ensures fault { result.fault ≡ fault }
-    ensures offset { result.offset ≡ min offset (length bytes.now) }
-    ensures line { IsLineOf bytes.now result.offset result.line }
+/// The place of an error of the reader.
+fn place_of_fault(alloc: Global, bytes: &[u8], fault: MapFault) -> Result<Place, AllocError>
+    requires { HasError bytes.now fault }
+    ensures offset { IfOk result (λ place.
+        IsOffsetOf bytes.now (CheckFault.Map fault) (min place.offset (length bytes.now))) }
+    ensures still { IfOk result
+        (λ place. HasStill bytes.now (CheckFault.Map fault) place.reach) }
 {
-    let Reason {
-        offset: _,
-        found,
-        allowed,
-    } = reason;
-    let offset = offset.min(bytes.len());
+    match offset_of(fault) {
+        Some(offset) => Ok(Place {
+            offset,
+            reach: bytes.len(),
+        }),
+        None => place_of(alloc, bytes, fault),
+    }
+}
+
+/// The finding of an error at a place, or at the end of a file that ends before.
+fn finding<'a>(bytes: &'a [u8], fault: CheckFault, place: Place) -> Finding<'a>
+    requires why { IsWhy bytes.now fault }
+    requires offset { IsOffsetOf bytes.now fault (min place.offset (length bytes.now)) }
+    requires still { HasStill bytes.now fault place.reach }
+    ensures { IsFinding bytes.now result }
+{
+    let offset = place.offset.min(bytes.len());
     Finding {
         fault,
+        file: bytes,
         offset,
+        reach: place.reach,
         line: NumberedLine::at(bytes, offset),
-        found,
-        allowed,
     }
 }
 

@@ -7,41 +7,35 @@ use std::fmt;
 /// The most bytes of a line that are shown on each side of an offset.
 const MOST_BESIDE: usize = 50;
 
-/// Bytes of one line of a file. What isn't UTF-8, and each control character other than TAB, is shown as U+FFFD.
+/// Bytes of one line of a file.
 #[derive(Clone, Copy)]
-pub(crate) struct Shown<'a>(pub(crate) &'a [u8]);
-
-/// As much white space as the bytes take: a TAB for each TAB, a space for any other character.
-#[derive(Clone, Copy)]
-pub(crate) struct Blank<'a>(pub(crate) &'a [u8]);
-
-/// Whether a character is a control character other than TAB.
-fn is_control(character: char) -> bool {
-    (character < ' ' && character != '\t') || ('\u{7f}'..='\u{9f}').contains(&character)
+pub(crate) enum Shown<'a> {
+    /// As they are. What isn't UTF-8, and each control character other than TAB, is shown as
+    /// U+FFFD.
+    Text(&'a [u8]),
+    /// As much white space as they take: a TAB for each TAB, a space for any other character.
+    Blank(&'a [u8]),
 }
 
-/// Writes text without control characters.
-fn write_text<W: fmt::Write>(f: &mut fmt::Formatter<W>, text: &str) -> fmt::Result {
-    for character in text.chars() {
-        if is_control(character) {
-            write!(f, "\u{FFFD}")?;
-        } else {
-            write!(f, "{character}")?;
+impl<'a> Shown<'a> {
+    /// The bytes.
+    fn bytes(self) -> &'a [u8] {
+        match self {
+            Shown::Text(bytes) | Shown::Blank(bytes) => bytes,
         }
     }
-    Ok(())
-}
 
-/// Writes white space in place of text.
-fn write_blank<W: fmt::Write>(f: &mut fmt::Formatter<W>, text: &str) -> fmt::Result {
-    for character in text.chars() {
-        if character == '\t' {
-            write!(f, "\t")?;
-        } else {
-            write!(f, " ")?;
+    /// What is shown for a character.
+    fn shown(self, character: char) -> char {
+        match self {
+            _ if character == '\t' => '\t',
+            Shown::Blank(_) => ' ',
+            Shown::Text(_) if character < ' ' || ('\u{7f}'..='\u{9f}').contains(&character) => {
+                '\u{FFFD}'
+            }
+            Shown::Text(_) => character,
         }
     }
-    Ok(())
 }
 
 /// The longest beginning that is UTF-8, and what follows the byte after it.
@@ -61,31 +55,29 @@ fn cut(bytes: &[u8]) -> (&str, Option<&[u8]>)
     }
 }
 
-impl fmt::Display for Shown<'_> {
-    fn fmt<W: fmt::Write>(&self, f: &mut fmt::Formatter<W>) -> fmt::Result {
-        let mut rest = self.0;
-        loop {
-            let (text, after) = cut(rest);
-            write_text(f, text)?;
-            let Some(after) = after else {
-                return Ok(());
-            };
-            write!(f, "\u{FFFD}")?;
-            rest = after;
-        }
+/// Writes what is shown for a text.
+fn write_text<W: fmt::Write>(
+    f: &mut fmt::Formatter<W>,
+    shown: Shown<'_>,
+    text: &str,
+) -> fmt::Result {
+    for character in text.chars() {
+        f.write_char(shown.shown(character))?;
     }
+    Ok(())
 }
 
-impl fmt::Display for Blank<'_> {
+impl fmt::Display for Shown<'_> {
     fn fmt<W: fmt::Write>(&self, f: &mut fmt::Formatter<W>) -> fmt::Result {
-        let mut rest = self.0;
+        let shown = *self;
+        let mut rest = shown.bytes();
         loop {
             let (text, after) = cut(rest);
-            write_blank(f, text)?;
+            write_text(f, shown, text)?;
             let Some(after) = after else {
                 return Ok(());
             };
-            write!(f, " ")?;
+            f.write_char(shown.shown('\u{FFFD}'))?;
             rest = after;
         }
     }

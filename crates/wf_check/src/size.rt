@@ -1,73 +1,45 @@
-//! The length of a canonical text, for one that is too long to be written.
+//! The lengths of canonical texts, also of those that are too long to be written.
 
-use crate::walk::Item;
 use wf_def::{
     Class, Color, Expression, Extent, Feature, Label, LabelSize, Layer, LayerKind, MapDef, Micro,
     Part, Style,
 };
-use wf_spelling::MOST_CANON_BYTES;
 use wf_text::{NumberText, Text};
 
 /// The bytes of a line END, which ends a block.
 const END: usize = 4;
 
-/// The length of a canonical text, and where it passes its limit.
-#[derive(Clone, Copy)]
-pub struct TextSize {
-    /// The number of bytes.
-    pub bytes: usize,
-    /// The first layer or feature of the map that ends over the limit, if one does.
-    pub item: Option<Item>,
-}
-
-impl TextSize {
-    /// Counts bytes.
-    fn add(&mut self, bytes: usize) {
-        self.bytes = self.bytes.saturating_add(bytes);
-    }
-
-    /// Keeps the first item that ends over the limit.
-    fn end(&mut self, item: Item) {
-        if self.item.is_none() && self.bytes > MOST_CANON_BYTES {
-            self.item = Some(item);
-        }
-    }
-}
-
 /// The length of a map's canonical text.
-pub fn measure(map: &MapDef) -> TextSize {
-    let mut size = TextSize {
-        bytes: heading(map),
-        item: None,
-    };
+pub(crate) fn text_length(map: &MapDef) -> usize {
+    let mut length = sum(&[heading_length(map), END]);
     for index in 0..map.layer_count() {
         let (name, layer) = map.layer(index);
-        add_layer(&mut size, index, name, layer);
+        length = sum(&[length, layer_length(name, layer)]);
     }
-    size.add(END);
-    size
+    length
 }
 
-/// Counts a layer.
-fn add_layer(size: &mut TextSize, index: usize, name: &Text, layer: &Layer) {
-    size.add(layer_heading(name, layer));
+/// The length of a layer's lines.
+pub(crate) fn layer_length(name: &Text, layer: &Layer) -> usize {
+    let mut classes = 0usize;
     for class in layer.classes() {
-        size.add(class_size(class));
+        classes = sum(&[classes, class_size(class)]);
     }
-    size.end(Item {
-        layer: index,
-        feature: None,
-    });
-    let mut number = 0usize;
-    for feature in layer.features() {
-        size.add(feature_size(feature));
-        size.end(Item {
-            layer: index,
-            feature: Some(number),
-        });
-        number = number.saturating_add(1);
+    sum(&[
+        layer_heading(name, layer),
+        classes,
+        features_length(layer.features()),
+        END,
+    ])
+}
+
+/// The length of the lines of features.
+pub(crate) fn features_length(features: &[Feature]) -> usize {
+    let mut length = 0usize;
+    for feature in features {
+        length = sum(&[length, feature_length(feature)]);
     }
-    size.add(END);
+    length
 }
 
 /// The sum of some lengths.
@@ -140,7 +112,7 @@ fn number(number: Micro) -> usize {
 }
 
 /// The lines before the first layer.
-fn heading(map: &MapDef) -> usize {
+pub(crate) fn heading_length(map: &MapDef) -> usize {
     sum(&[
         alone("MAP"),
         with_text("NAME", map.name()),
@@ -240,7 +212,7 @@ fn label_size(label: &Label) -> usize {
 }
 
 /// The lines of a feature.
-fn feature_size(feature: &Feature) -> usize {
+pub(crate) fn feature_length(feature: &Feature) -> usize {
     let mut parts = 0usize;
     for part in feature.parts() {
         parts = parts.saturating_add(part_size(part));

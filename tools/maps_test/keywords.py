@@ -1,0 +1,63 @@
+"""The keywords of docs/MAPFILES.md beside those of the program, block by block."""
+
+import re
+import subprocess
+
+from .case import TOOLS
+
+# Each block with the keywords that lead into it, and a map that has each keyword of each.
+BEFORE = {
+    "MAP": "MAP", "WEB": "MAP WEB", "LAYER": "MAP LAYER", "CLASS": "MAP LAYER CLASS", "STYLE": "MAP LAYER CLASS STYLE",
+    "LABEL": "MAP LAYER CLASS LABEL", "FEATURE": "MAP LAYER FEATURE",
+}  # fmt: skip
+WHOLE = """
+MAP NAME "a" EXTENT 0 0 4 4 PROJECTION "init=epsg:4326" END
+  SIZE 400 400 IMAGECOLOR 1 2 3 UNITS dd STATUS on IMAGETYPE png SHAPEPATH "."
+  WEB METADATA "wms_title" "a" "wms_abstract" "b" "wms_onlineresource" "http://a/?" "wms_fees" "c" END IMAGEPATH "/a" IMAGEURL "/b" END
+  LAYER NAME "p" TYPE POINT CLASSITEM "use" LABELITEM "n" PROCESSING "ITEMS=use,n" STATUS on UNITS dd TEMPLATE "c"
+    METADATA "wms_title" "b" END
+    CLASS NAME "c" EXPRESSION {a,b} STYLE COLOR 1 2 3 OUTLINECOLOR "#040506" WIDTH 16 SIZE 64 END
+      LABEL COLOR 0 0 0 SIZE GIANT POSITION LR PRIORITY 10 FORCE TRUE BUFFER 64 TYPE BITMAP END END
+    FEATURE POINTS 1 1 END ITEMS "a;x" TEXT "y" END
+  END
+END
+"""
+
+
+def written():
+    """The keywords of each block in the page's table."""
+    lines = (TOOLS.parent / "docs/MAPFILES.md").read_text(encoding="utf-8").splitlines()
+    found, block = {}, None
+    for line in lines[lines.index("| Block | Keyword | Argument | Default |") + 2 :]:
+        if not line.startswith("|"):
+            return found
+        name, keywords = (cell.strip() for cell in line.strip("|").split("|")[:2])
+        block = name or block
+        found.setdefault(block, set()).update(re.findall(r"\b[A-Z]{3,}\b", keywords))
+    return found
+
+
+def named(program, before):
+    """The keywords that `wfarm check` names in a block where another word stands."""
+    done = subprocess.run([program, "check"], input=f"{before} OTHER".encode(), capture_output=True)
+    allowed = re.search(r"Found OTHER\. Allowed: (.*), or the END of ", done.stdout.decode())
+    return set(allowed[1].split(", ")) if allowed else set()
+
+
+def keywords_of_the_page(folder, program, keep):
+    """The page's table has the keywords that the program names in each block, and no other."""
+    page = written()
+    for block, before in BEFORE.items():
+        apart = page.get(block, set()) ^ named(program, before)
+        if apart:
+            return f"{block}: {', '.join(sorted(apart))} are written or named alone"
+    return None
+
+
+def a_map_of_each_keyword(folder, program, keep):
+    """A map with each keyword of the page is one that a farm publishes."""
+    lacking = set().union(*written().values()) - set(re.findall(r"\b[A-Z]{3,}\b", WHOLE))
+    if lacking - {"END"}:
+        return f"the map has no {', '.join(sorted(lacking))}"
+    done = subprocess.run([program, "check"], input=WHOLE.encode(), capture_output=True)
+    return done.stdout.decode() or None
