@@ -14,12 +14,15 @@ Cases, all of them where none is named:
     tape    a replica begins with what its tape has, also with a torn, missing or damaged one, and goes on where it can't be written
     chain   replicas that ask one another: one that is four away from a voter is asked, one that is five isn't
     misled  a replica that is pointed at another farm of the same name ends with status 1 and one line, whichever has published more
+    twice   a source that sends each reply twice, among three and alone: no map is published under two sequences, and the replica learns on
+    foreign one source among three is of another farm, or of another history with fewer or more maps: it is skipped with a warning
 
 A line says what each saw; the status is 0 where all went as they should. A run takes four minutes.
 """
 
 import argparse
 import collections
+import contextlib
 import os
 import pathlib
 import random
@@ -28,6 +31,7 @@ import resource
 import selectors
 import shutil
 import signal
+import socket
 import subprocess
 import sys
 import tempfile
@@ -70,13 +74,13 @@ def percentile(values, part):
 
 
 class Farm:
-    """Three voters that run, and their readers' ports."""
+    """Voters that run, three of them or so many, and their readers' ports."""
 
-    def __init__(self, options, top, name, tape=None):
+    def __init__(self, options, top, name, tape=None, farm="tried", voters=VOTERS):
         self.options, self.folder = options, top / name
-        ports = free_ports(VOTERS)
+        ports = free_ports(voters)
         self.readers = ",".join(f"127.0.0.1:{port}" for port in ports)
-        self.voters = nodes_in(options.program, self.folder, "tried", VOTERS, ports, tape)
+        self.voters = nodes_in(options.program, self.folder, farm, voters, ports, tape)
         self.replicas = []
 
     def __enter__(self):
@@ -249,6 +253,139 @@ def misled(options, top):
         more = mislead(ours, theirs)
     print(f"misled: by a farm with fewer maps {fewer}, with more {more}")
     want("it went on", fewer[0] == more[0] == 1)
+
+
+# ---- sources that aren't as they should be
+
+QUESTION_BYTES = 76
+
+
+def received(connection, count):
+    """So many bytes of a connection; fewer where it ends."""
+    came = b""
+    while len(came) < count and (piece := connection.recv(count - len(came))):
+        came += piece
+    return came
+
+
+class Repeater:
+    """A source that asks a voter's readers' port what it is asked, and sends each reply twice."""
+
+    def __init__(self, voter):
+        self.voter, self.brought = voter, 0
+        self.server = socket.create_server(("127.0.0.1", 0))
+        self.address = "127.0.0.1:%d" % self.server.getsockname()[1]
+        threading.Thread(target=self.run, daemon=True).start()
+
+    def __enter__(self):
+        return self
+
+    def __exit__(self, *_):
+        self.server.close()
+
+    def run(self):
+        with contextlib.suppress(OSError):
+            while True:
+                connection, _ = self.server.accept()
+                threading.Thread(target=self.serve, args=(connection,), daemon=True).start()
+
+    def serve(self, asker):
+        host, port = self.voter.split(":")
+        with contextlib.suppress(OSError), asker, socket.create_connection((host, int(port)), timeout=PATIENCE) as voter:
+            while len(question := received(asker, QUESTION_BYTES)) == QUESTION_BYTES:
+                voter.sendall(question)
+                head = received(voter, 4)
+                reply = head + received(voter, int.from_bytes(head, "big"))
+                asker.sendall(reply)
+                # not in one piece with it: that would be no reply at all
+                time.sleep(0.01)
+                asker.sendall(reply)
+                # what follows the digest are definitions
+                self.brought += len(reply) > 40
+
+
+def differences(farm, replica):
+    """What a replica has that no voter has: it has ended, has published more, or another picture. Asked for first, its sequence is no later."""
+    if replica.process.poll() is not None:
+        return [f"it has ended: {replica.log.read_text().splitlines()[-1]}"]
+    published, top = replica.published() or 0, farm.top()
+    if published > top:
+        return [f"it says published {published}, and the voters have {top}"]
+    voter = max(farm.voters, key=lambda voter: voter.published() or 0)
+    return [f"another picture at {sequence}" for sequence in range(1, published + 1)
+            if ask(replica, PIXEL % sequence) != ask(voter, PIXEL % sequence)]
+
+
+def follows(farm, replica, numbers, pause, is_enough=lambda: False):
+    """Publishes maps of these numbers with pauses until it is enough; what was wrong with a replica meanwhile, and whether it has all of them
+    in the end."""
+    wrong = set(differences(farm, replica))
+    for number in numbers:
+        if wrong or is_enough():
+            break
+        want("no publish", farm.publish(map_of(number, 0), farm.voters[0]))
+        time.sleep(pause)
+        wrong.update(differences(farm, replica))
+    top = farm.top()
+    if not wrong and until(lambda: replica.published() == top, 10) is None:
+        wrong.add(f"ten seconds later it says published {replica.published()}, and the voters {top}")
+    wrong.update(differences(farm, replica))
+    return sorted(wrong)
+
+
+def twice(options, top):
+    found = []
+    with Farm(options, top, "twice") as farm:
+        want("no publish", farm.publish(map_of(0, 0), farm.voters[0]))
+        readers = farm.readers.split(",")
+        for name, others in (("alone", []), ("among three", readers[1:])):
+            with Repeater(readers[0]) as source:
+                replica = farm.replica(f"replica {name}", ",".join([source.address, *others]))
+                until(lambda: replica.published(), 5)
+                # a source that brings nothing for a second isn't asked again before the others
+                first = farm.top()
+                wrong = follows(farm, replica, range(first, first + 30), 1.3, lambda: source.brought >= 3)
+                want("the source that repeats was never asked for maps", source.brought)
+                found += [f"{name}: {what}" for what in wrong]
+                replica.kill()
+    want("; ".join(found), not found)
+    print("twice: a source that sends each reply twice, alone and among three: followed")
+
+
+def foreign(options, top):
+    found = []
+    theirs, others = Farm(options, top, "theirs", voters=1), Farm(options, top, "others", farm="others", voters=1)
+    with Farm(options, top, "ours") as ours, theirs, others:
+        for number in range(3):
+            want("no publish", ours.publish(map_of(number, 0), ours.voters[0]))
+            want("no publish", others.publish(map_of(number, 0), others.voters[0]))
+        want("no publish", theirs.publish(map_of(100, 0), theirs.voters[0]))
+        for name, farm in (("of another farm", others), ("of fewer maps", theirs), ("of more maps", theirs)):
+            if name == "of more maps":
+                for number in range(101, 131):
+                    theirs.publish(map_of(number, 0), theirs.voters[0])
+            found += [f"{name}: {what}" for what in beside(ours, farm, f"beside one {name}")]
+    want("; ".join(found), not found)
+    print("foreign: one source among three of another farm, and of another history with fewer and more maps: skipped with a warning")
+
+
+def beside(ours, foreign_farm, name):
+    """What is wrong with a replica of a farm that has one source of another among three. It is asked once the others bring nothing."""
+    replica = ours.replica(name)
+    want("it doesn't begin", until(lambda: replica.published() == ours.top(), 20) is not None)
+    replica.kill()
+    own, place = ours.readers.split(","), replica.words.index("--peers") + 1
+    source = foreign_farm.readers.split(",")[0]
+    replica.words[place] = ",".join([own[0], source, own[1]])
+    replica.log.write_bytes(b"")
+    replica.start()
+    until(lambda: replica.process.poll() is not None, 5)
+    top = ours.top()
+    wrong = follows(ours, replica, range(top, top + 2), 1)
+    if ' warn lost source=1 why="refused by it: ' not in replica.log.read_text():
+        wrong.append("no warning about it")
+    replica.kill()
+    return wrong
 
 
 # ---- tapes and chains
@@ -442,7 +579,7 @@ def rest(options, top):
     want("replicas at rest cost two percent or more", max(after - before for after, before in zip(beside, alone)) < 2)
 
 
-CASES = [kills, lag, fill, rest, tape, chain, misled]
+CASES = [kills, lag, fill, rest, tape, chain, misled, twice, foreign]
 
 
 def words():

@@ -1,4 +1,7 @@
 pub mod Answered
+pub mod Answering
 pub mod Received
 pub mod Completion
 pub mod Reported
+pub mod Digested
+pub mod Fitting

@@ -5,6 +5,8 @@ use Rattle.wf_safety.specs.Theorems.{IsBeginning}
 use Rattle.wf_learner.specs.History.{next_of}
 use Rattle.wf_model.specs.Message.{Message}
 use Rattle.wf_tape.specs.declared.tape.Tape.{Ghosts as Tape}
+use Rattle.wf_reader.specs.ReaderAnswer.{ReaderAnswer}
+use Rattle.wf_reader.specs.declared.question.Question.{Question}
 use Rattle.wf_replica.specs.LearnedList.{messages_of, numbered}
 use Rattle.wf_replica.specs.declared.follower.Follower.{Follower}
 
@@ -15,6 +17,10 @@ list_of follower = follower.shelf.definitions
 -- the messages that it heard, one after the other
 abbrev pub received_by : {T : Type 0} {tapes : Tape T} → Follower T tapes → List (Message Definition)
 received_by follower = messages_of follower.received.items
+
+-- the answers that it was given, each with its question
+abbrev pub answers_of : {T : Type 0} {tapes : Tape T} → Follower T tapes → List (ReaderAnswer × Question)
+answers_of follower = follower.answers.items
 
 -- it heard and learned the first k of these definitions, as chosen for the next sequences
 pub record Learns {T : Type 0} {tapes : Tape T} (k : ℕ) (old new : Follower T tapes) (definitions : List Definition) : Type 0 where
@@ -30,3 +36,4 @@ pub record Grows {T : Type 0} {tapes : Tape T} (old new : Follower T tapes) : Ty
 pub record IsSame {T : Type 0} {tapes : Tape T} (old new : Follower T tapes) : Type 0 where
   pub list : list_of new ≡ list_of old
   pub received : received_by new ≡ received_by old
+  pub answers : answers_of new ≡ answers_of old

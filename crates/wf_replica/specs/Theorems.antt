@@ -1,5 +1,5 @@
 -- Theorems about what replicas learn.
-use Rattle.std.specs.Prelude.{◌≡◌, ℕ, suc, ◌≤◌, List, [], length, take, Some}
+use Rattle.std.specs.Prelude.{◌≡◌, ◌⊎◌, ℕ, suc, ◌≤◌, List, [], length, take, Some}
 use Rattle.wf_career.specs.Career.{Career, Item, IsFarm}
 use Rattle.wf_career.specs.Replica.{IsServed}
 use Rattle.wf_def.specs.Definition.{Definition}
@@ -8,14 +8,23 @@ use Rattle.wf_model.specs.Chosen.{IsIn}
 use Rattle.wf_model.specs.Message.{Message}
 use Rattle.wf_model.specs.DurableState.{definition_at}
 use Rattle.wf_model.specs.Table.{most_reports, reports_from}
-use Rattle.wf_reader.specs.Answerer.{next_reported}
+use Rattle.wf_reader.specs.Answerer.{IsAnswerTo, next_reported}
+use Rattle.wf_reader.specs.ReaderAnswer.{ReaderAnswer}
+use Rattle.wf_reader.specs.declared.answerer.Answerer.{Answerer}
+use Rattle.wf_reader.specs.declared.question.Question.{Question}
 use Rattle.wf_tape.specs.declared.tape.Tape.{Ghosts as Tape}
 use Rattle.wf_wms.specs.Answer.{AnswerValue, IsAnswerOf}
+use Rattle.wf_replica.specs.Fit.{FitsQuestion, IsQuestionOf}
 use Rattle.wf_replica.specs.LearnedList.{learned, numbered}
 
 -- What an answer at a readers' port says is what a node answers when it is asked for the next definition.
 abbrev pub AnswersReport : Type 0
 AnswersReport = (source : List Definition) (published : ℕ) → numbered (suc published) (next_reported source published) ≡ reports_from source (suc published) most_reports
+
+-- What a source answers to a replica's question fits it, if one of the two lists is a beginning of the other: nothing sound is rejected.
+abbrev pub SoundAnswersFit : Type 0
+SoundAnswersFit = (own : Answerer) (list source : List Definition) (q : Question) (a : ReaderAnswer) → IsBeginning list source ⊎ IsBeginning source list →
+    IsQuestionOf list q → IsAnswerTo own source q a → FitsQuestion list q a
 
 -- A replica never goes back: what it has learned at one moment is a beginning of what it has learned at each later one.
 abbrev pub NeverGoesBack : Type 0

@@ -4,10 +4,11 @@ ghost use Rattle.std.specs.Prelude.{◌≡◌, ◌≤◌, ◌<◌, ◌+◌, ◌+
 ghost use Rattle.wf_ballot.specs.Sequence.{last_sequence};
 ghost use Rattle.wf_career.specs.Replica.{after_learning};
 ghost use Rattle.wf_codec.specs.Message.{view};
-ghost use Rattle.wf_digest.specs.Digest.{AreDigestsOf, digest_at};
+ghost use Rattle.wf_digest.specs.Digest.{AreDigestsOf};
 ghost use Rattle.wf_learner.specs.History.{next_of};
 ghost use Rattle.wf_model.specs.Message.{Chosen};
-ghost use Rattle.wf_replica.specs.Follower.{Grows, Learns, received_by, list_of};
+ghost use Rattle.wf_replica.specs.Fit.{IsQuestionOf};
+ghost use Rattle.wf_replica.specs.Follower.{Grows, Learns, answers_of, received_by, list_of};
 ghost use Rattle.wf_replica.specs.LearnedList.{learned, messages_of, numbered};
 ghost use Rattle.wf_wms.specs.CachedPictures.{AllCached, most_cached};
 
@@ -41,6 +42,7 @@ impl<T: Tape + Drop> Follower<T> {
             digests,
             tape,
             received: Log::new(),
+            answers: Log::new(),
         })
     }
 
@@ -69,6 +71,7 @@ impl<T: Tape + Drop> Follower<T> {
     pub fn extend_digests(&mut self)
         ensures list { list_of self.new ≡ list_of self.old }
         ensures received { received_by self.new ≡ received_by self.old }
+        ensures answers { answers_of self.new ≡ answers_of self.old }
     {
         let _ = self.digests.extend(self.shelf.history());
     }
@@ -88,8 +91,7 @@ impl<T: Tape + Drop> Follower<T> {
     /// The question for what is published next. None: an allocation failed before, and the digests lack the last sequences.
     pub fn question(&self, farm: FarmName) -> Option<Question>
         ensures farm { IfSome result (λ q. q.farm ≡ farm) }
-        ensures published { IfSome result (λ q. q.published ≡ length (list_of self.now)) }
-        ensures digest { AreDigestsOf (list_of self.now) self.now.digests → IfSome result (λ q. q.digest ≡ digest_at (list_of self.now) (length (list_of self.now))) }
+        ensures question { IfSome result (IsQuestionOf (list_of self.now)) }
         ensures none { AreDigestsOf (list_of self.now) self.now.digests → result ≡ None → ⊥ }
     {
         let published = self.history().published();
@@ -106,7 +108,7 @@ impl<T: Tape + Drop> Follower<T> {
     /// Learns definitions that are chosen for the next sequences, in their order, and writes them on its tape, which is synced before they
     /// are published. The only error is allocation failure: some of them, from the first on, may have been learned. Once the last
     /// sequence is published nothing more is learned. Where the tape fails the replica goes on without it.
-    pub fn learn(&mut self, alloc: Global, definitions: &[Canon]) -> Result<(), AllocError>
+    pub(crate) fn learn(&mut self, alloc: Global, definitions: &[Canon]) -> Result<(), AllocError>
         ensures learns { (k : ℕ) × Learns k self.old self.new definitions.now }
         ensures all { OnOk result (list_of self.new ≡ take last_sequence (list_of self.old ++ definitions.now)) }
         ensures grows { Grows self.old self.new }

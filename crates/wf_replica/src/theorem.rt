@@ -1,6 +1,6 @@
 //! Theorems about replicas. Each call does nothing.
 
-ghost use Rattle.wf_replica.specs.Theorems.{AnswersReport, BeginningsAreServed, LearnedAgree, LearnedAnswer, LearnedAreServed, NeverGoesBack};
+ghost use Rattle.wf_replica.specs.Theorems.{AnswersReport, BeginningsAreServed, LearnedAgree, LearnedAnswer, LearnedAreServed, NeverGoesBack, SoundAnswersFit};
 
 use wf_career::{replicas_agree, replicas_answer_alike};
 use wf_tape::Tape;
@@ -8,6 +8,11 @@ use wf_tape::Tape;
 /// What an answer at a readers' port says is what a node answers when it is asked for the next definition.
 pub fn answers_report()
     ensures { AnswersReport }
+{}
+
+/// What a source answers to a replica's question fits it, if one of their lists is a beginning of the other: nothing sound is rejected.
+pub fn sound_answers_fit()
+    ensures { SoundAnswersFit }
 {}
 
 /// What a replica has learned at one moment is a beginning of what it has learned at each later one.

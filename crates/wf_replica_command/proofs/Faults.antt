@@ -16,7 +16,8 @@ use Rattle.wf_replica.specs.Theorems.{AreReported, LearnedAreServed}
 use Rattle.wf_replica.specs.LearnedList.{learned}
 use Rattle.wf_replica_command.specs.Done.{HasServed, IsDone, IsEnd}
 use Rattle.wf_replica_command.specs.Fault.{IsFromSystem, IsReplicaFault, fault_of}
-use Rattle.wf_replica_command.specs.ReplicaHub.{HasAnswered, HasLived, HasStayed, IsOfFarm}
+use Rattle.wf_replica_command.specs.Heard.{Hears}
+use Rattle.wf_replica_command.specs.ReplicaHub.{HasAnswered, HasHeardNothing, HasLived, HasStayed, IsOfFarm, IsRefused, follower_of}
 use Rattle.wf_replica_command.specs.declared.fault.ReplicaFault.{ReplicaFault}
 use Rattle.wf_replica_command.specs.declared.fault.ReplicaFault.TheVariants as faults
 use Rattle.wf_replica_command.specs.declared.hub.ReplicaHub.{ReplicaHub}
@@ -120,14 +121,20 @@ module _ {T : Type 0} (tapes : Tape T) where
 
   -- ---- what was served
 
-  has_served : (hub : ReplicaHub T tapes) → HasLived tapes hub → IsOfFarm tapes hub → HasAnswered tapes hub → HasStayed tapes hub → HasServed tapes
-  has_served hub lived of_farm answered stayed = record { hub = hub; lived = lived; of_farm = of_farm; answered = answered; stayed = stayed }
+  has_served : (begun hub : ReplicaHub T tapes) → HasHeardNothing tapes begun → Hears begun.asker (follower_of begun) hub.asker (follower_of hub) → HasLived tapes hub → IsOfFarm tapes hub →
+      HasAnswered tapes hub → HasStayed tapes hub → HasServed tapes
+  has_served begun hub unheard heard lived of_farm answered stayed =
+      record { begun = begun; unheard = unheard; hub = hub; heard = heard; lived = lived; of_farm = of_farm; answered = answered; stayed = stayed }
 
-  pub served_to_the_end : (hub : ReplicaHub T tapes) → HasLived tapes hub → IsOfFarm tapes hub → HasAnswered tapes hub → HasStayed tapes hub → IsEnd tapes (Ok tt)
-  served_to_the_end hub lived of_farm answered stayed = has_served hub lived of_farm answered stayed
+  pub served_to_the_end : (begun hub : ReplicaHub T tapes) → HasHeardNothing tapes begun → Hears begun.asker (follower_of begun) hub.asker (follower_of hub) → HasLived tapes hub → IsOfFarm tapes hub →
+      HasAnswered tapes hub → HasStayed tapes hub → IsEnd tapes (Ok tt)
+  served_to_the_end begun hub unheard heard lived of_farm answered stayed = has_served begun hub unheard heard lived of_farm answered stayed
 
-  pub served_until : (why : QuestionRejection) (hub : ReplicaHub T tapes) → HasLived tapes hub → IsOfFarm tapes hub → HasAnswered tapes hub → HasStayed tapes hub → IsEnd tapes (Err (faults.Ended why))
-  served_until why hub lived of_farm answered stayed = has_served hub lived of_farm answered stayed
+  pub served_until : (why : QuestionRejection) (begun hub : ReplicaHub T tapes) → HasHeardNothing tapes begun → Hears begun.asker (follower_of begun) hub.asker (follower_of hub) → HasLived tapes hub →
+      IsOfFarm tapes hub → HasAnswered tapes hub → HasStayed tapes hub → IsRefused tapes hub → IsEnd tapes (Err (faults.Ended why))
+  unfolding has_served
+  served_until why begun hub unheard heard lived of_farm answered stayed refused =
+      record { served = has_served begun hub unheard heard lived of_farm answered stayed; refused = refused }
 
 -- what was learned of answers of a farm is one of its lists
 pub of_farm : {T : Type 0} (list : List Definition) (received : List (Message Definition)) → LearnedAreServed T → learned [] received ≡ list →

@@ -2,3 +2,5 @@ mod Answers
 mod Faults
 mod Continuation
 mod Order
+mod Hearing
+mod Noting

@@ -6,6 +6,8 @@ use Rattle.wf_replica.specs.declared.follower.Follower.{Follower}
 use Rattle.wf_client.specs.Client.{Client}
 use Rattle.wf_replica_command.specs.Answer.{AreInOrder, IsResponse}
 use Rattle.wf_replica_command.specs.Continuation.{GoesOn}
+use Rattle.wf_replica_command.specs.Heard.{Hears}
+use Rattle.wf_replica_command.specs.declared.asker.Asker.{Asker}
 use Rattle.wf_replica_command.proofs.Continuation.{goes_on_twice, stays_same}
 use Rattle.wf_replica_command.specs.declared.renderer.Renderer.{Renderer}
 use Rattle.wf_tape.specs.declared.tape.Tape.{Ghosts as Tape}
@@ -22,8 +24,13 @@ module _ {T : Type 0} (tapes : Tape T) where
   later (r ∷ []) old new on are = (goes_on_twice r.0.follower old new are.0 on, tt)
   later (r ∷ s ∷ replicas) old new on are = (are.0, later (s ∷ replicas) old new on are.1)
 
-  pub still_in_order : (replicas : List (Renderer T tapes × ℕ)) (old new : Follower T tapes) → GoesOn old new → ∥ AreInOrder tapes replicas old ∥₁ → ∥ AreInOrder tapes replicas new ∥₁
+  still_in_order : (replicas : List (Renderer T tapes × ℕ)) (old new : Follower T tapes) → GoesOn old new → ∥ AreInOrder tapes replicas old ∥₁ → ∥ AreInOrder tapes replicas new ∥₁
   still_in_order replicas old new on are = ∥∥₁_map are (λ they. later replicas old new on they)
+
+  -- where the present one hears its sources
+  pub still_heard : (replicas : List (Renderer T tapes × ℕ)) (asker asker' : Asker) (old new : Follower T tapes) → Hears asker old asker' new → ∥ AreInOrder tapes replicas old ∥₁ →
+      ∥ AreInOrder tapes replicas new ∥₁
+  still_heard replicas asker asker' old new heard are = still_in_order replicas old new heard.goes_on are
 
   pub stays_in_order : (replicas : List (Renderer T tapes × ℕ)) (old new : Follower T tapes) → IsSame old new → ∥ AreInOrder tapes replicas old ∥₁ → ∥ AreInOrder tapes replicas new ∥₁
   stays_in_order replicas old new same are = still_in_order replicas old new (stays_same old new same) are
@@ -45,7 +52,7 @@ module _ {T : Type 0} (tapes : Tape T) where
   -- where nobody was answered
   pub kept : (before after : Renderer T tapes) → (after ≡ before) ⊎ IsSame before.follower after.follower → IsSame before.follower after.follower
   kept before after why = elim why [
-    | inl is ↦ subst (λ (r : Renderer T tapes). IsSame before.follower r.follower) (sym is) (record { list = refl; received = refl })
+    | inl is ↦ subst (λ (r : Renderer T tapes). IsSame before.follower r.follower) (sym is) (record { list = refl; received = refl; answers = refl })
     | inr same ↦ same
   ]
 

@@ -2,32 +2,41 @@
 use Rattle.std.specs.Prelude.{ℕ, Result, Ok, Err}
 use Rattle.wf_line.specs.declared.replica_line.ReplicaLine.{ReplicaLine}
 use Rattle.wf_replica_command.specs.Fault.{IsFromSystem, IsReplicaFault, fault_status}
-use Rattle.wf_replica_command.specs.ReplicaHub.{HasAnswered, HasLived, HasStayed, IsOfFarm}
+use Rattle.wf_replica_command.specs.Heard.{Hears}
+use Rattle.wf_replica_command.specs.ReplicaHub.{HasAnswered, HasHeardNothing, HasLived, HasStayed, IsOfFarm, IsRefused, follower_of}
 use Rattle.wf_replica_command.specs.declared.fault.ReplicaFault.{ReplicaFault}
 use Rattle.wf_replica_command.specs.declared.fault.ReplicaFault.TheVariants as faults
 use Rattle.wf_replica_command.specs.declared.hub.ReplicaHub.{ReplicaHub}
 use Rattle.wf_tape.specs.declared.tape.Tape.{Ghosts as Tape}
 
 module _ {T : Type 0} (tapes : Tape T) where
-  -- It has served: its list is what it heard, which is the farm's if all that it heard was; each client was answered from the list as it
-  -- then was; and the list never went back.
+  -- It has served. From the list with which it began it went on by what it heard of its sources, and by nothing else; its list is what it
+  -- heard, which is the farm's if all that it heard was; each client was answered from the list as it then was; and the list never went back.
   pub record HasServed : Type 0 where
+    pub begun : ReplicaHub T tapes
+    pub unheard : HasHeardNothing tapes begun
     pub hub : ReplicaHub T tapes
+    pub heard : Hears begun.asker (follower_of begun) hub.asker (follower_of hub)
     pub lived : HasLived tapes hub
     pub of_farm : IsOfFarm tapes hub
     pub answered : HasAnswered tapes hub
     pub stayed : HasStayed tapes hub
 
+  -- It has served until each of its sources refused it.
+  pub record IsEndedBySources : Type 0 where
+    pub served : HasServed
+    pub refused : IsRefused tapes served.hub
+
   -- how a replica ended that could begin
   abbrev pub IsEnd : Result (Unit {0}) ReplicaFault → Type 0
   IsEnd (Ok done) = HasServed
-  IsEnd (Err (faults.Ended why)) = HasServed
+  IsEnd (Err (faults.Ended why)) = IsEndedBySources
   IsEnd (Err fault) = IsFromSystem fault
 
   -- what came of a command line
   abbrev pub IsDone : ReplicaLine → Result (Unit {0}) ReplicaFault → Type 0
   IsDone line (Ok done) = HasServed
-  IsDone line (Err (faults.Ended why)) = HasServed
+  IsDone line (Err (faults.Ended why)) = IsEndedBySources
   IsDone line (Err fault) = IsReplicaFault line fault
 
 -- the exit status

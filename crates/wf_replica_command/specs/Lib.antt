@@ -3,3 +3,5 @@ pub mod Done
 pub mod Fault
 pub mod Continuation
 pub mod ReplicaHub
+pub mod Heard
+pub mod Source

@@ -1,13 +1,17 @@
 -- The replica of a hub, and the clients that it answered.
-use Rattle.std.specs.Prelude.{◌≡◌, ℕ, []}
+use Rattle.std.specs.Prelude.{◌≡◌, ℕ, [], true}
 use Rattle.wf_career.specs.Career.{Career}
 use Rattle.wf_career.specs.Replica.{IsServed}
 use Rattle.wf_replica.specs.Follower.{received_by, list_of}
 use Rattle.wf_replica.specs.Theorems.{AreReported}
 use Rattle.wf_replica.specs.LearnedList.{learned}
+use Rattle.wf_replica.specs.Refusals.{all_refuse}
 use Rattle.wf_replica.specs.declared.follower.Follower.{Follower}
 use Rattle.wf_replica_command.specs.Answer.{AreAnswered, AreInOrder}
+use Rattle.wf_replica_command.specs.Heard.{IsFewer}
 use Rattle.wf_replica_command.specs.declared.hub.ReplicaHub.{ReplicaHub}
+use Rattle.wf_replica_command.specs.declared.hub.Turn.{Turn}
+use Rattle.wf_replica_command.specs.declared.hub.Turn.TheVariants as turns
 use Rattle.wf_tape.specs.declared.tape.Tape.{Ghosts as Tape}
 use Rattle.wf_visitors.specs.Visitors.{responses_of}
 
@@ -31,3 +35,17 @@ HasAnswered tapes hub = ∥ AreAnswered tapes hub.clients.asked.items (responses
 -- from client to client it was one replica, whose list never went back
 abbrev pub HasStayed : {T : Type 0} (tapes : Tape T) → ReplicaHub T tapes → Type 0
 HasStayed tapes hub = ∥ AreInOrder tapes hub.clients.asked.items (follower_of hub) ∥₁
+
+-- it has heard nothing of its sources yet: none of them refuses it
+pub record HasHeardNothing {T : Type 0} (tapes : Tape T) (hub : ReplicaHub T tapes) : Type 0 where
+  pub heard : hub.asker.heard.items ≡ []
+  pub refusals : IsFewer [] hub.asker.refusals
+
+-- each of its sources refuses it, as it last replied
+abbrev pub IsRefused : {T : Type 0} (tapes : Tape T) → ReplicaHub T tapes → Type 0
+IsRefused tapes hub = all_refuse hub.asker.refusals ≡ true
+
+-- a turn after which the replica has to end: all of its sources refuse it
+abbrev pub IsTurn : {T : Type 0} (tapes : Tape T) → Turn → ReplicaHub T tapes → Type 0
+IsTurn tapes turns.On hub = Unit {0}
+IsTurn tapes (turns.Ended why) hub = IsRefused tapes hub

@@ -1,10 +1,10 @@
 //! A replica and its clients.
 
 ghost use Rattle.std.specs.Prelude.{◌≡◌};
-ghost use Rattle.wf_replica.specs.Follower.{received_by, list_of};
+ghost use Rattle.wf_replica.specs.Follower.{IsSame, received_by, list_of};
 ghost use Rattle.wf_replica.specs.LearnedList.{learned};
 ghost use Rattle.wf_replica_command.specs.Answer.{AreAnswered, AreInOrder};
-ghost use Rattle.wf_replica_command.specs.Continuation.{GoesOn};
+ghost use Rattle.wf_replica_command.specs.Heard.{Hears};
 ghost use Rattle.wf_visitors.specs.Visitors.{responses_of};
 
 use crate::asker::Asker;
@@ -61,13 +61,13 @@ impl<T: Tape + Drop> ReplicaClients<T> {
     }
 
     /// Takes in what came from the source that is asked, and asks what is due.
-    #[tactic(auto, using(crate::proofs::Order::still_in_order))]
+    #[tactic(auto, using(crate::proofs::Order::still_heard))]
     pub(crate) fn ask<R: Net + Clock + Eprint + AllocGlobal>(
         &mut self,
         context: &Context<'_, '_, R>,
         asker: &mut Asker,
     )
-        ensures { GoesOn self.old.renderer.follower self.new.renderer.follower }
+        ensures { Hears asker.old self.old.renderer.follower asker.new self.new.renderer.follower }
     {
         asker.go_on(context, &mut self.renderer.follower);
     }
@@ -94,12 +94,12 @@ impl<T: Tape + Drop> ReplicaClients<T> {
     }
 
     /// Answers requests that are whole, a bounded number of them. Returns whether there are more.
-    #[tactic(auto, using(crate::proofs::Continuation::stays, crate::proofs::Continuation::goes_on_twice))]
+    #[tactic(auto, using(crate::proofs::Continuation::same_itself, crate::proofs::Continuation::same_twice))]
     pub(crate) fn serve<R: Clock + Eprint + AllocGlobal>(
         &mut self,
         context: &Context<'_, '_, R>,
     ) -> bool
-        ensures { GoesOn self.old.renderer.follower self.new.renderer.follower }
+        ensures { IsSame self.old.renderer.follower self.new.renderer.follower }
     {
         for _ in 0..MOST_SERVED {
             let Some(index) = self.visitors.next() else {
@@ -111,13 +111,13 @@ impl<T: Tape + Drop> ReplicaClients<T> {
     }
 
     /// Answers the request in a slot, if it is whole.
-    #[tactic(auto, using(crate::proofs::Answers::one_more_answered, crate::proofs::Order::next_in_order, crate::proofs::Order::stays_in_order, crate::proofs::Order::kept, crate::proofs::Continuation::stays_same, crate::proofs::Continuation::stays))]
+    #[tactic(auto, using(crate::proofs::Answers::one_more_answered, crate::proofs::Order::next_in_order, crate::proofs::Order::stays_in_order, crate::proofs::Order::kept))]
     fn serve_one<R: Clock + Eprint + AllocGlobal>(
         &mut self,
         context: &Context<'_, '_, R>,
         index: usize,
     )
-        ensures { GoesOn self.old.renderer.follower self.new.renderer.follower }
+        ensures { IsSame self.old.renderer.follower self.new.renderer.follower }
     {
         let asked = self.asked.and(&self.renderer, &0);
         if self.visitors.serve(context, &mut self.renderer, index) {

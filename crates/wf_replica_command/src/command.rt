@@ -3,7 +3,7 @@ ghost use Rattle.std.specs.Prelude.{◌≡◌, ◌≤◌, IfErr};
 ghost use Rattle.wf_line.specs.ProcessLine.{IsReplicaInRange};
 ghost use Rattle.wf_replica_command.specs.Done.{IsDone, IsEnd};
 ghost use Rattle.wf_replica_command.specs.Fault.{IsFromSystem};
-ghost use Rattle.wf_replica_command.specs.ReplicaHub.{HasAnswered, HasLived, HasStayed, IsOfFarm};
+ghost use Rattle.wf_replica_command.specs.ReplicaHub.{HasAnswered, HasHeardNothing, HasLived, HasStayed, IsOfFarm};
 
 use crate::asker::Asker;
 use crate::event::ReplicaEvent;
@@ -169,13 +169,14 @@ fn first_of<R: Clock>(rt: &R) -> usize {
 }
 
 /// Takes that many turns, or fewer if the replica has to end.
-#[tactic(auto, using(crate::proofs::Faults::served_to_the_end, crate::proofs::Faults::served_until))]
+#[tactic(auto, using(crate::proofs::Faults::served_to_the_end, crate::proofs::Faults::served_until, crate::proofs::Hearing::hears_nothing, crate::proofs::Hearing::hears_twice))]
 fn go_on<R: Net + Files + Clock + Eprint + AllocGlobal, T: Tape + Drop>(
     rt: &R,
     log: &Log<'_, R>,
     hub: &mut ReplicaHub<T>,
     turns: u64,
 ) -> Result<(), ReplicaFault>
+    requires { HasHeardNothing T.Tape hub.old }
     ensures { IsEnd T.Tape result }
 {
     for _ in 0..turns {

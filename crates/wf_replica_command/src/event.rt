@@ -16,6 +16,10 @@ pub(crate) enum SourceEnd {
     Silent,
     /// What came isn't a reply.
     BadReply(ReplyFault),
+    /// A reply came, or a part of one, while no question was open.
+    Unasked,
+    /// A reply doesn't fit the question, by its count, its published sequence or its digest.
+    Unfit,
     /// The source doesn't answer.
     Rejected(QuestionRejection),
     /// Another source is asked.
@@ -29,6 +33,8 @@ impl fmt::Display for SourceEnd {
             SourceEnd::Failed => f.write_str("failed"),
             SourceEnd::Silent => f.write_str("silent"),
             SourceEnd::BadReply(fault) => write!(f, "\"bad reply: {fault}\""),
+            SourceEnd::Unasked => f.write_str("\"a reply that wasn't asked for\""),
+            SourceEnd::Unfit => f.write_str("\"a reply that doesn't fit the question\""),
             SourceEnd::Rejected(rejection) => write!(f, "\"refused by it: {rejection}\""),
             SourceEnd::Passed => f.write_str("passed"),
         }

@@ -1,8 +1,8 @@
 //! One thread that waits for its sockets, turn after turn.
-ghost use Rattle.std.specs.Prelude.{◌≡◌, [], IfErr};
+ghost use Rattle.std.specs.Prelude.{◌≡◌, [], IfErr, IfOk};
 ghost use Rattle.wf_replica_command.specs.Fault.{IsFromSystem};
-ghost use Rattle.wf_replica_command.specs.Continuation.{GoesOn};
-ghost use Rattle.wf_replica_command.specs.ReplicaHub.{HasAnswered, HasLived, HasStayed, IsOfFarm, follower_of};
+ghost use Rattle.wf_replica_command.specs.Heard.{Hears};
+ghost use Rattle.wf_replica_command.specs.ReplicaHub.{HasAnswered, HasHeardNothing, HasLived, HasStayed, IsOfFarm, IsTurn, follower_of};
 ghost use Rattle.wf_visitors.specs.Visitors.{responses_of};
 
 use crate::asker::Asker;
@@ -13,6 +13,7 @@ use crate::parts::{MOST_EVENTS, OPERATORS, ReplicaStart, bind};
 use crate::plan::ReplicaPlan;
 use crate::token::ReplicaSocket;
 use mio::{Events, Poll};
+use std::alloc::AllocError;
 use std::net::{Net, SocketAddr};
 use std::rt::Files;
 use std::time::{Clock, Duration};
@@ -49,13 +50,14 @@ pub struct ReplicaHub<T: Tape> {
 pub(crate) enum Turn {
     /// The replica goes on.
     On,
-    /// It has to end: a source of another farm, or one whose history differs.
+    /// It has to end: all of its sources are of another farm, or have another history.
     Ended(QuestionRejection),
 }
 
 impl<T: Tape + Drop> ReplicaHub<T> {
     /// Binds the addresses of a replica, which asks the source of this number first, counted round. Err: why it doesn't begin; the replica is
     /// dropped.
+    #[tactic(auto, using(crate::proofs::Hearing::nothing_heard))]
     pub(crate) fn new<R: Net + Clock + AllocGlobal>(
         rt: &R,
         plan: ReplicaPlan,
@@ -63,15 +65,23 @@ impl<T: Tape + Drop> ReplicaHub<T> {
         first: usize,
         follower: Follower<T>,
     ) -> Result<Self, ReplicaFault>
-        ensures { IfErr result IsFromSystem }
+        ensures begun { IfOk result (HasHeardNothing T.Tape) }
+        ensures fault { IfErr result IsFromSystem }
     {
         let time = now(rt);
         match bind(rt, &plan) {
             Ok(begun) => {
                 let ReplicaPlan { farm, sources, .. } = plan;
                 let is_new = follower.history().published().number() == 0;
-                let asker = Asker::new(sources, farm, first, is_new, time);
-                Ok(assemble(begun, asker, follower, tape, time))
+                match Asker::new(rt.alloc(), sources, farm, first, is_new, time) {
+                    Ok(asker) => Ok(assemble(begun, asker, follower, tape, time)),
+                    Err(AllocError) => {
+                        drop(begun);
+                        drop(tape);
+                        drop(follower);
+                        Err(ReplicaFault::Memory)
+                    }
+                }
             }
             Err(fault) => {
                 drop(plan);
@@ -111,9 +121,11 @@ impl<T: Tape + Drop> ReplicaHub<T> {
         ensures of_farm { IsOfFarm T.Tape self.new }
         // Each response that any client was sent is the one to exactly what had come of its request, over the list as it then was.
         ensures answered { HasAnswered T.Tape self.new }
-        // It never goes back.
+        // It never goes back, and goes on by what it hears of its sources.
         ensures stayed { HasStayed T.Tape self.new }
-        ensures goes_on { GoesOn (follower_of self.old) (follower_of self.new) }
+        ensures heard { Hears self.old.asker (follower_of self.old) self.new.asker (follower_of self.new) }
+        // It has to end only where all of its sources refuse it.
+        ensures ended { IsTurn T.Tape result self.new }
     {
         self.wait(rt);
         let mut ready = [0usize; MOST_EVENTS];
@@ -121,7 +133,7 @@ impl<T: Tape + Drop> ReplicaHub<T> {
         self.time = now(rt).max(self.time);
         self.is_busy = self.act(rt, log, ready.split_at(count.min(MOST_EVENTS)).0);
         self.always_lived();
-        match self.asker.end {
+        match self.asker.end() {
             Some(why) => Turn::Ended(why),
             None => Turn::On,
         }
@@ -129,7 +141,8 @@ impl<T: Tape + Drop> ReplicaHub<T> {
 
     /// Waits until a socket is ready or something is due; not at all if there is more to do.
     fn wait<R: Clock>(&mut self, rt: &R)
-        ensures { self.new.clients ≡ self.old.clients }
+        ensures clients { self.new.clients ≡ self.old.clients }
+        ensures asker { self.new.asker ≡ self.old.asker }
     {
         let millis = if self.is_busy {
             0
@@ -155,14 +168,14 @@ impl<T: Tape + Drop> ReplicaHub<T> {
     }
 
     /// Does what the sockets that are ready ask for, and what the clock does. Returns whether there is more to do.
-    #[tactic(auto, using(crate::proofs::Continuation::goes_on_twice))]
+    #[tactic(auto, using(crate::proofs::Hearing::acted))]
     fn act<'x, R: Net + Files + Clock + Eprint + AllocGlobal>(
         &mut self,
         rt: &'x R,
         log: &'x Log<'x, R>,
         ready: &[usize],
     ) -> bool
-        ensures { GoesOn (follower_of self.old) (follower_of self.new) }
+        ensures { Hears self.old.asker (follower_of self.old) self.new.asker (follower_of self.new) }
     {
         let ReplicaHub {
             poll,
@@ -185,9 +198,7 @@ impl<T: Tape + Drop> ReplicaHub<T> {
         clients.ask(&context, asker);
         act_on_each(&context, asker, clients, operators, readers, ready);
         let is_busy = clients.serve(&context);
-        if ticks.tick(context.time) {
-            tick(&context, clients, operators, readers);
-        }
+        tick(&context, ticks, clients, operators, readers);
         answer_operators(
             &context,
             operators,
@@ -210,7 +221,7 @@ fn assemble<T: Tape + Drop>(
     time: u64,
 ) -> ReplicaHub<T>
     requires { responses_of begun.visitors ≡ [] }
-    ensures { follower_of result ≡ follower }
+    ensures { result.asker ≡ asker }
 {
     let ReplicaStart {
         poll,
@@ -291,15 +302,19 @@ fn answer_reader<R: Net + Clock + Eprint + AllocGlobal, T: Tape + Drop>(
     readers.turn(context, &published, index);
 }
 
-/// Accepts whoever comes, and ends the phases whose time is over.
+/// Accepts whoever comes, and ends the phases whose time is over, if a tick is due.
 fn tick<R: Net + Clock + Eprint + AllocGlobal, T: Tape + Drop>(
     context: &Context<'_, '_, R>,
+    ticks: &mut Ticker,
     clients: &mut ReplicaClients<T>,
     operators: &mut Visitors,
     readers: &mut ReadersPort,
 )
     ensures { clients.new.renderer ≡ clients.old.renderer }
 {
+    if !ticks.tick(context.time) {
+        return;
+    }
     clients.accept(context);
     clients.tick(context.time);
     operators.accept(context);

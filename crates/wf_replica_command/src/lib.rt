@@ -5,27 +5,32 @@
 //! and its readers' port are those of a node (`wf_visitors`, `wf_operator`, `wf_readers_port`).
 //!
 //! **Promises** (`specs/Done.antt`), however many turns were taken, and however they ended.
-//! - The replica's list is what it heard, message after message. If it heard only answers of nodes of a farm or of replicas of it,
-//! that is
-//!   one of the lists of which `wf_career`'s `replicas_agree` says that all are beginnings of one history (`wf_replica`'s
+//! - The replica's list is what it heard, message after message. If it heard only answers of nodes of a farm or of replicas of it, that
+//!   is one of the lists of which `wf_career`'s `replicas_agree` says that all are beginnings of one history (`wf_replica`'s
 //!   `what_is_learned_is_served`).
 //! - Each client that was answered was sent the response of `wf_replica` to exactly what had come of its request, over the list as it then
 //!   was: a publish is 404.
 //! - The list never went back: that by which a client was answered is a beginning of the next one's, and of what it is now.
+//! - Each reply is one to a question that was open. From the list with which it began, reply by reply (`specs/Heard.antt`): an answer that fits
+//!   its question is taken whole, as far as memory allows, and any other, as any rejection, leaves the list as it was.
+//! - It ends by itself only where all of its sources, as each last replied, are of another farm or another history.
 //! - An error of the command line has its cause, and status 2; any other has status 1.
 //!
 //! **Doesn't.** What the system does with files, sockets and clocks has no model: that answers come, that the folder is locked and what its
 //! files hold is tried with the built program.
 #![tactic(auto)]
 
+mod asked;
 mod asker;
 mod clients;
 mod command;
+mod conversation;
 mod event;
 mod facts;
 mod fault;
 mod folder;
 mod hub;
+mod open_question;
 mod parts;
 mod plan;
 mod renderer;

@@ -1,14 +1,18 @@
 //! The connection to the source that is asked.
 
+ghost use Rattle.std.specs.Prelude.{◌≡◌, OnOk};
+ghost use Rattle.wf_replica_command.specs.Source.{IsLogged, IsOpenQuestion, IsOpenReply};
+
+use crate::asked::Asked;
 use crate::event::SourceEnd;
+use crate::open_question::OpenQuestion;
 use crate::token::ReplicaSocket;
+use http_server::Log;
 use mio::Registry;
 use mio::net::TcpStream;
-use std::alloc::Global;
+use std::alloc::{AllocError, Global};
 use std::net::{Net, SocketAddr};
-use wf_client::Outgoing;
-use wf_reader::{Question, Reply, ReplyFault, decode_reply, encode_question, reply_length};
-use wf_stream::Sink;
+use wf_reader::{Question, Reply, ReplyFault, decode_reply, reply_length};
 use wf_visitors::{Done, read, register, register_again, write};
 
 /// The most bytes of a piece.
@@ -17,11 +21,11 @@ const PIECE_BYTES: usize = 16_384;
 /// The most pieces that a turn reads.
 const MOST_PIECES: usize = 64;
 
-/// The connection to a source: what is still to be written of a question, and what has come of its reply.
+/// The connection to a source: the question that has no reply yet, and what has come of its reply.
 #[derive(Drop)]
 pub(crate) struct SourceConnection {
     stream: TcpStream,
-    question: Outgoing,
+    question: Option<OpenQuestion>,
     came: Vec<u8>,
 }
 
@@ -30,8 +34,8 @@ pub(crate) struct SourceConnection {
 pub(crate) enum SourceTurn {
     /// Nothing new.
     Same,
-    /// A reply.
-    Replied(Reply),
+    /// The reply to the question that was open.
+    Replied(Question, Reply),
     /// The connection has ended.
     Ended(SourceEnd),
 }
@@ -51,80 +55,144 @@ impl SourceConnection {
         match register(registry, &mut stream, ReplicaSocket::Source.token()) {
             Ok(()) => Some(SourceConnection {
                 stream,
-                question: Outgoing::new(alloc),
+                question: None,
                 came: Vec::new(alloc),
             }),
             Err(_) => None,
         }
     }
 
-    /// Asks a question, as soon as the connection takes it. Returns false where an allocation fails.
-    pub(crate) fn ask(&mut self, alloc: Global, question: &Question) -> bool {
-        let mut bytes = Vec::new(alloc);
-        if encode_question(question, &mut bytes).is_err() {
-            return false;
-        }
-        self.question = Outgoing::new(alloc);
-        self.came = Vec::new(alloc);
-        self.question.write(&bytes).is_ok()
+    /// Asks a question, as soon as the connection takes it. The only error is allocation failure: nothing is asked then.
+    pub(crate) fn ask(&mut self, alloc: Global, question: &Question) -> Result<(), AllocError>
+        ensures { OnOk result (IsOpenQuestion question.now self.new.question) }
+    {
+        self.question = Some(OpenQuestion::new(alloc, question)?);
+        Ok(())
     }
 
-    /// Writes what is left of the question, and reads what came of the reply.
-    pub(crate) fn turn(&mut self, alloc: Global, registry: &Registry) -> SourceTurn {
-        if let Some(why) = self.send() {
-            return SourceTurn::Ended(why);
+    /// Writes what is left of the question, and reads what came of its reply. Whatever comes while no question is open ends the connection.
+    /// The reply is logged, with this number of the source.
+    pub(crate) fn turn(
+        &mut self,
+        alloc: Global,
+        registry: &Registry,
+        source: usize,
+        heard: &mut Log<Reply, Asked>,
+    ) -> SourceTurn
+        ensures logged { IsLogged source result heard.old.items heard.new.items }
+        ensures reply { IsOpenReply result self.old.question self.new.question }
+    {
+        let mut asked = match self.question.take() {
+            Some(asked) => asked,
+            None => {
+                return match self.read_unasked() {
+                    Some(why) => SourceTurn::Ended(why),
+                    None => SourceTurn::Same,
+                };
+            }
+        };
+        let logged = Asked {
+            source,
+            question: asked.question(),
+        };
+        let conversed = converse(
+            alloc,
+            registry,
+            &mut self.stream,
+            &mut asked,
+            &mut self.came,
+        );
+        match conversed {
+            Ok(None) => {
+                self.question = Some(asked);
+                SourceTurn::Same
+            }
+            Ok(Some(reply)) => {
+                drop(asked);
+                *heard = heard.and(&reply, &logged);
+                let Asked { question, .. } = logged;
+                SourceTurn::Replied(question, reply)
+            }
+            Err(why) => {
+                drop(asked);
+                SourceTurn::Ended(why)
+            }
         }
-        let mut piece = [0u8; PIECE_BYTES];
-        for _ in 0..MOST_PIECES {
-            match read(&mut self.stream, &mut piece) {
-                Done::Bytes(count) => {
-                    let count = count.min(PIECE_BYTES);
-                    match self.take_in(alloc, &piece[..count]) {
-                        SourceTurn::Same => {}
-                        turned => return turned,
-                    }
+    }
+
+    /// Reads what came while no question is open. Returns why the connection has ended, if it has.
+    fn read_unasked(&mut self) -> Option<SourceEnd> {
+        let mut piece = [0u8; 1];
+        match read(&mut self.stream, &mut piece) {
+            Done::Bytes(_) => Some(SourceEnd::Unasked),
+            Done::Blocked => None,
+            Done::Closed => Some(SourceEnd::Closed),
+            Done::Failed => Some(SourceEnd::Failed),
+        }
+    }
+}
+
+/// Writes what is left of a question, and reads what came of its reply, which is taken in behind what came before. None: more is needed.
+fn converse(
+    alloc: Global,
+    registry: &Registry,
+    stream: &mut TcpStream,
+    asked: &mut OpenQuestion,
+    came: &mut Vec<u8>,
+) -> Result<Option<Reply>, SourceEnd> {
+    if let Some(why) = send(stream, asked) {
+        return Err(why);
+    }
+    let mut piece = [0u8; PIECE_BYTES];
+    for _ in 0..MOST_PIECES {
+        match read(stream, &mut piece) {
+            Done::Bytes(count) => {
+                // There is no reply to a question that isn't written yet.
+                if !asked.rest().is_empty() {
+                    return Err(SourceEnd::Unasked);
                 }
-                Done::Blocked => return SourceTurn::Same,
-                Done::Closed => return SourceTurn::Ended(SourceEnd::Closed),
-                Done::Failed => return SourceTurn::Ended(SourceEnd::Failed),
-            }
-        }
-        register_again(registry, &mut self.stream, ReplicaSocket::Source.token());
-        SourceTurn::Same
-    }
-
-    /// Writes what is left of the question.
-    fn send(&mut self) -> Option<SourceEnd> {
-        for _ in 0..u64::MAX {
-            if self.question.is_taken() {
-                return None;
-            }
-            match write(&mut self.stream, self.question.rest()) {
-                Done::Bytes(count) => {
-                    let count = count.min(self.question.remaining());
-                    self.question.advance(count);
+                match take_in(alloc, came, &piece[..count.min(PIECE_BYTES)]) {
+                    Ok(None) => {}
+                    taken => return taken,
                 }
-                Done::Blocked => return None,
-                Done::Closed => return Some(SourceEnd::Closed),
-                Done::Failed => return Some(SourceEnd::Failed),
             }
+            Done::Blocked => return Ok(None),
+            Done::Closed => return Err(SourceEnd::Closed),
+            Done::Failed => return Err(SourceEnd::Failed),
         }
-        None
     }
+    register_again(registry, stream, ReplicaSocket::Source.token());
+    Ok(None)
+}
 
-    /// Takes in bytes of a reply.
-    fn take_in(&mut self, alloc: Global, piece: &[u8]) -> SourceTurn {
-        if self.came.extend_from_slice(piece).is_err() {
-            return SourceTurn::Ended(SourceEnd::BadReply(ReplyFault::Memory));
+/// Writes what is left of a question. Returns why the connection has ended, if it has.
+fn send(stream: &mut TcpStream, asked: &mut OpenQuestion) -> Option<SourceEnd> {
+    for _ in 0..u64::MAX {
+        if asked.rest().is_empty() {
+            return None;
         }
-        match reply_in(alloc, &self.came) {
-            Ok(reply) => {
-                self.came = Vec::new(alloc);
-                SourceTurn::Replied(reply)
-            }
-            Err(ReplyFault::Short) => SourceTurn::Same,
-            Err(fault) => SourceTurn::Ended(SourceEnd::BadReply(fault)),
+        match write(stream, asked.rest()) {
+            Done::Bytes(count) => asked.advance(count),
+            Done::Blocked => return None,
+            Done::Closed => return Some(SourceEnd::Closed),
+            Done::Failed => return Some(SourceEnd::Failed),
         }
+    }
+    None
+}
+
+/// Takes in bytes of a reply, behind those that came before. None: more are needed.
+fn take_in(alloc: Global, came: &mut Vec<u8>, piece: &[u8]) -> Result<Option<Reply>, SourceEnd> {
+    if came.extend_from_slice(piece).is_err() {
+        return Err(SourceEnd::BadReply(ReplyFault::Memory));
+    }
+    match reply_in(alloc, came) {
+        Ok(reply) => {
+            *came = Vec::new(alloc);
+            Ok(Some(reply))
+        }
+        Err(ReplyFault::Short) => Ok(None),
+        Err(fault) => Err(SourceEnd::BadReply(fault)),
     }
 }
 

@@ -1,0 +1,167 @@
+-- A replica goes on from reply to reply.
+use Rattle.std.proofs.Common.{◌≡◌, ◌∙◌, ℕ, List, [], ◌∷◌, ◌++◌, refl, sym, ap, subst, append_assoc, append-nil}
+use Rattle.std.specs.Prelude.{Bool, Option, None, Result, IsSome}
+use Rattle.wf_def.specs.Definition.{Definition}
+use Rattle.wf_reader.specs.ReaderAnswer.{ReaderAnswer}
+use Rattle.wf_reader.specs.declared.question.Question.{Question}
+use Rattle.wf_reader.specs.declared.rejection.QuestionRejection.{QuestionRejection}
+use Rattle.wf_reader.specs.declared.reply.Reply.{Reply}
+use Rattle.wf_reader.specs.declared.reply.Reply.TheVariants as replies
+use Rattle.wf_replica.specs.Fit.{IsOtherHistory, AnswerLeaves}
+use Rattle.wf_replica.specs.Follower.{IsSame, answers_of, list_of}
+use Rattle.wf_replica.specs.declared.follower.Follower.{Follower}
+use Rattle.wf_replica.specs.declared.misfit.AnswerFault.{AnswerFault}
+use Rattle.wf_replica_command.specs.Continuation.{GoesOn}
+use Rattle.wf_replica_command.specs.Heard.{AreHeard, Course, Hears, IsFewer, IsGiven, IsHeard, IsKept, IsNoted, IsRefusal, IsRefusing, IsQuiet, IsReplyTaken, course_of}
+use Rattle.wf_replica_command.specs.ReplicaHub.{HasHeardNothing}
+use Rattle.wf_replica_command.specs.declared.asked.Asked.{Asked}
+use Rattle.wf_replica_command.specs.declared.asker.Asker.{Asker}
+use Rattle.wf_replica_command.specs.declared.hub.ReplicaHub.{ReplicaHub}
+use Rattle.wf_replica_command.specs.declared.renderer.Renderer.{Renderer}
+use Rattle.wf_replica_command.proofs.Continuation.{goes_on_twice, stays_same}
+use Rattle.wf_replica_command.proofs.Noting.{fewer_itself, fewer_same, noted_fewer, noted_for}
+use Rattle.wf_tape.specs.declared.tape.Tape.{Ghosts as Tape}
+
+settled_itself : (c : Course) → IsQuiet c c
+settled_itself c = record { kept = record { list = refl; answers = refl }; refusals = fewer_itself c.refusals }
+
+kept_twice : (a b c : Course) → IsKept a b → IsKept b c → IsKept a c
+kept_twice a b c first second = record { list = second.list ∙ first.list; answers = second.answers ∙ first.answers }
+
+settled_twice : (a b c : Course) → IsQuiet a b → IsQuiet b c → IsQuiet a c
+settled_twice a b c first second =
+    record { kept = kept_twice a b c first.kept second.kept; refusals = λ i refuses. first.refusals i (second.refusals i refuses) }
+
+-- ---- a reply to a replica that was kept
+
+taken_later : (a b c : Course) (q : Question) (reply : Reply) → IsKept a b → IsReplyTaken q reply b c → IsReplyTaken q reply a c
+taken_later a b c q (replies.Answer answer) kept taken = record {
+  outcome = taken.outcome;
+  leaves = subst (λ (l : List Definition). AnswerLeaves l q answer taken.outcome c.list) kept.list taken.leaves;
+  answers = taken.answers ∙ ap (λ (l : List (ReaderAnswer × Question)). l ++ (answer, q) ∷ []) kept.answers;
+}
+taken_later a b c q (replies.Rejected why) kept taken = kept_twice a b c kept taken
+
+heard_later : (a b c : Course) (reply : Reply) (asked : Asked) → IsQuiet a b → IsHeard reply asked b c → IsHeard reply asked a c
+heard_later a b c reply asked settled heard = record {
+  taken = taken_later a b c asked.question reply settled.kept heard.taken;
+  noted = record {
+    own = λ refuses. subst (λ (l : List Definition). IsRefusal l reply) settled.kept.list (heard.noted.own refuses);
+    others = λ i other refuses. settled.refusals i (heard.noted.others i other refuses);
+  };
+}
+
+are_heard_later : (a b c : Course) (heard : List (Reply × Asked)) → IsQuiet a b → AreHeard b heard c → AreHeard a heard c
+unfolding AreHeard
+are_heard_later a b c [] settled are = settled_twice a b c settled are
+are_heard_later a b c (x ∷ heard) settled are = (are.0, heard_later a b are.0 x.0 x.1 settled are.1, are.2)
+
+are_heard_twice : (a b c : Course) (first second : List (Reply × Asked)) → AreHeard a first b → AreHeard b second c → AreHeard a (first ++ second) c
+unfolding AreHeard
+are_heard_twice a b c [] second one two = are_heard_later a b c second one two
+are_heard_twice a b c (x ∷ first) second one two = (one.0, one.1, are_heard_twice one.0 b c first second one.2 two)
+
+none_heard : (a b : Course) → IsQuiet a b → AreHeard a [] b
+unfolding AreHeard
+none_heard a b settled = settled
+
+one_heard : (a b : Course) (reply : Reply) (asked : Asked) → IsHeard reply asked a b → AreHeard a ((reply, asked) ∷ []) b
+unfolding AreHeard
+one_heard a b reply asked heard = (b, heard, settled_itself b)
+
+-- ---- of a replica that asks
+
+module _ {T : Type 0} {tapes : Tape T} where
+  -- no reply came
+  hears_none : (asker asker' : Asker) (old new : Follower T tapes) → IsSame old new → asker'.heard.items ≡ asker.heard.items → IsFewer asker.refusals asker'.refusals →
+      Hears asker old asker' new
+  hears_none asker asker' old new same log fewer = record {
+    goes_on = stays_same old new same;
+    heard = [];
+    logged = log ∙ sym (append-nil asker.heard.items);
+    are = none_heard (course_of old asker.refusals) (course_of new asker'.refusals) (record { kept = record { list = same.list; answers = same.answers }; refusals = fewer });
+  }
+
+  -- of the replica nothing has changed
+  hears_quiet : (asker asker' : Asker) (replica : Follower T tapes) → asker'.heard.items ≡ asker.heard.items → IsFewer asker.refusals asker'.refusals → Hears asker replica asker' replica
+  hears_quiet asker asker' replica log fewer =
+      hears_none asker asker' replica replica (record { list = refl; received = refl; answers = refl }) log fewer
+
+  pub hears_nothing : (asker : Asker) (replica : Follower T tapes) → Hears asker replica asker replica
+  hears_nothing asker replica =
+      hears_none asker asker replica replica (record { list = refl; received = refl; answers = refl }) refl (fewer_itself asker.refusals)
+
+  -- nothing came, or nothing that counts
+  pub hears_still : (asker asker' : Asker) (replica : Follower T tapes) → asker'.heard.items ≡ asker.heard.items → asker'.refusals ≡ asker.refusals → Hears asker replica asker' replica
+  hears_still asker asker' replica log refusals = hears_quiet asker asker' replica log (fewer_same asker.refusals asker'.refusals refusals)
+
+  -- the connection ended
+  pub hears_end : (source : ℕ) (asker asker' : Asker) (items : List (Reply × Asked)) (replica : Follower T tapes) → IsNoted source (IsSome {T = QuestionRejection} None) asker.refusals asker'.refusals →
+      asker'.heard.items ≡ items → items ≡ asker.heard.items → Hears asker replica asker' replica
+  hears_end source asker asker' items replica noted log before =
+      hears_quiet asker asker' replica (log ∙ before) (noted_fewer source asker.refusals asker.refusals asker'.refusals noted refl)
+
+  hears_once : (asker asker' : Asker) (old new : Follower T tapes) (reply : Reply) (asked : Asked) → GoesOn old new → asker'.heard.items ≡ asker.heard.items ++ (reply, asked) ∷ [] →
+      IsHeard reply asked (course_of old asker.refusals) (course_of new asker'.refusals) → Hears asker old asker' new
+  hears_once asker asker' old new reply asked goes_on log heard = record {
+    goes_on = goes_on;
+    heard = (reply, asked) ∷ [];
+    logged = log;
+    are = one_heard (course_of old asker.refusals) (course_of new asker'.refusals) reply asked heard;
+  }
+
+  pub hears_twice : (first second third : Asker) (a b c : Follower T tapes) → Hears first a second b → Hears second b third c → Hears first a third c
+  hears_twice first second third a b c one two = record {
+    goes_on = goes_on_twice a b c one.goes_on two.goes_on;
+    heard = one.heard ++ two.heard;
+    logged = two.logged ∙ ap (λ (l : List (Reply × Asked)). l ++ two.heard) one.logged ∙ append_assoc first.heard.items one.heard two.heard;
+    are = are_heard_twice (course_of a first.refusals) (course_of b second.refusals) (course_of c third.refusals) one.heard two.heard one.are two.are;
+  }
+
+  pub hears_reply : (asker asker' : Asker) (items : List (Reply × Asked)) (old new : Follower T tapes) (reply : Reply) (asked : Asked) → GoesOn old new →
+      IsHeard reply asked (course_of old asker.refusals) (course_of new asker'.refusals) → items ≡ asker.heard.items ++ (reply, asked) ∷ [] → asker'.heard.items ≡ items → Hears asker old asker' new
+  hears_reply asker asker' items old new reply asked goes_on heard before log = hears_once asker asker' old new reply asked goes_on (log ∙ before) heard
+
+  -- what came, then who was silent, then what was asked
+  pub hears_turn : (first second third fourth : Asker) (a b c : Follower T tapes) → Hears first a second b → third.heard.items ≡ second.heard.items → IsFewer second.refusals third.refusals →
+      Hears third b fourth c → Hears first a fourth c
+  hears_turn first second third fourth a b c one log fewer two =
+      hears_twice first third fourth a b c (hears_twice first second third a b b one (hears_quiet second third b log fewer)) two
+
+  -- a question was put, and then something came
+  pub hears_asked : (first second third : Asker) (a b c : Follower T tapes) → IsSame a b → second.heard.items ≡ first.heard.items → IsFewer first.refusals second.refusals →
+      Hears second b third c → Hears first a third c
+  hears_asked first second third a b c same log fewer after = hears_twice first second third a b c (hears_none first second a b same log fewer) after
+
+  -- ---- a reply
+
+  pub given_by : (q : Question) (a : ReaderAnswer) (outcome : Result (Unit {0}) AnswerFault) (old new : Follower T tapes) (before after : List Bool) → AnswerLeaves (list_of old) q a outcome (list_of new) →
+      answers_of new ≡ answers_of old ++ (a, q) ∷ [] → IsGiven q a (course_of old before) (course_of new after)
+  given_by q a outcome old new before after leaves answers = record { outcome = outcome; leaves = leaves; answers = answers }
+
+  pub heard_answer : (source : ℕ) (q : Question) (a : ReaderAnswer) (old new : Follower T tapes) (before after : List Bool) → IsGiven q a (course_of old before) (course_of new after) →
+      IsNoted source (IsOtherHistory (list_of old) a) before after →
+      IsHeard (replies.Answer a) (record { source = source; question = q }) (course_of old before) (course_of new after)
+  heard_answer source q a old new before after given noted = record { taken = given; noted = noted }
+
+  pub heard_rejection : (source : ℕ) (q : Question) (why : QuestionRejection) (refusal : Option QuestionRejection) (replica : Follower T tapes) (before after : List Bool) →
+      IsNoted source (IsSome refusal) before after → (IsSome refusal → IsRefusing why) →
+      IsHeard (replies.Rejected why) (record { source = source; question = q }) (course_of replica before) (course_of replica after)
+  heard_rejection source q why refusal replica before after noted refuses =
+      record { taken = record { list = refl; answers = refl }; noted = noted_for source before after noted refuses }
+
+  -- what came afterwards leaves the replica as it is
+  pub hears_then : (first second : Asker) (a b c : Follower T tapes) → Hears first a second b → IsSame b c → Hears first a second c
+  hears_then first second a b c one same =
+      hears_twice first second second a b c one (hears_none second second b c same refl (fewer_itself second.refusals))
+
+  -- what it hears of its sources, and what leaves it as it is
+  pub acted : (first second : Asker) (a b c d e : Renderer T tapes) → Hears first a.follower second b.follower → c ≡ b → IsSame c.follower d.follower → e ≡ d → Hears first a.follower second e.follower
+  acted first second a b c d e heard same served kept =
+      subst (λ (r : Renderer T tapes). Hears first a.follower second r.follower) (sym kept)
+      (hears_then first second a.follower c.follower d.follower (subst (λ (r : Renderer T tapes). Hears first a.follower second r.follower) (sym same) heard) served)
+
+-- a hub whose replica hasn't asked yet
+pub nothing_heard : {T : Type 0} (tapes : Tape T) (hub : ReplicaHub T tapes) (asker : Asker) → hub.asker ≡ asker → asker.heard.items ≡ [] → IsFewer [] asker.refusals → HasHeardNothing tapes hub
+nothing_heard tapes hub asker is heard refusals =
+    record { heard = ap (λ (a : Asker). a.heard.items) is ∙ heard; refusals = subst (λ (a : Asker). IsFewer [] a.refusals) (sym is) refusals }
