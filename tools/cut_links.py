@@ -14,7 +14,7 @@ the while. Cases, all of them where none is named, each on new nodes, with 3 and
     away    a minority is cut off, both ways, and the others publish: `wfarmctl publish` goes to them
     ring    each link between two nodes is silent one way, so that no reply arrives
     last    nothing goes anywhere, and the publish that waits is for the last sequence, 4,096; once it is published, so that nobody asks for another,
-            no connection is dialed anew, and the links are silent once more, for ten seconds. As yet that second silence goes unnoticed: it fails
+            no connection is dialed anew, and the links are silent once more, for ten seconds
 
 Asked of each: within six seconds of the cut, and as long as the links are silent, `/votez`, `wfarm_peers_connected` and
 `wfarm_majority_connected` of every node say whom it hears (within seven in mute, deaf and ring: a peer's last word may come a second after the

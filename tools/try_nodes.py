@@ -46,8 +46,7 @@ back. At its end all must stand at one sequence, with equal histories. Cases:
     halves      two nodes of one history, two of another, and the fifth is down; then it comes
     alone       a suspended node, and one that is down; then that one comes with another history
 
-A line says what each saw; the status is 0 where all went as they should. A run takes 13 minutes. As yet `behind` and `lagging`
-fail: an outvoted node gives no maps to a node that lacks some, so such a farm waits for its operator.
+A line says what each saw; the status is 0 where all went as they should. A run takes 13 minutes.
 """
 
 import argparse

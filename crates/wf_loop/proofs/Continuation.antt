@@ -1,8 +1,9 @@
 -- Whatever is done to a process, its run goes on.
 use Rattle.std.proofs.Common.{◌≡◌, ◌⊎◌, ℕ, ◌<◌, ◌≤◌, Bool, true, false, List, [], ◌∷◌, ◌++◌, length, Option, Some, None, Result, refl, sym, subst, ap, ◌∙◌, inl, inr, append-nil, append_assoc}
 use Rattle.std.proofs.lemmas.Bool.{cases_Bool, cases_lt}
+use Rattle.std.specs.Prelude.{if◌then◌else◌}
 use Rattle.wf_actor.specs.Life.{logged}
-use Rattle.wf_actor.specs.Process.{ReceivesFrom, ReceivesOwn, IsActed, IsGoingOn, IsLinkChanged, IsReception, IsSameActor, is_peer, emitted_by}
+use Rattle.wf_actor.specs.Process.{ReceivesFrom, ReceivesOwn, IsActed, IsGoingOn, IsLinkChanged, IsReception, IsSameActor, arrived_at, arrived_of, is_peer, emitted_by}
 use Rattle.wf_actor.specs.declared.actor.Actor.{Actor}
 use Rattle.wf_actor.specs.declared.link.Link.{Link}
 use Rattle.wf_actor.specs.declared.actor.Origin.{Origin}
@@ -19,7 +20,7 @@ use Rattle.wf_node.specs.declared.fault.NodeFault.{NodeFault}
 use Rattle.wf_tape.specs.declared.tape.Tape.{Ghosts as Tape}
 use Rattle.wf_codec.specs.declared.fault.DecodeFault.{DecodeFault}
 use Rattle.wf_loop.specs.Answer.{HasResponded, IsAnswer}
-use Rattle.wf_loop.specs.Continuation.{Continues, GoesOn, HasServed, IsEarlier, IsLater, IsOfRuns, KeepsEarlier, StaysSuspended}
+use Rattle.wf_loop.specs.Continuation.{Continues, GoesOn, HasServed, IsEarlier, IsLater, IsOfRuns, KeepsEarlier, StaysSuspended, besides_asks, is_ask, is_ask_first}
 use Rattle.wf_loop.specs.declared.clients.Clients.{Clients}
 use Rattle.wf_loop.specs.declared.gate.Gate.TheVariants as gates
 use Rattle.wf_loop.specs.declared.hub.Voter.{Voter}
@@ -34,6 +35,16 @@ grown xs more ys is = (more, sym is)
 
 through : {A : Type 0} (xs ys zs : List A) → IsBeginning xs ys → IsBeginning ys zs → IsBeginning xs zs
 through xs ys zs (rest, e) (more, h) = (rest ++ more, sym (append_assoc xs rest more) ∙ subst (λ k. k ++ more ≡ zs) (sym e) h)
+
+-- ---- messages that ask for what is published
+
+one_asked : (given : List (Message × Origin)) (m : Message) (origin : Origin) → is_ask m ≡ true → besides_asks (given ++ (m, origin) ∷ []) ≡ besides_asks given
+unfolding besides_asks
+one_asked [] m origin asks = ap (λ (b : Bool). if b then [] else (m, origin) ∷ []) asks
+one_asked (x ∷ xs) m origin asks = ap (λ (ys : List (Message × Origin)). if is_ask x.0 then ys else x ∷ ys) (one_asked xs m origin asks)
+
+besides_same : (before after : List (Message × Origin)) → after ≡ before → besides_asks after ≡ besides_asks before
+besides_same before after same = ap besides_asks same
 
 -- ---- one of two ways, as a test says, or as an order does
 
@@ -117,21 +128,33 @@ module _ {T : Type 0} (tapes : Tape T) where
   own_received before None after is = unchanged before after is.1
   own_received before (Some result) after is = goes_twice before is.1 after (same_actor before is.1 is.2.rest) (going_on is.1 after _ is.3.goes_on is.3.emitted (grown _ _ _ is.3.given))
 
-  pub received_from : {U : Type 0} (peer : ℕ) (before : Process T tapes) (result : Option (Result U NodeFault)) (after : Process T tapes) → ReceivesFrom tapes peer before result after → GoesOn tapes before after
+  received_from : {U : Type 0} (peer : ℕ) (before : Process T tapes) (result : Option (Result U NodeFault)) (after : Process T tapes) → ReceivesFrom tapes peer before result after → GoesOn tapes before after
   received_from peer before None after is = unchanged before after is.1
   received_from peer before (Some result) after is = goes_twice before is.1 after (same_actor before is.1 is.2.rest) (going_on is.1 after _ is.3.goes_on is.3.emitted (grown _ _ _ is.3.given))
+
+  -- one that asks for what is published
+  next_asked : {U : Type 0} (peer : ℕ) (before : Process T tapes) (result : Option (Result U NodeFault)) (after : Process T tapes) → is_ask_first (arrived_at before peer) ≡ true
+      → ReceivesFrom tapes peer before result after → besides_asks after.actor.given.items ≡ besides_asks before.actor.given.items
+  next_asked peer before None after first is = ap (λ (p : Process T tapes). besides_asks p.actor.given.items) is.1
+  next_asked peer before (Some result) after first is =
+      let m = is.0 in
+      let popped = is.2 in
+      let arrived : arrived_at before peer ≡ m ∷ _ = ap (λ (link : Option Link). arrived_of link) popped.was ∙ popped.changes.first in
+      let asks : is_ask m ≡ true = sym (ap is_ask_first arrived) ∙ first in
+      ap besides_asks (is.3.given ∙ ap (λ (a : Actor T tapes). a.given.items ++ (m, origins.Peer peer) ∷ []) popped.rest.actor)
+      ∙ one_asked before.actor.given.items m (origins.Peer peer) asks
 
   -- ---- a voter
 
   pub still : (voter : Voter T tapes) → Continues tapes voter voter
-  still voter = record { process = goes_still voter.process; suspended = λ is. record { gate = is; actor = refl }; outvoted = refl; idle = λ _. refl }
+  still voter = record { process = goes_still voter.process; suspended = λ is. record { gate = is; actor = refl }; outvoted = refl; asked = λ _. refl }
 
   pub twice : (one two three : Voter T tapes) → Continues tapes one two → Continues tapes two three → Continues tapes one three
   twice one two three first second = record {
     process = goes_twice one.process two.process three.process first.process second.process;
     suspended = λ is. let a = first.suspended is in let b = second.suspended a.gate in record { gate = b.gate; actor = b.actor ∙ a.actor };
     outvoted = second.outvoted ∙ first.outvoted;
-    idle = λ is. second.idle (first.outvoted ∙ is) ∙ first.idle is;
+    asked = λ is. second.asked (first.outvoted ∙ is) ∙ first.asked is;
   }
 
   pub thrice : (one two three four : Voter T tapes) → Continues tapes one two → Continues tapes two three → Continues tapes three four → Continues tapes one four
@@ -147,7 +170,7 @@ module _ {T : Type 0} (tapes : Tape T) where
     process = goes;
     suspended = λ is. absurd (not is);
     outvoted = same;
-    idle = λ is. absurd (let no = agrees in cc);
+    asked = λ is. absurd (let no = agrees in cc);
   }
 
   pub acting : (before after : Voter T tapes) → before.gate ≡ gates.Open → before.is_outvoted ≡ false → after.is_outvoted ≡ before.is_outvoted
@@ -161,7 +184,17 @@ module _ {T : Type 0} (tapes : Tape T) where
     process = goes;
     suspended = λ is. absurd (let at_open = is_open in cc);
     outvoted = same;
-    idle = λ _. given;
+    asked = λ _. besides_same _ _ given;
+  }
+
+  -- one that takes in a message: it isn't suspended, and asks for what is published if the node is outvoted
+  pub taking : {U : Type 0} (before after : Voter T tapes) (peer : ℕ) (result : Option (Result U NodeFault)) → before.gate ≡ gates.Open → after.is_outvoted ≡ before.is_outvoted
+      → (before.is_outvoted ≡ true → is_ask_first (arrived_at before.process peer) ≡ true) → ReceivesFrom tapes peer before.process result after.process → Continues tapes before after
+  taking before after peer result is_open same asks receives = record {
+    process = received_from peer before.process result after.process receives;
+    suspended = λ is. absurd (let at_open = is_open in cc);
+    outvoted = same;
+    asked = λ is. next_asked peer before.process result after.process (asks is) receives;
   }
 
   -- the gate alone
@@ -171,7 +204,7 @@ module _ {T : Type 0} (tapes : Tape T) where
     process = unchanged before.process after.process is;
     suspended = λ suspended. record { gate = stays suspended; actor = ap (λ (p : Process T tapes). p.actor) is };
     outvoted = same;
-    idle = λ _. ap (λ (p : Process T tapes). p.actor.given.items) is;
+    asked = λ _. ap (λ (p : Process T tapes). besides_asks p.actor.given.items) is;
   }
 
   -- an end of a connection
@@ -180,7 +213,7 @@ module _ {T : Type 0} (tapes : Tape T) where
     process = same_actor before.process after.process is;
     suspended = λ suspended. record { gate = gate ∙ suspended; actor = is.actor };
     outvoted = same;
-    idle = λ _. ap (λ (a : Actor T tapes). a.given.items) is.actor;
+    asked = λ _. ap (λ (a : Actor T tapes). besides_asks a.given.items) is.actor;
   }
 
   same_process : (before after : Voter T tapes) → after.gate ≡ before.gate → after.is_outvoted ≡ before.is_outvoted → after.process ≡ before.process → Continues tapes before after
@@ -206,7 +239,7 @@ module _ {T : Type 0} (tapes : Tape T) where
         process = record { actor = later_same before.process.actor after.process.actor took.actor; among = took.among; ended = took.ended };
         suspended = λ suspended. record { gate = gate ∙ suspended; actor = took.actor };
         outvoted = same;
-        idle = λ _. ap (λ (a : Actor T tapes). a.given.items) took.actor;
+        asked = λ _. ap (λ (a : Actor T tapes). besides_asks a.given.items) took.actor;
       })
       (λ is. same_process before after gate same (other is).1)
 
@@ -246,11 +279,11 @@ module _ {T : Type 0} (tapes : Tape T) where
   outvoted_at : (three four five : Voter T tapes) → Continues tapes three four → five ≡ four → five.is_outvoted ≡ true → three.is_outvoted ≡ true
   outvoted_at three four five does keeps is = sym does.outvoted ∙ (sym (ap (λ (v : Voter T tapes). v.is_outvoted) keeps) ∙ is)
 
-  pub turned_idle : (one two three four five : Voter T tapes) → two ≡ one → three.process ≡ two.process → Continues tapes three four → five ≡ four → five.is_outvoted ≡ true
-      → five.process.actor.given.items ≡ one.process.actor.given.items
-  turned_idle one two three four five waits decides does keeps is =
-      ap (λ (v : Voter T tapes). v.process.actor.given.items) keeps
-      ∙ (does.idle (outvoted_at three four five does keeps is) ∙ ap (λ (p : Process T tapes). p.actor.given.items) (process_at one two three waits decides))
+  pub turned_asked : (one two three four five : Voter T tapes) → two ≡ one → three.process ≡ two.process → Continues tapes three four → five ≡ four → five.is_outvoted ≡ true
+      → besides_asks five.process.actor.given.items ≡ besides_asks one.process.actor.given.items
+  turned_asked one two three four five waits decides does keeps is =
+      ap (λ (v : Voter T tapes). besides_asks v.process.actor.given.items) keeps
+      ∙ (does.asked (outvoted_at three four five does keeps is) ∙ ap (λ (p : Process T tapes). besides_asks p.actor.given.items) (process_at one two three waits decides))
 
   pub turned_unanswered : (three four five : Voter T tapes) (first second : Clients T tapes) (decided : List (Voter T tapes × ℕ)) (fourth fifth : Clients T tapes)
       → second ≡ first → decided ≡ second.before.items → Continues tapes three four → (three.is_outvoted ≡ true → fourth.before.items ≡ decided)

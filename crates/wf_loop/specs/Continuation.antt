@@ -1,8 +1,11 @@
 -- The life of a process goes on.
-use Rattle.std.specs.Prelude.{◌≡◌, ◌⊎◌, ℕ, true, List, [], ◌∷◌}
+use Rattle.std.specs.Prelude.{◌≡◌, ◌⊎◌, ℕ, Bool, true, false, List, [], ◌∷◌, if◌then◌else◌}
 use Rattle.wf_actor.specs.Life.{logged}
 use Rattle.wf_actor.specs.declared.actor.Actor.{Actor}
+use Rattle.wf_actor.specs.declared.actor.Origin.{Origin}
 use Rattle.wf_actor.specs.declared.process.Process.{Process}
+use Rattle.wf_codec.specs.declared.message.Message.{Message}
+use Rattle.wf_codec.specs.declared.message.Message.TheVariants as messages
 use Rattle.wf_loop.specs.declared.gate.Gate.TheVariants as gates
 use Rattle.wf_loop.specs.declared.hub.Voter.{Voter}
 use Rattle.wf_mail.specs.Mail.{IsBeginning}
@@ -28,12 +31,28 @@ pub record StaysSuspended {T : Type 0} {tapes : Tape T} (before after : Voter T 
   pub gate : after.gate ≡ gates.Suspended
   pub actor : after.process.actor ≡ before.process.actor
 
--- The process goes on in its run. Nothing of a suspended node changes. Whether it is outvoted stays, and one that is was given no message.
+-- whether a message asks for what is published
+abbrev pub is_ask : Message → Bool
+is_ask (messages.Ask s) = true
+is_ask _ = false
+
+-- whether the first of these does
+abbrev pub is_ask_first : List Message → Bool
+is_ask_first [] = false
+is_ask_first (m ∷ rest) = is_ask m
+
+-- those of the messages that were given that don't
+unfoldable pub besides_asks : List (Message × Origin) → List (Message × Origin)
+besides_asks [] = []
+besides_asks (m ∷ rest) = if is_ask m.0 then besides_asks rest else m ∷ besides_asks rest
+
+-- The process goes on in its run. Nothing of a suspended node changes. Whether it is outvoted stays, and one that is was given no message
+-- but those that ask for what is published.
 pub record Continues {T : Type 0} (tapes : Tape T) (before after : Voter T tapes) : Type 0 where
   pub process : GoesOn tapes before.process after.process
   pub suspended : before.gate ≡ gates.Suspended → StaysSuspended before after
   pub outvoted : after.is_outvoted ≡ before.is_outvoted
-  pub idle : before.is_outvoted ≡ true → after.process.actor.given.items ≡ before.process.actor.given.items
+  pub asked : before.is_outvoted ≡ true → besides_asks after.process.actor.given.items ≡ besides_asks before.process.actor.given.items
 
 -- The process goes on in its run, and whether it is outvoted stays.
 pub record HasServed {T : Type 0} (tapes : Tape T) (before after : Voter T tapes) : Type 0 where

@@ -4,6 +4,7 @@ use Rattle.std.specs.declared.net.socket_addr.SocketAddr.{SocketAddr}
 use Rattle.wf_actor.specs.declared.process.Process.{Process}
 use Rattle.wf_digest.specs.Digest.{AreDigestsOf}
 use Rattle.wf_loop.specs.Answer.{AreAnswered}
+use Rattle.wf_loop.specs.Continuation.{besides_asks}
 use Rattle.wf_loop.specs.declared.gate.Gate.TheVariants as gates
 use Rattle.wf_loop.specs.declared.hub.Hub.{Hub}
 use Rattle.wf_loop.specs.Reach.{IsReachOf}
@@ -33,9 +34,9 @@ IsSuspended hub = hub.voter.gate ≡ gates.Suspended
 abbrev pub IsOutvoted : {T : Type 0} {tapes : Tape T} → Hub T tapes → Type 0
 IsOutvoted hub = hub.voter.is_outvoted ≡ true
 
--- The node was given no message, and no client was answered.
-pub record IsIdle {T : Type 0} {tapes : Tape T} (before after : Hub T tapes) : Type 0 where
-  pub given : after.voter.process.actor.given.items ≡ before.voter.process.actor.given.items
+-- The node was given no message but those that ask for what is published, and no client was answered.
+pub record OnlyAnswersAsks {T : Type 0} {tapes : Tape T} (before after : Hub T tapes) : Type 0 where
+  pub given : besides_asks after.voter.process.actor.given.items ≡ besides_asks before.voter.process.actor.given.items
   pub answered : after.clients.before.items ≡ before.clients.before.items
 
 -- Each client that was answered was sent the response of a process that had lived, as it was just before, to what had come of the request.

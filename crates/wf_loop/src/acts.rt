@@ -1,6 +1,7 @@
 //! What is done to a process: by each of these its run goes on, and nothing of a suspended node changes.
-ghost use Rattle.std.specs.Prelude.{◌≡◌, ◌++◌, ◌∷◌, [], IsTrue, false};
-ghost use Rattle.wf_loop.specs.Continuation.{Continues, KeepsEarlier};
+ghost use Rattle.std.specs.Prelude.{◌≡◌, ◌++◌, ◌∷◌, [], IsTrue, false, true};
+ghost use Rattle.wf_actor.specs.Process.{arrived_at};
+ghost use Rattle.wf_loop.specs.Continuation.{Continues, KeepsEarlier, is_ask, is_ask_first};
 
 use crate::gate::Gate;
 use crate::hub::Voter;
@@ -9,6 +10,7 @@ use std::io;
 use std::mem::replace;
 use wf_actor::Process;
 use wf_ballot::NodeId;
+use wf_codec::Message;
 use wf_stream::Sink;
 use wf_tape::Tape;
 
@@ -26,6 +28,20 @@ impl<T: Tape> Voter<T> {
         ensures { IsTrue result → self.now.gate ≡ Gate.Open }
     {
         self.gate == Gate::Open
+    }
+
+    /// Whether the node is given the first message that has arrived from a peer: each if it acts, and if it is outvoted one that asks for what
+    /// is published.
+    pub(crate) fn takes_next(&self, peer: NodeId) -> bool
+        ensures gate { IsTrue result → self.now.gate ≡ Gate.Open }
+        ensures asks { IsTrue result → self.now.is_outvoted ≡ true →
+            is_ask_first (arrived_at self.now.process peer) ≡ true }
+    {
+        if self.is_outvoted {
+            self.asks() && is_asked_next(&self.process, peer)
+        } else {
+            self.acts()
+        }
     }
 
     /// Whether clients are answered: not before it acts, and not once it is suspended or outvoted.
@@ -85,11 +101,28 @@ pub(crate) fn handle_own<T: Tape>(alloc: Global, voter: &mut Voter<T>) -> bool
     }
 }
 
-/// Delivers the first message that has arrived from a peer, if the node acts.
+/// Whether the first message that has arrived from a peer asks for what is published.
+fn is_asked_next<T: Tape>(process: &Process<T>, peer: NodeId) -> bool
+    ensures { result ≡ is_ask_first (arrived_at process.now peer) }
+{
+    match process.next_message(peer) {
+        Some(message) => is_ask(message),
+        None => false,
+    }
+}
+
+/// Whether a message asks for what is published.
+fn is_ask(message: &Message) -> bool
+    ensures { result ≡ is_ask message.now }
+{
+    matches!(message, Message::Ask(_))
+}
+
+/// Delivers the first message that has arrived from a peer, if the node is given it.
 pub(crate) fn handle<T: Tape>(alloc: Global, voter: &mut Voter<T>, peer: NodeId)
     ensures { Continues T.Tape voter.old voter.new }
 {
-    if voter.acts() {
+    if voter.takes_next(peer) {
         let _ = voter.process.handle(alloc, peer);
     }
 }

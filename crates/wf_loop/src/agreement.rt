@@ -3,7 +3,7 @@
 use crate::dial::Dial;
 use crate::event::NodeEvent;
 use crate::mesh::Mesh;
-use crate::peer_state::{Agreement, Differing};
+use crate::peer_state::{Agreement, Differing, Reached};
 use std::time::Clock;
 use wf_ballot::NodeId;
 use wf_visitors::{Context, Log};
@@ -52,7 +52,7 @@ impl Mesh {
     }
 
     /// Whether a peer's history differs, and those that agree with this node's and are heard, itself counted, are no majority. The log has
-    /// when that begins and ends.
+    /// when that begins and ends, and the connections begin anew then, so that each peer is greeted with it before anything else comes.
     pub(crate) fn judge_histories<R: Clock + Eprint>(
         &mut self,
         log: &Log<'_, R>,
@@ -62,6 +62,7 @@ impl Mesh {
         let is_outvoted = differing.is_some() && !self.is_majority(self.agreeing(time));
         if is_outvoted != self.is_outvoted {
             self.is_outvoted = is_outvoted;
+            self.close_all(time);
             match differing {
                 Some(differing) if is_outvoted => log.write(&NodeEvent::Outvoted {
                     peer: differing.peer,
@@ -77,12 +78,31 @@ impl Mesh {
     /// How many nodes are heard whose history agrees with this one's, itself counted.
     fn agreeing(&self, time: u64) -> usize {
         let mut count = 1usize;
-        for (index, state) in self.states.iter().enumerate() {
-            if state.agreement == Agreement::Agrees && self.is_heard(index, time) {
+        for state in &self.states {
+            if state.is_agreeing(time) {
                 count = count.saturating_add(1);
             }
         }
         count
+    }
+
+    /// Whether what comes from a peer may be taken in. Of one in dispute only where each other one in dispute is known to differ from this
+    /// node, or to have that one's history: a node that has what is common to two histories learns from neither.
+    pub(crate) fn is_trusted(&self, peer: usize) -> bool {
+        match self.states.get(peer) {
+            Some(state) => !state.is_in_dispute() || !self.is_another_in_dispute(state.reached),
+            None => false,
+        }
+    }
+
+    /// Whether a peer is connected and in dispute that isn't known to have reached the same.
+    fn is_another_in_dispute(&self, reached: Option<Reached>) -> bool {
+        for (index, state) in self.states.iter().enumerate() {
+            if state.is_in_dispute() && self.is_open(index) && state.reached != reached {
+                return true;
+            }
+        }
+        false
     }
 
     /// Whether to connect to a peer anew, so that the histories are compared: while one differs, with a peer that isn't known to agree and

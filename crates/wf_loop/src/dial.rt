@@ -272,13 +272,14 @@ impl Dial {
         None
     }
 
-    /// Reads the peer's reply; nothing else may come.
+    /// Reads the peer's reply, or its greeting again; nothing else may come.
     fn handle(&mut self, stream: &mut TcpStream) -> DialTurn {
         let mut piece = [0u8; GREETING_BYTES];
         for _ in 0..MOST_READS {
-            match read(stream, &mut piece) {
+            let room = GREETING_BYTES.saturating_sub(self.reply.len());
+            match read(stream, &mut piece[..room]) {
                 Done::Bytes(count) => {
-                    let count = count.min(GREETING_BYTES);
+                    let count = count.min(room);
                     match self.take_in(&piece[..count]) {
                         DialTurn::Same => {}
                         turned => return turned,
@@ -292,16 +293,16 @@ impl Dial {
         DialTurn::Same
     }
 
-    /// Takes in a piece of the reply.
+    /// Takes in a piece of the reply. Once it is whole another one may come.
     fn take_in(&mut self, piece: &[u8]) -> DialTurn {
-        if self.is_open || GREETING_BYTES < self.reply.len().saturating_add(piece.len()) {
-            return DialTurn::Ended(PeerEnd::Talkative);
-        }
         if self.reply.extend_from_slice(piece).is_err() {
             return DialTurn::Ended(PeerEnd::Memory);
         }
         match decode_reply(self.reply.as_slice()) {
-            Ok(reply) => DialTurn::Answered(reply),
+            Ok(reply) => {
+                self.reply.clear();
+                DialTurn::Answered(reply)
+            }
             Err(GreetingFault::Short) => DialTurn::Same,
             Err(fault) => DialTurn::Ended(PeerEnd::BadGreeting(fault)),
         }

@@ -21,8 +21,6 @@ pub enum PeerEnd {
     Rejected(PeerRejection),
     /// The peer doesn't let this node in.
     RejectedBy(PeerRejection),
-    /// Something came after the greeting, on a connection that only this node writes on.
-    Talkative,
     /// What came isn't a message.
     BadMessage,
     /// A message came in the name of another node.
@@ -50,7 +48,6 @@ impl fmt::Display for PeerEnd {
             PeerEnd::BadGreeting(fault) => write!(f, "\"bad greeting: {fault}\""),
             PeerEnd::Rejected(rejection) => write!(f, "\"refused: {rejection}\""),
             PeerEnd::RejectedBy(rejection) => write!(f, "\"refused by it: {rejection}\""),
-            PeerEnd::Talkative => f.write_str("talkative"),
             PeerEnd::BadMessage => f.write_str("bad-message"),
             PeerEnd::WrongSender => f.write_str("wrong-sender"),
             PeerEnd::Compared => f.write_str("compared-anew"),

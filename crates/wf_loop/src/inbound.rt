@@ -80,11 +80,25 @@ impl Inbound {
         peer: NodeId,
         own: &Greeting,
     ) -> Option<PeerEnd> {
+        self.from = Some(peer);
+        self.greet(alloc, own)
+    }
+
+    /// Greets the peer that was let in again, unless an earlier greeting still waits. What can't be written is written by a later turn.
+    pub(crate) fn greet_again(&mut self, alloc: Global, own: &Greeting) {
+        if self.from.is_some() && self.reply.is_taken() {
+            let _ = self.greet(alloc, own);
+        }
+    }
+
+    /// Greets the peer.
+    fn greet(&mut self, alloc: Global, own: &Greeting) -> Option<PeerEnd> {
         let mut bytes = Vec::new(alloc);
-        if encode(own, &mut bytes).is_err() || self.reply.write(&bytes).is_err() {
+        let mut reply = Outgoing::new(alloc);
+        if encode(own, &mut bytes).is_err() || reply.write(&bytes).is_err() {
             return Some(PeerEnd::Memory);
         }
-        self.from = Some(peer);
+        self.reply = reply;
         self.send()
     }
 

@@ -340,22 +340,18 @@ impl Mesh {
         self.dials.len() < count.saturating_mul(2)
     }
 
-    /// Whether a message of a peer came a short time ago, and it serves. Once the last sequence is published nobody asks any more: then
-    /// a connection will do.
+    /// Whether a message of a peer came a short time ago, and it serves.
     pub(crate) fn is_heard(&self, index: usize, time: u64) -> bool {
-        let Some(state) = self.states.get(index) else {
-            return false;
-        };
-        state.is_heard(time) || (self.is_full && state.serves && self.is_open(index))
+        match self.states.get(index) {
+            Some(state) => state.is_heard(time),
+            None => false,
+        }
     }
 
     /// Closes all connections.
     pub(crate) fn close_all(&mut self, time: u64) {
         for dial in &mut self.dials {
             dial.end(time);
-        }
-        for state in &mut self.states {
-            state.note_end();
         }
         for slot in &mut self.inbounds {
             *slot = None;
@@ -396,6 +392,8 @@ fn state_of<T: Tape + Drop>(voter: &Voter<T>) -> NodeState {
         Gate::Open | Gate::Starting => {
             if voter.process.is_halted() {
                 NodeState::Halted
+            } else if voter.is_outvoted {
+                NodeState::Outvoted
             } else {
                 NodeState::Serves
             }

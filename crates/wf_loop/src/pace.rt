@@ -181,6 +181,7 @@ impl Pace {
         self.retry(context.alloc(), voter, mesh, context.time);
         if self.seconds.tick(context.time) {
             mesh.ask_all(context.alloc(), voter);
+            mesh.greet_again(context, voter);
             let _ = mesh.save(context, voter);
         }
     }

@@ -8,6 +8,7 @@ use crate::dial::DialTurn;
 use crate::event::{NodeEvent, PeerEnd};
 use crate::gate::Gate;
 use crate::hub::Voter;
+use crate::inbound::Inbound;
 use crate::mesh::{Mesh, id_of};
 use std::alloc::Global;
 use std::net::Net;
@@ -15,7 +16,7 @@ use std::rt::Files;
 use std::time::Clock;
 use wf_ballot::NodeId;
 use wf_folder::{PeerAddress, Suspension};
-use wf_peer::{GreetingReply, PeerRejection, encode};
+use wf_peer::{Greeting, GreetingReply, PeerRejection, encode};
 use wf_tape::Tape;
 use wf_visitors::Context;
 
@@ -56,7 +57,7 @@ impl Mesh {
         }
     }
 
-    /// Opens the connection to a peer, whose reply has come.
+    /// Opens the connection to a peer, whose reply has come. One that is open already brings the peer's greeting again, by which it is heard.
     #[tactic(auto, using(crate::proofs::Continuation::still, crate::proofs::Continuation::twice))]
     fn open<R: Files + Clock + Eprint + AllocGlobal, T: Tape + Drop>(
         &mut self,
@@ -72,6 +73,10 @@ impl Mesh {
             self.end(context, voter, index, peer, why);
             return;
         }
+        if self.is_open(index) {
+            self.note_heard(index, context.time);
+            return;
+        }
         if let Some(dial) = self.dials.get_mut(index) {
             dial.open(context.time);
             context.log.write(&NodeEvent::Connected {
@@ -81,6 +86,13 @@ impl Mesh {
         }
         open_outbox(context.alloc(), voter, peer);
         self.catch_up.connect(index, context.time);
+    }
+
+    /// A peer is heard.
+    fn note_heard(&mut self, index: usize, time: u64) {
+        if let Some(state) = self.states.get_mut(index) {
+            state.heard_at = Some(time);
+        }
     }
 
     /// Why the connection to a peer doesn't open, by its reply.
@@ -181,9 +193,6 @@ impl Mesh {
         };
         let is_told = was_open || (why != PeerEnd::Failed && dial.is_to_be_told(why, context.time));
         dial.end(context.time);
-        if let Some(state) = self.states.get_mut(index) {
-            state.note_end();
-        }
         close_outbox(voter, peer);
         if is_told {
             context.log.write(&NodeEvent::Lost { peer: index, why });
@@ -268,13 +277,10 @@ impl Mesh {
         }
     }
 
-    /// Whether a connection to a peer takes too long to open, or nothing is heard of the peer. Once the last sequence is published nobody
-    /// asks any more, and silence ends none.
+    /// Whether a connection to a peer takes too long to open, or nothing is heard of the peer.
     fn is_late(&self, index: usize, time: u64) -> bool {
         match (self.dials.get(index), self.states.get(index)) {
-            (Some(dial), Some(state)) => {
-                dial.is_late(state.heard_at, time) && !(dial.is_open() && self.is_full)
-            }
+            (Some(dial), Some(state)) => dial.is_late(state.heard_at, time),
             _ => false,
         }
     }
@@ -327,6 +333,24 @@ impl Mesh {
         };
         if self.is_open(index) {
             ask(alloc, voter, peer);
+        }
+    }
+
+    /// Once the last sequence is published nobody asks any more: then each peer is greeted again on the connection from it, and learns by
+    /// this that the node is there.
+    pub(crate) fn greet_again<R: Files + Clock + Eprint + AllocGlobal, T: Tape + Drop>(
+        &mut self,
+        context: &Context<'_, '_, R>,
+        voter: &Voter<T>,
+    ) {
+        if !self.is_full || !voter.connects() {
+            return;
+        }
+        let Some(own) = self.greeting(voter) else {
+            return;
+        };
+        for slot in &mut self.inbounds {
+            greet(context.alloc(), slot, &own);
         }
     }
 
@@ -383,5 +407,13 @@ impl Mesh {
         if let Some(why) = dial.send(voter, peer) {
             self.end(context, voter, index, peer, why);
         }
+    }
+}
+
+/// Greets the peer of a connection again, if there is one.
+fn greet(alloc: Global, slot: &mut Option<Inbound>, own: &Greeting) {
+    match slot {
+        Some(inbound) => inbound.greet_again(alloc, own),
+        None => {}
     }
 }

@@ -15,7 +15,7 @@ use std::rt::Files;
 use std::time::Clock;
 use wf_ballot::{NodeId, SEQUENCES};
 use wf_folder::PeerAddress;
-use wf_peer::{Greeting, NodeState, PeerRejection};
+use wf_peer::{Greeting, PeerRejection};
 use wf_tape::Tape;
 use wf_visitors::{Context, micros, register, register_again};
 
@@ -258,9 +258,7 @@ impl Mesh {
         match admitted {
             Ok(()) => {
                 if let Some(state) = self.states.get_mut(number) {
-                    let said = greeting.progress.published.number();
-                    state.serves = greeting.state == NodeState::Serves;
-                    state.agreement = state.agreement.after(said, index.is_some(), published);
+                    state.take(greeting, index.is_some(), published);
                 }
             }
             Err(PeerRejection::OtherHistory) => {
@@ -307,15 +305,20 @@ impl Mesh {
         let Some(count) = receive(voter, peer, piece) else {
             return Some(PeerEnd::BadMessage);
         };
-        if let Some(state) = self.states.get_mut(peer.number() as usize) {
+        let number = peer.number() as usize;
+        if let Some(state) = self.states.get_mut(number) {
             state.received = state.received.saturating_add(count as u64);
             state.heard_at = Some(context.time);
         }
-        if !voter.acts() {
+        if !self.is_trusted(number) {
             // as if the network had lost them
             return None;
         }
         for _ in 0..count {
+            if !voter.takes_next(peer) {
+                // so are the others
+                return None;
+            }
             if let Some(why) = self.deliver_next(context, voter, peer) {
                 open_receiver(context.alloc(), voter, peer);
                 return Some(why);
@@ -364,8 +367,8 @@ impl Mesh {
         self.send(context, voter);
     }
 
-    /// Closes the connections from peers on which nothing came for too long. Once the last sequence is published nobody asks any more,
-    /// and none is closed.
+    /// Closes the connections from peers on which nothing came for too long. Once the last sequence is published nobody asks any more, and
+    /// none is closed: peers hear the node by its greetings then.
     pub(crate) fn close_silent<R: Clock + Eprint>(
         &mut self,
         context: &Context<'_, '_, R>,

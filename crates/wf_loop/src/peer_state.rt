@@ -1,6 +1,7 @@
 //! What is known of a peer.
 
 use std::net::SocketAddr;
+use wf_peer::{Greeting, NodeState};
 
 /// For how long a peer is heard after its last message, in milliseconds.
 pub(crate) const HEARD_MILLIS: u64 = 5_000;
@@ -36,6 +37,13 @@ impl Agreement {
     }
 }
 
+/// How far a peer's history goes, and its digest there.
+#[derive(Clone, Copy, PartialEq, Eq)]
+pub(crate) struct Reached {
+    pub(crate) published: u16,
+    pub(crate) digest: [u8; 32],
+}
+
 /// A peer whose history differs up to a sequence.
 #[derive(Clone, Copy)]
 pub(crate) struct Differing {
@@ -44,13 +52,14 @@ pub(crate) struct Differing {
     pub(crate) sequence: u16,
 }
 
-/// What is known of a peer: whether it is heard, whether its greeting says that it serves, how its history goes with this node's, when its
-/// last message came, whether it has answered since this node's start; how many messages to it were dropped since its connection opened, how many were put into its outboxes, how
-/// many came, and how many bytes were written to it.
+/// What is known of a peer: whether it is heard, what it does and how far it is by its last greeting, how its history goes with this node's,
+/// when its last message came, whether it has answered since this node's start; how many messages to it were dropped since its connection opened, how
+/// many were put into its outboxes, how many came, and how many bytes were written to it.
 #[derive(Clone, Copy, Default)]
 pub(crate) struct PeerState {
     pub(crate) is_connected: bool,
-    pub(crate) serves: bool,
+    pub(crate) says: Option<NodeState>,
+    pub(crate) reached: Option<Reached>,
     pub(crate) agreement: Agreement,
     pub(crate) heard_at: Option<u64>,
     pub(crate) has_answered: bool,
@@ -61,18 +70,39 @@ pub(crate) struct PeerState {
 }
 
 impl PeerState {
+    /// It is let in with this greeting, and has maybe let this node in by it, whose own last sequence is this one.
+    pub(crate) fn take(&mut self, greeting: &Greeting, lets_in: bool, published: u16) {
+        let said = greeting.progress.published.number();
+        self.says = Some(greeting.state);
+        self.reached = Some(Reached {
+            published: said,
+            digest: greeting.digest,
+        });
+        self.agreement = self.agreement.after(said, lets_in, published);
+    }
+
     /// Whether a message of it came a short time ago, and it serves.
     pub(crate) fn is_heard(&self, time: u64) -> bool {
+        self.says == Some(NodeState::Serves) && self.is_recent(time)
+    }
+
+    /// Whether a message of it came a short time ago, and its history agrees: also where it serves nobody since another one's differs.
+    pub(crate) fn is_agreeing(&self, time: u64) -> bool {
+        self.agreement == Agreement::Agrees
+            && matches!(self.says, Some(NodeState::Serves | NodeState::Outvoted))
+            && self.is_recent(time)
+    }
+
+    /// Whether a message of it came a short time ago.
+    fn is_recent(&self, time: u64) -> bool {
         match self.heard_at {
-            Some(heard) => self.serves && time.saturating_sub(heard) <= HEARD_MILLIS,
+            Some(heard) => time.saturating_sub(heard) <= HEARD_MILLIS,
             None => false,
         }
     }
 
-    /// The connection to it has ended: whether it agrees is to be found anew. That it differs stays known.
-    pub(crate) fn note_end(&mut self) {
-        if self.agreement == Agreement::Agrees {
-            self.agreement = Agreement::Unknown;
-        }
+    /// Whether it says that another one's history differs from its own, and isn't known to differ from this node's.
+    pub(crate) fn is_in_dispute(&self) -> bool {
+        self.says == Some(NodeState::Outvoted) && !matches!(self.agreement, Agreement::Differs(_))
     }
 }

@@ -3,7 +3,7 @@ ghost use Rattle.std.specs.Prelude.{◌≡◌, ◌≤◌, ◌+◌, ◌↔◌, �
 ghost use Rattle.wf_actor.specs.Process.{IsBegun};
 ghost use Rattle.wf_digest.specs.Digest.{AreDigestsOf};
 ghost use Rattle.wf_folder.specs.declared.suspension.Suspension.{Suspension as SuspensionValue};
-ghost use Rattle.wf_loop.specs.Hub.{GreetsAsNow, HasAnswered, IsIdle, IsOutvoted, IsReopeningDue, IsSuspended, address_of, process_of, time_of};
+ghost use Rattle.wf_loop.specs.Hub.{GreetsAsNow, HasAnswered, IsOutvoted, IsReopeningDue, IsSuspended, OnlyAnswersAsks, address_of, process_of, time_of};
 ghost use Rattle.wf_node.specs.Reopening.{HasStoredAs};
 ghost use Rattle.wf_loop.specs.Lived.{HasLived};
 ghost use Rattle.wf_loop.specs.Continuation.{Continues, GoesOn, KeepsEarlier, StaysSuspended};
@@ -321,9 +321,9 @@ impl<T: Tape + Drop> Hub<T> {
         ensures earlier { KeepsEarlier T.Tape (process_of self.old) (process_of self.new) }
         // A suspended node stays suspended and as it is: it is given nothing, and emits no message.
         ensures suspended { IsSuspended self.old → StaysSuspended self.old.voter self.new.voter }
-        // In a turn in which the history of a peer differs and no majority agrees, it is given no message, so it doesn't vote, and no client is
-        // answered.
-        ensures outvoted { IsOutvoted self.new → IsIdle self.old self.new }
+        // In a turn in which the history of a peer differs and no majority agrees, it is given no message but those that ask for what is
+        // published, so it doesn't vote, and no client is answered.
+        ensures outvoted { IsOutvoted self.new → OnlyAnswersAsks self.old self.new }
         ensures starts { F.starts folder.new ≡ F.starts folder.old }
         ensures time { time_of self.old ≤ time_of self.new }
     {

@@ -48,6 +48,7 @@ state_byte states.Serves = 1
 state_byte states.Halted = 2
 state_byte states.Suspended = 3
 state_byte states.Joins = 4
+state_byte states.Outvoted = 5
 
 -- the mark, the starts (4 bytes), the life (16), the round (4), the promise (5), the vote (7) and the published sequence (2)
 unfoldable pub progress_bytes : Progress → List ℕ

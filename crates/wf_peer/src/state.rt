@@ -9,6 +9,8 @@ pub enum NodeState {
     Suspended,
     /// Its folder is new, in the place of a lost one: it doesn't vote yet.
     Joins,
+    /// A peer has another history, and no majority agrees with its own: it only answers who asks for what is published.
+    Outvoted,
 }
 
 impl NodeState {
@@ -25,6 +27,7 @@ impl NodeState {
             NodeState::Halted => 2,
             NodeState::Suspended => 3,
             NodeState::Joins => 4,
+            NodeState::Outvoted => 5,
         }
     }
 
@@ -38,6 +41,7 @@ impl NodeState {
             2 => Some(NodeState::Halted),
             3 => Some(NodeState::Suspended),
             4 => Some(NodeState::Joins),
+            5 => Some(NodeState::Outvoted),
             _ => None,
         }
     }

@@ -1,4 +1,4 @@
-use Rattle.wf_loop.proofs.Continuation.{keeps_going, turned, turned_idle, turned_suspended, turned_unanswered}
+use Rattle.wf_loop.proofs.Continuation.{keeps_going, turned, turned_asked, turned_suspended, turned_unanswered}
 use Rattle.wf_loop.proofs.hub.Hub.go_on.Goals as goal
 
 pub returns-clause-on : goal.returns-clause-on
@@ -12,7 +12,7 @@ returns-clause-suspended g c = turned_suspended g.T.Tape _ _ _ _ _ c.wait-could_
 
 pub returns-clause-outvoted : goal.returns-clause-outvoted
 returns-clause-outvoted g c = λ is. record {
-  given = turned_idle g.T.Tape _ _ _ _ _ c.wait-could_wait.ensures.voter c.judge.ensures.process c.act-self.ensures.on c.keep.ensures.voter is;
+  given = turned_asked g.T.Tape _ _ _ _ _ c.wait-could_wait.ensures.voter c.judge.ensures.process c.act-self.ensures.on c.keep.ensures.voter is;
   answered =
       turned_unanswered g.T.Tape _ _ _ _ _ _ _ _ c.wait-could_wait.ensures.clients c.judge.ensures.befores c.act-self.ensures.on c.act-self.ensures.outvoted
       c.keep.ensures.voter c.keep.ensures.clients is;
