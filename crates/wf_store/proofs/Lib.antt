@@ -1,0 +1,3 @@
+pub mod Folders
+mod Noted
+pub mod Turns

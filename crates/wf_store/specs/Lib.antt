@@ -1,0 +1,4 @@
+pub mod FileName
+pub mod Fault
+pub mod Call
+pub mod CallTheorems

@@ -1,0 +1,42 @@
+//! The calls of a folder, as notes that only proofs read.
+ghost use Rattle.std.specs.Prelude.{◌≡◌, [], ◌∷◌, false};
+ghost use Rattle.wf_store.specs.Call.{IsAfter, OnlyReads, bytes_of, is_change};
+
+use crate::deed::Deed;
+use http_server::Log;
+use std::marker::Model;
+
+/// The calls so far, the latest first. Only proofs read them, and they take no memory.
+#[derive(Drop)]
+pub(crate) struct Calls {
+    notes: Log<Option<Vec<u8>>, Deed>,
+}
+
+impl Model for Calls {
+    ghost use Rattle.std.specs.Prelude.{List, reverse, map};
+    ghost use Rattle.wf_store.specs.Call.{Call, call_of};
+
+    ghost Value = { List Call };
+
+    ghost view = { λ c. reverse (map call_of c.notes.items) };
+}
+
+impl Calls {
+    /// No call was made yet.
+    pub(crate) fn new() -> Calls
+        ensures { result ≡ [] }
+    {
+        Calls { notes: Log::new() }
+    }
+
+    /// One more call, with the bytes that it read or wrote.
+    pub(crate) fn and(&self, deed: Deed, bytes: &Option<Vec<u8>>) -> Calls
+        ensures all { result ≡ record { deed = deed; bytes = bytes_of bytes.now } ∷ self.now }
+        ensures after { IsAfter self.now result }
+        ensures reads { is_change deed ≡ false → OnlyReads self.now result }
+    {
+        Calls {
+            notes: self.notes.and(bytes, &deed),
+        }
+    }
+}

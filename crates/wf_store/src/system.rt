@@ -1,0 +1,194 @@
+//! A folder of the system.
+ghost use Rattle.std.specs.Prelude.{◌≡◌, [], ◌∷◌, None, false};
+ghost use Rattle.wf_store.specs.Call.{IsAfter, OnlyReads, is_change};
+
+use crate::calls::Calls;
+use crate::deed::Deed;
+use crate::fault::FolderFault;
+use crate::file_name::FileName;
+use crate::store::Store;
+use crate::system_file::{length_in, open_existing_in, open_in, presence_in, read_in, replace_in};
+use crate::system_folder::{count_names, draw_bits, is_at, lock_folder, make_folder};
+use std::fs::File;
+use std::rt::Files;
+use wf_folder::Presence;
+use wf_tape::FileTape;
+
+/// A folder of the system, at a path.
+#[derive(Drop)]
+pub struct SystemStore<'a, 'p, R: Files<File = File>> {
+    rt: &'a R,
+    folder: &'p str,
+    // what is locked; the system releases it when the program ends in any way
+    held: Option<File>,
+    calls: Calls,
+}
+
+impl<'a, 'p, R: Files<File = File> + AllocGlobal> SystemStore<'a, 'p, R> {
+    /// The folder at a path, which isn't opened yet.
+    pub fn new(rt: &'a R, folder: &'p str) -> Self
+        ensures { result.calls ≡ [] }
+    {
+        SystemStore {
+            rt,
+            folder,
+            held: None,
+            calls: Calls::new(),
+        }
+    }
+
+    /// Notes a call that read or wrote no bytes.
+    fn note(&mut self, deed: Deed)
+        ensures all { self.new.calls ≡ record { deed = deed; bytes = None } ∷ self.old.calls }
+        ensures after { IsAfter self.old.calls self.new.calls }
+        ensures reads { is_change deed ≡ false → OnlyReads self.old.calls self.new.calls }
+    {
+        self.calls = self.calls.and(deed, &None);
+    }
+}
+
+impl<'a, 'p, R: Files<File = File> + AllocGlobal> Store for SystemStore<'a, 'p, R> {
+    type Tape = FileTape<&'a R>;
+
+    ghost calls = { λ store. store.calls };
+
+    fn make(&mut self) -> Result<(), FolderFault> {
+        match make_folder(self.rt, self.folder) {
+            Ok(()) => {
+                self.note(Deed::Makes);
+                Ok(())
+            }
+            Err(fault) => {
+                self.note(Deed::Fails);
+                Err(fault)
+            }
+        }
+    }
+
+    fn lock(&mut self) -> Result<(), FolderFault> {
+        match lock_folder(self.rt, self.folder) {
+            Ok(held) => {
+                self.held = Some(held);
+                self.note(Deed::Locks);
+                Ok(())
+            }
+            Err(fault) => {
+                self.note(Deed::Fails);
+                Err(fault)
+            }
+        }
+    }
+
+    fn is_same(&mut self) -> Result<bool, FolderFault> {
+        match is_at(self.rt, self.folder, &self.held) {
+            Ok(same) => {
+                self.note(Deed::Compares(same));
+                Ok(same)
+            }
+            Err(fault) => {
+                self.note(Deed::Fails);
+                Err(fault)
+            }
+        }
+    }
+
+    fn count_names(&mut self) -> Result<usize, FolderFault> {
+        match count_names(self.rt, self.folder) {
+            Ok(count) => {
+                self.note(Deed::Counts(count));
+                Ok(count)
+            }
+            Err(fault) => {
+                self.note(Deed::Fails);
+                Err(fault)
+            }
+        }
+    }
+
+    fn draw(&mut self) -> Result<[u8; 16], FolderFault> {
+        match draw_bits(self.rt) {
+            Ok(bits) => {
+                self.note(Deed::Draws(bits));
+                Ok(bits)
+            }
+            Err(fault) => {
+                self.note(Deed::Fails);
+                Err(fault)
+            }
+        }
+    }
+
+    fn presence(&mut self, file: FileName) -> Result<Presence, FolderFault> {
+        match presence_in(self.rt, self.folder, file) {
+            Ok(there) => {
+                self.note(Deed::Sees(file, there));
+                Ok(there)
+            }
+            Err(fault) => {
+                self.note(Deed::Fails);
+                Err(fault)
+            }
+        }
+    }
+
+    fn length(&mut self, file: FileName) -> Option<u64> {
+        let length = length_in(self.rt, self.folder, file);
+        self.note(Deed::Measures(file, length));
+        length
+    }
+
+    fn read(&mut self, file: FileName, limit: usize) -> Result<Option<Vec<u8>>, FolderFault> {
+        match read_in(self.rt, self.folder, file, limit) {
+            Ok(found) => {
+                self.calls = self.calls.and(Deed::Reads(file), &found);
+                Ok(found)
+            }
+            Err(fault) => {
+                self.note(Deed::Fails);
+                Err(fault)
+            }
+        }
+    }
+
+    fn open(&mut self, file: FileName) -> Result<FileTape<&'a R>, FolderFault> {
+        match open_in(self.rt, self.folder, file) {
+            Ok(tape) => {
+                self.note(Deed::Opens(file));
+                Ok(tape)
+            }
+            Err(fault) => {
+                self.note(Deed::FailsAt(file));
+                Err(fault)
+            }
+        }
+    }
+
+    fn open_existing(&mut self, file: FileName) -> Result<FileTape<&'a R>, FolderFault> {
+        match open_existing_in(self.rt, self.folder, file) {
+            Ok(tape) => {
+                self.note(Deed::OpensExisting(file));
+                Ok(tape)
+            }
+            Err(fault) => {
+                self.note(Deed::Fails);
+                Err(fault)
+            }
+        }
+    }
+
+    fn replace(&mut self, file: FileName, bytes: Vec<u8>) -> Result<(), FolderFault> {
+        match replace_in(self.rt, self.folder, file, &bytes) {
+            Ok(()) => {
+                let written = Some(bytes);
+                self.calls = self.calls.and(Deed::Replaces(file), &written);
+                drop(written);
+                Ok(())
+            }
+            Err(fault) => {
+                drop(bytes);
+                self.note(Deed::FailsAt(file));
+                Err(fault)
+            }
+        }
+    }
+}
