@@ -19,8 +19,6 @@ import json
 import pathlib
 import re
 import socket
-import ssl
-import subprocess
 import sys
 import tempfile
 import threading
@@ -36,8 +34,8 @@ from selenium.webdriver.common.keys import Keys
 HERE = pathlib.Path(__file__).resolve().parent
 sys.path.insert(0, str(HERE))
 from farm import Farm, nodes_in  # noqa: E402
+from nginx import EXAMPLES, Nginx, certificate, changed, whole  # noqa: E402
 
-EXAMPLES = HERE.parent / "examples"
 NODES = 3
 LABEL = bytes((1, 2, 3))  # the colour of labels in ACROSS
 ACROSS = """MAP NAME "across" EXTENT 0 0 1024 1024 PROJECTION "init=epsg:3857" END WEB METADATA "wms_title" "Across %d" END END
@@ -118,69 +116,34 @@ class Relay:
             return [node for node, line in self.asked if line.split(" ")[1] == "/" + path][-1]
 
 
-class Nginx:
+class PageNginx(Nginx):
     """nginx with examples/nginx.conf, its names changed."""
 
     def __init__(self, folder, relay, wms):
-        with socket.create_server(("127.0.0.1", 0)) as free:
-            self.port = free.getsockname()[1]
-        self.address = f"https://127.0.0.1:{self.port}/"
-        made = ["openssl", "req", "-x509", "-newkey", "rsa:2048", "-nodes", "-days", "2", "-subj", "/CN=127.0.0.1"]
-        subprocess.run([*made, "-keyout", f"{folder}/key.pem", "-out", f"{folder}/cert.pem"], check=True, capture_output=True)
-        site = (EXAMPLES / "nginx.conf").read_text(encoding="utf-8")
-        for said, here in (("listen 443 ssl", f"listen 127.0.0.1:{self.port} ssl"), ("server_name maps.county.example", "server_name _"),
-                           ("/etc/ssl/maps.county.example.pem", f"{folder}/cert.pem"), ("/etc/ssl/maps.county.example.key", f"{folder}/key.pem"),
-                           ("https://maps\\.county\\.example", f"https://127\\.0\\.0\\.1:{self.port}"), ("allow 10.0.0.0/8", "allow 127.0.0.0/8"),
-                           ("/usr/share/wfarm/viewer", str(EXAMPLES / "viewer")), ("http://127.0.0.1:8080", f"http://127.0.0.1:{relay.port}")):
-            assert said in site, said
-            site = site.replace(said, here)
+        super().__init__(folder)
+        cert, key = certificate(folder)
+        site = changed("nginx.conf", (
+            ("listen 443 ssl", f"listen 127.0.0.1:{self.port} ssl"), ("server_name maps.county.example", "server_name _"),
+            ("/etc/ssl/maps.county.example.pem", cert), ("/etc/ssl/maps.county.example.key", key),
+            ("https://maps\\.county\\.example", f"https://127\\.0\\.0\\.1:{self.port}"), ("allow 10.0.0.0/8", "allow 127.0.0.0/8"),
+            ("/usr/share/wfarm/viewer", str(EXAMPLES / "viewer")), ("http://127.0.0.1:8080", f"http://127.0.0.1:{relay.port}")))
         if wms:
             site = site.replace("location / {", "location = /other { proxy_pass %s; }\n    location / {" % wms.partition("?")[0])
-        temporary = "".join(f"{it}_temp_path {folder}/{it};\n" for it in ("client_body", "proxy", "fastcgi", "uwsgi", "scgi"))
-        types = "types { text/html html; text/css css; text/javascript js; image/png png; }"
-        (folder / "nginx.conf").write_text(
-            f"daemon off; pid {folder}/pid; error_log {folder}/log;\nevents {{}}\nhttp {{ access_log off; {types}\n{temporary}{site}\n}}\n",
-            encoding="utf-8")
-        self.start(folder)
-
-    def start(self, folder):
-        """Starts nginx with the configuration in the folder, and waits until it listens."""
-        self.process = subprocess.Popen(["nginx", "-e", f"{folder}/log", "-p", str(folder), "-c", f"{folder}/nginx.conf"])
-        for _ in range(100):
-            try:
-                socket.create_connection(("127.0.0.1", self.port), timeout=5).close()
-                return
-            except OSError:
-                time.sleep(0.1)
+        self.start(whole(folder, site))
 
     def publish_from(self, origin):
         """The status of a publish by a page of that origin."""
-        request = urllib.request.Request(self.address + "publish", data=b"MAP", headers={"Origin": origin})
-        try:
-            return urllib.request.urlopen(request, timeout=20, context=ssl._create_unverified_context()).status
-        except urllib.error.HTTPError as it:
-            return it.code
-
-    def end(self):
-        self.process.terminate()
-        self.process.wait()
+        return self.ask("publish", b"MAP", Origin=origin)[0]
 
 
 class LocalNginx(Nginx):
     """nginx with examples/viewer/local.conf, its ports changed, and a log of what was asked."""
 
     def __init__(self, folder, base):
-        self.folder = folder
-        with socket.create_server(("127.0.0.1", 0)) as free:
-            self.port = free.getsockname()[1]
-        self.address = f"http://127.0.0.1:{self.port}/"
-        site = (EXAMPLES / "viewer" / "local.conf").read_text(encoding="utf-8")
-        for said, here in ((":8081", f":{self.port}"), ("/tmp/wfarm-viewer", f"{folder}/local"), ("127.0.0.1:741$1", f"127.0.0.1:{base // 10}$1"),
-                           ("root .;", f"root {EXAMPLES / 'viewer'};"), ("access_log off;", f"log_format asked $request_uri; access_log {folder}/asked asked;")):
-            assert said in site, said
-            site = site.replace(said, here)
-        (folder / "nginx.conf").write_text(site, encoding="utf-8")
-        self.start(folder)
+        super().__init__(folder, "http")
+        self.start(changed("viewer/local.conf", (
+            (":8081", f":{self.port}"), ("/tmp/wfarm-viewer", f"{folder}/local"), *((f"127.0.0.1:741{number}", f"127.0.0.1:{base + number}") for number in range(NODES)),
+            ("root .;", f"root {EXAMPLES / 'viewer'};"), ("access_log off;", f"log_format asked $request_uri; access_log {folder}/asked asked;"))))
 
     def drew(self, path):
         """The node that was asked last for this path."""
@@ -627,7 +590,7 @@ def try_farm(page, look, folder, given):
     program, relay = str(given.program), Relay()
     farm = Farm(program, 1_000_000, None)
     relay.aim(farm.port)
-    nginx = Nginx(folder, relay, given.wms)
+    nginx = PageNginx(folder, relay, given.wms)
     try:
         page.browser.get(nginx.address)
         try_first_maps(page, relay, look)
