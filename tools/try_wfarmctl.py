@@ -7,11 +7,14 @@ A line for each thing that was seen; status 1 where one is not as it should be. 
 """
 
 import argparse
+import contextlib
+import json
 import pathlib
 import re
 import resource
 import shutil
 import signal
+import socket
 import subprocess
 import sys
 import tempfile
@@ -45,9 +48,9 @@ class Trial:
         path.write_text(MAP.format(name, title or name))
         return path
 
-    def call(self, *words, file=None, seconds=30):
+    def call(self, *words, file=None, seconds=30, program=None):
         """What `wfarmctl` does: its status, what it writes, and what it writes on standard error."""
-        options = ["--farm", str(file or self.file), "--program", self.program, "--seconds", str(seconds)]
+        options = ["--farm", str(file or self.file), "--program", str(program or self.program), "--seconds", str(seconds)]
         ended = subprocess.run([sys.executable, str(HERE / "wfarmctl"), *options, *map(str, words)], capture_output=True, text=True)
         return ended.returncode, ended.stdout, ended.stderr
 
@@ -81,10 +84,15 @@ def try_well(trial):
     trial.see("publish: the sequence, and the node that took the map", (code, told) == (0, "published 1 at node 0\n"), (told, error))
     trial.wait("all nodes have it", lambda: trial.all_at(1))
     code, told, error = trial.call("publish", HERE.parent / "examples" / "refused-include.map")
-    trial.see("publish: a map that isn't valid", code == 1 and "400 M5 4" in error, error)
+    trial.see("publish: a map that isn't valid", code == 1 and error.endswith("400 M5 4\n"), error)
+    trial.see("publish: what `wfarm check` finds in it", "line 1, column 5" in error and "Found INCLUDE" in error, error)
+    code, told, error = trial.call("publish", HERE.parent / "examples" / "refused-include.map", program=trial.folder / "nothing")
+    trial.see("publish: not where the program isn't there", (code, error) == (1, "wfarmctl: node 0: 400 M5 4\n"), error)
     code, told, error = trial.call("publish", trial.folder / "nothing")
     trial.see("publish: a file that isn't there", code == 1 and "No such file" in error, error)
     trial.see("publish: another", trial.call("publish", second)[:2] == (0, "published 2 at node 0\n"))
+    trial.see("publish: the published map", trial.call("publish", second)[:2] == (0, "unchanged: it is sequence 2\n"))
+    trial.see("rollback: to the published map", trial.call("rollback", 2)[:2] == (0, "unchanged: it is sequence 2\n"))
     trial.see("map: the canonical text", trial.call("map", 1)[:2] == (0, trial.canonical(first)))
     code, told, error = trial.call("map", 3)
     trial.see("map: a sequence that isn't published", code == 1 and "sequence 3 isn't published" in error, error)
@@ -94,6 +102,63 @@ def try_well(trial):
     code, told, error = trial.call("rollback", 1)
     trial.see("rollback: the map again, under a new sequence", code == 0 and told.startswith("published 3 ") and trial.call("map", 3)[1] == trial.canonical(first), (told, error))
     trial.wait("all nodes have it", lambda: trial.all_at(3))
+    try_history(trial)
+    try_file_of_nodes(trial)
+
+
+def try_history(trial):
+    """What is published, as a list, as JSON, and as files."""
+    code, told, error = trial.call("history")
+    lines = [line.split() for line in told.splitlines()]
+    trial.see("history: a head, a line per map, and what is left", code == 0 and len(lines) == 5 and lines[-1] == "4,093 of 4,096 left".split(), told)
+    length = str(len(trial.canonical(trial.folder / "second.map")))
+    trial.see("history: sequence, bytes, name and title", lines[2:3] == [["2", length, "second", "another", "title"]], told)
+    code, told, error = trial.call("status", "-o", "json")
+    read = json.loads(told) if code == 0 else {"processes": [{}]}
+    trial.see("status: as JSON", (read.get("well"), read.get("published"), read.get("left"), read.get("differ")) == (True, 3, 4093, None), told)
+    fields = {"name": "node 1", "published": 3, "majority": True, "state": "ok", "peers": 2, "proposal": "none"}
+    trial.see("status: each process, and whether it hears a majority", fields.items() <= dict(read["processes"][-2:][0]).items(), told)
+    trial.see("status: of which version", all("version" in each for each in read["processes"]), told)
+    try_export(trial)
+
+
+def try_export(trial):
+    """All maps as files, at once and in two goes."""
+    folder = trial.folder / "export"
+    code, told, error = trial.call("export", folder)
+    trial.see("export: all maps", (code, told) == (0, f"exported 3 maps to {folder}\n"), (told, error))
+    files = sorted(folder.glob("*.map"))
+    trial.see("export: a file each", code == 0 and [file.read_text() for file in files] == [trial.call("map", at)[1] for at in (1, 2, 3)], files)
+    trial.see("verify: an export", trial.call("verify", folder)[:2] == (0, f"{folder}: whole, published 3\n"))
+    (folder / "0003.map").unlink(missing_ok=True)
+    code, told, error = trial.call("verify", folder)
+    trial.see("verify: one that lacks a map", code == 1 and "the map of sequence 3 is missing" in error, error)
+    trial.see("export: it goes on", trial.call("export", folder)[0] == 0 and sorted(folder.glob("*.map")) == files != [])
+    second = folder / "0002.map"
+    second.parent.mkdir(exist_ok=True)
+    second.write_text(trial.call("map", 1)[1])
+    code, told, error = trial.call("export", folder)
+    trial.see("export: never beside another farm's maps", code == 1 and "0002.map: not the farm's map of sequence 2" in error, error)
+    code, told, error = trial.call("verify", folder)
+    trial.see("verify: a map that was changed", code == 1 and "the map of sequence 2 isn't the one that was exported" in error, error)
+    second.write_text(trial.call("map", 2)[1])
+
+
+def try_file_of_nodes(trial):
+    """A file of nodes that isn't right, and hosts that are silent."""
+    lines = trial.file.read_text().splitlines(keepends=True)
+    swapped = trial.folder / "swapped.nodes"
+    swapped.write_text("".join([lines[0], lines[2], lines[1], lines[3]]))
+    code, told, error = trial.call("status", file=swapped)
+    trial.see("status: a node that answers in another's line", code == 1 and "node 1 answers at " in told.splitlines()[1], told)
+    with contextlib.ExitStack() as held:
+        silent = [held.enter_context(socket.create_server(("127.0.0.1", 0))).getsockname()[1] for _ in range(4)]
+        away = trial.folder / "silent.nodes"
+        away.write_text(trial.file.read_text() + "".join(f"replica 127.0.0.1:{port} 127.0.0.1:{port}\n" for port in silent))
+        begun = time.monotonic()
+        code, told, error = trial.call("status", file=away)
+        took = time.monotonic() - begun
+    trial.see("status: four silent hosts at once, two seconds", told.count(" ok\n") == 3 and told.count("unreachable") == 4 and took < 4, (took, told))
 
 
 def try_replica(trial):
@@ -119,6 +184,8 @@ def try_failures(trial):
     third.kill()
     code, told, error = trial.call("status")
     trial.see("status: a node that was killed", code == 1 and "unreachable" in told.splitlines()[3] and told.count(" ok\n") == 2, told)
+    code, told, error = trial.call("map", 99)
+    trial.see("map: a sequence that isn't published, where the last host doesn't answer", code == 1 and "sequence 99 isn't published" in error, error)
     code, told, error = trial.call("publish", trial.map("fourth"))
     trial.see("publish: two of three", (code, told) == (0, "published 4 at node 0\n"), (told, error))
     third.start()
@@ -129,6 +196,7 @@ def try_failures(trial):
     third.process.send_signal(signal.SIGSTOP)
     code, told, error = trial.call("publish", trial.map("sixth"), seconds=3)
     trial.see("publish: one of three: it isn't known what will become of it", code == 1 and "it isn't known" in error, (told, error))
+    trial.see("publish: why there is no majority", re.search(r"no majority \(node 0 is unreachable .*; node 2 is unreachable ", error), error)
     trial.wait("status: the one that is left hears no majority", lambda: trial.call("status")[1].splitlines()[2].endswith(" no majority"))
     trial.see("status: so the farm isn't well", trial.call("status")[0] == 1)
     code, told, error = trial.call("publish", trial.map("sixth"), seconds=1)
@@ -183,24 +251,45 @@ def try_full(trial):
 
 
 def try_copy(trial):
-    """A farm's maps on a new farm, from a node that runs and from folders of stopped ones."""
-    source = trial.nodes[1]
+    """A farm's maps on a new farm: from a node that runs, a stopped node's folder, a tape and an export, whole and in two goes."""
+    source, part, export = trial.nodes[1], trial.folder / "part", trial.folder / "export"
     maps = [trial.call("map", sequence)[1] for sequence in range(1, source.published() + 1)]
-    for name, start in (("second", source.operator), ("third", None)):
-        nodes, file = trial.farm(name)
-        for node in nodes:
-            node.start()
-        trial.wait(f"a new farm {name}", lambda: trial.call("status", file=file)[0] == 0)
-        if start is None:
-            for node in trial.nodes:
-                node.kill()
-        code, told, error = trial.call("copy", start or source.folder, file)
-        trial.see("copy: all maps", (code, told) == (0, f"copied {len(maps)} maps\n"), (told, error))
-        trial.see("under their sequences", [trial.call("map", at, file=file)[1] for at in range(1, len(maps) + 1)] == maps)
-        code, told, error = trial.call("copy", start or source.folder, file)
-        trial.see("copy: never onto a farm that has maps", code == 1 and "has published maps already" in error, error)
-        for node in nodes:
-            node.kill()
+    trial.see("export: what came since", trial.call("export", export)[:2] == (0, f"exported {len(maps)} maps to {export}\n"))
+    shutil.copytree(export, part, ignore=lambda _, names: [name for name in names if name == "history" or name > "0002.map"])
+    for node in (trial.nodes[0], trial.nodes[2]):
+        node.kill()
+    copy_to(trial, "second", source.operator, maps)
+    source.kill()
+    copy_to(trial, "third", source.folder, maps)
+    copy_to(trial, "fourth", source.folder / "node-1.tape", maps)
+    copy_to(trial, "fifth", export, maps, first=part)
+    code, told, error = trial.call("copy", trial.folder / "nothing", trial.file)
+    trial.see("copy: of nothing", code == 1 and "neither a folder, nor a tape, nor an address" in error, error)
+
+
+def copy_to(trial, name, source, maps, first=None):
+    """Copies onto a new farm."""
+    nodes, file = trial.farm(name)
+    for node in nodes:
+        node.start()
+    trial.wait(f"a new farm {name}", lambda: trial.call("status", file=file)[0] == 0)
+    if first is not None:
+        trial.see("copy: the first maps", trial.call("copy", first, file)[:2] == (0, "copied 2 maps\n"))
+    counted = trial.folder / f"{name}.calls"
+    program = trial.folder / "counting"
+    program.write_text(f'#!/bin/sh\necho "$1" >> {counted}\nexec {trial.program} "$@"\n')
+    program.chmod(0o755)
+    code, told, error = trial.call("copy", source, file, program=program)
+    trial.see("copy: all maps", (code, told) == (0, f"copied {len(maps)} maps\n"), (told, error))
+    trial.see("under their sequences", [trial.call("map", at, file=file)[1] for at in range(1, len(maps) + 1)] == maps)
+    calls = counted.read_text().split().count("tape") if counted.exists() else 0
+    trial.see("a tape is read twice at most", calls <= 2, calls)
+    trial.see("copy: one that is done", trial.call("copy", source, file)[:2] == (0, f"copied {len(maps)} maps\n"))
+    if first is not None:
+        code, told, error = trial.call("copy", first, file)
+        trial.see("copy: never onto a farm that has other maps", code == 1 and "has published maps already" in error, error)
+    for node in nodes:
+        node.kill()
 
 
 def try_verify(trial):
@@ -228,6 +317,9 @@ def try_changed(trial):
     node = trial.nodes[2]
     tape, farm = node.folder / "node-2.tape", node.folder / "farm"
     tape.write_bytes(tape.read_bytes().replace(b"another title", b"Another title"))
+    code, told, error = trial.call("verify", *(each.folder for each in trial.nodes))
+    trial.see("verify: histories that differ", code == 1 and f"the histories of {trial.nodes[0].folder / 'node-0.tape'} and {tape} differ from "
+              "sequence 2 on" in error, (told, error))
     for each in trial.nodes[:2]:
         each.start()
     trial.wait("two of three nodes", lambda: trial.all_at(7, trial.nodes[:2]))
@@ -241,8 +333,10 @@ def try_changed(trial):
         r" history differs.* node [01]\b.*127\.0\.0\.1:\d+.* sequence 7\b", trial.call("status")[1].splitlines()[3]))
     code, told, error = trial.call("status")
     trial.see("status: the others are well", code == 1 and told.count(" ok\n") == 2, told)
-    code, told, error = trial.call("publish", trial.map("eighth"))
+    code, told, error = trial.call("publish", trial.map("ninth"))
     trial.see("publish: by the others", (code, told) == (0, "published 8 at node 0\n"), (told, error))
+    code, told, error = trial.call("publish", trial.folder / "ninth.map", "--again")
+    trial.see("publish: the published map again, if it is asked for", (code, told) == (0, "published 9 at node 0\n"), (told, error))
     trial.see("and nobody has ended", [each.process.poll() for each in trial.nodes] == [None] * 3)
 
 
