@@ -1,16 +1,24 @@
 #!/usr/bin/env python3
-"""Makes a Debian package of the built program: wfarm_VERSION_amd64.deb.
+"""Makes a Debian package of the built program, wfarm_VERSION_amd64.deb, and beside it the file of its SHA-256, for `sha256sum --check`.
 
-In it: the program and `wfarmctl` in /usr/bin, the page and the examples in /usr/share/wfarm, the units of systemd, and the user `wfarm`
-with /var/lib/wfarm, which are made at the installation. Removing the package leaves folders of nodes as they are; purging it does too,
-since a vote that is thrown away is the one thing that a farm can't forgive.
+In it: the program and `wfarmctl` in /usr/bin, each with a page for `man` made from its help; the page, the examples and the tools that make
+maps in /usr/share/wfarm; the documents in /usr/share/doc/wfarm, with the file BUILD, which says of which revision the program is; the
+units of systemd; and the user `wfarm` with /var/lib/wfarm, which are made at the installation. An upgrade starts anew what runs, a removal
+stops it. Removing the package leaves folders of nodes as they are; purging it does too, since a vote that is thrown away is the one thing
+that a farm can't forgive.
 
-Usage: tools/make_deb.py [--program PROGRAM] [--version VERSION] [--to DIR]
-The version is 0.1.0 and the date of the newest commit, as 0.1.0+20261126. Wants dpkg-deb (package dpkg). Prints the file's path.
+Usage: tools/make_deb.py [--program PROGRAM] [--version VERSION] [--maintainer NAME] [--to DIR]
+The program is the proved one that `rt ci` leaves, unless another is given. The version is 0.1.0 and the date of the newest commit, as
+0.1.0+20261126. Wants dpkg-deb (package dpkg). Prints the files' paths.
 """
 
 import argparse
+import email.utils
+import gzip
+import hashlib
+import os
 import pathlib
+import re
 import shutil
 import subprocess
 import sys
@@ -21,30 +29,38 @@ PROGRAM = TOP / "crates" / "wfarm" / "out" / "wfarm"
 UNITS = ("examples/wfarm.service", "examples/wfarm@.service", "examples/three/wfarm-node@.service", "examples/three/wfarm-failed@.service",
          "examples/three/wfarm-replica@.service")
 
+# the documents that operators read, and what these name
+DOCUMENTS = ("README.md", "CHANGELOG.md", "CONTRIBUTING.md", "docs", "bench/README.md")
+MAP_TOOLS = ("make_map.py", "import_mapfile.py", "pixmap_to_png.py", "maps", "geojson")
+COMMANDS = ("init", "node", "clear", "replica", "serve", "draw", "caps", "check", "canon", "tape", "run", "wire")
+
 CONTROL = """\
 Package: wfarm
 Version: {version}
 Architecture: amd64
-Maintainer: wfarm <wfarm@localhost>
-Depends: python3, adduser
-Suggests: nginx, libjs-leaflet
+Maintainer: {maintainer}
+Depends: {depends}
+Recommends: systemd
+Suggests: nginx, haproxy, prometheus, libjs-leaflet, python3-gdal, python3-mapscript, python3-shapely, python3-numpy
 Section: web
 Priority: optional
-Description: a farm of Web Map Service servers that never differ
+Description: farm of Web Map Service servers that never differ
  Several machines serve one history of maps, numbered by update sequence.
  No two of them ever publish different maps under one number.
 """
 
-AFTER_INSTALLATION = """\
+RUNNING = "'wfarm-node@*.service' 'wfarm-replica@*.service' 'wfarm@*.service' wfarm.service"
+
+AFTER_INSTALLATION = f"""\
 #!/bin/sh
 set -e
 if [ "$1" = configure ]; then
     adduser --system --group --quiet --home /var/lib/wfarm --no-create-home wfarm
     install -d -o wfarm -g wfarm -m 0750 /var/lib/wfarm
     if [ -d /run/systemd/system ]; then
-        systemctl daemon-reload
-        # An upgrade: nodes that run are started anew, one program for all of a machine.
-        systemctl try-restart 'wfarm-node@*.service' 'wfarm-replica@*.service' wfarm.service
+        systemctl --system daemon-reload
+        # An upgrade: what runs is started anew, one program for all of a machine.
+        deb-systemd-invoke try-restart {RUNNING}
     fi
 fi
 """
@@ -53,19 +69,54 @@ AFTER_REMOVAL = """\
 #!/bin/sh
 set -e
 if [ -d /run/systemd/system ]; then
-    systemctl daemon-reload
+    systemctl --system daemon-reload
 fi
-if [ "$1" = purge ] && [ -d /var/lib/wfarm ]; then
-    echo "wfarm: /var/lib/wfarm stays, since it holds votes of nodes; remove it by hand once the farm is gone"
+if [ "$1" = purge ]; then
+    # the links by which units were enabled
+    rm -f /etc/systemd/system/*.wants/wfarm.service /etc/systemd/system/*.wants/wfarm@*.service \\
+        /etc/systemd/system/*.wants/wfarm-node@*.service /etc/systemd/system/*.wants/wfarm-replica@*.service
+    if [ -d /var/lib/wfarm ]; then
+        echo "wfarm: /var/lib/wfarm stays, since it holds votes of nodes; remove it by hand once the farm is gone"
+    fi
 fi
 """
 
-BEFORE_REMOVAL = """\
+BEFORE_REMOVAL = f"""\
 #!/bin/sh
 set -e
 if [ "$1" = remove ] && [ -d /run/systemd/system ]; then
-    systemctl stop 'wfarm-node@*.service' 'wfarm-replica@*.service' wfarm.service || true
+    deb-systemd-invoke stop {RUNNING} || true
 fi
+"""
+
+COPYRIGHT = """\
+wfarm is made of this repository's own files, by its authors. No licence has been chosen yet, so nothing but use by whoever was given
+the package is allowed.
+"""
+
+# what lintian is told
+OVERRIDES = """\
+# The program is the bytes that were built: BUILD has their SHA-256.
+wfarm: unstripped-binary-or-object [usr/bin/wfarm]
+# No licence has been chosen yet.
+wfarm: copyright-without-copyright-notice
+# An example for nftables, which reads it so.
+wfarm: unusual-interpreter /usr/sbin/nft [usr/share/wfarm/examples/three/firewall.nft]
+"""
+
+CHANGES = """\
+wfarm ({version}) unstable; urgency=medium
+
+  * The state of {day}; CHANGELOG.md says what an operator notices.
+
+ -- {maintainer}  {date}
+"""
+
+BUILD = """\
+version   {version}
+revision  {revision}
+program   SHA-256 {digest}
+proved    {proved}
 """
 
 
@@ -80,33 +131,110 @@ def place(text, path, mode):
     path.chmod(mode)
 
 
-def fill(root, program, version):
-    """Puts everything where it is installed."""
+def git(*words):
+    """What git says of the repository; an empty text where there is none."""
+    return subprocess.run(["git", "-C", str(TOP), *words], capture_output=True, text=True).stdout.strip()
+
+
+def depends(program):
+    """The packages that the program and `wfarmctl` need: the C library at the version of the newest symbol that the program names."""
+    symbols = [tuple(map(int, found)) for found in re.findall(rb"GLIBC_(\d+)\.(\d+)", program.read_bytes())]
+    library = ["libc6 (>= %d.%d)" % max(symbols)] if symbols else []
+    return ", ".join([*library, "python3", "adduser"])
+
+
+def put_binaries(root, program):
     binaries = root / "usr/bin"
     binaries.mkdir(parents=True)
     for source, name in ((program, "wfarm"), (TOP / "tools" / "wfarmctl", "wfarmctl")):
         shutil.copy(source, binaries / name)
         (binaries / name).chmod(0o755)
-    for unit in UNITS:
-        place(installed(unit), root / "lib/systemd/system" / pathlib.Path(unit).name, 0o644)
-    share = root / "usr/share/wfarm"
-    shutil.copytree(TOP / "examples" / "viewer", share / "viewer")
-    shutil.copytree(TOP / "examples", share / "examples", ignore=shutil.ignore_patterns("viewer", "scripts"))
-    documents = root / "usr/share/doc/wfarm"
-    documents.mkdir(parents=True)
-    for name in ("README.md", "CHANGELOG.md", "docs/OPERATING.md", "docs/MACHINES.md", "docs/MAPFILES.md", "docs/FAULTS.md", "docs/LIMITS.md"):
-        shutil.copy(TOP / name, documents)
+
+
+def help_of(*words):
+    """What a command writes for --help or help."""
+    return subprocess.run(words, check=True, capture_output=True, text=True, env={**os.environ, "COLUMNS": "120"}).stdout
+
+
+def manual(name, purpose, day, texts):
+    """A page for `man`: each text as it is, under its heading."""
+    def shown(text):
+        return "\n".join("\\&" + line.replace("\\", "\\e").replace("-", "\\-") for line in text.strip("\n").split("\n"))
+    parts = [f".SH {heading}\n.nf\n{shown(text)}\n.fi" for heading, text in texts]
+    return "\n".join([f'.TH {name.upper()} 1 "{day}"', ".SH NAME", f"{name} \\- {purpose}", *parts, ""])
+
+
+def put_manuals(root, day):
+    """The pages for `man`, made from each command's help."""
+    program, tool = str(root / "usr/bin/wfarm"), str(root / "usr/bin/wfarmctl")
+    texts = [("SYNOPSIS", help_of(program, "help")), *((f"WFARM {command.upper()}", help_of(program, "help", command)) for command in COMMANDS)]
+    pages = (("wfarm", manual("wfarm", "farm of Web Map Service servers", day, texts)),
+             ("wfarmctl", manual("wfarmctl", "runs a farm of wfarm nodes", day, [("SYNOPSIS", help_of(sys.executable, tool, "--help"))])))
+    for name, text in pages:
+        put_zipped(text, root / f"usr/share/man/man1/{name}.1.gz")
+
+
+def put_zipped(text, path):
+    path.parent.mkdir(parents=True, exist_ok=True)
+    path.write_bytes(gzip.compress(text.encode(), 9, mtime=0))
+    path.chmod(0o644)
+
+
+def copy_tracked(names, target):
+    """Copies files and folders of the repository, but nothing that it doesn't track."""
+    for name in git("ls-files", "--", *names).split("\n"):
+        (target / name).parent.mkdir(parents=True, exist_ok=True)
+        shutil.copy(TOP / name, target / name)
+
+
+def put_shared(root):
+    """The page, the examples, the tools that make maps, and the documents, which lie to one another as in the repository."""
+    share, documents = root / "usr/share/wfarm", root / "usr/share/doc/wfarm"
+    copy_tracked(["examples", *(f"tools/{name}" for name in MAP_TOOLS)], share)
+    (share / "examples/viewer").rename(share / "viewer")
+    (share / "examples/viewer").symlink_to("../viewer")
+    copy_tracked(DOCUMENTS, documents)
+    for name in ("examples", "tools"):
+        (documents / name).symlink_to(f"../../wfarm/{name}")
     for path in (share, documents):
         for each in path.rglob("*"):
-            each.chmod(0o755 if each.is_dir() else 0o644)
-    place(CONTROL.format(version=version), root / "DEBIAN/control", 0o644)
+            if not each.is_symlink():
+                is_script = not each.is_dir() and each.read_bytes()[:2] == b"#!"
+                each.chmod(0o755 if each.is_dir() or is_script else 0o644)
+
+
+def put_build(root, program, version, maintainer):
+    """What Debian wants of each package, and what the program was built of."""
+    documents = root / "usr/share/doc/wfarm"
+    day = git("log", "-1", "--format=%cs")
+    place(COPYRIGHT, documents / "copyright", 0o644)
+    place(OVERRIDES, root / "usr/share/lintian/overrides/wfarm", 0o644)
+    date = git("log", "-1", "--format=%cD") or email.utils.formatdate(0)
+    put_zipped(CHANGES.format(version=version, day=day, date=date, maintainer=maintainer), documents / "changelog.gz")
+    changes = ", with changes that aren't committed" if git("status", "--porcelain", "--untracked-files=no") else ""
+    proved = "yes: `rt ci` leaves it where all proofs passed" if program == PROGRAM else "not known: it was given by --program"
+    place(BUILD.format(version=version, revision=git("rev-parse", "HEAD") + changes, digest=hashlib.sha256(program.read_bytes()).hexdigest(),
+                       proved=proved), documents / "BUILD", 0o644)
+    put_manuals(root, day)
+
+
+def fill(root, program, version, maintainer):
+    """Puts everything where it is installed."""
+    put_binaries(root, program)
+    for unit in UNITS:
+        place(installed(unit), root / "lib/systemd/system" / pathlib.Path(unit).name, 0o644)
+    put_shared(root)
+    put_build(root, program, version, maintainer)
+    place(CONTROL.format(version=version, maintainer=maintainer, depends=depends(program)), root / "DEBIAN/control", 0o644)
     for name, text in (("postinst", AFTER_INSTALLATION), ("prerm", BEFORE_REMOVAL), ("postrm", AFTER_REMOVAL)):
         place(text, root / "DEBIAN" / name, 0o755)
-    (root / "DEBIAN").chmod(0o755)
+    for folder in root.rglob("*"):
+        if folder.is_dir() and not folder.is_symlink():
+            folder.chmod(0o755)
 
 
 def version_now():
-    date = subprocess.run(["git", "-C", str(TOP), "log", "-1", "--format=%cs"], capture_output=True, text=True).stdout.strip()
+    date = git("log", "-1", "--format=%cs")
     return "0.1.0+" + date.replace("-", "") if date else "0.1.0"
 
 
@@ -114,6 +242,7 @@ def main():
     parser = argparse.ArgumentParser(description=__doc__.splitlines()[0])
     parser.add_argument("--program", type=pathlib.Path, default=PROGRAM)
     parser.add_argument("--version", default=version_now())
+    parser.add_argument("--maintainer", default=git("log", "-1", "--format=%an <%ae>") or "nobody <nobody@localhost>")
     parser.add_argument("--to", type=pathlib.Path, default=pathlib.Path("."))
     options = parser.parse_args()
     if shutil.which("dpkg-deb") is None:
@@ -126,9 +255,12 @@ def main():
     with tempfile.TemporaryDirectory() as folder:
         root = pathlib.Path(folder) / "root"
         root.mkdir(mode=0o755)
-        fill(root, options.program, options.version)
+        fill(root, options.program, options.version, options.maintainer)
         subprocess.run(["dpkg-deb", "--build", "--root-owner-group", str(root), str(package)], check=True, capture_output=True)
+    sums = package.with_name(package.name + ".sha256")
+    sums.write_text(f"{hashlib.sha256(package.read_bytes()).hexdigest()}  {package.name}\n")
     print(package)
+    print(sums)
     return 0
 
 

@@ -1,6 +1,7 @@
 #!/usr/bin/env python3
 """Tries the units of systemd under a systemd of their own: the package (`tools/make_deb.py`) in a Debian that `systemd-nspawn` boots, with
-three nodes and a replica as services, and `wfarm serve` after them.
+three nodes, a replica and both kinds of `wfarm serve` as services; what becomes of each, of one that is stopped and of one that failed at an
+upgrade, a removal, an installation anew and a purge.
 
 Usage: tools/try_units.py [--program PROGRAM] [--root DIR]
 DIR is a Debian made before (debootstrap with the packages of INCLUDED), copied from; else one is made. A line for each thing that was
@@ -23,6 +24,7 @@ INCLUDED = "systemd,systemd-sysv,dbus,python3,python3-minimal,adduser,procps"
 NODES = 3
 PATIENCE = 90
 NODE_CONF = "PEERS={peers}\nHTTP=127.0.0.1:{http}\nADMIN=127.0.0.1:{admin}\nMORE=--readers 127.0.0.1:{readers}\n"
+SERVE_CONF = "PORT=8391\nNODES=3\n"
 REPLICA_CONF = "FARM=county\nPEERS={readers}\nHTTP=127.0.0.1:8090\nADMIN=127.0.0.1:9190\n"
 
 
@@ -103,9 +105,23 @@ def prepare(container, program, folder):
         conf = NODE_CONF.format(peers=peers, http=8080 + number, admin=9090 + number, readers=7010 + number)
         (settings / f"node-{number}.conf").write_text(conf)
         lines.append(f"127.0.0.1:{8080 + number} 127.0.0.1:{9090 + number}\n")
+    (settings / "county.conf").write_text(SERVE_CONF)
     readers = ",".join(f"127.0.0.1:{7010 + each}" for each in range(NODES))
     (settings / "replica-0.conf").write_text(REPLICA_CONF.format(readers=readers))
     (settings / "nodes").write_text("".join(lines) + "replica 127.0.0.1:8090 127.0.0.1:9190\n")
+
+
+def second_farm(container):
+    """A node of another farm on the same machine, whose unit has a word before its number."""
+    state, unit = "/var/lib/wfarm/node-roads-0", "wfarm-node@roads-0"
+    settings = container.path / "etc/wfarm"
+    container.inside("install", "-d", "-o", "wfarm", "-g", "wfarm", state)
+    container.inside("runuser", "-u", "wfarm", "--", "wfarm", "init", "--state", state, "--farm", "roads", "--id", "0", "--nodes", "1")
+    (settings / "node-roads-0.conf").write_text(NODE_CONF.format(peers="127.0.0.1:7400", http=8480, admin=9490, readers=7410))
+    (settings / "roads").write_text("127.0.0.1:8480 127.0.0.1:9490\n")
+    container.inside("systemctl", "start", unit)
+    container.wait("a node of a second farm is well", lambda: container.inside("wfarmctl", "--farm", "/etc/wfarm/roads", "status").returncode == 0)
+    container.inside("systemctl", "stop", unit)
 
 
 def kill(container, unit):
@@ -119,7 +135,8 @@ def kill(container, unit):
 
 def attempt(container, program, folder):
     """Starts, kills, wears out, upgrades and stops."""
-    units = [f"wfarm-node@{number}" for number in range(NODES)] + ["wfarm-replica@0"]
+    second_farm(container)
+    units = [f"wfarm-node@{number}" for number in range(NODES)] + ["wfarm-replica@0", "wfarm@county"]
     started = container.inside("systemctl", "start", *units)
     container.see("the units are started", started.returncode == 0, started.stderr)
     container.wait("all are active", lambda: container.is_active(*units))
@@ -131,13 +148,33 @@ def attempt(container, program, folder):
         kill(container, unit)
     container.wait("all are well again", container.is_well)
     wear_out(container, units[2])
-    upgrade(container, program, folder, units)
+    newer = upgrade(container, program, folder, units)
     stopped = container.inside("systemctl", "stop", *units)
     container.see("the units are stopped", stopped.returncode == 0 and not any(container.is_active(unit) for unit in units))
     container.see("no program is left", container.inside("pgrep", "-x", "wfarm").returncode == 1)
     serve(container)
+    remove(container, newer, units)
+
+
+def remove(container, package_name, units):
+    """A removal while everything runs, an installation anew, and a purge."""
+    wants = container.path / "etc/systemd/system/multi-user.target.wants"
+    container.inside("systemctl", "enable", "--now", *units)
+    container.wait("all nodes run", container.is_well)
     removed = container.inside("dpkg", "--remove", "wfarm")
     container.see("the package is removed", removed.returncode == 0, removed.stderr)
+    container.see("each unit was stopped", not any(container.is_active(unit) for unit in units))
+    container.see("no program is left", container.inside("pgrep", "-x", "wfarm").returncode == 1)
+    container.see("it is installed again", container.inside("dpkg", "--install", "/root/" + package_name).returncode == 0)
+    container.see("units that were enabled are still, and aren't started",
+                  container.property("wfarm-node@0", "UnitFileState") == "enabled" and not container.is_active("wfarm-node@0"))
+    container.inside("systemctl", "start", *units[:NODES], "wfarm-replica@0")
+    container.wait("the nodes go on", container.is_well)
+    purged = container.inside("dpkg", "--purge", "wfarm")
+    container.see("it is purged", purged.returncode == 0 and not any(container.is_active(unit) for unit in units), purged.stderr)
+    left = [link.name for link in wants.glob("wfarm*")] if wants.exists() else []
+    container.see("no unit is enabled any more", not left, left)
+    container.see("the nodes' folders stay", (container.path / "var/lib/wfarm/node-0/farm").exists())
 
 
 def serve(container):
@@ -169,15 +206,21 @@ def wear_out(container, unit):
 
 
 def upgrade(container, program, folder, units):
-    """A newer package starts the running services anew."""
+    """A newer package starts the running services anew: its file's name."""
     new = package(program, make_deb.version_now(), folder)
     shutil.copy(new, container.path / "root")
+    (container.path / "etc/wfarm/node-8.conf").write_text("PEERS=\nHTTP=\nADMIN=\nMORE=\n")
+    container.inside("systemctl", "start", "wfarm-node@8")
+    container.wait("a unit that can't run has failed", lambda: container.property("wfarm-node@8", "ActiveState") == "failed")
     before = [container.property(unit, "MainPID") for unit in units]
     ran = container.inside("dpkg", "--install", "/root/" + new.name)
     container.see("the package is upgraded", ran.returncode == 0, ran.stderr)
     after = [container.property(unit, "MainPID") for unit in units]
     container.see("each service runs the new program", not set(before) & set(after))
+    container.see("one that failed stays so, and one that was stopped too",
+                  container.property("wfarm-node@8", "ActiveState") == "failed" and not container.is_active("wfarm"))
     container.wait("all are well", container.is_well)
+    return new.name
 
 
 def main():
