@@ -2,18 +2,20 @@
 """What an acceptor with 4,096 votes, the most there are, takes for a Promise, for an Accept that replaces a vote, and for a
 published sequence, whose vote goes.
 
-Usage: bench/votes.py [PROGRAM ..]    each a built program of the cases of a farm, which reads a table
-(crates/wf_test_farm/out/wf_test_farm), as the one before a change and the one after it
-
-Prints for each the shortest time of a call, and the instructions where valgrind is there: those of a table with as many calls
-after the votes, less those of the votes alone. All programs have to answer alike; status 1 where they don't.
+Each PROGRAM is a built program of the cases of a farm, which reads a table: the one before a change, and the one after it. Prints
+for each the shortest time of a call, and the instructions where valgrind is there: those of a table with as many calls after the
+votes, less those of the votes alone. All programs have to answer alike; status 1 where they don't, or where one isn't there.
 """
-import os
+
+import argparse
+import pathlib
 import re
 import shutil
 import subprocess
 import sys
 import time
+
+CRATE = pathlib.Path(__file__).resolve().parents[1] / "crates/wf_test_farm"
 
 VOTES = 4096
 CALLS = 1024
@@ -22,7 +24,7 @@ RUNS = 7
 
 def texts_of(path):
     """The blocks of a table that give the maps of an acceptor's cases."""
-    blocks = open(path, encoding="utf-8").read().split("\n\n")
+    blocks = path.read_text(encoding="utf-8").split("\n\n")
     return [it for it in blocks if re.search(r"(?m)^text (a|b|the maps a and b)$", it)]
 
 
@@ -36,7 +38,10 @@ def table(texts, calls):
 def answered(words, text):
     """What a program answers, and the seconds."""
     start = time.perf_counter()
-    done = subprocess.run(words, input=text, capture_output=True)
+    try:
+        done = subprocess.run(words, input=text, capture_output=True)
+    except OSError as error:
+        sys.exit(f"{words[-1]}: {error.strerror}")
     spent = time.perf_counter() - start
     if b"1 cases, 1 differ, 0 faults" not in done.stdout:
         sys.exit(f"{words[-1]}: {done.stdout[-300:].decode()}")
@@ -54,9 +59,10 @@ def cost(program, text):
 
 
 def main():
-    crate = os.path.join(os.path.dirname(os.path.abspath(__file__)), "..", "crates", "wf_test_farm")
-    programs = sys.argv[1:] or [os.path.join(crate, "out", "wf_test_farm")]
-    texts = texts_of(os.path.join(crate, "stdin"))
+    parser = argparse.ArgumentParser(description=__doc__, formatter_class=argparse.RawDescriptionHelpFormatter)
+    parser.add_argument("programs", nargs="*", metavar="PROGRAM", default=[CRATE / "out/wf_test_farm"])
+    programs = [str(it) for it in parser.parse_args().programs]
+    texts = texts_of(CRATE / "stdin")
     spread = [1 + it * 2477 % VOTES for it in range(CALLS)]
     kinds = {
         "a Promise": [f"prepare {slot} {2 + at} 0" for at, slot in enumerate(spread)],
