@@ -180,7 +180,8 @@ def unmounted(nodes, _):
         nodes.wait(0)
         wrong += two_maps(nodes, 1)
         want("; ".join(wrong), not wrong)
-        want("a file was made where the disk was", not list(nodes.place(1).iterdir()))
+        made = [path.name for path in nodes.place(1).iterdir()]
+        want(f"made where the disk was: {made}", not made)
         shutil.copytree(its.kept, nodes.place(1), dirs_exist_ok=True, ignore=shutil.ignore_patterns("filling"))
         wrong = changes_while_halted(nodes, 1, 1, files)
         want("; ".join(wrong), not wrong)
