@@ -3,13 +3,13 @@ ghost use Rattle.wf_actor.specs.Life.{logged, IsLife};
 
 use crate::cached::CachedNode;
 use crate::note::{note, report};
-use http_server::Log;
 use std::alloc::Global;
 use wf_ballot::NodeId;
 use wf_codec::Message;
 use wf_edge::Served;
 use wf_journal::OpenFault;
 use wf_node::{Input, Node, NodeFault};
+use wf_past::Past;
 use wf_stream::{Sink, Source};
 use wf_tape::Tape;
 use wf_wms::Cache;
@@ -29,10 +29,10 @@ pub enum Origin {
 #[derive(Drop)]
 pub struct Actor<T: Tape> {
     pub(crate) node: CachedNode<T>,
-    pub(crate) read_from: Log<T, usize>,
-    pub(crate) began: Log<Node<T>, usize>,
-    pub(crate) given: Log<Message, Origin>,
-    pub(crate) emitted: Log<Vec<Message>, usize>,
+    pub(crate) read_from: Past<T, usize>,
+    pub(crate) began: Past<Node<T>, usize>,
+    pub(crate) given: Past<Message, Origin>,
+    pub(crate) emitted: Past<Vec<Message>, usize>,
     ghost lived: { ∥ IsLife T.Tape read_from.items began.items given.items (logged emitted.items) node ∥₁ },
 }
 
@@ -77,7 +77,7 @@ impl<T: Tape> Actor<T> {
         ensures images { T.durable →
             IfErr result (λ e. Follows ReadsSame (T.images tape) (T.images e.0)) }
     {
-        let read_from = Log::new().and(&tape, &0);
+        let read_from = Past::new().and(&tape, &0);
         match Node::open(alloc, tape, id, n) {
             Ok(node) => Ok(Actor::begin(node, read_from, cache)),
             Err(step_rejection) => {
@@ -88,7 +88,7 @@ impl<T: Tape> Actor<T> {
     }
 
     /// The life of a node that was just opened, from the tape that the log has.
-    fn begin(node: Node<T>, read_from: Log<T, usize>, cache: Cache) -> Actor<T>
+    fn begin(node: Node<T>, read_from: Past<T, usize>, cache: Cache) -> Actor<T>
         requires opened { IsOpenedFrom T.Tape read_from.items node }
         requires cache { (history : List Definition) → AllCached history cache }
         ensures node { result.node ≡ node }
@@ -97,9 +97,9 @@ impl<T: Tape> Actor<T> {
         ensures given { result.given.items ≡ [] }
         ensures emitted { logged result.emitted.items ≡ [] }
     {
-        let began = Log::new().and(&node, &0);
-        let given = Log::new();
-        let emitted = Log::new();
+        let began = Past::new().and(&node, &0);
+        let given = Past::new();
+        let emitted = Past::new();
         let node = CachedNode::new(node, cache);
         Actor {
             node,

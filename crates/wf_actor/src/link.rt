@@ -7,13 +7,13 @@ ghost use Rattle.wf_actor.specs.Offer.{IsPutOr};
 ghost use Rattle.wf_actor.specs.OutboxWrites.{IsWriteOf};
 
 use crate::target::Target;
-use http_server::Log;
 use std::alloc::{AllocError, Global};
 use std::collections::VecDeque;
 use std::io;
 use wf_ballot::NodeId;
 use wf_codec::{DecodeFault, Message};
 use wf_mail::{MESSAGE_BYTES, Outbox, Receiver};
+use wf_past::Past;
 use wf_stream::Sink;
 
 /// The most bytes that wait for a peer: a whole answer to an Ask fits, eight of the longest messages.
@@ -79,7 +79,7 @@ impl Link {
         &mut self,
         peer: NodeId,
         piece: &[u8],
-        came: &mut Log<Vec<Message>, NodeId>,
+        came: &mut Past<Vec<Message>, NodeId>,
     ) -> Result<usize, DecodeFault>
         ensures { TakesIn peer piece.now self.old came.old.items result self.new came.new.items }
     {

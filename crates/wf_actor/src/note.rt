@@ -6,12 +6,12 @@ ghost use Rattle.wf_career.specs.Run.{given_to};
 ghost use Rattle.wf_delivery.specs.Reachability.{outputs_by};
 
 use crate::actor::Origin;
-use http_server::Log;
 use wf_codec::Message;
 use wf_node::{Input, NodeFault};
+use wf_past::Past;
 
 /// Notes the message that the input delivers, if it does, with where it comes from.
-pub(crate) fn note(given: &mut Log<Message, Origin>, input: &Input, origin: Origin)
+pub(crate) fn note(given: &mut Past<Message, Origin>, input: &Input, origin: Origin)
     ensures { given.new.items ≡ given.old.items ++ all_from origin (given_to input.now) }
 {
     match input {
@@ -22,7 +22,7 @@ pub(crate) fn note(given: &mut Log<Message, Origin>, input: &Input, origin: Orig
 
 /// Notes the messages of a step.
 pub(crate) fn report(
-    emitted: &mut Log<Vec<Message>, usize>,
+    emitted: &mut Past<Vec<Message>, usize>,
     answer: &Result<Vec<Message>, NodeFault>,
 )
     ensures { logged emitted.new.items ≡ logged emitted.old.items ++ outputs_by answer.now }

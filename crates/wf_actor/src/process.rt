@@ -9,7 +9,6 @@ use crate::link::Link;
 use crate::parts::{ProcessParts, make_room, send};
 use crate::reopening::ReopenFault;
 use crate::target::{Target, reply_target};
-use http_server::Log;
 use std::alloc::Global;
 use wf_ballot::{NodeId, Seq};
 use wf_canon::Canon;
@@ -17,6 +16,7 @@ use wf_codec::Message;
 use wf_journal::OpenFault;
 use wf_learner::History;
 use wf_node::{Input, Node, NodeFault};
+use wf_past::Past;
 use wf_proposer::ProposalState;
 use wf_tape::Tape;
 use wf_wms::Cache;
@@ -30,8 +30,8 @@ pub struct Process<T: Tape> {
     pub(crate) backlog: Backlog,
     pub(crate) links: Vec<Link>,
     pub(crate) pictures: usize,
-    pub(crate) came: Log<Vec<Message>, NodeId>,
-    pub(crate) ended: Log<Actor<T>, usize>,
+    pub(crate) came: Past<Vec<Message>, NodeId>,
+    pub(crate) ended: Past<Actor<T>, usize>,
     ghost most: { n ≤ 64 },
     ghost some_pictures: { 1 ≤ pictures },
     ghost most_pictures: { pictures ≤ 64 },
@@ -125,8 +125,8 @@ impl<T: Tape> Process<T> {
             backlog,
             links,
             pictures,
-            came: Log::new(),
-            ended: Log::new(),
+            came: Past::new(),
+            ended: Past::new(),
         }
     }
 

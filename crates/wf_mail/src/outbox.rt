@@ -8,11 +8,11 @@ ghost use Rattle.wf_stream.specs.Effects.{Counts};
 
 use crate::dropped::Dropped;
 use crate::queue::{append, skip, take_turn};
-use http_server::Log;
 use std::alloc::Global;
 use std::io;
 use std::marker::Model;
 use wf_codec::Message;
+use wf_past::Past;
 use wf_stream::Sink;
 
 /// The sending end of a connection, bounded in bytes. Model: the messages that were put in, and of their encodings the bytes that
@@ -25,7 +25,7 @@ pub struct Outbox {
     // the bytes behind them
     queue: Vec<u8>,
     limit: usize,
-    log: Log<Message, usize>,
+    log: Past<Message, usize>,
 }
 
 impl Model for Outbox {
@@ -52,7 +52,7 @@ impl Outbox {
             done: 0,
             queue: Vec::new(alloc),
             limit,
-            log: Log::new(),
+            log: Past::new(),
         }
     }
 

@@ -4,10 +4,10 @@ ghost use Rattle.wf_mail.specs.Receiver.{Open, came, is_memory, taken, IsClosed,
 ghost use Rattle.wf_mail.specs.Stream.{Reads};
 
 use crate::inbox::Inbox;
-use http_server::Log;
 use std::alloc::Global;
 use std::marker::Model;
 use wf_codec::{DecodeFault, Message};
+use wf_past::Past;
 
 /// The receiving end of a connection. Model: the messages that came, and the bytes after the last of them; or, once it is closed,
 /// the messages that came before the error, and the error.
@@ -16,7 +16,7 @@ pub struct Receiver {
     inbox: Inbox,
     // whether an allocation has failed
     is_out_of_memory: bool,
-    log: Log<Vec<Message>, usize>,
+    log: Past<Vec<Message>, usize>,
 }
 
 impl Model for Receiver {
@@ -38,7 +38,7 @@ impl Receiver {
         Receiver {
             inbox: Inbox::new(alloc),
             is_out_of_memory: false,
-            log: Log::new(),
+            log: Past::new(),
         }
     }
 
