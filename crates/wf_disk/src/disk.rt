@@ -1,4 +1,5 @@
-ghost use Rattle.std.specs.Prelude.{◌≡◌, ℕ, List, IfOk};
+ghost use Rattle.std.specs.Prelude.{◌≡◌, ℕ, List, Option, None, IfOk};
+ghost use Rattle.std.specs.declared.io.ErrorKind.{ErrorKind as ErrorKindValue};
 ghost use Rattle.wf_disk.specs.Moments.{Elapses, IsNow, AreNested, LeavesOldOrNew};
 ghost use Rattle.wf_disk.specs.Folder.{Folder, MayLeave, bytes_in};
 ghost use Rattle.wf_disk.specs.Call.{Open, Make, Append, Sync, Rename, SyncNames, Read, IsLeft, IsCounted, IsNotMemory, error_of};
@@ -6,6 +7,7 @@ ghost use Rattle.wf_disk.specs.Call.{Open, Make, Append, Sync, Rename, SyncNames
 use crate::fault::DiskFault;
 use crate::folder::Name;
 use std::alloc::Global;
+use std::io::ErrorKind;
 
 /// A disk: one folder with a file under its own name and one under a second name.
 ///
@@ -21,6 +23,9 @@ pub trait Disk {
 
     /// The number of times that the device has failed.
     ghost failed: { Self → ℕ };
+
+    /// What the system said of the last failure. None: nothing.
+    ghost said: { Self → Option ErrorKindValue } = { λ _. None };
 
     /// The moment now, as a number that doesn't fall: each change ends a moment.
     ghost moment: { Self → ℕ };
@@ -106,6 +111,10 @@ pub trait Disk {
     /// The number of times that the device has failed. It saturates.
     fn failures(&self) -> u64
         ensures { result ≡ failed self.now };
+
+    /// What the system said of the last failure of the device. None: it hasn't failed, or no system said why.
+    fn cause(&self) -> Option<ErrorKind>
+        ensures { result ≡ said self.now };
 
     /// Since this moment there was no other.
     ghost is_now: { durable → (disk : Self) →

@@ -9,15 +9,16 @@ use crate::disk::Disk;
 use crate::failure;
 use crate::fault::DiskFault;
 use crate::folder::{MemoryFolder, Name};
-use http_server::Log;
 use std::alloc::Global;
+use std::io::ErrorKind;
 use std::marker::Model;
+use wf_past::Past;
 
 /// A disk in memory. It is durable, and its device fails only where a failure was set (`set_fuse`), or where the file of a call
 /// isn't there. What a power cut at each earlier moment could have left is known in proofs alone, and takes no memory.
 pub struct MemoryDisk {
     folder: MemoryFolder,
-    past: Log<MemoryFolder, ()>,
+    past: Past<MemoryFolder, ()>,
     // the number of the call that will fail, counted from 1 from now, or 0, and how much it keeps
     call: usize,
     kept: usize,
@@ -61,7 +62,7 @@ impl MemoryDisk {
     {
         MemoryDisk {
             folder: MemoryFolder::new(alloc),
-            past: Log::new(),
+            past: Past::new(),
             call: 0,
             kept: 0,
             failures: 0,
@@ -80,7 +81,7 @@ impl MemoryDisk {
         ensures kept { self.new.kept ≡ self.old.kept }
     {
         self.folder.cut(back, keep);
-        self.past = Log::new();
+        self.past = Past::new();
     }
 
     /// Sets a failure: the `call`-th call from now, counted from 1, fails once. An append that fails keeps `kept` of its bytes, at
@@ -213,5 +214,9 @@ impl Disk for MemoryDisk {
 
     fn failures(&self) -> u64 {
         self.failures
+    }
+
+    fn cause(&self) -> Option<ErrorKind> {
+        None
     }
 }

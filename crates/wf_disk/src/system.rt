@@ -1,6 +1,6 @@
 //! A disk of the system, over std's files.
 
-ghost use Rattle.std.specs.Prelude.{◌≡◌, ◌≤◌, [], None, IfOk, false, true};
+ghost use Rattle.std.specs.Prelude.{◌≡◌, ◌≤◌, [], None, Some, IfOk, false, true};
 ghost use Rattle.std.specs.Fs.{asks_create};
 ghost use Rattle.wf_disk.specs.Moments.{HasRisen};
 
@@ -9,7 +9,7 @@ use crate::fault::DiskFault;
 use crate::folder::Name;
 use std::alloc::Global;
 use std::fs::{OpenFile, OpenOptions};
-use std::io::{Read, Seek, SeekFrom, Write};
+use std::io::{ErrorKind, Read, Seek, SeekFrom, Write};
 use std::rt::Files;
 use std::{fs, io};
 
@@ -31,6 +31,8 @@ pub struct SystemDisk<R: Files + Drop> {
     // whether a file that is absent is made when the disk is opened
     creates: bool,
     failures: u64,
+    // what the system said of the last failure
+    cause: Option<ErrorKind>,
 }
 
 impl<R: Files + Drop> SystemDisk<R> {
@@ -67,23 +69,27 @@ impl<R: Files + Drop> SystemDisk<R> {
             second: None,
             creates,
             failures: 0,
+            cause: None,
         })
     }
 
-    /// Counts a failure of the device.
-    fn fail(&mut self) -> DiskFault
+    /// Counts a failure of the device, and keeps what the system said of it.
+    fn fail(&mut self, cause: ErrorKind) -> DiskFault
         ensures fault { result ≡ DiskFault.Device }
+        ensures said { self.new.cause ≡ Some cause }
         ensures risen { HasRisen self.old.failures self.new.failures }
         ensures later { self.old.failures ≤ self.new.failures }
     {
         self.failures = self.failures.saturating_add(1);
+        self.cause = Some(cause);
         DiskFault::Device
     }
 
     /// Renames the second file to the first. If that fails, which of them has the path isn't known, so the path is opened again, and
     /// no file is made there: a handle that was open may be one of a file without a name.
     fn put_second(&mut self) -> io::Result<()>
-        ensures { self.new.failures ≡ self.old.failures }
+        ensures failures { self.new.failures ≡ self.old.failures }
+        ensures said { self.new.cause ≡ self.old.cause }
     {
         let second = self.second.take();
         match fs::rename(&self.files, self.second_path.as_str(), self.path.as_str()) {
@@ -118,19 +124,31 @@ fn open_empty<R: Files>(files: &R, path: &str) -> io::Result<R::File> {
     to_read_and_write(true).truncate(true).open(files, path)
 }
 
-/// Appends the bytes to the file. False if it isn't open, or the write fails.
-fn write_behind<F: Write + Seek>(file: &mut Option<F>, bytes: &[u8]) -> bool {
-    match file {
-        None => false,
-        Some(file) => file.seek(SeekFrom::End(0)).is_ok() && file.write_all(bytes).is_ok(),
+/// Appends the bytes to the file. Err: it isn't open, which is `NotFound`, or the write fails.
+fn write_behind<F: Write + Seek>(file: &mut Option<F>, bytes: &[u8]) -> Result<(), ErrorKind> {
+    let Some(file) = file else {
+        return Err(ErrorKind::NotFound);
+    };
+    match write_at_end(file, bytes) {
+        Ok(()) => Ok(()),
+        Err(error) => Err(error.kind()),
     }
 }
 
-/// Syncs the file. False if it isn't open, or the sync fails.
-fn sync_file<F: OpenFile>(file: &Option<F>) -> bool {
+/// Appends the bytes to the file.
+fn write_at_end<F: Write + Seek>(file: &mut F, bytes: &[u8]) -> io::Result<()> {
+    file.seek(SeekFrom::End(0))?;
+    file.write_all(bytes)
+}
+
+/// Syncs the file. Err: it isn't open, which is `NotFound`, or the sync fails.
+fn sync_file<F: OpenFile>(file: &Option<F>) -> Result<(), ErrorKind> {
     match file {
-        None => false,
-        Some(file) => file.sync_all().is_ok(),
+        None => Err(ErrorKind::NotFound),
+        Some(file) => match file.sync_all() {
+            Ok(()) => Ok(()),
+            Err(error) => Err(error.kind()),
+        },
     }
 }
 
@@ -148,16 +166,16 @@ fn sync_folder<R: Files>(files: &R, path: &str) -> io::Result<()> {
 enum ReadResult {
     Bytes(Vec<u8>),
     Memory,
-    Failed,
+    Failed(ErrorKind),
 }
 
 /// Reads the file from its start to its end.
 fn read_whole<F: Read + Seek>(file: &mut Option<F>, alloc: Global) -> ReadResult {
     match file {
-        None => ReadResult::Failed,
+        None => ReadResult::Failed(ErrorKind::NotFound),
         Some(file) => match file.seek(SeekFrom::Start(0)) {
             Ok(_) => read_to_end(file, alloc),
-            Err(_) => ReadResult::Failed,
+            Err(error) => ReadResult::Failed(error.kind()),
         },
     }
 }
@@ -174,10 +192,10 @@ fn read_to_end<F: Read>(file: &mut F, alloc: Global) -> ReadResult {
                     return ReadResult::Memory;
                 }
             }
-            Err(_) => return ReadResult::Failed,
+            Err(error) => return ReadResult::Failed(error.kind()),
         }
     }
-    ReadResult::Failed
+    ReadResult::Failed(ErrorKind::Other)
 }
 
 impl<R: Files + Drop> Disk for SystemDisk<R> {
@@ -186,6 +204,8 @@ impl<R: Files + Drop> Disk for SystemDisk<R> {
     ghost folder = { λ _. record { own = None; second = None; earlier = [] } };
 
     ghost failed = { λ d. d.failures };
+
+    ghost said = { λ d. d.cause };
 
     ghost moment = { λ _. 0 };
 
@@ -201,7 +221,7 @@ impl<R: Files + Drop> Disk for SystemDisk<R> {
                 self.own = Some(file);
                 Ok(())
             }
-            Err(_) => Err(self.fail()),
+            Err(error) => Err(self.fail(error.kind())),
         }
     }
 
@@ -211,37 +231,43 @@ impl<R: Files + Drop> Disk for SystemDisk<R> {
                 self.second = Some(file);
                 Ok(())
             }
-            Err(_) => Err(self.fail()),
+            Err(error) => Err(self.fail(error.kind())),
         }
     }
 
     fn append(&mut self, name: Name, bytes: &[u8]) -> Result<(), DiskFault> {
-        let is_written = match name {
+        let written = match name {
             Name::Own => write_behind(&mut self.own, bytes),
             Name::Second => write_behind(&mut self.second, bytes),
         };
-        if is_written { Ok(()) } else { Err(self.fail()) }
+        match written {
+            Ok(()) => Ok(()),
+            Err(cause) => Err(self.fail(cause)),
+        }
     }
 
     fn sync(&mut self, name: Name) -> Result<(), DiskFault> {
-        let is_synced = match name {
+        let synced = match name {
             Name::Own => sync_file(&self.own),
             Name::Second => sync_file(&self.second),
         };
-        if is_synced { Ok(()) } else { Err(self.fail()) }
+        match synced {
+            Ok(()) => Ok(()),
+            Err(cause) => Err(self.fail(cause)),
+        }
     }
 
     fn rename(&mut self) -> Result<(), DiskFault> {
         match self.put_second() {
             Ok(()) => Ok(()),
-            Err(_) => Err(self.fail()),
+            Err(error) => Err(self.fail(error.kind())),
         }
     }
 
     fn sync_names(&mut self) -> Result<(), DiskFault> {
         match sync_folder(&self.files, self.path.as_str()) {
             Ok(()) => Ok(()),
-            Err(_) => Err(self.fail()),
+            Err(error) => Err(self.fail(error.kind())),
         }
     }
 
@@ -249,11 +275,15 @@ impl<R: Files + Drop> Disk for SystemDisk<R> {
         match read_whole(&mut self.own, alloc) {
             ReadResult::Bytes(bytes) => Ok(bytes),
             ReadResult::Memory => Err(DiskFault::Memory),
-            ReadResult::Failed => Err(self.fail()),
+            ReadResult::Failed(cause) => Err(self.fail(cause)),
         }
     }
 
     fn failures(&self) -> u64 {
         self.failures
+    }
+
+    fn cause(&self) -> Option<ErrorKind> {
+        self.cause
     }
 }

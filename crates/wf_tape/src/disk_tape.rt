@@ -8,6 +8,7 @@ use crate::calls;
 use crate::fault::TapeFault;
 use crate::tape::Tape;
 use std::alloc::Global;
+use std::io::ErrorKind;
 use std::marker::Model;
 use std::rt::Files;
 use wf_disk::{Disk, DiskFault, Name, SystemDisk};
@@ -134,6 +135,8 @@ impl<D: Disk> Tape for DiskTape<D> {
 
     ghost failed = { λ t. D.failed t.disk };
 
+    ghost said = { λ t. D.said t.disk };
+
     ghost doubtful = { λ t. t.doubtful };
 
     ghost moment = { λ t. D.moment t.disk };
@@ -192,6 +195,10 @@ impl<D: Disk> Tape for DiskTape<D> {
 
     fn failures(&self) -> u64 {
         self.disk.failures()
+    }
+
+    fn cause(&self) -> Option<ErrorKind> {
+        self.disk.cause()
     }
 
     fn is_doubtful(&self) -> bool {

@@ -6,6 +6,7 @@ ghost use Rattle.wf_tape.specs.Tape.{Read, Append, Sync, Replace, error_of};
 use crate::fault::TapeFault;
 use crate::tape::Tape;
 use std::alloc::Global;
+use std::io::ErrorKind;
 use std::marker::Model;
 use std::mem;
 
@@ -369,6 +370,10 @@ impl Tape for MemoryTape {
 
     fn failures(&self) -> u64 {
         self.failures
+    }
+
+    fn cause(&self) -> Option<ErrorKind> {
+        None
     }
 
     fn is_doubtful(&self) -> bool {

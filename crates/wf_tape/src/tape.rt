@@ -1,10 +1,12 @@
-ghost use Rattle.std.specs.Prelude.{◌≡◌, ◌≢◌, ◌⊎◌, ◌++◌, List, ℕ, Bool, false, Option, IfOk, IfErr, OnOk, OnErr, IsErrOf};
+ghost use Rattle.std.specs.Prelude.{◌≡◌, ◌≢◌, ◌⊎◌, ◌++◌, List, ℕ, Bool, false, Option, None, IfOk, IfErr, OnOk, OnErr, IsErrOf};
+ghost use Rattle.std.specs.declared.io.ErrorKind.{ErrorKind as ErrorKindValue};
 ghost use Rattle.wf_tape.specs.declared.fault.TapeFault.{TapeFault};
 ghost use Rattle.wf_tape.specs.declared.fault.TapeFault.TheVariants.{Device, Memory};
 ghost use Rattle.wf_tape.specs.Tape.{Call, Read, Append, Sync, Replace, error_of, IsOnlyImage, IsUnchanged, LeavesNoOther, IsExtended, LeavesOldOr, LeavesOldOrCut, LeavesOldOrNew, Elapses, IsNow, AreNested, HasCause, IsNotMemory};
 
 use crate::fault::TapeFault;
 use std::alloc::Global;
+use std::io::ErrorKind;
 
 /// A tape: bytes that are appended to, synced and replaced as a whole. A crash may lose what isn't synced yet.
 ///
@@ -27,6 +29,9 @@ pub trait Tape {
 
     /// The number of times that the device has failed.
     ghost failed: { Self → ℕ };
+
+    /// What the system said of the last failure. None: nothing.
+    ghost said: { Self → Option ErrorKindValue } = { λ _. None };
 
     /// A sync that succeeds may leave bytes unsynced: an earlier one failed, or who had the tape before isn't known. Then a system may
     /// have dropped bytes that it didn't write. Only a replacement ends this. It never holds of a tape that loses no bytes so.
@@ -122,6 +127,10 @@ pub trait Tape {
     /// The number of times that the device has failed. It saturates.
     fn failures(&self) -> u64
         ensures { result ≡ failed self.now };
+
+    /// What the system said of the last failure of the device. None: it hasn't failed, or no system said why.
+    fn cause(&self) -> Option<ErrorKind>
+        ensures { result ≡ said self.now };
 
     /// Whether a sync can't be relied on, so that a replacement is due.
     fn is_doubtful(&self) -> bool

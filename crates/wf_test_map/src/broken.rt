@@ -1,5 +1,6 @@
 //! A tape on which every append fails.
 use std::alloc::Global;
+use std::io::ErrorKind;
 use wf_tape::{Tape, TapeFault};
 
 /// An empty tape whose device fails where something is to be appended.
@@ -51,6 +52,10 @@ impl Tape for BrokenTape {
 
     fn failures(&self) -> u64 {
         self.failures
+    }
+
+    fn cause(&self) -> Option<ErrorKind> {
+        None
     }
 
     fn is_doubtful(&self) -> bool {
