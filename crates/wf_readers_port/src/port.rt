@@ -2,13 +2,13 @@
 
 use crate::event::ReaderEvent;
 use crate::reader::{Reader, ReaderTurn};
-use mio::net::{TcpListener, TcpStream};
 use std::alloc::{AllocError, Global};
 use std::time::Clock;
 use wf_digest::Digests;
 use wf_learner::History;
 use wf_reader::{Answerer, QuestionRejection};
-use wf_visitors::{Context, register, register_again};
+use wf_sockets::{Connection, Network, SystemConnection, SystemListener, SystemNetwork};
+use wf_visitors::Context;
 
 /// What the port is given of the process: who it is, its history and the digests of that, to be read only.
 #[derive(Drop)]
@@ -34,7 +34,7 @@ struct Difference {
 /// The readers' port: a listener, and slots of its own.
 #[derive(Drop)]
 pub struct ReadersPort {
-    listener: Option<TcpListener>,
+    listener: Option<SystemListener>,
     slots: Vec<Option<Reader>>,
     // the token of slot 0
     first: usize,
@@ -46,7 +46,7 @@ impl ReadersPort {
     pub fn new(
         alloc: Global,
         count: usize,
-        listener: Option<TcpListener>,
+        listener: Option<SystemListener>,
         first: usize,
     ) -> Result<Self, AllocError> {
         let mut slots = Vec::new(alloc);
@@ -79,10 +79,10 @@ impl ReadersPort {
     /// Accepts connections, as long as there are some.
     pub fn accept<R: Clock + Eprint + AllocGlobal>(&mut self, context: &Context<'_, '_, R>) {
         for _ in 0..MOST_ACCEPTED {
-            let Some(stream) = self.accept_one() else {
+            let Some(connection) = self.accept_one(context.network) else {
                 return;
             };
-            self.admit(context, stream);
+            self.admit(context, connection);
         }
     }
 
@@ -100,10 +100,10 @@ impl ReadersPort {
     }
 
     /// The next connection, if there is one.
-    fn accept_one(&self) -> Option<TcpStream> {
-        match &self.listener {
-            Some(listener) => match listener.accept() {
-                Ok((stream, _)) => Some(stream),
+    fn accept_one(&mut self, network: &SystemNetwork) -> Option<SystemConnection> {
+        match &mut self.listener {
+            Some(listener) => match network.accept(listener) {
+                Ok((connection, _)) => Some(connection),
                 Err(_) => None,
             },
             None => None,
@@ -114,7 +114,7 @@ impl ReadersPort {
     fn admit<R: Clock + Eprint + AllocGlobal>(
         &mut self,
         context: &Context<'_, '_, R>,
-        mut stream: TcpStream,
+        mut connection: SystemConnection,
     ) {
         let Some(index) = slot_index(self.slots.as_slice()) else {
             return;
@@ -122,9 +122,12 @@ impl ReadersPort {
         if self.take(index).is_some() {
             context.log.write(&ReaderEvent::Replaced);
         }
-        let _ = stream.set_nodelay(true);
-        if register(context.registry, &mut stream, self.token(index)).is_ok() {
-            self.put(index, Reader::new(context.alloc(), stream, context.time));
+        connection.send_at_once();
+        if context.network.watch(&mut connection, self.token(index)) {
+            self.put(
+                index,
+                Reader::new(context.alloc(), connection, context.time),
+            );
         }
     }
 
@@ -161,7 +164,9 @@ impl ReadersPort {
         match reader.turn(context.alloc(), published, context.time) {
             ReaderTurn::Here => self.put(index, reader),
             ReaderTurn::Busy => {
-                register_again(context.registry, reader.stream(), self.token(index));
+                let _ = context
+                    .network
+                    .watch(reader.connection(), self.token(index));
                 self.put(index, reader);
             }
             ReaderTurn::Gone => {}

@@ -2,13 +2,12 @@
 
 use crate::port::PortView;
 use crate::replies::{QuestionOutcome, answer};
-use mio::net::TcpStream;
 use std::alloc::Global;
 use wf_client::Outgoing;
 use wf_reader::{QUESTION_BYTES, QuestionRejection};
+use wf_sockets::{Connection, Moved, SystemConnection};
 use wf_stream::Sink;
 use wf_timing::is_silent;
-use wf_visitors::{Done, read, write};
 
 /// The most questions that a turn answers.
 const MOST_QUESTIONS: usize = 4;
@@ -19,7 +18,7 @@ const MOST_READS: usize = 64;
 /// A reader's connection: what has come of its question, what is to be written of the reply, and when it asked last.
 #[derive(Drop)]
 pub(crate) struct Reader {
-    stream: TcpStream,
+    connection: SystemConnection,
     question: Vec<u8>,
     reply: Outgoing,
     rejected: Option<QuestionRejection>,
@@ -50,9 +49,9 @@ enum Step {
 
 impl Reader {
     /// A reader that came now.
-    pub(crate) fn new(alloc: Global, stream: TcpStream, time: u64) -> Self {
+    pub(crate) fn new(alloc: Global, connection: SystemConnection, time: u64) -> Self {
         Reader {
-            stream,
+            connection,
             question: Vec::new(alloc),
             reply: Outgoing::new(alloc),
             rejected: None,
@@ -60,9 +59,9 @@ impl Reader {
         }
     }
 
-    /// Its stream.
-    pub(crate) fn stream(&mut self) -> &mut TcpStream {
-        &mut self.stream
+    /// Its connection.
+    pub(crate) fn connection(&mut self) -> &mut SystemConnection {
+        &mut self.connection
     }
 
     /// When it asked last, or came.
@@ -131,13 +130,13 @@ impl Reader {
                     None => None,
                 };
             }
-            match write(&mut self.stream, self.reply.rest()) {
-                Done::Bytes(count) => {
+            match self.connection.write(self.reply.rest()) {
+                Moved::Bytes(count) => {
                     let count = count.min(self.reply.remaining());
                     self.reply.advance(count);
                 }
-                Done::Blocked => return Some(ReaderTurn::Here),
-                Done::Closed | Done::Failed => return Some(ReaderTurn::Gone),
+                Moved::Blocked => return Some(ReaderTurn::Here),
+                Moved::Closed | Moved::Failed => return Some(ReaderTurn::Gone),
             }
         }
         Some(ReaderTurn::Busy)
@@ -151,15 +150,15 @@ impl Reader {
             if missing == 0 {
                 return None;
             }
-            match read(&mut self.stream, &mut piece[..missing]) {
-                Done::Bytes(count) => {
+            match self.connection.read(&mut piece[..missing]) {
+                Moved::Bytes(count) => {
                     let count = count.min(missing);
                     if self.question.extend_from_slice(&piece[..count]).is_err() {
                         return Some(ReaderTurn::Gone);
                     }
                 }
-                Done::Blocked => return Some(ReaderTurn::Here),
-                Done::Closed | Done::Failed => return Some(ReaderTurn::Gone),
+                Moved::Blocked => return Some(ReaderTurn::Here),
+                Moved::Closed | Moved::Failed => return Some(ReaderTurn::Gone),
             }
         }
         Some(ReaderTurn::Busy)

@@ -1,13 +1,14 @@
 -- Clients that were answered.
 use Rattle.std.specs.Prelude.{◌≡◌, ◌⊎◌, ℕ, Bool, true, false, List, [], ◌∷◌, ◌++◌}
 use Rattle.wf_client.specs.Client.{Client}
+use Rattle.wf_sockets.specs.declared.connection.Connection.{Ghosts as Connection}
 use Rattle.wf_visitors.specs.ServerReply.{nothing, IsReply}
 use Rattle.wf_visitors.specs.declared.server.ServerReply.{ServerReply}
 use Rattle.wf_visitors.specs.declared.server.Server.{Ghosts as Server}
 use Rattle.wf_visitors.specs.declared.visitors.Visitors.{Visitors}
 
 -- the clients that were answered, as they were then, with what had come of their requests and with the whole responses
-abbrev pub responses_of : Visitors → List (Client × ℕ)
+abbrev pub responses_of : {N C L : Type 0} {connections : Connection C} → Visitors N C L connections → List (Client × ℕ)
 responses_of visitors = visitors.responses.items
 
 module _ {S : Type 0} (servers : Server S) where

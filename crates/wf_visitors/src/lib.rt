@@ -9,14 +9,14 @@
 //! **Promises.** What is written to a client is what the server responded to the bytes that had come from it ([`Visitors::always_responded`],
 //! [`Visitors::serve`]).
 //!
-//! **Doesn't.** What sockets and clocks do has no model.
+//! **Doesn't.** No clause says which sockets are ready, or what a clock shows. The network is any ([`wf_sockets`]); where none is named
+//! it is the system's.
 #![tactic(auto)]
 
 mod clock;
 mod context;
 mod counts;
 mod event;
-mod listener;
 mod log;
 mod request_line;
 mod server;
@@ -30,8 +30,6 @@ pub use clock::{micros, now};
 pub use context::Context;
 pub use counts::Counts;
 pub use event::{Level, LogEntry, Visit};
-pub use listener::listen;
 pub use log::Log;
 pub use server::{Server, ServerReply};
-pub use socket::{Done, read, register, register_again, write};
 pub use visitors::Visitors;

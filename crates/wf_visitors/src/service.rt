@@ -14,12 +14,12 @@ use crate::slots::{free_slots, put_in, take_out};
 use crate::socket::ClientConnection;
 use crate::turn::{ClientTurn, PIECE_BYTES, drop_rest, give, receive};
 use crate::visitors::Visitors;
-use http_server::Log as Past;
-use mio::net::TcpListener;
 use std::alloc::{AllocError, Global};
 use std::net::SocketAddr;
 use std::time::Clock;
 use wf_client::{BUDGET_BYTES, Client, ClientPhase, Outgoing, slot_index, weight};
+use wf_past::Past;
+use wf_sockets::{Connection, Network};
 
 /// The most connections accepted in one turn.
 const MOST_ACCEPTED: usize = 64;
@@ -28,10 +28,10 @@ const MOST_ACCEPTED: usize = 64;
 const LEAST_REJECTION: u16 = 400;
 
 /// That many connections, none of which is there.
-fn no_connections(
+fn no_connections<C: Connection + Drop>(
     alloc: Global,
     count: usize,
-) -> Result<Vec<Option<ClientConnection>>, AllocError> {
+) -> Result<Vec<Option<ClientConnection<C>>>, AllocError> {
     let mut connections = Vec::new(alloc);
     for _ in 0..count {
         connections.push(None)?;
@@ -39,12 +39,12 @@ fn no_connections(
     Ok(connections)
 }
 
-impl Visitors {
+impl<N: Network> Visitors<N> {
     /// That many free slots, with the tokens from the first one on. The only error is allocation failure.
     pub fn new(
         alloc: Global,
         count: usize,
-        listener: Option<TcpListener>,
+        listener: Option<N::Listener>,
         first: usize,
     ) -> Result<Self, AllocError>
         ensures { IfOk result (λ visitors. responses_of visitors ≡ []) }
@@ -66,9 +66,9 @@ impl Visitors {
     }
 
     /// Where clients come.
-    pub fn address(&self) -> Option<SocketAddr> {
+    pub fn address(&self, network: &N) -> Option<SocketAddr> {
         match &self.listener {
-            Some(listener) => listener.local_addr().ok(),
+            Some(listener) => network.address(listener),
             None => None,
         }
     }
@@ -96,7 +96,7 @@ impl Visitors {
     }
 
     /// Accepts connections, as long as there are some, slots for them, and room in the budget.
-    pub fn accept<R: Clock + Eprint + AllocGlobal>(&mut self, context: &Context<'_, '_, R>)
+    pub fn accept<R: Clock + Eprint + AllocGlobal>(&mut self, context: &Context<'_, '_, R, N>)
         ensures { responses_of self.new ≡ responses_of self.old }
     {
         for _ in 0..MOST_ACCEPTED {
@@ -106,7 +106,7 @@ impl Visitors {
             let Some(index) = slot_index(self.slots.as_slice()) else {
                 return;
             };
-            let Some(connection) = self.accept_one() else {
+            let Some(connection) = self.accept_one(context.network) else {
                 return;
             };
             self.admit(context, connection, index);
@@ -131,10 +131,12 @@ impl Visitors {
     }
 
     /// The next connection, if there is one.
-    fn accept_one(&self) -> Option<ClientConnection> {
-        match &self.listener {
-            Some(listener) => match listener.accept() {
-                Ok((stream, address)) => Some(ClientConnection::new(stream, address)),
+    fn accept_one(&mut self, network: &N) -> Option<ClientConnection<N::Connection>>
+        ensures { responses_of self.new ≡ responses_of self.old }
+    {
+        match &mut self.listener {
+            Some(listener) => match network.accept(listener) {
+                Ok((connection, address)) => Some(ClientConnection::new(connection, address)),
                 Err(_) => None,
             },
             None => None,
@@ -145,8 +147,8 @@ impl Visitors {
     #[tactic(auto, using(crate::proofs::Answered::may_respond_new))]
     fn admit<R: Clock + Eprint + AllocGlobal>(
         &mut self,
-        context: &Context<'_, '_, R>,
-        connection: ClientConnection,
+        context: &Context<'_, '_, R, N>,
+        connection: ClientConnection<N::Connection>,
         index: usize,
     )
         ensures { responses_of self.new ≡ responses_of self.old }
@@ -169,7 +171,7 @@ impl Visitors {
     }
 
     /// Takes the client and its connection out of a slot.
-    fn take(&mut self, index: usize) -> Option<(ClientConnection, Client)>
+    fn take(&mut self, index: usize) -> Option<(ClientConnection<N::Connection>, Client)>
         ensures responses { responses_of self.new ≡ responses_of self.old }
         ensures may { IfSome result (λ found. MayRespond (responses_of self.old) found.1) }
     {
@@ -182,7 +184,7 @@ impl Visitors {
     }
 
     /// Puts a client and its connection into a slot.
-    fn put(&mut self, index: usize, connection: ClientConnection, client: Client)
+    fn put(&mut self, index: usize, connection: ClientConnection<N::Connection>, client: Client)
         requires { MayRespond (responses_of self.old) client }
         ensures { responses_of self.new ≡ responses_of self.old }
     {
@@ -193,7 +195,7 @@ impl Visitors {
     }
 
     /// What came for the client in a slot, or was taken by it.
-    pub fn turn<R: AllocGlobal>(&mut self, context: &Context<'_, '_, R>, index: usize)
+    pub fn turn<R: AllocGlobal>(&mut self, context: &Context<'_, '_, R, N>, index: usize)
         ensures { responses_of self.new ≡ responses_of self.old }
     {
         let Some((mut connection, mut client)) = self.take(index) else {
@@ -215,8 +217,8 @@ impl Visitors {
     /// Puts a client back into its slot. One that has taken its answer parts.
     fn put_back<R: AllocGlobal>(
         &mut self,
-        context: &Context<'_, '_, R>,
-        connection: ClientConnection,
+        context: &Context<'_, '_, R, N>,
+        connection: ClientConnection<N::Connection>,
         client: Client,
         index: usize,
     )
@@ -241,15 +243,15 @@ impl Visitors {
     /// let it be registered, it is closed.
     fn keep<R>(
         &mut self,
-        context: &Context<'_, '_, R>,
-        mut connection: ClientConnection,
+        context: &Context<'_, '_, R, N>,
+        mut connection: ClientConnection<N::Connection>,
         client: Client,
         index: usize,
     )
         requires { MayRespond (responses_of self.old) client }
         ensures { responses_of self.new ≡ responses_of self.old }
     {
-        if waits(&client) || connection.register(context.registry, self.token(index)) {
+        if waits(&client) || connection.watch(context.network, self.token(index)) {
             self.put(index, connection, client);
         }
     }
@@ -261,8 +263,8 @@ impl Visitors {
     #[tactic(auto, using(crate::proofs::Answered::may_respond_parted))]
     fn part<R: AllocGlobal>(
         &mut self,
-        context: &Context<'_, '_, R>,
-        mut connection: ClientConnection,
+        context: &Context<'_, '_, R, N>,
+        mut connection: ClientConnection<N::Connection>,
         mut client: Client,
         index: usize,
     )
@@ -272,10 +274,10 @@ impl Visitors {
     {
         let is_rejection = client.incoming.len() != 0;
         if is_rejection {
-            connection.end_writing();
+            connection.connection.end_writing();
         }
         part(context, &mut client);
-        if drop_rest(&mut connection.stream, self.piece.as_mut_slice()) == ClientTurn::Gone
+        if drop_rest(&mut connection.connection, self.piece.as_mut_slice()) == ClientTurn::Gone
             || !is_rejection
         {
             drop(client);
@@ -343,7 +345,7 @@ impl Visitors {
     /// response was given.
     pub fn serve<R: Clock + Eprint + AllocGlobal, S: Server>(
         &mut self,
-        context: &Context<'_, '_, R>,
+        context: &Context<'_, '_, R, N>,
         server: &mut S,
         index: usize,
     ) -> bool
@@ -355,13 +357,13 @@ impl Visitors {
     }
 }
 
-impl Visitors {
+impl<N: Network> Visitors<N> {
     /// Lets a server answer the request in a slot, if it is whole; the next [`turn`](Visitors::turn) of the client writes what it takes
     /// of the response. Returns whether a response was given.
     #[tactic(auto, using(crate::proofs::Answered::asks_yet))]
     pub fn answer<R: Clock + Eprint + AllocGlobal, S: Server>(
         &mut self,
-        context: &Context<'_, '_, R>,
+        context: &Context<'_, '_, R, N>,
         server: &mut S,
         index: usize,
     ) -> bool
@@ -402,7 +404,12 @@ impl Visitors {
     }
 
     /// Counts the request of a client that was answered, and writes its line.
-    fn note<R: Clock + Eprint>(&mut self, context: &Context<'_, '_, R>, client: &Client, sent: Sent)
+    fn note<R: Clock + Eprint>(
+        &mut self,
+        context: &Context<'_, '_, R, N>,
+        client: &Client,
+        sent: Sent,
+    )
         ensures { responses_of self.new ≡ responses_of self.old }
     {
         let Sent {
@@ -471,10 +478,10 @@ struct Sent {
 }
 
 /// Takes the connection out of a slot.
-fn take_connection(
-    connections: &mut Vec<Option<ClientConnection>>,
+fn take_connection<C: Connection + Drop>(
+    connections: &mut Vec<Option<ClientConnection<C>>>,
     index: usize,
-) -> Option<ClientConnection> {
+) -> Option<ClientConnection<C>> {
     match connections.get_mut(index) {
         Some(connection) => connection.take(),
         None => None,
@@ -488,9 +495,9 @@ fn waits(client: &Client) -> bool {
 
 /// Lets the connection of a client go on in its phase.
 #[tactic(auto, using(crate::proofs::Answered::may_respond_still))]
-fn go_on<R>(
-    context: &Context<'_, '_, R>,
-    connection: &mut ClientConnection,
+fn go_on<R, N: Network>(
+    context: &Context<'_, '_, R, N>,
+    connection: &mut ClientConnection<N::Connection>,
     client: &mut Client,
     piece: &mut [u8],
     token: usize,
@@ -502,11 +509,11 @@ fn go_on<R>(
             if client.incoming.may_be_whole() {
                 ClientTurn::Here
             } else {
-                receive(context.registry, connection, client, piece, token)
+                receive(context.network, connection, client, piece, token)
             }
         }
-        ClientPhase::Taking => give(&mut connection.stream, client),
-        ClientPhase::Lingering => drop_rest(&mut connection.stream, piece),
+        ClientPhase::Taking => give(&mut connection.connection, client),
+        ClientPhase::Lingering => drop_rest(&mut connection.connection, piece),
     }
 }
 
@@ -522,7 +529,7 @@ fn respond<S: Server>(alloc: Global, server: &mut S, client: &mut Client) -> Ser
 
 /// A client that was answered is to take the response. What it asked for is kept only where the response is a rejection, after which it
 /// may still send.
-fn settle<R: AllocGlobal>(context: &Context<'_, '_, R>, client: &mut Client, status: u16)
+fn settle<R: AllocGlobal, N>(context: &Context<'_, '_, R, N>, client: &mut Client, status: u16)
     ensures { client.new.outgoing ≡ client.old.outgoing }
 {
     if status < LEAST_REJECTION {
@@ -532,7 +539,7 @@ fn settle<R: AllocGlobal>(context: &Context<'_, '_, R>, client: &mut Client, sta
 }
 
 /// A client that has taken its response parts.
-fn part<R: AllocGlobal>(context: &Context<'_, '_, R>, client: &mut Client)
+fn part<R: AllocGlobal, N>(context: &Context<'_, '_, R, N>, client: &mut Client)
     ensures { client.new.outgoing ≡ client.old.outgoing }
 {
     client.incoming.clear(context.alloc());

@@ -2,10 +2,9 @@
 ghost use Rattle.std.specs.Prelude.{◌≡◌};
 ghost use Rattle.wf_visitors.specs.Turn.{IsGiving, IsReceiving};
 
-use crate::socket::{ClientConnection, Done, read, write};
-use mio::Registry;
-use mio::net::TcpStream;
+use crate::socket::ClientConnection;
 use wf_client::Client;
+use wf_sockets::{Connection, Moved, Network};
 
 /// The most bytes of a piece.
 pub(crate) const PIECE_BYTES: usize = 8_192;
@@ -24,9 +23,9 @@ pub(crate) enum ClientTurn {
 
 /// Reads what came of a request, a bounded part of it.
 #[tactic(auto, using(crate::proofs::Answered::receiving_twice))]
-pub(crate) fn receive(
-    registry: &Registry,
-    connection: &mut ClientConnection,
+pub(crate) fn receive<N: Network>(
+    network: &N,
+    connection: &mut ClientConnection<N::Connection>,
     client: &mut Client,
     piece: &mut [u8],
     token: usize,
@@ -34,12 +33,12 @@ pub(crate) fn receive(
     ensures { IsReceiving client.old client.new }
 {
     for _ in 0..MOST_PIECES {
-        match receive_piece(&mut connection.stream, client, piece) {
-            Moved::More => {}
-            Moved::Done(left) => return left,
+        match receive_piece(&mut connection.connection, client, piece) {
+            Step::More => {}
+            Step::Done(left) => return left,
         }
     }
-    if connection.register_again(registry, token) {
+    if connection.watch_again(network, token) {
         ClientTurn::Here
     } else {
         ClientTurn::Gone
@@ -48,76 +47,74 @@ pub(crate) fn receive(
 
 /// Whether more may be read or written.
 #[derive(Clone, Copy, PartialEq, Eq)]
-enum Moved {
+enum Step {
     More,
     Done(ClientTurn),
 }
 
 /// Reads a piece of a request. No more is read where all that has come was, and may be the whole request: if it isn't, its client's
 /// next turn reads on.
-fn receive_piece(stream: &mut TcpStream, client: &mut Client, piece: &mut [u8]) -> Moved
+fn receive_piece<C: Connection>(connection: &mut C, client: &mut Client, piece: &mut [u8]) -> Step
     ensures { IsReceiving client.old client.new }
 {
-    match read(stream, piece) {
-        Done::Bytes(count) => {
-            let count = count.min(piece.len());
+    match connection.read(piece) {
+        Moved::Bytes(count) => {
             if client.incoming.take_in(&piece[..count]).is_err() {
-                return Moved::Done(ClientTurn::Gone);
+                return Step::Done(ClientTurn::Gone);
             }
             if count < piece.len() && client.incoming.may_be_whole() {
-                Moved::Done(ClientTurn::Here)
+                Step::Done(ClientTurn::Here)
             } else {
-                Moved::More
+                Step::More
             }
         }
-        Done::Blocked => Moved::Done(ClientTurn::Here),
-        Done::Closed => {
+        Moved::Blocked => Step::Done(ClientTurn::Here),
+        Moved::Closed => {
             client.incoming.close();
-            Moved::Done(ClientTurn::Here)
+            Step::Done(ClientTurn::Here)
         }
-        Done::Failed => Moved::Done(ClientTurn::Gone),
+        Moved::Failed => Step::Done(ClientTurn::Gone),
     }
 }
 
 /// Writes what a client takes of its answer.
 #[tactic(auto, using(crate::proofs::Answered::giving_twice))]
-pub(crate) fn give(stream: &mut TcpStream, client: &mut Client) -> ClientTurn
+pub(crate) fn give<C: Connection>(connection: &mut C, client: &mut Client) -> ClientTurn
     ensures { IsGiving client.old client.new }
 {
     for _ in 0..u64::MAX {
-        match give_piece(stream, client) {
-            Moved::More => {}
-            Moved::Done(left) => return left,
+        match give_piece(connection, client) {
+            Step::More => {}
+            Step::Done(left) => return left,
         }
     }
     ClientTurn::Here
 }
 
 /// Writes once what a client takes of its answer.
-fn give_piece(stream: &mut TcpStream, client: &mut Client) -> Moved
+fn give_piece<C: Connection>(connection: &mut C, client: &mut Client) -> Step
     ensures { IsGiving client.old client.new }
 {
     if client.outgoing.is_taken() {
-        return Moved::Done(ClientTurn::Here);
+        return Step::Done(ClientTurn::Here);
     }
-    match write(stream, client.outgoing.rest()) {
-        Done::Bytes(count) => {
-            let count = count.min(client.outgoing.remaining());
+    match connection.write(client.outgoing.rest()) {
+        Moved::Bytes(count) => {
             client.outgoing.advance(count);
-            Moved::More
+            Step::More
         }
-        Done::Blocked => Moved::Done(ClientTurn::Here),
-        Done::Closed | Done::Failed => Moved::Done(ClientTurn::Gone),
+        Moved::Blocked => Step::Done(ClientTurn::Here),
+        Moved::Closed | Moved::Failed => Step::Done(ClientTurn::Gone),
     }
 }
 
 /// Drops what a client still sends.
-pub(crate) fn drop_rest(stream: &mut TcpStream, piece: &mut [u8]) -> ClientTurn {
+pub(crate) fn drop_rest<C: Connection>(connection: &mut C, piece: &mut [u8]) -> ClientTurn {
     for _ in 0..MOST_PIECES {
-        match read(stream, piece) {
-            Done::Bytes(_) => {}
-            Done::Blocked => return ClientTurn::Here,
-            Done::Closed | Done::Failed => return ClientTurn::Gone,
+        match connection.read(piece) {
+            Moved::Bytes(_) => {}
+            Moved::Blocked => return ClientTurn::Here,
+            Moved::Closed | Moved::Failed => return ClientTurn::Gone,
         }
     }
     ClientTurn::Gone

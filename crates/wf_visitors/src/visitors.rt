@@ -2,16 +2,16 @@ ghost use Rattle.wf_visitors.specs.Responses.{AreResponses};
 
 use crate::counts::Counts;
 use crate::socket::ClientConnection;
-use http_server::Log as Past;
-use mio::net::TcpListener;
 use wf_client::Client;
+use wf_past::Past;
+use wf_sockets::{Network, SystemNetwork};
 
 /// Clients with their connections: that of slot i at index i. A clause sees a log that only proofs read: each client that was answered, as it
 /// was then, with what had come of its request and with the whole response.
 #[derive(Drop)]
-pub struct Visitors {
-    pub(crate) listener: Option<TcpListener>,
-    pub(crate) connections: Vec<Option<ClientConnection>>,
+pub struct Visitors<N: Network = SystemNetwork> {
+    pub(crate) listener: Option<N::Listener>,
+    pub(crate) connections: Vec<Option<ClientConnection<N::Connection>>>,
     pub(crate) slots: Vec<Option<Client>>,
     // the token of slot 0
     pub(crate) first: usize,

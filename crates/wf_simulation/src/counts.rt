@@ -1,0 +1,28 @@
+//! How often what happened.
+
+/// How often what happened on a network.
+#[derive(Clone, Copy, Default)]
+pub struct Counts {
+    /// Connections that were opened.
+    pub opened: u64,
+    /// Attempts to connect that were refused.
+    pub refused: u64,
+    /// Attempts to connect that nothing answered.
+    pub unanswered: u64,
+    /// Connections that were reset by chance.
+    pub resets: u64,
+    /// Connections that were reset since one end was closed over unread bytes, or bytes came for a closed one.
+    pub answers: u64,
+    /// Directions that were lost.
+    pub losses: u64,
+    /// Pieces that arrived, and bytes of them.
+    pub pieces: u64,
+    pub bytes: u64,
+    /// Steps that nothing let through.
+    pub waits: u64,
+}
+
+/// One more.
+pub(crate) fn raise(count: &mut u64) {
+    *count = count.saturating_add(1);
+}
