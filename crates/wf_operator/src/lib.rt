@@ -2,10 +2,12 @@
 //! `/history?from=S`.
 //!
 //! - [`Operator`] answers what an [`Operated`] tells of itself; other paths are 404, other methods 405.
-//! - `metrics` writes samples in Prometheus' text form. [`PictureCounts`] counts the pictures among the responses. [`Behind`] says
-//! whether a process has been behind for too long.
+//! - `metrics` writes metrics in Prometheus' text form, each with what it tells and its type; `specs/Metrics.antt` has their text. The port
+//! itself tells which build a process is. What processes have in common beyond that is written by [`StartTime`], [`push_sequences`],
+//! [`push_open`], [`push_requests`], [`PictureCounts`] and [`push_tape_bytes`]. [`Behind`] says whether a process has been behind for too
+//! long.
 //!
-//! **Doesn't.** What is told of health and metrics has no model; it is tested with the built program.
+//! **Doesn't.** What is told of health, and which numbers a process gives its metrics, has no model; it is tested with the built program.
 #![tactic(auto)]
 
 mod behind;
@@ -15,8 +17,16 @@ mod operator;
 mod page;
 mod pictures;
 mod request;
+mod sequences;
+mod start;
+mod tape;
+mod visits;
 
 pub use behind::Behind;
-pub use metrics::{counter, gauge, seconds};
+pub use metrics::{MetricType, counter, gauge, head, seconds};
 pub use operator::{Health, Operated, Operator};
 pub use pictures::PictureCounts;
+pub use sequences::push_sequences;
+pub use start::StartTime;
+pub use tape::push_tape_bytes;
+pub use visits::{push_open, push_requests};

@@ -1,13 +1,16 @@
 //! What the operator's port answers.
 
 use crate::lines::{canon_at, empty_map, push_line, text_of};
+use crate::metrics::{MetricType, head};
 use crate::page::TextPage;
 use crate::request::{FirstLine, is_whole, number_of, request_of};
 use http::StatusCode;
 use std::alloc::{AllocError, Global};
+use std::fmt::Write;
 use std::net::SocketAddr;
 use wf_client::{Incoming, Outgoing};
 use wf_learner::History;
+use wf_version::BUILD_LABELS;
 use wf_visitors::{Server, ServerReply};
 
 /// The most lines of a history that one answer has.
@@ -56,7 +59,7 @@ pub trait Operated {
     /// The latest sequence that it has heard of, if it has been behind for too long.
     fn later(&self) -> Option<u16>;
 
-    /// Appends its metrics. The only error is allocation failure.
+    /// Appends its metrics, without which build it is. The only error is allocation failure.
     fn push_metrics(&self, text: &mut String) -> Result<(), AllocError>;
 }
 
@@ -182,8 +185,20 @@ fn readiness_page<O: Operated>(alloc: Global, operated: &O) -> Result<TextPage, 
 /// The metrics, in Prometheus' text form.
 fn metrics_page<O: Operated>(alloc: Global, operated: &O) -> Result<TextPage, AllocError> {
     let mut text = String::new(alloc);
+    push_build(&mut text)?;
     operated.push_metrics(&mut text)?;
     Ok(TextPage::of_metrics(text))
+}
+
+/// Appends which build the program is.
+fn push_build(text: &mut String) -> Result<(), AllocError> {
+    head(
+        text,
+        "wfarm_build_info",
+        "Version and revision of the program; the value is always 1",
+        MetricType::Gauge,
+    )?;
+    write!(text, "wfarm_build_info{BUILD_LABELS} 1\n")
 }
 
 /// The canonical text of a published map.

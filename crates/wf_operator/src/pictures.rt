@@ -26,9 +26,25 @@ impl PictureCounts {
         }
     }
 
-    /// Appends the counts as metrics.
-    pub fn push_to(&self, text: &mut String) -> Result<(), AllocError> {
-        counter(text, "wfarm_pictures_total", self.drawn)?;
-        counter(text, "wfarm_cached_tiles_total", self.cached)
+    /// Appends the counts as metrics, and how many pictures weren't cached. The only error is allocation failure.
+    pub fn push_to(&self, text: &mut String, unkept: u64) -> Result<(), AllocError> {
+        counter(
+            text,
+            "wfarm_pictures_total",
+            "Pictures that were drawn for a client",
+            self.drawn,
+        )?;
+        counter(
+            text,
+            "wfarm_cached_tiles_total",
+            "Tiles that were cut out of a cached picture",
+            self.cached,
+        )?;
+        counter(
+            text,
+            "wfarm_unkept_pictures_total",
+            "Pictures that were drawn and not cached, since an allocation failed",
+            unkept,
+        )
     }
 }
