@@ -5,3 +5,4 @@ pub mod Parts
 pub mod Same
 pub mod Sizes
 pub mod Reported
+pub mod HeardLater

@@ -5,3 +5,4 @@ pub mod Progress
 pub mod GreetingReply
 pub mod Sender
 pub mod Reported
+pub mod Told

@@ -32,6 +32,7 @@ mod reply;
 mod sender;
 mod state;
 mod theorem;
+mod told;
 
 pub use admission::{Own, admit};
 pub use decoder::decode;

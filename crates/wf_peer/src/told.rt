@@ -1,0 +1,89 @@
+//! Whether what a message tells of its sender was heard before.
+ghost use Rattle.std.specs.Prelude.{◌↔◌, ◌≡◌, IsTrue};
+ghost use Rattle.wf_codec.specs.Message.{view};
+ghost use Rattle.wf_peer.specs.Sender.{heard_of};
+ghost use Rattle.wf_peer.specs.Told.{HearAll, IsHeardOf, IsPast, TellsNoMore, TellsNoMoreOf};
+
+use crate::heard::Heard;
+use crate::peer_progress::PeerProgress;
+use crate::progress::Progress;
+use wf_ballot::NodeId;
+use wf_codec::Message;
+use wf_folder::is_no_lower;
+
+impl PeerProgress {
+    /// Whether a node has greeted, and a message of it raises neither the round nor the promise that was heard of it.
+    pub fn has_heard(&self, node: NodeId, message: &Message) -> bool
+        ensures { IsTrue result ↔ IsHeardOf self.now node (view message.now) }
+    {
+        tells_no_more_of(&self.heard(node), message)
+    }
+
+    /// Whether this has all that was heard earlier, of each node.
+    pub fn has_all_of(&self, earlier: &PeerProgress) -> bool
+        ensures { IsTrue result → HearAll earlier.now self.now }
+    {
+        have_all_of(&self.nodes, &earlier.nodes)
+    }
+}
+
+/// Whether of each node no less was heard than earlier.
+fn have_all_of(later: &[Option<Heard>], earlier: &[Option<Heard>]) -> bool
+    ensures { IsTrue result → HearAll earlier.now later.now }
+{
+    for index in 0..earlier.len() {
+        if !is_past(&earlier[index], &heard_at(later, index)) {
+            return false;
+        }
+    }
+    true
+}
+
+/// What was heard of the node of this number.
+fn heard_at(nodes: &[Option<Heard>], index: usize) -> Option<Heard>
+    ensures { result ≡ heard_of nodes.now index }
+{
+    match nodes.get(index) {
+        Some(heard) => *heard,
+        None => None,
+    }
+}
+
+/// Whether a node has greeted, and a message of it raises nothing that was heard of it.
+fn tells_no_more_of(heard: &Option<Heard>, message: &Message) -> bool
+    ensures { IsTrue result ↔ TellsNoMoreOf heard.now (view message.now) }
+{
+    match heard {
+        Some(heard) => tells_no_more(&heard.progress, message),
+        None => false,
+    }
+}
+
+/// Whether a message raises neither the round nor the promise of its sender.
+fn tells_no_more(progress: &Progress, message: &Message) -> bool
+    ensures { IsTrue result ↔ TellsNoMore progress.now (view message.now) }
+{
+    match message {
+        Message::Prepare(_, ballot) => ballot.round() <= progress.round,
+        Message::Promise(_, ballot, _) => is_no_lower(Some(*ballot), progress.promise),
+        Message::Accept(_, ballot, _) => ballot.round() <= progress.round,
+        Message::Accepted(_, _, ballot) => is_no_lower(Some(*ballot), progress.promise),
+        Message::Nack(_, _, _, promise) => is_no_lower(Some(*promise), progress.promise),
+        Message::Chosen(_, _) => true,
+        Message::Ask(_) => true,
+    }
+}
+
+/// Whether what is heard of a node later has no lower round and no lower promise.
+fn is_past(earlier: &Option<Heard>, later: &Option<Heard>) -> bool
+    ensures { IsTrue result ↔ IsPast earlier.now later.now }
+{
+    match (earlier, later) {
+        (None, _) => true,
+        (Some(_), None) => false,
+        (Some(earlier), Some(later)) => {
+            earlier.progress.round <= later.progress.round
+                && is_no_lower(earlier.progress.promise, later.progress.promise)
+        }
+    }
+}
