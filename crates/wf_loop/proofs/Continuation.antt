@@ -3,7 +3,8 @@ use Rattle.std.proofs.Common.{◌≡◌, ◌⊎◌, ℕ, ◌<◌, ◌≤◌, Boo
 use Rattle.std.proofs.lemmas.Bool.{cases_Bool, cases_lt}
 use Rattle.std.specs.Prelude.{if◌then◌else◌}
 use Rattle.wf_actor.specs.Life.{logged}
-use Rattle.wf_actor.specs.Process.{ReceivesFrom, ReceivesOwn, IsActed, IsGoingOn, IsLinkChanged, IsReception, IsSameActor, arrived_at, arrived_of, is_peer, emitted_by}
+use Rattle.wf_actor.specs.Process.{ReceivesFrom, ReceivesOwn, IsActed, IsBegun, IsGoingOn, IsLinkChanged, IsReception, IsSameActor, arrived_at, arrived_of, is_peer, emitted_by}
+use Rattle.wf_actor.specs.Start.{IsOpened}
 use Rattle.wf_actor.specs.declared.actor.Actor.{Actor}
 use Rattle.wf_actor.specs.declared.link.Link.{Link}
 use Rattle.wf_actor.specs.declared.actor.Origin.{Origin}
@@ -16,11 +17,17 @@ use Rattle.wf_model.specs.declared.action.Action.TheVariants as actions
 use Rattle.wf_codec.specs.declared.message.Message.{Message}
 use Rattle.wf_edge.specs.declared.outcome.Outcome.{Outcome}
 use Rattle.wf_mail.specs.Mail.{IsBeginning}
+use Rattle.wf_node.specs.Reopening.{HasStoredAs}
 use Rattle.wf_node.specs.declared.fault.NodeFault.{NodeFault}
 use Rattle.wf_tape.specs.declared.tape.Tape.{Ghosts as Tape}
 use Rattle.wf_codec.specs.declared.fault.DecodeFault.{DecodeFault}
 use Rattle.wf_loop.specs.Answer.{HasResponded, IsAnswer}
-use Rattle.wf_loop.specs.Continuation.{Continues, GoesOn, HasServed, IsEarlier, IsLater, IsOfRuns, KeepsEarlier, StaysSuspended, besides_asks, is_ask, is_ask_first}
+use Rattle.wf_codec.specs.Message.{view}
+use Rattle.wf_loop.specs.Folder.{Stand, with_heard}
+use Rattle.wf_peer.specs.PeerProgressText.{peer_progress_text}
+use Rattle.wf_peer.specs.Told.{HearAll, IsHeardOf, IsHeardText}
+use Rattle.wf_peer.specs.declared.heard.Heard.{Heard}
+use Rattle.wf_loop.specs.Continuation.{AreHeardFrom, AreRunsFrom, AreRunsHeardFrom, Continues, ContinuesIn, Follows, GoesOn, HasServed, IsEarlier, IsHeardFrom, IsHeardKept, IsLater, IsNextHeard, KeepsEarlier, StaysSuspended, besides_asks, is_ask, is_ask_first}
 use Rattle.wf_loop.specs.declared.clients.Clients.{Clients}
 use Rattle.wf_loop.specs.declared.gate.Gate.TheVariants as gates
 use Rattle.wf_loop.specs.declared.hub.Voter.{Voter}
@@ -45,6 +52,40 @@ one_asked (x ∷ xs) m origin asks = ap (λ (ys : List (Message × Origin)). if 
 
 besides_same : (before after : List (Message × Origin)) → after ≡ before → besides_asks after ≡ besides_asks before
 besides_same before after same = ap besides_asks same
+
+-- ---- messages whose round and promise were heard before
+
+heard_on : (known : List (Option Heard)) (given more : List (Message × Origin)) → AreHeardFrom known given → AreHeardFrom known more → AreHeardFrom known (given ++ more)
+unfolding AreHeardFrom
+heard_on known [] more first second = second
+heard_on known (x ∷ xs) more first second = (first.0, heard_on known xs more first.1 second)
+
+one_heard : (known : List (Option Heard)) (m : Message) (origin : Origin) → IsHeardFrom known m origin → AreHeardFrom known ((m, origin) ∷ [])
+unfolding AreHeardFrom
+one_heard known m origin is = (is, tt)
+
+heard_one : (known : List (Option Heard)) (given : List (Message × Origin)) (m : Message) (origin : Origin) → AreHeardFrom known given → IsHeardFrom known m origin → AreHeardFrom known (given ++ (m, origin) ∷ [])
+heard_one known given m origin first is = heard_on known given ((m, origin) ∷ []) first (one_heard known m origin is)
+
+heard_none : (known : List (Option Heard)) → AreHeardFrom known []
+unfolding AreHeardFrom
+heard_none known = tt
+
+heard_by : (known : List (Option Heard)) (given given' : List (Message × Origin)) → given' ≡ given → AreHeardFrom known given → AreHeardFrom known given'
+heard_by known given given' same is = subst (λ (xs : List (Message × Origin)). AreHeardFrom known xs) (sym same) is
+
+-- what was heard before is heard later
+from_later : (earlier later : List (Option Heard)) → HearAll earlier later → (m : Message) (origin : Origin) → IsHeardFrom earlier m origin → IsHeardFrom later m origin
+from_later earlier later all m origins.Own is = tt
+from_later earlier later all m (origins.Peer i) is = all i m is
+
+heard_later : (earlier later : List (Option Heard)) → HearAll earlier later → (given : List (Message × Origin)) → AreHeardFrom earlier given → AreHeardFrom later given
+unfolding AreHeardFrom
+heard_later earlier later all [] are = tt
+heard_later earlier later all (x ∷ xs) are = (from_later earlier later all x.0 x.1 are.0, heard_later earlier later all xs are.1)
+
+hear_still : (known : List (Option Heard)) → HearAll known known
+hear_still known = λ i m is. is
 
 -- ---- one of two ways, as a test says, or as an order does
 
@@ -118,6 +159,11 @@ module _ {T : Type 0} (tapes : Tape T) where
       → IsActed tapes input origin target before result after → GoesOn tapes before after
   acted input origin target before result after is = going_on before after _ is.goes_on is.emitted (grown _ _ _ is.given)
 
+  -- nothing is given to one that tries again
+  pub retried : {U : Type 0} (target : Target) (before : Process T tapes) (result : Result U NodeFault) (after : Process T tapes)
+      → IsActed tapes actions.Retry origins.Own target before result after → after.actor.given.items ≡ before.actor.given.items
+  retried target before result after is = is.given ∙ append-nil before.actor.given.items
+
   -- nothing is given to one that asks
   pub asked : {U : Type 0} (target : Target) (before : Process T tapes) (result : Result U NodeFault) (after : Process T tapes)
       → IsActed tapes actions.CatchUp origins.Own target before result after → after.actor.given.items ≡ before.actor.given.items
@@ -132,6 +178,25 @@ module _ {T : Type 0} (tapes : Tape T) where
   received_from peer before None after is = unchanged before after is.1
   received_from peer before (Some result) after is = goes_twice before is.1 after (same_actor before is.1 is.2.rest) (going_on is.1 after _ is.3.goes_on is.3.emitted (grown _ _ _ is.3.given))
 
+  -- what it is given by its own message, or by one of a peer that was heard before
+  pub own_heard : {U : Type 0} (before : Process T tapes) (result : Option (Result U NodeFault)) (after : Process T tapes) → ReceivesOwn tapes before result after
+      → (known : List (Option Heard)) → AreHeardFrom known before.actor.given.items → AreHeardFrom known after.actor.given.items
+  own_heard before None after is known are = heard_by known _ _ (ap (λ (p : Process T tapes). p.actor.given.items) is.1) are
+  own_heard before (Some result) after is known are =
+      heard_by known _ _ (is.3.given ∙ ap (λ (a : Actor T tapes). a.given.items ++ (is.0, origins.Own) ∷ []) is.2.rest.actor)
+      (heard_one known before.actor.given.items is.0 origins.Own are tt)
+
+  peer_heard : {U : Type 0} (peer : ℕ) (before : Process T tapes) (result : Option (Result U NodeFault)) (after : Process T tapes) (known : List (Option Heard))
+      → IsNextHeard known peer (arrived_at before peer) → ReceivesFrom tapes peer before result after → AreHeardFrom known before.actor.given.items → AreHeardFrom known after.actor.given.items
+  peer_heard peer before None after known next is are = heard_by known _ _ (ap (λ (p : Process T tapes). p.actor.given.items) is.1) are
+  peer_heard peer before (Some result) after known next is are =
+      let m = is.0 in
+      let popped = is.2 in
+      let arrived : arrived_at before peer ≡ m ∷ _ = ap (λ (link : Option Link). arrived_of link) popped.was ∙ popped.changes.first in
+      let heard : IsHeardOf known peer (view m) = subst (λ (ms : List Message). IsNextHeard known peer ms) arrived next in
+      heard_by known _ _ (is.3.given ∙ ap (λ (a : Actor T tapes). a.given.items ++ (m, origins.Peer peer) ∷ []) popped.rest.actor)
+      (heard_one known before.actor.given.items m (origins.Peer peer) are heard)
+
   -- one that asks for what is published
   next_asked : {U : Type 0} (peer : ℕ) (before : Process T tapes) (result : Option (Result U NodeFault)) (after : Process T tapes) → is_ask_first (arrived_at before peer) ≡ true
       → ReceivesFrom tapes peer before result after → besides_asks after.actor.given.items ≡ besides_asks before.actor.given.items
@@ -144,10 +209,84 @@ module _ {T : Type 0} (tapes : Tape T) where
       ap besides_asks (is.3.given ∙ ap (λ (a : Actor T tapes). a.given.items ++ (m, origins.Peer peer) ∷ []) popped.rest.actor)
       ∙ one_asked before.actor.given.items m (origins.Peer peer) asks
 
+  -- ---- what the file `heard` has
+
+  kept_by : (before after : Voter T tapes) → after.kept ≡ before.kept → after.process.ended.items ≡ before.process.ended.items
+      → ((known : List (Option Heard)) → AreHeardFrom known before.process.actor.given.items → AreHeardFrom known after.process.actor.given.items)
+      → (heard : Option (List ℕ)) → IsHeardKept heard before → IsHeardKept heard after
+  kept_by before after same ended grows heard is = record {
+    known = is.known;
+    text = is.text;
+    all = subst (λ (k : List (Option Heard)). HearAll k is.known) (sym same) is.all;
+    given = subst (λ (k : List (Option Heard)). AreHeardFrom k after.process.actor.given.items) (sym same) (grows before.kept is.given);
+    ended = subst (λ (k : List (Option Heard)). AreRunsHeardFrom tapes k after.process.ended.items) (sym same)
+        (subst (λ (runs : List (Actor T tapes × ℕ)). AreRunsHeardFrom tapes before.kept runs) (sym ended) is.ended);
+  }
+
+  kept_as : (before after : Voter T tapes) → after.kept ≡ before.kept → after.process ≡ before.process → (heard : Option (List ℕ)) → IsHeardKept heard before → IsHeardKept heard after
+  kept_as before after same is =
+      kept_by before after same (ap (λ (p : Process T tapes). p.ended.items) is)
+      (λ known are. heard_by known _ _ (ap (λ (p : Process T tapes). p.actor.given.items) is) are)
+
+  kept_given : (before after : Voter T tapes) → after.kept ≡ before.kept → after.process.ended.items ≡ before.process.ended.items → after.process.actor.given.items ≡ before.process.actor.given.items
+      → (heard : Option (List ℕ)) → IsHeardKept heard before → IsHeardKept heard after
+  kept_given before after same ended given = kept_by before after same ended (λ known are. heard_by known _ _ given are)
+
+  -- runs that have ended
+  runs_later : (earlier later : List (Option Heard)) → HearAll earlier later → (runs : List (Actor T tapes × ℕ)) → AreRunsHeardFrom tapes earlier runs → AreRunsHeardFrom tapes later runs
+  unfolding AreRunsHeardFrom
+  runs_later earlier later all [] are = tt
+  runs_later earlier later all (run ∷ runs) are = (heard_later earlier later all run.0.given.items are.0, runs_later earlier later all runs are.1)
+
+  one_run_more : (known : List (Option Heard)) (runs : List (Actor T tapes × ℕ)) (run : Actor T tapes) (k : ℕ) → AreRunsHeardFrom tapes known runs → AreHeardFrom known run.given.items
+      → AreRunsHeardFrom tapes known (runs ++ (run, k) ∷ [])
+  unfolding AreRunsHeardFrom
+  one_run_more known [] run k are is = (is, tt)
+  one_run_more known (first ∷ runs) run k are is = (are.0, one_run_more known runs run k are.1 is)
+
+  -- a run ends and another begins, to which nothing was given yet
+  pub kept_begun : (before after : Voter T tapes) → after.kept ≡ before.kept → after.process.ended.items ≡ before.process.ended.items ++ (before.process.actor, 0) ∷ []
+      → after.process.actor.given.items ≡ [] → (heard : Option (List ℕ)) → IsHeardKept heard before → IsHeardKept heard after
+  kept_begun before after same ended given heard is = record {
+    known = is.known;
+    text = is.text;
+    all = subst (λ (k : List (Option Heard)). HearAll k is.known) (sym same) is.all;
+    given = heard_by after.kept [] after.process.actor.given.items given (heard_none after.kept);
+    ended = subst (λ (k : List (Option Heard)). AreRunsHeardFrom tapes k after.process.ended.items) (sym same)
+        (subst (λ (runs : List (Actor T tapes × ℕ)). AreRunsHeardFrom tapes before.kept runs) (sym ended)
+        (one_run_more before.kept before.process.ended.items before.process.actor 0 is.ended is.given));
+  }
+
+  -- the file `heard` has what was heard since, too, and the voter knows it
+  pub kept_more : (known : List (Option Heard)) (text : List ℕ) (stood stands : Stand) (before after : Voter T tapes) → HearAll before.kept known → text ≡ peer_progress_text known
+      → stands ≡ with_heard text stood → after.kept ≡ known → after.process ≡ before.process → IsHeardKept stood.heard before → IsHeardKept stands.heard after
+  kept_more known text stood stands before after all is_text put now same is = record {
+    known = known;
+    text = subst (λ (s : Stand). IsHeardText s.heard known) (sym put) (inl is_text);
+    all = subst (λ (k : List (Option Heard)). HearAll k known) (sym now) (hear_still known);
+    given = subst (λ (k : List (Option Heard)). AreHeardFrom k after.process.actor.given.items) (sym now)
+        (heard_by known _ _ (ap (λ (p : Process T tapes). p.actor.given.items) same) (heard_later before.kept known all before.process.actor.given.items is.given));
+    ended = subst (λ (k : List (Option Heard)). AreRunsHeardFrom tapes k after.process.ended.items) (sym now)
+        (subst (λ (runs : List (Actor T tapes × ℕ)). AreRunsHeardFrom tapes known runs) (sym (ap (λ (p : Process T tapes). p.ended.items) same))
+        (runs_later before.kept known all before.process.ended.items is.ended));
+  }
+
+  -- it has that, or what it had, and the voter doesn't know which
+  pub kept_either : (known : List (Option Heard)) (text : List ℕ) (stood stands : Stand) (voter : Voter T tapes) → HearAll voter.kept known → text ≡ peer_progress_text known
+      → (stands ≡ stood) ⊎ (stands ≡ with_heard text stood) → IsHeardKept stood.heard voter → IsHeardKept stands.heard voter
+  kept_either known text stood stands voter all is_text (inl same) is = subst (λ (s : Stand). IsHeardKept s.heard voter) (sym same) is
+  kept_either known text stood stands voter all is_text (inr put) is = record {
+    known = known;
+    text = subst (λ (s : Stand). IsHeardText s.heard known) (sym put) (inl is_text);
+    all = all;
+    given = is.given;
+    ended = is.ended;
+  }
+
   -- ---- a voter
 
   pub still : (voter : Voter T tapes) → Continues tapes voter voter
-  still voter = record { process = goes_still voter.process; suspended = λ is. record { gate = is; actor = refl }; outvoted = refl; asked = λ _. refl }
+  still voter = record { process = goes_still voter.process; suspended = λ is. record { gate = is; actor = refl }; outvoted = refl; asked = λ _. refl; kept = λ heard is. is }
 
   pub twice : (one two three : Voter T tapes) → Continues tapes one two → Continues tapes two three → Continues tapes one three
   twice one two three first second = record {
@@ -155,6 +294,7 @@ module _ {T : Type 0} (tapes : Tape T) where
     suspended = λ is. let a = first.suspended is in let b = second.suspended a.gate in record { gate = b.gate; actor = b.actor ∙ a.actor };
     outvoted = second.outvoted ∙ first.outvoted;
     asked = λ is. second.asked (first.outvoted ∙ is) ∙ first.asked is;
+    kept = λ heard is. second.kept heard (first.kept heard is);
   }
 
   pub thrice : (one two three four : Voter T tapes) → Continues tapes one two → Continues tapes two three → Continues tapes three four → Continues tapes one four
@@ -164,84 +304,111 @@ module _ {T : Type 0} (tapes : Tape T) where
   same_voter before after same = subst (λ (v : Voter T tapes). Continues tapes before v) (sym same) (still before)
 
   -- one that acts, or is at least neither suspended nor outvoted, goes on as its process does
-  pub awake : (before after : Voter T tapes) → ¬ (before.gate ≡ gates.Suspended) → before.is_outvoted ≡ false → after.is_outvoted ≡ before.is_outvoted
-      → GoesOn tapes before.process after.process → Continues tapes before after
-  awake before after not agrees same goes = record {
+  pub awake : (before after : Voter T tapes) → ¬ (before.gate ≡ gates.Suspended) → before.is_outvoted ≡ false → after.is_outvoted ≡ before.is_outvoted → after.kept ≡ before.kept
+      → GoesOn tapes before.process after.process → ((known : List (Option Heard)) → AreHeardFrom known before.process.actor.given.items → AreHeardFrom known after.process.actor.given.items)
+      → Continues tapes before after
+  awake before after not agrees same kept goes grows = record {
     process = goes;
     suspended = λ is. absurd (not is);
     outvoted = same;
     asked = λ is. absurd (let no = agrees in cc);
+    kept = kept_by before after kept goes.ended grows;
   }
 
-  pub acting : (before after : Voter T tapes) → before.gate ≡ gates.Open → before.is_outvoted ≡ false → after.is_outvoted ≡ before.is_outvoted
-      → GoesOn tapes before.process after.process → Continues tapes before after
-  acting before after acts agrees same goes = awake before after (λ is. let is_open = acts in cc) agrees same goes
+  pub acting : (before after : Voter T tapes) → before.gate ≡ gates.Open → before.is_outvoted ≡ false → after.is_outvoted ≡ before.is_outvoted → after.kept ≡ before.kept
+      → GoesOn tapes before.process after.process → ((known : List (Option Heard)) → AreHeardFrom known before.process.actor.given.items → AreHeardFrom known after.process.actor.given.items)
+      → Continues tapes before after
+  acting before after acts agrees same kept goes grows = awake before after (λ is. let is_open = acts in cc) agrees same kept goes grows
+
+  pub same_given : (before after : Process T tapes) → after.actor.given.items ≡ before.actor.given.items
+      → (known : List (Option Heard)) → AreHeardFrom known before.actor.given.items → AreHeardFrom known after.actor.given.items
+  same_given before after same known are = heard_by known _ _ same are
 
   -- one that asks: it isn't suspended, and is given nothing
-  pub asking : (before after : Voter T tapes) → before.gate ≡ gates.Open → after.is_outvoted ≡ before.is_outvoted → GoesOn tapes before.process after.process
+  pub asking : (before after : Voter T tapes) → before.gate ≡ gates.Open → after.is_outvoted ≡ before.is_outvoted → after.kept ≡ before.kept → GoesOn tapes before.process after.process
       → after.process.actor.given.items ≡ before.process.actor.given.items → Continues tapes before after
-  asking before after is_open same goes given = record {
+  asking before after is_open same kept goes given = record {
     process = goes;
     suspended = λ is. absurd (let at_open = is_open in cc);
     outvoted = same;
     asked = λ _. besides_same _ _ given;
+    kept = kept_given before after kept goes.ended given;
+  }
+
+  kept_taking : {U : Type 0} (before after : Voter T tapes) (peer : ℕ) (result : Option (Result U NodeFault)) → after.kept ≡ before.kept
+      → IsNextHeard before.kept peer (arrived_at before.process peer) → ReceivesFrom tapes peer before.process result after.process
+      → (heard : Option (List ℕ)) → IsHeardKept heard before → IsHeardKept heard after
+  kept_taking before after peer result same next receives heard is = record {
+    known = is.known;
+    text = is.text;
+    all = subst (λ (k : List (Option Heard)). HearAll k is.known) (sym same) is.all;
+    given = subst (λ (k : List (Option Heard)). AreHeardFrom k after.process.actor.given.items) (sym same)
+        (peer_heard peer before.process result after.process before.kept next receives is.given);
+    ended = subst (λ (k : List (Option Heard)). AreRunsHeardFrom tapes k after.process.ended.items) (sym same)
+        (subst (λ (runs : List (Actor T tapes × ℕ)). AreRunsHeardFrom tapes before.kept runs) (sym (received_from peer before.process result after.process receives).ended) is.ended);
   }
 
   -- one that takes in a message: it isn't suspended, and asks for what is published if the node is outvoted
-  pub taking : {U : Type 0} (before after : Voter T tapes) (peer : ℕ) (result : Option (Result U NodeFault)) → before.gate ≡ gates.Open → after.is_outvoted ≡ before.is_outvoted
-      → (before.is_outvoted ≡ true → is_ask_first (arrived_at before.process peer) ≡ true) → ReceivesFrom tapes peer before.process result after.process → Continues tapes before after
-  taking before after peer result is_open same asks receives = record {
+  pub taking : {U : Type 0} (before after : Voter T tapes) (peer : ℕ) (result : Option (Result U NodeFault)) → before.gate ≡ gates.Open → after.is_outvoted ≡ before.is_outvoted → after.kept ≡ before.kept
+      → (before.is_outvoted ≡ true → is_ask_first (arrived_at before.process peer) ≡ true) → IsNextHeard before.kept peer (arrived_at before.process peer)
+      → ReceivesFrom tapes peer before.process result after.process → Continues tapes before after
+  taking before after peer result is_open same kept asks next receives = record {
     process = received_from peer before.process result after.process receives;
     suspended = λ is. absurd (let at_open = is_open in cc);
     outvoted = same;
     asked = λ is. next_asked peer before.process result after.process (asks is) receives;
+    kept = kept_taking before after peer result kept next receives;
   }
 
   -- the gate alone
-  pub gated : (before after : Voter T tapes) → (before.gate ≡ gates.Suspended → after.gate ≡ gates.Suspended) → after.is_outvoted ≡ before.is_outvoted
+  pub gated : (before after : Voter T tapes) → (before.gate ≡ gates.Suspended → after.gate ≡ gates.Suspended) → after.is_outvoted ≡ before.is_outvoted → after.kept ≡ before.kept
       → after.process ≡ before.process → Continues tapes before after
-  gated before after stays same is = record {
+  gated before after stays same kept is = record {
     process = unchanged before.process after.process is;
     suspended = λ suspended. record { gate = stays suspended; actor = ap (λ (p : Process T tapes). p.actor) is };
     outvoted = same;
     asked = λ _. ap (λ (p : Process T tapes). besides_asks p.actor.given.items) is;
+    kept = kept_as before after kept is;
   }
 
   -- an end of a connection
-  same_node : (before after : Voter T tapes) → after.gate ≡ before.gate → after.is_outvoted ≡ before.is_outvoted → IsSameActor before.process after.process → Continues tapes before after
-  same_node before after gate same is = record {
+  same_node : (before after : Voter T tapes) → after.gate ≡ before.gate → after.is_outvoted ≡ before.is_outvoted → after.kept ≡ before.kept → IsSameActor before.process after.process
+      → Continues tapes before after
+  same_node before after gate same kept is = record {
     process = same_actor before.process after.process is;
     suspended = λ suspended. record { gate = gate ∙ suspended; actor = is.actor };
     outvoted = same;
     asked = λ _. ap (λ (a : Actor T tapes). besides_asks a.given.items) is.actor;
+    kept = kept_given before after kept is.ended (ap (λ (a : Actor T tapes). a.given.items) is.actor);
   }
 
-  same_process : (before after : Voter T tapes) → after.gate ≡ before.gate → after.is_outvoted ≡ before.is_outvoted → after.process ≡ before.process → Continues tapes before after
-  same_process before after gate same is = gated before after (λ suspended. gate ∙ suspended) same is
+  same_process : (before after : Voter T tapes) → after.gate ≡ before.gate → after.is_outvoted ≡ before.is_outvoted → after.kept ≡ before.kept → after.process ≡ before.process → Continues tapes before after
+  same_process before after gate same kept is = gated before after (λ suspended. gate ∙ suspended) same kept is
 
-  pub relinked : (peer : ℕ) (change : Link → Link → Type 0) (before after : Voter T tapes) → after.gate ≡ before.gate → after.is_outvoted ≡ before.is_outvoted
+  pub relinked : (peer : ℕ) (change : Link → Link → Type 0) (before after : Voter T tapes) → after.gate ≡ before.gate → after.is_outvoted ≡ before.is_outvoted → after.kept ≡ before.kept
       → (peer < length before.process.links.items → IsLinkChanged peer change before.process after.process) → (length before.process.links.items ≤ peer → after.process ≡ before.process) → Continues tapes before after
-  relinked peer change before after gate same linked no_links =
-      by_order peer (length before.process.links.items) (λ below. same_node before after gate same (linked below).rest) (λ above. same_process before after gate same (no_links above))
+  relinked peer change before after gate same kept linked no_links =
+      by_order peer (length before.process.links.items) (λ below. same_node before after gate same kept (linked below).rest) (λ above. same_process before after gate same kept (no_links above))
 
-  pub written : {A B : Type 0} (peer : ℕ) (change : Link → Link → Type 0) (before after : Voter T tapes) → after.gate ≡ before.gate → after.is_outvoted ≡ before.is_outvoted
+  pub written : {A B : Type 0} (peer : ℕ) (change : Link → Link → Type 0) (before after : Voter T tapes) → after.gate ≡ before.gate → after.is_outvoted ≡ before.is_outvoted → after.kept ≡ before.kept
       → (peer < length before.process.links.items → IsLinkChanged peer change before.process after.process) → (length before.process.links.items ≤ peer → A × (after.process ≡ before.process) × B)
       → Continues tapes before after
-  written peer change before after gate same linked no_links = relinked peer change before after gate same linked (λ above. (no_links above).1)
+  written peer change before after gate same kept linked no_links = relinked peer change before after gate same kept linked (λ above. (no_links above).1)
 
   pub received : {A : Type 0} (peer : ℕ) (piece : List ℕ) (before : Voter T tapes) (result : Result ℕ DecodeFault) (after : Voter T tapes) → after.gate ≡ before.gate
-      → after.is_outvoted ≡ before.is_outvoted
+      → after.is_outvoted ≡ before.is_outvoted → after.kept ≡ before.kept
       → (is_peer before.process peer ≡ true → IsReception peer piece before.process result after.process) → (is_peer before.process peer ≡ false → A × (after.process ≡ before.process))
       → Continues tapes before after
-  received peer piece before result after gate same from other =
+  received peer piece before result after gate same kept from other =
       by_test (is_peer before.process peer)
       (λ is. let took = from is in record {
         process = record { actor = later_same before.process.actor after.process.actor took.actor; among = took.among; ended = took.ended };
         suspended = λ suspended. record { gate = gate ∙ suspended; actor = took.actor };
         outvoted = same;
         asked = λ _. ap (λ (a : Actor T tapes). besides_asks a.given.items) took.actor;
+        kept = kept_given before after kept took.ended (ap (λ (a : Actor T tapes). a.given.items) took.actor);
       })
-      (λ is. same_process before after gate same (other is).1)
+      (λ is. same_process before after gate same kept (other is).1)
 
   -- a client's request, which was answered, or wasn't
   pub answered : (before : Process T tapes) (came response : List ℕ) (outcome : Outcome) (after : Process T tapes) → IsAnswer tapes before came response outcome after → GoesOn tapes before after
@@ -250,74 +417,151 @@ module _ {T : Type 0} (tapes : Tape T) where
   pub responded : (before : Voter T tapes) (came response : List ℕ) (after : Voter T tapes) → ¬ (before.gate ≡ gates.Suspended) → before.is_outvoted ≡ false
       → HasResponded tapes before came response after → Continues tapes before after
   responded before came response after not agrees is =
-      awake before after not agrees is.outvoted (answered before.process came response is.answers.outcome after.process is.answers.answer)
+      awake before after not agrees is.outvoted is.kept (answered before.process came response is.answers.outcome after.process is.answers.answer)
+      (same_given before.process after.process is.answers.answer.given)
 
   pub stayed : (before after : Voter T tapes) → ¬ (before.gate ≡ gates.Suspended) → before.is_outvoted ≡ false → (after ≡ before) ⊎ HasServed tapes before after → Continues tapes before after
   stayed before after not agrees (inl same) = same_voter before after same
-  stayed before after not agrees (inr is) = awake before after not agrees is.outvoted is.process
+  stayed before after not agrees (inr is) = awake before after not agrees is.outvoted is.kept is.process (same_given before.process after.process is.given)
+
+  -- ---- while its folder is written to
+
+  pub on_in : (stands : Stand) (before after : Voter T tapes) → Continues tapes before after → ContinuesIn tapes stands before stands after
+  on_in stands before after on = record {
+    process = on.process;
+    suspended = on.suspended;
+    outvoted = on.outvoted;
+    asked = on.asked;
+    starts = refl;
+    begun = refl;
+    kept = on.kept stands.heard;
+  }
+
+  pub still_in : (stands : Stand) (voter : Voter T tapes) → ContinuesIn tapes stands voter stands voter
+  still_in stands voter = on_in stands voter voter (still voter)
+
+  pub twice_in : (r s t : Stand) (one two three : Voter T tapes) → ContinuesIn tapes r one s two → ContinuesIn tapes s two t three → ContinuesIn tapes r one t three
+  twice_in r s t one two three first second = record {
+    process = goes_twice one.process two.process three.process first.process second.process;
+    suspended = λ is. let a = first.suspended is in let b = second.suspended a.gate in record { gate = b.gate; actor = b.actor ∙ a.actor };
+    outvoted = second.outvoted ∙ first.outvoted;
+    asked = λ is. second.asked (first.outvoted ∙ is) ∙ first.asked is;
+    starts = second.starts ∙ first.starts;
+    begun = second.begun ∙ first.begun;
+    kept = λ is. second.kept (first.kept is);
+  }
+
+  -- then it goes on
+  pub then_on : (r s : Stand) (one two three : Voter T tapes) → ContinuesIn tapes r one s two → Continues tapes two three → ContinuesIn tapes r one s three
+  then_on r s one two three first second = twice_in r s s one two three first (on_in s two three second)
+
+  -- the file `heard` is written
+  pub wrote : (known : List (Option Heard)) (text : List ℕ) (stood stands : Stand) (before after : Voter T tapes) → HearAll before.kept known → text ≡ peer_progress_text known
+      → stands ≡ with_heard text stood → after ≡ record before { kept = known } → ContinuesIn tapes stood before stands after
+  wrote known text stood stands before after all is_text put now =
+      let same : after.process ≡ before.process = ap (λ (v : Voter T tapes). v.process) now in
+      let gate : after.gate ≡ before.gate = ap (λ (v : Voter T tapes). v.gate) now in
+      record {
+        process = unchanged before.process after.process same;
+        suspended = λ is. record { gate = gate ∙ is; actor = ap (λ (p : Process T tapes). p.actor) same };
+        outvoted = ap (λ (v : Voter T tapes). v.is_outvoted) now;
+        asked = λ _. ap (λ (p : Process T tapes). besides_asks p.actor.given.items) same;
+        starts = ap (λ (s : Stand). s.starts) put;
+        begun = ap (λ (s : Stand). s.begun) put;
+        kept = kept_more known text stood stands before after all is_text put (ap (λ (v : Voter T tapes). v.kept) now) same;
+      }
+
+  -- or it may be
+  pub wrote_or_not : (known : List (Option Heard)) (text : List ℕ) (stood stands : Stand) (voter : Voter T tapes) → HearAll voter.kept known → text ≡ peer_progress_text known
+      → (stands ≡ stood) ⊎ (stands ≡ with_heard text stood) → ContinuesIn tapes stood voter stands voter
+  wrote_or_not known text stood stands voter all is_text put = record {
+    process = goes_still voter.process;
+    suspended = λ is. record { gate = is; actor = refl };
+    outvoted = refl;
+    asked = λ _. refl;
+    starts = elim put [ inl same ↦ ap (λ (s : Stand). s.starts) same | inr is ↦ ap (λ (s : Stand). s.starts) is ];
+    begun = elim put [ inl same ↦ ap (λ (s : Stand). s.begun) same | inr is ↦ ap (λ (s : Stand). s.begun) is ];
+    kept = kept_either known text stood stands voter all is_text put;
+  }
 
   -- ---- a turn: a wait, a decision, what is done, and what is kept
 
   process_at : (one two three : Voter T tapes) → two ≡ one → three.process ≡ two.process → three.process ≡ one.process
   process_at one two three waits decides = decides ∙ ap (λ (v : Voter T tapes). v.process) waits
 
-  pub turned : (one two three four five : Voter T tapes) → two ≡ one → three.process ≡ two.process → Continues tapes three four → five ≡ four → GoesOn tapes one.process five.process
-  turned one two three four five waits decides does keeps =
+  pub turned : (s t : Stand) (one two three four five : Voter T tapes) → two ≡ one → three.process ≡ two.process → ContinuesIn tapes s three t four → five ≡ four → GoesOn tapes one.process five.process
+  turned s t one two three four five waits decides does keeps =
       goes_twice one.process three.process five.process
       (unchanged one.process three.process (process_at one two three waits decides))
       (goes_twice three.process four.process five.process does.process (unchanged four.process five.process (ap (λ (v : Voter T tapes). v.process) keeps)))
 
-  pub turned_suspended : (one two three four five : Voter T tapes) → two ≡ one → three.process ≡ two.process → (two.gate ≡ gates.Suspended → three.gate ≡ gates.Suspended)
-      → Continues tapes three four → five ≡ four → one.gate ≡ gates.Suspended → StaysSuspended one five
-  turned_suspended one two three four five waits decides stays does keeps is =
+  pub turned_suspended : (s t : Stand) (one two three four five : Voter T tapes) → two ≡ one → three.process ≡ two.process → (two.gate ≡ gates.Suspended → three.gate ≡ gates.Suspended)
+      → ContinuesIn tapes s three t four → five ≡ four → one.gate ≡ gates.Suspended → StaysSuspended one five
+  turned_suspended s t one two three four five waits decides stays does keeps is =
       let on = does.suspended (stays (ap (λ (v : Voter T tapes). v.gate) waits ∙ is)) in
       record {
         gate = ap (λ (v : Voter T tapes). v.gate) keeps ∙ on.gate;
         actor = ap (λ (v : Voter T tapes). v.process.actor) keeps ∙ (on.actor ∙ ap (λ (p : Process T tapes). p.actor) (process_at one two three waits decides));
       }
 
-  outvoted_at : (three four five : Voter T tapes) → Continues tapes three four → five ≡ four → five.is_outvoted ≡ true → three.is_outvoted ≡ true
-  outvoted_at three four five does keeps is = sym does.outvoted ∙ (sym (ap (λ (v : Voter T tapes). v.is_outvoted) keeps) ∙ is)
+  outvoted_at : (s t : Stand) (three four five : Voter T tapes) → ContinuesIn tapes s three t four → five ≡ four → five.is_outvoted ≡ true → three.is_outvoted ≡ true
+  outvoted_at s t three four five does keeps is = sym does.outvoted ∙ (sym (ap (λ (v : Voter T tapes). v.is_outvoted) keeps) ∙ is)
 
-  pub turned_asked : (one two three four five : Voter T tapes) → two ≡ one → three.process ≡ two.process → Continues tapes three four → five ≡ four → five.is_outvoted ≡ true
+  pub turned_asked : (s t : Stand) (one two three four five : Voter T tapes) → two ≡ one → three.process ≡ two.process → ContinuesIn tapes s three t four → five ≡ four → five.is_outvoted ≡ true
       → besides_asks five.process.actor.given.items ≡ besides_asks one.process.actor.given.items
-  turned_asked one two three four five waits decides does keeps is =
+  turned_asked s t one two three four five waits decides does keeps is =
       ap (λ (v : Voter T tapes). besides_asks v.process.actor.given.items) keeps
-      ∙ (does.asked (outvoted_at three four five does keeps is) ∙ ap (λ (p : Process T tapes). besides_asks p.actor.given.items) (process_at one two three waits decides))
+      ∙ (does.asked (outvoted_at s t three four five does keeps is) ∙ ap (λ (p : Process T tapes). besides_asks p.actor.given.items) (process_at one two three waits decides))
 
-  pub turned_unanswered : (three four five : Voter T tapes) (first second : Clients T tapes) (decided : List (Voter T tapes × ℕ)) (fourth fifth : Clients T tapes)
-      → second ≡ first → decided ≡ second.before.items → Continues tapes three four → (three.is_outvoted ≡ true → fourth.before.items ≡ decided)
+  pub turned_unanswered : (s t : Stand) (three four five : Voter T tapes) (first second : Clients T tapes) (decided : List (Voter T tapes × ℕ)) (fourth fifth : Clients T tapes)
+      → second ≡ first → decided ≡ second.before.items → ContinuesIn tapes s three t four → (three.is_outvoted ≡ true → fourth.before.items ≡ decided)
       → five ≡ four → fifth ≡ fourth → five.is_outvoted ≡ true → fifth.before.items ≡ first.before.items
-  turned_unanswered three four five first second decided fourth fifth waits decides on does keeps keeps' is =
-      ap (λ (c : Clients T tapes). c.before.items) keeps' ∙ (does (outvoted_at three four five on keeps is) ∙ (decides ∙ ap (λ (c : Clients T tapes). c.before.items) waits))
+  turned_unanswered s t three four five first second decided fourth fifth waits decides on does keeps keeps' is =
+      ap (λ (c : Clients T tapes). c.before.items) keeps' ∙ (does (outvoted_at s t three four five on keeps is) ∙ (decides ∙ ap (λ (c : Clients T tapes). c.before.items) waits))
+
+  pub turned_heard : (s t u : Stand) (one two three four five : Voter T tapes) → two ≡ one → three.process ≡ two.process → three.kept ≡ two.kept → ContinuesIn tapes s three t four
+      → five ≡ four → u ≡ t → IsHeardKept s.heard one → IsHeardKept u.heard five
+  turned_heard s t u one two three four five waits decides kept does keeps stands is =
+      let at_three : IsHeardKept s.heard three = kept_as two three kept decides s.heard (subst (λ (v : Voter T tapes). IsHeardKept s.heard v) (sym waits) is) in
+      subst (λ (r : Stand). IsHeardKept r.heard five) (sym stands) (subst (λ (v : Voter T tapes). IsHeardKept t.heard v) (sym keeps) (does.kept at_three))
 
   -- ---- what is earlier stays so
 
-  of_runs_later : (actor : Actor T tapes) (runs runs' : List (Actor T tapes × ℕ)) → runs' ≡ runs → IsOfRuns tapes actor runs → IsOfRuns tapes actor runs'
-  of_runs_later actor runs runs' same is = subst (λ (rs : List (Actor T tapes × ℕ)). IsOfRuns tapes actor rs) (sym same) is
+  runs_on : (actor before now : Actor T tapes) (ended : List (Actor T tapes × ℕ)) → IsLater tapes before now → AreRunsFrom tapes actor ended before → AreRunsFrom tapes actor ended now
+  runs_on actor before now [] later are = later_twice actor before now are later
+  runs_on actor before now (run ∷ ended) later are = (are.0, are.1, are.2, runs_on are.1 before now ended later are.3)
 
-  of_runs_last : (actor run : Actor T tapes) (k : ℕ) (runs : List (Actor T tapes × ℕ)) → IsLater tapes actor run → IsOfRuns tapes actor (runs ++ (run, k) ∷ [])
-  of_runs_last actor run k [] later = inl later
-  of_runs_last actor run k (first ∷ runs) later = inr (of_runs_last actor run k runs later)
-
-  of_runs_more : (actor : Actor T tapes) (runs more : List (Actor T tapes × ℕ)) → IsOfRuns tapes actor runs → IsOfRuns tapes actor (runs ++ more)
-  of_runs_more actor [] more is = absurd is
-  of_runs_more actor (first ∷ runs) more (inl later) = inl later
-  of_runs_more actor (first ∷ runs) more (inr is) = inr (of_runs_more actor runs more is)
+  runs_more : (actor run next : Actor T tapes) (ended : List (Actor T tapes × ℕ)) → Follows tapes run next → AreRunsFrom tapes actor ended run → AreRunsFrom tapes actor (ended ++ (run, 0) ∷ []) next
+  runs_more actor run next [] follows are = (are, next, follows, later_same next next refl)
+  runs_more actor run next (first ∷ ended) follows are = (are.0, are.1, are.2, runs_more are.1 run next ended follows are.3)
 
   earlier_on : (past before now : Process T tapes) → GoesOn tapes before now → IsEarlier tapes past before → IsEarlier tapes past now
-  earlier_on past before now goes (inl later) = inl (later_twice past.actor before.actor now.actor later goes.actor)
-  earlier_on past before now goes (inr is) = inr (of_runs_later past.actor before.ended.items now.ended.items goes.ended is)
+  earlier_on past before now goes is = record { since = is.since; ended = goes.ended ∙ is.ended; runs = runs_on past.actor before.actor now.actor is.since goes.actor is.runs }
 
-  earlier_ended : (past before now : Process T tapes) (k : ℕ) → now.ended.items ≡ before.ended.items ++ (before.actor, k) ∷ [] → IsEarlier tapes past before → IsEarlier tapes past now
-  earlier_ended past before now k is (inl later) = inr (of_runs_later past.actor _ now.ended.items is (of_runs_last past.actor before.actor k before.ended.items later))
-  earlier_ended past before now k is (inr is_past) = inr (of_runs_later past.actor _ now.ended.items is (of_runs_more past.actor before.ended.items _ is_past))
+  earlier_ended : (past before now : Process T tapes) → now.ended.items ≡ before.ended.items ++ (before.actor, 0) ∷ [] → Follows tapes before.actor now.actor → IsEarlier tapes past before → IsEarlier tapes past now
+  earlier_ended past before now ended follows is = record {
+    since = is.since ++ (before.actor, 0) ∷ [];
+    ended = ended ∙ ap (λ (runs : List (Actor T tapes × ℕ)). runs ++ (before.actor, 0) ∷ []) is.ended ∙ append_assoc past.ended.items is.since ((before.actor, 0) ∷ []);
+    runs = runs_more past.actor before.actor now.actor is.since follows is.runs;
+  }
+
+  -- a node that was opened anew, and compared, is that of the run that follows
+  pub follows_opened : (before next : Process T tapes) (tape : T) → IsOpened tapes tape before.actor.node.id before.n next.actor.node → HasStoredAs before.actor.node next.actor.node → IsBegun next
+      → before.actor.node.halted ≡ true → Follows tapes before.actor next.actor
+  follows_opened before next tape opened stored begun halted = record {
+    halted = halted;
+    number = opened.number;
+    among = opened.among ∙ sym before.among;
+    began = begun.began;
+    stored = stored;
+  }
 
   pub keeps_going : (before after : Process T tapes) → GoesOn tapes before after → KeepsEarlier tapes before after
   keeps_going before after goes = λ past earlier. earlier_on past before after goes earlier
 
-  pub keeps_begun : (before after : Process T tapes) → after.ended.items ≡ before.ended.items ++ (before.actor, 0) ∷ [] → KeepsEarlier tapes before after
-  keeps_begun before after ended = λ past earlier. earlier_ended past before after 0 ended earlier
+  pub keeps_begun : (before after : Process T tapes) → after.ended.items ≡ before.ended.items ++ (before.actor, 0) ∷ [] → (before.actor.node.halted ≡ true → Follows tapes before.actor after.actor)
+      → before.actor.node.halted ≡ true → KeepsEarlier tapes before after
+  keeps_begun before after ended follows halted = λ past earlier. earlier_ended past before after ended (follows halted) earlier
 
   pub keeps_same : (before after : Process T tapes) → after ≡ before → KeepsEarlier tapes before after
   keeps_same before after same = λ past earlier. subst (λ (p : Process T tapes). IsEarlier tapes past p) (sym same) earlier

@@ -1,14 +1,20 @@
 -- The life of a process goes on.
-use Rattle.std.specs.Prelude.{◌≡◌, ◌⊎◌, ℕ, Bool, true, false, List, [], ◌∷◌, if◌then◌else◌}
+use Rattle.std.specs.Prelude.{◌≡◌, ℕ, Bool, true, false, List, [], ◌∷◌, ◌++◌, Option, if◌then◌else◌}
 use Rattle.wf_actor.specs.Life.{logged}
 use Rattle.wf_actor.specs.declared.actor.Actor.{Actor}
 use Rattle.wf_actor.specs.declared.actor.Origin.{Origin}
+use Rattle.wf_actor.specs.declared.actor.Origin.TheVariants as origins
 use Rattle.wf_actor.specs.declared.process.Process.{Process}
 use Rattle.wf_codec.specs.declared.message.Message.{Message}
 use Rattle.wf_codec.specs.declared.message.Message.TheVariants as messages
 use Rattle.wf_loop.specs.declared.gate.Gate.TheVariants as gates
 use Rattle.wf_loop.specs.declared.hub.Voter.{Voter}
+use Rattle.wf_codec.specs.Message.{view}
+use Rattle.wf_loop.specs.Folder.{Stand}
 use Rattle.wf_mail.specs.Mail.{IsBeginning}
+use Rattle.wf_node.specs.Reopening.{HasStoredAs}
+use Rattle.wf_peer.specs.Told.{HearAll, IsHeardOf, IsHeardText}
+use Rattle.wf_peer.specs.declared.heard.Heard.{Heard}
 use Rattle.wf_tape.specs.declared.tape.Tape.{Ghosts as Tape}
 
 -- One run goes on: the tape from which the node was opened, the node as it was opened, and its number stay; what was given to it, and what
@@ -46,27 +52,85 @@ unfoldable pub besides_asks : List (Message × Origin) → List (Message × Orig
 besides_asks [] = []
 besides_asks (m ∷ rest) = if is_ask m.0 then besides_asks rest else m ∷ besides_asks rest
 
+-- ---- what is heard of a peer before its messages count
+
+-- where a peer sent the message, its round and promise were heard of that peer
+abbrev pub IsHeardFrom : List (Option Heard) → Message → Origin → Type 0
+IsHeardFrom known m origins.Own = Unit {0}
+IsHeardFrom known m (origins.Peer i) = IsHeardOf known i (view m)
+
+-- so it is of the first of the messages that have arrived from a peer, if there is one
+abbrev pub IsNextHeard : List (Option Heard) → ℕ → List Message → Type 0
+IsNextHeard known i [] = Unit {0}
+IsNextHeard known i (m ∷ rest) = IsHeardOf known i (view m)
+
+-- so it is of each of the messages that were given
+unfoldable pub AreHeardFrom : List (Option Heard) → List (Message × Origin) → Type 0
+AreHeardFrom known [] = Unit {0}
+AreHeardFrom known (m ∷ rest) = IsHeardFrom known m.0 m.1 × AreHeardFrom known rest
+
+-- and of each of those that were given in runs that have ended
+unfoldable pub AreRunsHeardFrom : {T : Type 0} (tapes : Tape T) → List (Option Heard) → List (Actor T tapes × ℕ) → Type 0
+AreRunsHeardFrom tapes known [] = Unit {0}
+AreRunsHeardFrom tapes known (run ∷ runs) = AreHeardFrom known run.0.given.items × AreRunsHeardFrom tapes known runs
+
+-- The file `heard` has all that the voter takes it to have, and that is the round and the promise of each message of a peer that the node
+-- was ever given.
+pub record IsHeardKept {T : Type 0} {tapes : Tape T} (heard : Option (List ℕ)) (voter : Voter T tapes) : Type 0 where
+  pub known : List (Option Heard)
+  pub text : IsHeardText heard known
+  pub all : HearAll voter.kept known
+  pub given : AreHeardFrom voter.kept voter.process.actor.given.items
+  pub ended : AreRunsHeardFrom tapes voter.kept voter.process.ended.items
+
+-- ---- a turn and its parts
+
 -- The process goes on in its run. Nothing of a suspended node changes. Whether it is outvoted stays, and one that is was given no message
--- but those that ask for what is published.
+-- but those that ask for what is published. Whatever the file `heard` has, it is enough if it was before.
 pub record Continues {T : Type 0} (tapes : Tape T) (before after : Voter T tapes) : Type 0 where
   pub process : GoesOn tapes before.process after.process
   pub suspended : before.gate ≡ gates.Suspended → StaysSuspended before after
   pub outvoted : after.is_outvoted ≡ before.is_outvoted
   pub asked : before.is_outvoted ≡ true → besides_asks after.process.actor.given.items ≡ besides_asks before.process.actor.given.items
+  pub kept : (heard : Option (List ℕ)) → IsHeardKept heard before → IsHeardKept heard after
 
--- The process goes on in its run, and whether it is outvoted stays.
+-- It goes on so, while its folder is written to: the starts that it counts stay, and what the file `heard` has is enough if it was before.
+pub record ContinuesIn {T : Type 0} (tapes : Tape T) (stood : Stand) (before : Voter T tapes) (stands : Stand) (after : Voter T tapes) : Type 0 where
+  pub process : GoesOn tapes before.process after.process
+  pub suspended : before.gate ≡ gates.Suspended → StaysSuspended before after
+  pub outvoted : after.is_outvoted ≡ before.is_outvoted
+  pub asked : before.is_outvoted ≡ true → besides_asks after.process.actor.given.items ≡ besides_asks before.process.actor.given.items
+  pub starts : stands.starts ≡ stood.starts
+  pub begun : stands.begun ≡ stood.begun
+  pub kept : IsHeardKept stood.heard before → IsHeardKept stands.heard after
+
+-- The process goes on in its run, and is given nothing; whether it is outvoted, and what the file `heard` has, stay.
 pub record HasServed {T : Type 0} (tapes : Tape T) (before after : Voter T tapes) : Type 0 where
   pub process : GoesOn tapes before.process after.process
   pub outvoted : after.is_outvoted ≡ before.is_outvoted
+  pub given : after.process.actor.given.items ≡ before.process.actor.given.items
+  pub kept : after.kept ≡ before.kept
 
--- one of these runs is a later moment of this one
-abbrev pub IsOfRuns : {T : Type 0} (tapes : Tape T) → Actor T tapes → List (Actor T tapes × ℕ) → Type 0
-IsOfRuns tapes actor [] = ⊥
-IsOfRuns tapes actor (run ∷ runs) = IsLater tapes actor run.0 ⊎ IsOfRuns tapes actor runs
+-- One run follows another: the tape of the first one's node had failed, and the other one's node, which was just opened, is the node that it
+-- was. That was compared: it has stored what the first one had, or that and the record of the step within which its tape failed.
+pub record Follows {T : Type 0} (tapes : Tape T) (run next : Actor T tapes) : Type 0 where
+  pub halted : run.node.halted ≡ true
+  pub number : next.node.id ≡ run.node.id
+  pub among : next.node.n ≡ run.node.n
+  pub began : next.began.items ≡ (next.node, 0) ∷ []
+  pub stored : HasStoredAs run.node next.node
 
--- it is an earlier moment of the process: of its run, or of one that has ended
-abbrev pub IsEarlier : {T : Type 0} (tapes : Tape T) → (before now : Process T tapes) → Type 0
-IsEarlier tapes before now = IsLater tapes before.actor now.actor ⊎ IsOfRuns tapes before.actor now.ended.items
+-- From that moment of a run on these are all runs of its process, those that have ended and the one that it is in: the first is that run at
+-- a later moment, and each other one follows the one before it.
+abbrev pub AreRunsFrom : {T : Type 0} (tapes : Tape T) → Actor T tapes → List (Actor T tapes × ℕ) → Actor T tapes → Type 0
+AreRunsFrom tapes actor [] now = IsLater tapes actor now
+AreRunsFrom {T} tapes actor (run ∷ ended) now = IsLater tapes actor run.0 × (next : Actor T tapes) × Follows tapes run.0 next × AreRunsFrom tapes next ended now
+
+-- It is an earlier moment of the process: in its run, or in one that has ended since then.
+pub record IsEarlier {T : Type 0} (tapes : Tape T) (before now : Process T tapes) : Type 0 where
+  pub since : List (Actor T tapes × ℕ)
+  pub ended : now.ended.items ≡ before.ended.items ++ since
+  pub runs : AreRunsFrom tapes before.actor since now.actor
 
 -- whatever was an earlier moment of the process still is
 abbrev pub KeepsEarlier : {T : Type 0} (tapes : Tape T) → (before after : Process T tapes) → Type 0

@@ -1,15 +1,16 @@
 -- The process of a hub, and the clients that it answered.
-use Rattle.std.specs.Prelude.{◌≡◌, ◌≤◌, ℕ, true, [], Option, Some, None}
+use Rattle.std.specs.Prelude.{◌≡◌, ◌≤◌, ℕ, true, List, [], Option, Some, None}
 use Rattle.std.specs.declared.net.socket_addr.SocketAddr.{SocketAddr}
 use Rattle.wf_actor.specs.declared.process.Process.{Process}
 use Rattle.wf_digest.specs.Digest.{AreDigestsOf}
 use Rattle.wf_loop.specs.Answer.{AreAnswered}
-use Rattle.wf_loop.specs.Continuation.{besides_asks}
+use Rattle.wf_loop.specs.Continuation.{IsHeardKept, besides_asks}
 use Rattle.wf_loop.specs.declared.gate.Gate.TheVariants as gates
 use Rattle.wf_loop.specs.declared.hub.Hub.{Hub}
 use Rattle.wf_loop.specs.Reach.{IsReachOf}
 use Rattle.wf_node.specs.Node.{Node}
 use Rattle.wf_peer.specs.Progress.{reach_of}
+use Rattle.wf_peer.specs.declared.heard.Heard.{Heard}
 use Rattle.wf_peer.specs.declared.progress.Progress.{Progress}
 use Rattle.wf_tape.specs.declared.tape.Tape.{Ghosts as Tape}
 use Rattle.wf_timing.specs.declared.alarm.Alarm.{Alarm}
@@ -18,6 +19,14 @@ use Rattle.wf_visitors.specs.Visitors.{responses_of}
 -- the process
 abbrev pub process_of : {T : Type 0} {tapes : Tape T} → Hub T tapes → Process T tapes
 process_of hub = hub.voter.process
+
+-- what the voter takes the file `heard` to have
+abbrev pub kept_of : {T : Type 0} {tapes : Tape T} → Hub T tapes → List (Option Heard)
+kept_of hub = hub.voter.kept
+
+-- the round and the promise of each message of a peer that the node was given are in the file `heard`, which has these bytes
+abbrev pub IsHeardFirst : {T : Type 0} {tapes : Tape T} → Option (List ℕ) → Hub T tapes → Type 0
+IsHeardFirst heard hub = IsHeardKept heard hub.voter
 
 -- where clients come, and the time of the last turn
 abbrev pub address_of : {T : Type 0} {tapes : Tape T} → Hub T tapes → Option SocketAddr

@@ -1,5 +1,6 @@
 pub mod Answer
 pub mod Continuation
+pub mod Folder
 pub mod Hub
 pub mod Lived
 pub mod Reach

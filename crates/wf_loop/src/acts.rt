@@ -1,7 +1,7 @@
 //! What is done to a process: by each of these its run goes on, and nothing of a suspended node changes.
-ghost use Rattle.std.specs.Prelude.{◌≡◌, ◌++◌, ◌∷◌, [], IsTrue, false, true};
+ghost use Rattle.std.specs.Prelude.{◌≡◌, ◌++◌, ◌∷◌, [], ℕ, List, Option, IsTrue, false, true};
 ghost use Rattle.wf_actor.specs.Process.{arrived_at};
-ghost use Rattle.wf_loop.specs.Continuation.{Continues, KeepsEarlier, is_ask, is_ask_first};
+ghost use Rattle.wf_loop.specs.Continuation.{Continues, Follows, IsHeardKept, IsNextHeard, KeepsEarlier, is_ask, is_ask_first};
 
 use crate::gate::Gate;
 use crate::hub::Voter;
@@ -61,6 +61,7 @@ impl<T: Tape> Voter<T> {
     pub(crate) fn judge(&mut self, gate: Gate, is_outvoted: bool)
         ensures process { self.new.process ≡ self.old.process }
         ensures outvoted { self.new.is_outvoted ≡ is_outvoted }
+        ensures kept { self.new.kept ≡ self.old.kept }
         ensures suspended { self.old.gate ≡ Gate.Suspended → self.new.gate ≡ Gate.Suspended }
     {
         self.is_outvoted = is_outvoted;
@@ -72,6 +73,7 @@ impl<T: Tape> Voter<T> {
         ensures on { Continues T.Tape self.old self.new }
         ensures process { self.new.process ≡ self.old.process }
         ensures outvoted { self.new.is_outvoted ≡ self.old.is_outvoted }
+        ensures kept { self.new.kept ≡ self.old.kept }
         ensures stays { self.old.gate ≡ Gate.Suspended → self.new.gate ≡ Gate.Suspended }
         ensures suspended { gate ≡ Gate.Suspended → self.new.gate ≡ Gate.Suspended }
     {
@@ -101,6 +103,16 @@ pub(crate) fn handle_own<T: Tape>(alloc: Global, voter: &mut Voter<T>) -> bool
     }
 }
 
+/// Whether the round and the promise that the first message tells which has arrived from a peer are in the folder.
+pub(crate) fn is_heard_next<T: Tape>(voter: &Voter<T>, peer: NodeId) -> bool
+    ensures { IsTrue result → IsNextHeard voter.now.kept peer (arrived_at voter.now.process peer) }
+{
+    match voter.process.next_message(peer) {
+        Some(message) => voter.kept.has_heard(peer, message),
+        None => true,
+    }
+}
+
 /// Whether the first message that has arrived from a peer asks for what is published.
 fn is_asked_next<T: Tape>(process: &Process<T>, peer: NodeId) -> bool
     ensures { result ≡ is_ask_first (arrived_at process.now peer) }
@@ -118,11 +130,11 @@ fn is_ask(message: &Message) -> bool
     matches!(message, Message::Ask(_))
 }
 
-/// Delivers the first message that has arrived from a peer, if the node is given it.
+/// Delivers the first message that has arrived from a peer, if the node is given it, and what it tells of the peer is in the folder.
 pub(crate) fn handle<T: Tape>(alloc: Global, voter: &mut Voter<T>, peer: NodeId)
     ensures { Continues T.Tape voter.old voter.new }
 {
-    if voter.takes_next(peer) {
+    if voter.takes_next(peer) && is_heard_next(voter, peer) {
         let _ = voter.process.handle(alloc, peer);
     }
 }
@@ -179,8 +191,14 @@ pub(crate) fn write<T: Tape, S: Sink>(
 pub(crate) fn begin_run<T: Tape + Drop>(voter: &mut Voter<T>, next: Process<T>)
     requires ended { next.ended.items ≡
         voter.old.process.ended.items ++ (voter.old.process.actor, 0) ∷ [] }
+    requires given { next.actor.given.items ≡ [] }
+    requires follows { voter.old.process.actor.node.halted ≡ true →
+        Follows T.Tape voter.old.process.actor next.actor }
     ensures process { voter.new.process ≡ next }
-    ensures earlier { KeepsEarlier T.Tape voter.old.process voter.new.process }
+    ensures kept { (heard : Option (List ℕ)) →
+        IsHeardKept heard voter.old → IsHeardKept heard voter.new }
+    ensures earlier { voter.old.process.actor.node.halted ≡ true →
+        KeepsEarlier T.Tape voter.old.process voter.new.process }
     ensures suspended { voter.old.gate ≡ Gate.Suspended → voter.new.gate ≡ Gate.Suspended }
 {
     voter.gate = gate_of_start(voter.gate);

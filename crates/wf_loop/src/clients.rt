@@ -7,8 +7,8 @@ ghost use Rattle.wf_visitors.specs.Visitors.{responses_of};
 
 use crate::gate::Gate;
 use crate::hub::Voter;
-use http_server::Log as Past;
 use std::time::Clock;
+use wf_past::Past;
 use wf_tape::Tape;
 use wf_visitors::{Context, Visitors};
 

@@ -1,11 +1,12 @@
 //! The operators and the readers of a node, who only read.
 
 use crate::token::{ASKER, READER};
-use mio::net::TcpListener;
 use std::alloc::{AllocError, Global};
 use std::time::Clock;
+use wf_operator::StartTime;
 use wf_reader::Answerer;
 use wf_readers_port::{PortView, ReadersPort};
+use wf_sockets::SystemListener;
 use wf_visitors::{Context, Server, Visitors};
 
 /// The most operators at once.
@@ -14,12 +15,13 @@ const OPERATORS: usize = 8;
 /// The most readers at once.
 const READERS: usize = 64;
 
-/// The operators and the readers of a node, who only read.
+/// The operators and the readers of a node, who only read, and since when they can come.
 #[derive(Drop)]
 pub(crate) struct Desk {
     pub(crate) operators: Visitors,
     pub(crate) readers: ReadersPort,
     pub(crate) answerer: Answerer,
+    pub(crate) started: StartTime,
 }
 
 impl Desk {
@@ -27,8 +29,9 @@ impl Desk {
     pub(crate) fn new(
         alloc: Global,
         answerer: Answerer,
-        admin: Option<TcpListener>,
-        readers: Option<TcpListener>,
+        admin: Option<SystemListener>,
+        readers: Option<SystemListener>,
+        started: StartTime,
     ) -> Result<Self, AllocError> {
         let operators = Visitors::new(alloc, OPERATORS, admin, ASKER)?;
         let readers = ReadersPort::new(alloc, READERS, readers, READER)?;
@@ -36,6 +39,7 @@ impl Desk {
             operators,
             readers,
             answerer,
+            started,
         })
     }
 

@@ -5,17 +5,17 @@ use crate::acts::write as write_to;
 use crate::event::PeerEnd;
 use crate::hub::Voter;
 use crate::token::Socket;
-use mio::net::TcpStream;
 use std::alloc::Global;
 use std::io::ErrorKind;
 use std::net::{Net, SocketAddr};
 use wf_ballot::NodeId;
 use wf_client::Outgoing;
 use wf_peer::{GREETING_BYTES, GreetingFault, GreetingReply, decode_reply};
-use wf_stream::{Sink, Stream};
+use wf_sockets::{Connection, ConnectionSink, Moved, Network, SystemConnection};
+use wf_stream::Sink;
 use wf_tape::Tape;
 use wf_timing::{Alarm, Backoff, is_silent};
-use wf_visitors::{Context, Done, read, register, write};
+use wf_visitors::Context;
 
 /// The most reads of one turn.
 const MOST_READS: u32 = 8;
@@ -42,7 +42,7 @@ const MINUTE: u64 = 60_000;
 #[derive(Drop)]
 pub(crate) struct Dial {
     address: SocketAddr,
-    stream: Option<TcpStream>,
+    stream: Option<SystemConnection>,
     greeting: Outgoing,
     reply: Vec<u8>,
     // whether bytes of the greeting were taken: the connection is there
@@ -210,7 +210,7 @@ impl Dial {
         &mut self,
         voter: &mut Voter<T>,
         peer: NodeId,
-        stream: &mut TcpStream,
+        stream: &mut SystemConnection,
         now: u64,
     ) -> DialTurn
         ensures { Continues T.Tape voter.old voter.new }
@@ -252,42 +252,42 @@ impl Dial {
     }
 
     /// Writes the rest of the greeting.
-    fn greet(&mut self, stream: &mut TcpStream, now: u64) -> Option<PeerEnd> {
+    fn greet(&mut self, stream: &mut SystemConnection, now: u64) -> Option<PeerEnd> {
         for _ in 0..u64::MAX {
             if self.greeting.is_taken() {
                 return None;
             }
-            match write(stream, self.greeting.rest()) {
-                Done::Bytes(count) => {
+            match stream.write(self.greeting.rest()) {
+                Moved::Bytes(count) => {
                     self.is_established = true;
                     self.since = now;
                     let count = count.min(self.greeting.remaining());
                     self.greeting.advance(count);
                 }
-                Done::Blocked => return None,
-                Done::Closed => return Some(PeerEnd::Closed),
-                Done::Failed => return Some(PeerEnd::Failed),
+                Moved::Blocked => return None,
+                Moved::Closed => return Some(PeerEnd::Closed),
+                Moved::Failed => return Some(PeerEnd::Failed),
             }
         }
         None
     }
 
     /// Reads the peer's reply, or its greeting again; nothing else may come.
-    fn handle(&mut self, stream: &mut TcpStream) -> DialTurn {
+    fn handle(&mut self, stream: &mut SystemConnection) -> DialTurn {
         let mut piece = [0u8; GREETING_BYTES];
         for _ in 0..MOST_READS {
             let room = GREETING_BYTES.saturating_sub(self.reply.len());
-            match read(stream, &mut piece[..room]) {
-                Done::Bytes(count) => {
+            match stream.read(&mut piece[..room]) {
+                Moved::Bytes(count) => {
                     let count = count.min(room);
                     match self.take_in(&piece[..count]) {
                         DialTurn::Same => {}
                         turned => return turned,
                     }
                 }
-                Done::Blocked => return DialTurn::Same,
-                Done::Closed => return DialTurn::Ended(PeerEnd::Closed),
-                Done::Failed => return DialTurn::Ended(PeerEnd::Failed),
+                Moved::Blocked => return DialTurn::Same,
+                Moved::Closed => return DialTurn::Ended(PeerEnd::Closed),
+                Moved::Failed => return DialTurn::Ended(PeerEnd::Failed),
             }
         }
         DialTurn::Same
@@ -314,12 +314,16 @@ fn begin_connection<R: Net>(
     context: &Context<'_, '_, R>,
     address: SocketAddr,
     index: usize,
-) -> Option<TcpStream> {
-    let mut stream = TcpStream::connect(context.rt, address).ok()?;
-    let _ = stream.set_nodelay(true);
-    match register(context.registry, &mut stream, Socket::Dial(index).token()) {
-        Ok(()) => Some(stream),
-        Err(_) => None,
+) -> Option<SystemConnection> {
+    let mut stream = context.network.connect(context.rt, address)?;
+    stream.send_at_once();
+    if context
+        .network
+        .watch(&mut stream, Socket::Dial(index).token())
+    {
+        Some(stream)
+    } else {
+        None
     }
 }
 
@@ -328,12 +332,12 @@ fn begin_connection<R: Net>(
 fn send<T: Tape + Drop>(
     voter: &mut Voter<T>,
     peer: NodeId,
-    stream: &TcpStream,
+    stream: &mut SystemConnection,
     written: &mut u64,
 ) -> Option<PeerEnd>
     ensures { Continues T.Tape voter.old voter.new }
 {
-    let mut sink = Stream::new(stream);
+    let mut sink = ConnectionSink::new(stream);
     for _ in 0..MOST_WRITES {
         if voter.process.remaining(peer) == 0 {
             return None;

@@ -1,9 +1,11 @@
 //! The events of a node, and their lines in its log.
 
-use crate::reopening::{FolderFault, FolderFile};
+use crate::reopening::FolderError;
 use std::fmt;
+use std::io::ErrorKind;
 use std::net::SocketAddr;
 use wf_peer::{GreetingFault, PeerRejection};
+use wf_store::FileName;
 use wf_visitors::{Level, LogEntry};
 
 /// Why a connection of a peer ended.
@@ -204,10 +206,11 @@ impl fmt::Display for NodeEvent {
     }
 }
 
-/// The node's tape at this path has failed, and the node is halted.
+/// The node's tape at this path has failed, as the system said, and the node is halted.
 #[derive(Clone, Copy)]
 pub(crate) struct TapeFailed<'a> {
     pub(crate) tape: &'a str,
+    pub(crate) cause: Option<ErrorKind>,
 }
 
 impl<'a> LogEntry for TapeFailed<'a> {
@@ -218,7 +221,11 @@ impl<'a> LogEntry for TapeFailed<'a> {
 
 impl<'a> fmt::Display for TapeFailed<'a> {
     fn fmt<W: fmt::Write>(&self, f: &mut fmt::Formatter<W>) -> fmt::Result {
-        write!(f, "tape-failed file={}", self.tape)
+        let TapeFailed { tape, cause } = self;
+        match cause {
+            Some(kind) => write!(f, "tape-failed file={tape} why=\"{kind}\""),
+            None => write!(f, "tape-failed file={tape}"),
+        }
     }
 }
 
@@ -226,8 +233,8 @@ impl<'a> fmt::Display for TapeFailed<'a> {
 #[derive(Clone, Copy)]
 pub(crate) struct FolderNotWritten<'a> {
     pub(crate) folder: &'a str,
-    pub(crate) file: FolderFile,
-    pub(crate) why: FolderFault,
+    pub(crate) file: FileName,
+    pub(crate) why: FolderError,
 }
 
 impl<'a> LogEntry for FolderNotWritten<'a> {
@@ -239,10 +246,6 @@ impl<'a> LogEntry for FolderNotWritten<'a> {
 impl<'a> fmt::Display for FolderNotWritten<'a> {
     fn fmt<W: fmt::Write>(&self, f: &mut fmt::Formatter<W>) -> fmt::Result {
         let FolderNotWritten { folder, file, why } = self;
-        let name = match file {
-            FolderFile::Heard => "heard",
-            FolderFile::Folder | FolderFile::Farm | FolderFile::Tape => "farm",
-        };
-        write!(f, "folder-not-written file={folder}/{name} why=\"{why}\"")
+        write!(f, "folder-not-written file={folder}/{file} why=\"{why}\"")
     }
 }

@@ -6,12 +6,14 @@ use crate::steps::Steps;
 use crate::tally::Tally;
 use std::alloc::AllocError;
 use std::fmt::Write;
-use std::fs;
 use std::net::{Ipv6Addr, SocketAddr};
 use std::rt::Files;
 use wf_folder::{PeerAddress, Suspension};
 use wf_learner::History;
-use wf_operator::{Health, Operated, PictureCounts, counter, gauge, seconds};
+use wf_operator::{
+    Health, MetricType, Operated, PictureCounts, StartTime, counter, gauge, head, push_open,
+    push_requests, push_sequences, push_tape_bytes, seconds,
+};
 use wf_peer::PeerRejection;
 use wf_proposer::ProposalState;
 use wf_visitors::Counts;
@@ -20,6 +22,7 @@ use wf_visitors::Counts;
 #[derive(Drop)]
 pub(crate) struct NodeFacts<'a, R> {
     pub(crate) rt: &'a R,
+    pub(crate) started: StartTime,
     pub(crate) history: &'a History,
     pub(crate) notes: &'a Notes,
     pub(crate) peers: &'a [PeerState],
@@ -91,24 +94,18 @@ impl<'a, R: Files> Operated for NodeFacts<'a, R> {
     }
 
     fn push_metrics(&self, text: &mut String) -> Result<(), AllocError> {
+        self.started.push_to(text)?;
+        push_sequences(text, self.history.published().number(), self.latest)?;
         push_farm(text, self)?;
+        push_health(text, self)?;
+        push_open(text, self.clients as u64, self.readers as u64)?;
         push_proposal(text, self.proposal)?;
         push_peers(text, self.peers)?;
-        self.requests.push_to(text)?;
-        self.pictures.push_to(text)?;
-        counter(text, "wfarm_unkept_pictures_total", self.unkept)?;
-        seconds(
-            text,
-            "wfarm_drawing_seconds_total",
-            self.requests.duration("/wms", 200),
-        )?;
+        push_requests(text, self.requests)?;
+        self.pictures.push_to(text, self.unkept)?;
         self.rejected.push_to(text)?;
-        counter(text, "wfarm_steps_total", self.steps.number)?;
-        seconds(text, "wfarm_step_seconds_total", self.steps.micros)?;
-        match tape_bytes(self.rt, self.tape) {
-            Some(bytes) => gauge(text, "wfarm_tape_bytes", bytes),
-            None => Ok(()),
-        }
+        push_steps(text, self.steps)?;
+        push_tape_bytes(text, self.rt, self.tape)
     }
 }
 
@@ -134,40 +131,78 @@ fn remembered(cause: u8) -> &'static str {
     }
 }
 
-/// Appends what is known of the node and its farm.
+/// Appends how many nodes the farm has, and how many are heard.
 fn push_farm<R>(text: &mut String, facts: &NodeFacts<'_, R>) -> Result<(), AllocError> {
     let connected = facts.peers.iter().filter(|peer| peer.is_connected).count();
     let nodes = facts.peers.len();
-    let published = facts.history.published().number();
-    let is_halted = facts.is_halted || facts.is_unwritten;
-    let differs = facts.differs.is_some() || facts.reader_differs.is_some();
-    gauge(text, "wfarm_published_sequence", published as u64)?;
-    gauge(text, "wfarm_heard_sequence", facts.latest as u64)?;
-    gauge(text, "wfarm_nodes", nodes as u64)?;
-    gauge(text, "wfarm_peers_connected", connected as u64)?;
+    gauge(
+        text,
+        "wfarm_nodes",
+        "Nodes of the farm, this one counted",
+        nodes as u64,
+    )?;
+    gauge(
+        text,
+        "wfarm_peers_connected",
+        "Peers of which a message came within five seconds",
+        connected as u64,
+    )?;
     gauge(
         text,
         "wfarm_majority_connected",
+        "1 where a majority of the farm is heard, this node counted",
         facts.hears_majority as u64,
-    )?;
-    gauge(text, "wfarm_halted", is_halted as u64)?;
-    gauge(text, "wfarm_suspended", facts.suspension.is_some() as u64)?;
-    gauge(text, "wfarm_history_differs", differs as u64)?;
-    gauge(text, "wfarm_open_clients", facts.clients as u64)?;
-    gauge(text, "wfarm_open_readers", facts.readers as u64)
+    )
 }
 
-/// The length of a tape, in bytes. None if it can't be had.
-fn tape_bytes<R: Files>(rt: &R, path: &str) -> Option<u64> {
-    match fs::metadata(rt, path) {
-        Ok(metadata) => Some(metadata.len()),
-        Err(_) => None,
-    }
+/// Appends what is wrong with the node.
+fn push_health<R>(text: &mut String, facts: &NodeFacts<'_, R>) -> Result<(), AllocError> {
+    let is_halted = facts.is_halted || facts.is_unwritten;
+    let differs = facts.differs.is_some() || facts.reader_differs.is_some();
+    gauge(
+        text,
+        "wfarm_halted",
+        "1 where the tape has failed, or the folder can't be written",
+        is_halted as u64,
+    )?;
+    gauge(
+        text,
+        "wfarm_suspended",
+        "1 where a peer remembers more of the node than it has",
+        facts.suspension.is_some() as u64,
+    )?;
+    gauge(
+        text,
+        "wfarm_history_differs",
+        "1 where the history of a peer or a reader is another one",
+        differs as u64,
+    )
+}
+
+/// Appends how many messages the node took in, and for how long.
+fn push_steps(text: &mut String, steps: Steps) -> Result<(), AllocError> {
+    counter(
+        text,
+        "wfarm_steps_total",
+        "Messages that the node took in, its own too",
+        steps.number,
+    )?;
+    seconds(
+        text,
+        "wfarm_step_seconds_total",
+        "Time that these took, writes to the tape included",
+        steps.micros,
+    )
 }
 
 /// Appends the state of the node's proposal.
 fn push_proposal(text: &mut String, proposal: ProposalState) -> Result<(), AllocError> {
-    text.push_str("# TYPE wfarm_proposal gauge\n")?;
+    head(
+        text,
+        "wfarm_proposal",
+        "1 for the state of the last map that was proposed to this node",
+        MetricType::Gauge,
+    )?;
     let none = matches!(proposal, ProposalState::None) as u8;
     let running = matches!(proposal, ProposalState::Running) as u8;
     let published = matches!(proposal, ProposalState::Published(_)) as u8;
@@ -178,33 +213,71 @@ fn push_proposal(text: &mut String, proposal: ProposalState) -> Result<(), Alloc
     write!(text, "wfarm_proposal{{state=\"overtaken\"}} {overtaken}\n")
 }
 
+/// A number that is counted of each peer.
+#[derive(Clone, Copy)]
+enum PeerCounter {
+    Received,
+    Posted,
+    Lost,
+    Written,
+    Rejected,
+}
+
+impl PeerCounter {
+    /// Its metric.
+    fn name(self) -> &'static str {
+        match self {
+            PeerCounter::Received => "wfarm_messages_in_total",
+            PeerCounter::Posted => "wfarm_messages_out_total",
+            PeerCounter::Lost => "wfarm_messages_dropped_total",
+            PeerCounter::Written => "wfarm_bytes_out_total",
+            PeerCounter::Rejected => "wfarm_rejected_peers_total",
+        }
+    }
+
+    /// What its metric tells.
+    fn help(self) -> &'static str {
+        match self {
+            PeerCounter::Received => "Messages that came from a peer",
+            PeerCounter::Posted => "Messages that were to be sent to a peer",
+            PeerCounter::Lost => "Messages to a peer that were dropped",
+            PeerCounter::Written => "Bytes that were written to a peer",
+            PeerCounter::Rejected => "Greetings of a peer by which it wasn't let in",
+        }
+    }
+
+    /// What was counted of a peer.
+    fn value(self, peer: &PeerState) -> u64 {
+        match self {
+            PeerCounter::Received => peer.received,
+            PeerCounter::Posted => peer.posted,
+            PeerCounter::Lost => peer.lost,
+            PeerCounter::Written => peer.written,
+            PeerCounter::Rejected => peer.rejected,
+        }
+    }
+}
+
 /// Appends what is known of the peers.
 fn push_peers(text: &mut String, peers: &[PeerState]) -> Result<(), AllocError> {
-    push_type(text, "wfarm_messages_in_total")?;
+    push_peer_counter(text, peers, PeerCounter::Received)?;
+    push_peer_counter(text, peers, PeerCounter::Posted)?;
+    push_peer_counter(text, peers, PeerCounter::Lost)?;
+    push_peer_counter(text, peers, PeerCounter::Written)?;
+    push_peer_counter(text, peers, PeerCounter::Rejected)
+}
+
+/// Appends a counter with a sample of each peer.
+fn push_peer_counter(
+    text: &mut String,
+    peers: &[PeerState],
+    peer_counter: PeerCounter,
+) -> Result<(), AllocError> {
+    let name = peer_counter.name();
+    head(text, name, peer_counter.help(), MetricType::Counter)?;
     for (number, peer) in peers.iter().enumerate() {
-        push_of(text, "wfarm_messages_in_total", number, peer.received)?;
-    }
-    push_type(text, "wfarm_messages_out_total")?;
-    for (number, peer) in peers.iter().enumerate() {
-        push_of(text, "wfarm_messages_out_total", number, peer.posted)?;
-    }
-    push_type(text, "wfarm_messages_dropped_total")?;
-    for (number, peer) in peers.iter().enumerate() {
-        push_of(text, "wfarm_messages_dropped_total", number, peer.lost)?;
-    }
-    push_type(text, "wfarm_bytes_out_total")?;
-    for (number, peer) in peers.iter().enumerate() {
-        push_of(text, "wfarm_bytes_out_total", number, peer.written)?;
+        let value = peer_counter.value(peer);
+        write!(text, "{name}{{peer=\"{number}\"}} {value}\n")?;
     }
     Ok(())
-}
-
-/// Appends the type of a counter.
-fn push_type(text: &mut String, name: &str) -> Result<(), AllocError> {
-    write!(text, "# TYPE {name} counter\n")
-}
-
-/// Appends a counter's sample of a peer.
-fn push_of(text: &mut String, name: &str, peer: usize, value: u64) -> Result<(), AllocError> {
-    write!(text, "{name}{{peer=\"{peer}\"}} {value}\n")
 }

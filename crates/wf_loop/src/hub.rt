@@ -6,16 +6,19 @@ use crate::tally::Tally;
 use std::net::SocketAddr;
 use wf_actor::Process;
 use wf_operator::{Behind, PictureCounts};
+use wf_peer::PeerProgress;
 use wf_tape::Tape;
 
-/// A process that answers clients, whether it acts, whether a majority has another history, how many maps it rejected, and which pictures
-/// it answered with.
+/// A process that answers clients, whether it acts, whether a majority has another history, what its folder has of what was heard, how many
+/// maps it rejected, and which pictures it answered with.
 #[derive(Drop)]
 pub struct Voter<T: Tape> {
     pub(crate) process: Process<T>,
     pub(crate) gate: Gate,
     // whether a peer's history differs, and those that agree with this node are no majority
     pub(crate) is_outvoted: bool,
+    // what the file `heard` has: a message of a peer counts once its round and promise are there
+    pub(crate) kept: PeerProgress,
     pub(crate) rejected: Tally,
     pub(crate) pictures: PictureCounts,
 }

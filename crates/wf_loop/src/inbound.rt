@@ -1,7 +1,6 @@
 //! A connection from a peer, from which this node reads.
 
 use crate::event::PeerEnd;
-use mio::net::TcpStream;
 use std::alloc::Global;
 use std::net::SocketAddr;
 use wf_ballot::NodeId;
@@ -10,14 +9,14 @@ use wf_peer::{
     GREETING_BYTES, Greeting, GreetingFault, PeerRejection, Progress, decode, encode,
     encode_rejection,
 };
+use wf_sockets::{Connection, Moved, SystemConnection};
 use wf_stream::Sink;
 use wf_timing::is_silent;
-use wf_visitors::{Done, read, write};
 
 /// A connection from a peer.
 #[derive(Drop)]
 pub(crate) struct Inbound {
-    stream: TcpStream,
+    connection: SystemConnection,
     address: SocketAddr,
     from: Option<NodeId>,
     greeting: Vec<u8>,
@@ -42,9 +41,14 @@ pub(crate) enum Came {
 
 impl Inbound {
     /// A connection that was accepted now.
-    pub(crate) fn new(alloc: Global, stream: TcpStream, address: SocketAddr, now: u64) -> Self {
+    pub(crate) fn new(
+        alloc: Global,
+        connection: SystemConnection,
+        address: SocketAddr,
+        now: u64,
+    ) -> Self {
         Inbound {
-            stream,
+            connection,
             address,
             from: None,
             greeting: Vec::new(alloc),
@@ -63,9 +67,9 @@ impl Inbound {
         self.address
     }
 
-    /// Its stream.
-    pub(crate) fn stream(&mut self) -> &mut TcpStream {
-        &mut self.stream
+    /// The connection itself.
+    pub(crate) fn connection(&mut self) -> &mut SystemConnection {
+        &mut self.connection
     }
 
     /// Whether nothing came for too long.
@@ -123,14 +127,14 @@ impl Inbound {
             if self.reply.is_taken() {
                 return None;
             }
-            match write(&mut self.stream, self.reply.rest()) {
-                Done::Bytes(count) => {
+            match self.connection.write(self.reply.rest()) {
+                Moved::Bytes(count) => {
                     let count = count.min(self.reply.remaining());
                     self.reply.advance(count);
                 }
-                Done::Blocked => return None,
-                Done::Closed => return Some(PeerEnd::Closed),
-                Done::Failed => return Some(PeerEnd::Failed),
+                Moved::Blocked => return None,
+                Moved::Closed => return Some(PeerEnd::Closed),
+                Moved::Failed => return Some(PeerEnd::Failed),
             }
         }
         None
@@ -143,8 +147,8 @@ impl Inbound {
             Some(_) => piece.len(),
         };
         let room = room.min(piece.len());
-        match read(&mut self.stream, &mut piece[..room]) {
-            Done::Bytes(count) => {
+        match self.connection.read(&mut piece[..room]) {
+            Moved::Bytes(count) => {
                 self.last = now;
                 let count = count.min(room);
                 match self.from {
@@ -152,9 +156,9 @@ impl Inbound {
                     None => self.take_greeting(&piece[..count]),
                 }
             }
-            Done::Blocked => Came::Nothing,
-            Done::Closed => Came::Ended(PeerEnd::Closed),
-            Done::Failed => Came::Ended(PeerEnd::Failed),
+            Moved::Blocked => Came::Nothing,
+            Moved::Closed => Came::Ended(PeerEnd::Closed),
+            Moved::Failed => Came::Ended(PeerEnd::Failed),
         }
     }
 

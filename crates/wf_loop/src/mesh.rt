@@ -1,6 +1,6 @@
 //! The connections to and from the peers of a node.
 ghost use Rattle.std.specs.Prelude.{◌≡◌, IfOk, IfSome};
-ghost use Rattle.wf_loop.specs.Continuation.{Continues};
+ghost use Rattle.wf_loop.specs.Continuation.{Continues, ContinuesIn};
 ghost use Rattle.wf_loop.specs.Hub.{IsGreetedWith};
 
 use crate::dial::Dial;
@@ -12,14 +12,12 @@ use crate::notes::Notes;
 use crate::peer_state::PeerState;
 use crate::plan::NodePlan;
 use crate::reach::reach_of;
-use crate::reopening::{FolderFault, FolderFile};
+use crate::reopening::{FolderError, NodeFolder};
 use crate::steps::Steps;
 use crate::unlisted::Unlisted;
-use mio::net::TcpListener;
 use std::alloc::{AllocError, Global};
 use std::mem;
 use std::net::SocketAddr;
-use std::rt::Files;
 use std::time::Clock;
 use wf_actor::Process;
 use wf_ballot::NodeId;
@@ -27,6 +25,8 @@ use wf_digest::Digests;
 use wf_folder::Suspension;
 use wf_learner::History;
 use wf_peer::{Greeting, NodeState, PeerProgress, Progress};
+use wf_sockets::SystemListener;
+use wf_store::{FileName, FolderFault};
 use wf_tape::Tape;
 use wf_timing::CatchUp;
 use wf_visitors::{Context, Log};
@@ -49,7 +49,7 @@ pub(crate) const INBOUND_SLOTS: usize = 128;
 #[derive(Drop)]
 pub(crate) struct Mesh {
     pub(crate) plan: NodePlan,
-    pub(crate) listener: TcpListener,
+    pub(crate) listener: SystemListener,
     pub(crate) dials: Vec<Dial>,
     pub(crate) inbounds: Vec<Option<Inbound>>,
     // where a piece is read to
@@ -66,7 +66,7 @@ pub(crate) struct Mesh {
     pub(crate) is_suspension_kept: bool,
     pub(crate) is_suspension_new: bool,
     // what can't be written to the folder
-    pub(crate) unwritten: Option<FolderFile>,
+    pub(crate) unwritten: Option<FileName>,
     // since when what peers remember is waited for; None once it was
     began: Option<u64>,
     // whether the last sequence is published
@@ -110,7 +110,7 @@ impl Mesh {
     pub(crate) fn new(
         alloc: Global,
         plan: NodePlan,
-        listener: TcpListener,
+        listener: SystemListener,
         known: PeerProgress,
         time: u64,
     ) -> Result<Self, AllocError>
@@ -182,27 +182,23 @@ impl Mesh {
 
     /// Writes what was heard of the peers to the node's folder, if more was heard than it has. Where that fails, the node acts no more
     /// until it succeeds.
-    #[tactic(auto, using(crate::proofs::Continuation::still))]
-    pub(crate) fn save<R: Files + Clock + Eprint + AllocGlobal, T: Tape + Drop>(
+    #[tactic(auto, using(crate::proofs::Continuation::twice_in, crate::proofs::Continuation::on_in))]
+    pub(crate) fn save<R: Clock + Eprint + AllocGlobal, T: Tape + Drop, F: NodeFolder<T>>(
         &mut self,
         context: &Context<'_, '_, R>,
         voter: &mut Voter<T>,
+        folder: &mut F,
     ) -> bool
-        ensures { Continues T.Tape voter.old voter.new }
+        ensures on { ContinuesIn T.Tape (F.stands folder.old) voter.old
+            (F.stands folder.new) voter.new }
     {
-        let Mesh { plan, notes, .. } = self;
-        match notes.save(context.rt, plan.folder.as_str()) {
+        match keep_heard(context.alloc(), &mut self.notes, voter, folder) {
             Ok(()) => {
-                self.note_written(FolderFile::Heard);
+                self.note_written(FileName::Heard);
                 true
             }
-            Err(error) => {
-                self.note_unwritten(
-                    context.log,
-                    context.time,
-                    FolderFile::Heard,
-                    FolderFault::Unwritten(error.kind()),
-                );
+            Err(why) => {
+                self.note_unwritten(context.log, context.time, FileName::Heard, why);
                 voter.set_gate(Gate::Unwritten);
                 false
             }
@@ -214,8 +210,8 @@ impl Mesh {
         &mut self,
         log: &Log<'_, R>,
         time: u64,
-        file: FolderFile,
-        why: FolderFault,
+        file: FileName,
+        why: FolderError,
     ) {
         if self.unwritten.is_none() {
             self.unwritten = Some(file);
@@ -229,7 +225,7 @@ impl Mesh {
     }
 
     /// A file of the folder can be written again.
-    pub(crate) fn note_written(&mut self, file: FolderFile) {
+    pub(crate) fn note_written(&mut self, file: FileName) {
         if self.unwritten == Some(file) {
             self.unwritten = None;
         }
@@ -373,6 +369,34 @@ impl Mesh {
                 state.posted = process.post_count(peer);
             }
         }
+    }
+}
+
+/// Writes what was heard of the peers to the node's folder, if more was heard than it has.
+#[tactic(auto, using(crate::proofs::Continuation::still_in))]
+fn keep_heard<T: Tape + Drop, F: NodeFolder<T>>(
+    alloc: Global,
+    notes: &mut Notes,
+    voter: &mut Voter<T>,
+    folder: &mut F,
+) -> Result<(), FolderError>
+    ensures on { ContinuesIn T.Tape (F.stands folder.old) voter.old
+        (F.stands folder.new) voter.new }
+{
+    notes.hold(&voter.kept);
+    let Ok(unsaved) = notes.unsaved(alloc) else {
+        return Err(FolderError::Store(FolderFault::Memory));
+    };
+    let Some(text) = unsaved else {
+        return Ok(());
+    };
+    match folder.keep_heard(text) {
+        Ok(()) => {
+            voter.kept = notes.known();
+            notes.note_saved();
+            Ok(())
+        }
+        Err(why) => Err(why),
     }
 }
 

@@ -1,29 +1,17 @@
 //! What was heard of the peers, and the digests of this node's history.
-ghost use Rattle.std.specs.Prelude.{◌≡◌, IfSome};
+ghost use Rattle.std.specs.Prelude.{◌≡◌, IfOk, IfSome};
+ghost use Rattle.wf_peer.specs.PeerProgressText.{peer_progress_text};
+ghost use Rattle.wf_peer.specs.Told.{HearAll};
 
-use crate::file::replace_in;
 use crate::mesh::id_of;
 use std::alloc::{AllocError, Global};
-use std::io;
 use std::mem::replace;
-use std::rt::Files;
 use wf_actor::Process;
 use wf_ballot::{NodeId, Seq};
 use wf_digest::Digests;
 use wf_learner::History;
 use wf_peer::{Greeting, NodeState, Own, PeerProgress, PeerRejection, Progress, admit, is_from};
 use wf_tape::Tape;
-
-/// What a message that has arrived tells of its peer.
-#[derive(Clone, Copy, PartialEq, Eq)]
-pub(crate) enum Told {
-    /// It is in the name of another node, and tells nothing.
-    WrongSender,
-    /// A higher round or promise: that has to be in the folder before the message is delivered.
-    More,
-    /// Nothing of the kind.
-    Less,
-}
 
 /// What was heard of the peers, and the digests of this node's history.
 #[derive(Drop)]
@@ -46,33 +34,56 @@ impl Notes {
         })
     }
 
-    /// What the message that has arrived from a peer tells of it: that is kept.
-    pub(crate) fn hear<T: Tape>(&mut self, process: &Process<T>, peer: NodeId) -> Told {
+    /// What the message that has arrived from a peer tells of it: that is kept. Returns whether the peer may send it.
+    pub(crate) fn hear<T: Tape>(&mut self, process: &Process<T>, peer: NodeId) -> bool {
         let Some(message) = process.next_message(peer) else {
-            return Told::Less;
+            return true;
         };
         if !is_from(message, peer) {
-            return Told::WrongSender;
+            return false;
         }
         let before = self.known.of(peer);
         self.known.receive(peer, message);
-        let after = self.known.of(peer);
-        self.is_new = self.is_new || after != before;
-        if is_raised(&before, &after) {
-            Told::More
-        } else {
-            Told::Less
+        self.is_new = self.is_new || self.known.of(peer) != before;
+        true
+    }
+
+    /// What is remembered is never less than what the file has.
+    pub(crate) fn hold(&mut self, kept: &PeerProgress)
+        ensures { HearAll kept.now self.new.known }
+    {
+        if !self.known.has_all_of(kept) {
+            self.known = *kept;
         }
     }
 
-    /// Writes what was heard to the file `heard` of a folder, synced with the folder, if more was heard than it has.
-    pub(crate) fn save<R: Files + AllocGlobal>(&mut self, rt: &R, folder: &str) -> io::Result<()> {
+    /// What was heard of the peers.
+    pub(crate) fn known(&self) -> PeerProgress
+        ensures { result ≡ self.now.known }
+    {
+        self.known
+    }
+
+    /// The text of what was heard, if more was heard than the file `heard` has.
+    pub(crate) fn unsaved(&self, alloc: Global) -> Result<Option<Vec<u8>>, AllocError>
+        ensures { IfOk result (λ unsaved. IfSome unsaved (λ text.
+            text.items ≡ peer_progress_text self.now.known)) }
+    {
         if self.is_new {
-            let text = self.known.text(rt.alloc())?;
-            replace_in(rt, folder, "heard", &text)?;
-            self.is_new = false;
+            match self.known.text(alloc) {
+                Ok(text) => Ok(Some(text)),
+                Err(error) => Err(error),
+            }
+        } else {
+            Ok(None)
         }
-        Ok(())
+    }
+
+    /// The file has all that was heard.
+    pub(crate) fn note_saved(&mut self)
+        ensures { self.new.known ≡ self.old.known }
+    {
+        self.is_new = false;
     }
 
     /// The node is opened again: its digests begin with these, of no history yet.
@@ -168,15 +179,5 @@ impl Notes {
             },
             None => 0,
         }
-    }
-}
-
-/// Whether a peer's round or promise was raised.
-fn is_raised(before: &Option<Progress>, after: &Option<Progress>) -> bool {
-    match (before, after) {
-        (Some(before), Some(after)) => {
-            after.round != before.round || after.promise != before.promise
-        }
-        _ => false,
     }
 }

@@ -1,7 +1,7 @@
 //! What a node does by the clock.
 ghost use Rattle.std.specs.Prelude.{◌≡◌, ◌↔◌, IsTrue};
 ghost use Rattle.wf_loop.specs.Hub.{IsDue};
-ghost use Rattle.wf_loop.specs.Continuation.{Continues};
+ghost use Rattle.wf_loop.specs.Continuation.{Continues, ContinuesIn};
 
 use crate::acts::retry;
 use crate::clients::Clients;
@@ -9,9 +9,9 @@ use crate::desk::Desk;
 use crate::event::{NodeEvent, TapeFailed};
 use crate::hub::Voter;
 use crate::mesh::Mesh;
+use crate::reopening::NodeFolder;
 use std::alloc::Global;
 use std::net::Net;
-use std::rt::Files;
 use std::time::Clock;
 use wf_actor::Process;
 use wf_ballot::NodeId;
@@ -111,78 +111,84 @@ impl Pace {
     }
 
     /// What the node does in a turn by the clock, and for its peers.
-    pub(crate) fn turn<R: Net + Files + Clock + Eprint + AllocGlobal, T: Tape + Drop>(
+    pub(crate) fn turn<R: Net + Clock + Eprint + AllocGlobal, T: Tape + Drop, F: NodeFolder<T>>(
         &mut self,
         context: &Context<'_, '_, R>,
         voter: &mut Voter<T>,
+        folder: &mut F,
         mesh: &mut Mesh,
         desk: &mut Desk,
         clients: &mut Clients<T>,
     )
-        ensures on { Continues T.Tape voter.old voter.new }
+        ensures on { ContinuesIn T.Tape (F.stands folder.old) voter.old
+            (F.stands folder.new) voter.new }
         ensures befores { clients.new.before.items ≡ clients.old.before.items }
     {
-        self.tick(context, voter, mesh, desk, clients);
+        self.tick(context, voter, folder, mesh, desk, clients);
         self.watch_tape(context, &voter.process, mesh);
         self.watch_proposal(context, &voter.process);
         mesh.go_on(context, voter);
     }
 
     /// Does what is to be done at a tick, if one is over.
-    #[tactic(auto, using(crate::proofs::Continuation::still))]
-    fn tick<R: Net + Files + Clock + Eprint + AllocGlobal, T: Tape + Drop>(
+    #[tactic(auto, using(crate::proofs::Continuation::still_in, crate::proofs::Continuation::on_in))]
+    fn tick<R: Net + Clock + Eprint + AllocGlobal, T: Tape + Drop, F: NodeFolder<T>>(
         &mut self,
         context: &Context<'_, '_, R>,
         voter: &mut Voter<T>,
+        folder: &mut F,
         mesh: &mut Mesh,
         desk: &mut Desk,
         clients: &mut Clients<T>,
     )
-        ensures on { Continues T.Tape voter.old voter.new }
+        ensures on { ContinuesIn T.Tape (F.stands folder.old) voter.old
+            (F.stands folder.new) voter.new }
         ensures befores { clients.new.before.items ≡ clients.old.before.items }
     {
         if self.ticks.tick(context.time) {
             clients.accept(context);
             clients.tick(context.time);
             desk.tick(context);
-            self.go_on(context, voter, mesh);
+            self.go_on(context, voter, folder, mesh);
         }
     }
 
     /// What the node does at a tick: nothing while it is halted.
-    #[tactic(auto, using(crate::proofs::Continuation::still, crate::proofs::Continuation::twice))]
-    fn go_on<R: Net + Files + Clock + Eprint + AllocGlobal, T: Tape + Drop>(
+    #[tactic(auto, using(crate::proofs::Continuation::still_in, crate::proofs::Continuation::on_in, crate::proofs::Continuation::twice_in))]
+    fn go_on<R: Net + Clock + Eprint + AllocGlobal, T: Tape + Drop, F: NodeFolder<T>>(
         &mut self,
         context: &Context<'_, '_, R>,
         voter: &mut Voter<T>,
+        folder: &mut F,
         mesh: &mut Mesh,
     )
-        ensures { Continues T.Tape voter.old voter.new }
+        ensures on { ContinuesIn T.Tape (F.stands folder.old) voter.old
+            (F.stands folder.new) voter.new }
     {
         if voter.process.is_halted() {
             return;
         }
-        if voter.connects() {
-            link(context, voter, mesh);
-        }
-        self.respond_on(context, voter, mesh);
+        link(context, voter, folder, mesh);
+        self.respond_on(context, voter, folder, mesh);
     }
 
     /// What the node says by the clock, and what it saves of what it heard.
-    #[tactic(auto, using(crate::proofs::Continuation::twice))]
-    fn respond_on<R: Files + Clock + Eprint + AllocGlobal, T: Tape + Drop>(
+    #[tactic(auto, using(crate::proofs::Continuation::twice_in, crate::proofs::Continuation::on_in))]
+    fn respond_on<R: Clock + Eprint + AllocGlobal, T: Tape + Drop, F: NodeFolder<T>>(
         &mut self,
         context: &Context<'_, '_, R>,
         voter: &mut Voter<T>,
+        folder: &mut F,
         mesh: &mut Mesh,
     )
-        ensures { Continues T.Tape voter.old voter.new }
+        ensures on { ContinuesIn T.Tape (F.stands folder.old) voter.old
+            (F.stands folder.new) voter.new }
     {
         self.retry(context.alloc(), voter, mesh, context.time);
         if self.seconds.tick(context.time) {
             mesh.ask_all(context.alloc(), voter);
             mesh.greet_again(context, voter);
-            let _ = mesh.save(context, voter);
+            let _ = mesh.save(context, voter, folder);
         }
     }
 
@@ -230,6 +236,7 @@ impl Pace {
         if process.is_halted() && self.reopening.is_none() {
             context.log.write(&TapeFailed {
                 tape: mesh.plan.tape.as_str(),
+                cause: process.node().tape().cause(),
             });
             mesh.close_all(context.time);
             self.begin_waits(context.time);
@@ -260,16 +267,21 @@ impl Pace {
     }
 }
 
-/// Accepts the connections of peers, ends those on which nothing comes, and connects to peers.
-#[tactic(auto, using(crate::proofs::Continuation::twice))]
-fn link<R: Net + Files + Clock + Eprint + AllocGlobal, T: Tape + Drop>(
+/// Accepts the connections of peers, ends those on which nothing comes, and connects to peers: nothing unless it has connections with them.
+#[tactic(auto, using(crate::proofs::Continuation::still_in, crate::proofs::Continuation::twice_in, crate::proofs::Continuation::on_in))]
+fn link<R: Net + Clock + Eprint + AllocGlobal, T: Tape + Drop, F: NodeFolder<T>>(
     context: &Context<'_, '_, R>,
     voter: &mut Voter<T>,
+    folder: &mut F,
     mesh: &mut Mesh,
 )
-    ensures { Continues T.Tape voter.old voter.new }
+    ensures on { ContinuesIn T.Tape (F.stands folder.old) voter.old
+        (F.stands folder.new) voter.new }
 {
-    mesh.accept(context, voter);
+    if !voter.connects() {
+        return;
+    }
+    mesh.accept(context, voter, folder);
     mesh.close_silent(context, voter.process.node().published().number());
     mesh.connect(context, voter);
 }

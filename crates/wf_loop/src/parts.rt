@@ -8,31 +8,32 @@ use crate::mesh::Mesh;
 use crate::pace::Pace;
 use crate::plan::{LoopFault, NodePlan};
 use crate::token::{CLIENT, Socket};
-use mio::net::TcpListener;
-use mio::{Events, Poll, Registry};
 use std::alloc::Global;
 use std::net::{Net, SocketAddr};
+use std::time::Clock;
+use wf_operator::StartTime;
 use wf_peer::PeerProgress;
 use wf_reader::Answerer;
-use wf_visitors::{Visitors, listen};
+use wf_sockets::{Events, Network, SystemListener, SystemNetwork};
+use wf_visitors::Visitors;
 
 /// The most events of a turn.
 pub(crate) const MOST_EVENTS: usize = 256;
 
-/// The poll, and the listeners that are registered at it.
+/// The network, and the listeners on it.
 #[derive(Drop)]
 struct Doors {
-    poll: Poll,
-    http: TcpListener,
-    listener: TcpListener,
-    admin: Option<TcpListener>,
-    readers: Option<TcpListener>,
+    network: SystemNetwork,
+    http: SystemListener,
+    listener: SystemListener,
+    admin: Option<SystemListener>,
+    readers: Option<SystemListener>,
 }
 
 /// All of a hub but its node and its clients.
 #[derive(Drop)]
 pub(crate) struct HubParts {
-    pub(crate) poll: Poll,
+    pub(crate) network: SystemNetwork,
     pub(crate) events: Events,
     pub(crate) mesh: Mesh,
     pub(crate) desk: Desk,
@@ -52,21 +53,21 @@ pub(crate) struct HubStart {
     pub(crate) visitors: Visitors,
 }
 
-/// A listener at an address, registered, if there is an address. Err: that address is taken, or not permitted.
+/// A listener at an address, if there is an address. Err: that address is taken, or not permitted.
 fn listen_if<R: Net>(
     rt: &R,
-    registry: &Registry,
+    network: &SystemNetwork,
     address: Option<SocketAddr>,
     socket: Socket,
-) -> Result<Option<TcpListener>, SocketAddr>
+) -> Result<Option<SystemListener>, SocketAddr>
     ensures { IfErr result (λ taken. address ≡ Some taken) }
 {
     let Some(address) = address else {
         return Ok(None);
     };
-    match listen(rt, registry, address, socket.token()) {
-        Ok(listener) => Ok(Some(listener)),
-        Err(_) => Err(address),
+    match network.listen(rt, address, socket.token()) {
+        Some(listener) => Ok(Some(listener)),
+        None => Err(address),
     }
 }
 
@@ -74,33 +75,32 @@ fn listen_if<R: Net>(
 fn doors_of<R: Net>(rt: &R, plan: &NodePlan) -> Result<Doors, LoopFault>
     ensures { IfErr result (IsCause plan.now) }
 {
-    match Poll::new(rt) {
-        Ok(poll) => doors_at(rt, plan, poll),
+    match SystemNetwork::new(rt) {
+        Ok(network) => doors_at(rt, plan, network),
         Err(_) => Err(LoopFault::Poll),
     }
 }
 
-/// Binds the addresses of a node, registered at a poll.
-fn doors_at<R: Net>(rt: &R, plan: &NodePlan, poll: Poll) -> Result<Doors, LoopFault>
+/// Binds the addresses of a node on a network.
+fn doors_at<R: Net>(rt: &R, plan: &NodePlan, network: SystemNetwork) -> Result<Doors, LoopFault>
     ensures { IfErr result (IsCause plan.now) }
 {
-    let registry = poll.registry();
-    let Ok(http) = listen(rt, registry, plan.http, Socket::Http.token()) else {
+    let Some(http) = network.listen(rt, plan.http, Socket::Http.token()) else {
         return Err(LoopFault::Http(plan.http));
     };
-    let Ok(listener) = listen(rt, registry, plan.listen, Socket::Listen.token()) else {
+    let Some(listener) = network.listen(rt, plan.listen, Socket::Listen.token()) else {
         return Err(LoopFault::Listen(plan.listen));
     };
-    let admin = match listen_if(rt, registry, plan.admin, Socket::Admin) {
+    let admin = match listen_if(rt, &network, plan.admin, Socket::Admin) {
         Ok(admin) => admin,
         Err(taken) => return Err(LoopFault::Admin(taken)),
     };
-    let readers = match listen_if(rt, registry, plan.readers, Socket::Readers) {
+    let readers = match listen_if(rt, &network, plan.readers, Socket::Readers) {
         Ok(readers) => readers,
         Err(taken) => return Err(LoopFault::Readers(taken)),
     };
     Ok(Doors {
-        poll,
+        network,
         http,
         listener,
         admin,
@@ -123,13 +123,14 @@ fn begin_at(
     doors: Doors,
     known: PeerProgress,
     time: u64,
+    started: StartTime,
 ) -> Result<HubStart, LoopFault>
     ensures begun { IfOk result (λ begun. responses_of begun.visitors ≡ []) }
     ensures suspended { IfOk result (λ begun. begun.parts.mesh.suspension ≡ plan.suspension) }
     ensures memory { IfErr result (λ why. why ≡ LoopFault.Memory) }
 {
     let Doors {
-        poll,
+        network,
         http,
         listener,
         admin,
@@ -138,11 +139,11 @@ fn begin_at(
     let events = Events::with_capacity(alloc, MOST_EVENTS)?;
     let answerer = answerer_of(&plan);
     let visitors = Visitors::new(alloc, plan.clients, Some(http), CLIENT)?;
-    let desk = Desk::new(alloc, answerer, admin, readers)?;
+    let desk = Desk::new(alloc, answerer, admin, readers, started)?;
     let mesh = Mesh::new(alloc, plan, listener, known, time)?;
     Ok(HubStart {
         parts: HubParts {
-            poll,
+            network,
             events,
             mesh,
             desk,
@@ -152,7 +153,7 @@ fn begin_at(
 }
 
 /// Binds the addresses of a node, and makes all of its hub but the node.
-pub(crate) fn bind<R: Net + AllocGlobal>(
+pub(crate) fn bind<R: Net + Clock + AllocGlobal>(
     rt: &R,
     plan: NodePlan,
     known: PeerProgress,
@@ -163,7 +164,7 @@ pub(crate) fn bind<R: Net + AllocGlobal>(
     ensures cause { IfErr result (IsCause plan) }
 {
     match doors_of(rt, &plan) {
-        Ok(doors) => begin_at(rt.alloc(), plan, doors, known, time),
+        Ok(doors) => begin_at(rt.alloc(), plan, doors, known, time, StartTime::now(rt)),
         Err(fault) => {
             drop(plan);
             drop(known);

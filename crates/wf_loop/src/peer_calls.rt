@@ -1,6 +1,6 @@
 //! The connections of a node to its peers: they are opened, written on, and tried again.
 ghost use Rattle.std.specs.Prelude.{◌≡◌};
-ghost use Rattle.wf_loop.specs.Continuation.{Continues};
+ghost use Rattle.wf_loop.specs.Continuation.{Continues, ContinuesIn};
 ghost use Rattle.wf_peer.specs.GreetingReply.{EndsANode};
 
 use crate::acts::{ask, close_outbox, open_outbox};
@@ -10,9 +10,9 @@ use crate::gate::Gate;
 use crate::hub::Voter;
 use crate::inbound::Inbound;
 use crate::mesh::{Mesh, id_of};
+use crate::reopening::NodeFolder;
 use std::alloc::Global;
 use std::net::Net;
-use std::rt::Files;
 use std::time::Clock;
 use wf_ballot::NodeId;
 use wf_folder::{PeerAddress, Suspension};
@@ -25,14 +25,16 @@ const MOST_NODES: usize = 64;
 
 impl Mesh {
     /// Lets the connection to a peer go on.
-    #[tactic(auto, using(crate::proofs::Continuation::still, crate::proofs::Continuation::twice))]
-    pub(crate) fn turn<R: Files + Clock + Eprint + AllocGlobal, T: Tape + Drop>(
+    #[tactic(auto, using(crate::proofs::Continuation::still_in, crate::proofs::Continuation::on_in, crate::proofs::Continuation::twice_in))]
+    pub(crate) fn turn<R: Clock + Eprint + AllocGlobal, T: Tape + Drop, F: NodeFolder<T>>(
         &mut self,
         context: &Context<'_, '_, R>,
         voter: &mut Voter<T>,
+        folder: &mut F,
         index: usize,
     )
-        ensures { Continues T.Tape voter.old voter.new }
+        ensures on { ContinuesIn T.Tape (F.stands folder.old) voter.old
+            (F.stands folder.new) voter.new }
     {
         let Some(peer) = id_of(index) else {
             return;
@@ -46,7 +48,7 @@ impl Mesh {
             DialTurn::Same => {}
             DialTurn::Answered(reply) => {
                 self.note_answer(index);
-                self.open(context, voter, index, peer, &reply);
+                self.open(context, voter, folder, index, peer, &reply);
             }
             DialTurn::Ended(why) => {
                 if is_established {
@@ -58,18 +60,20 @@ impl Mesh {
     }
 
     /// Opens the connection to a peer, whose reply has come. One that is open already brings the peer's greeting again, by which it is heard.
-    #[tactic(auto, using(crate::proofs::Continuation::still, crate::proofs::Continuation::twice))]
-    fn open<R: Files + Clock + Eprint + AllocGlobal, T: Tape + Drop>(
+    #[tactic(auto, using(crate::proofs::Continuation::still_in, crate::proofs::Continuation::on_in, crate::proofs::Continuation::twice_in))]
+    fn open<R: Clock + Eprint + AllocGlobal, T: Tape + Drop, F: NodeFolder<T>>(
         &mut self,
         context: &Context<'_, '_, R>,
         voter: &mut Voter<T>,
+        folder: &mut F,
         index: usize,
         peer: NodeId,
         reply: &GreetingReply,
     )
-        ensures { Continues T.Tape voter.old voter.new }
+        ensures on { ContinuesIn T.Tape (F.stands folder.old) voter.old
+            (F.stands folder.new) voter.new }
     {
-        if let Some(why) = self.why_not(context, voter, peer, reply) {
+        if let Some(why) = self.why_not(context, voter, folder, peer, reply) {
             self.end(context, voter, index, peer, why);
             return;
         }
@@ -96,19 +100,21 @@ impl Mesh {
     }
 
     /// Why the connection to a peer doesn't open, by its reply.
-    #[tactic(auto, using(crate::proofs::Continuation::still))]
-    fn why_not<R: Files + Clock + Eprint + AllocGlobal, T: Tape + Drop>(
+    #[tactic(auto, using(crate::proofs::Continuation::still_in, crate::proofs::Continuation::on_in))]
+    fn why_not<R: Clock + Eprint + AllocGlobal, T: Tape + Drop, F: NodeFolder<T>>(
         &mut self,
         context: &Context<'_, '_, R>,
         voter: &mut Voter<T>,
+        folder: &mut F,
         peer: NodeId,
         reply: &GreetingReply,
     ) -> Option<PeerEnd>
-        ensures { Continues T.Tape voter.old voter.new }
+        ensures on { ContinuesIn T.Tape (F.stands folder.old) voter.old
+            (F.stands folder.new) voter.new }
     {
         match reply {
             GreetingReply::Greeting(greeting) => {
-                match self.admit_peer(context, voter, None, Some(peer), greeting) {
+                match self.admit_peer(context, voter, folder, None, Some(peer), greeting) {
                     Ok(()) if voter.connects() => None,
                     Ok(()) => Some(PeerEnd::Unwritten),
                     Err(why) => Some(PeerEnd::Rejected(why)),
@@ -201,7 +207,7 @@ impl Mesh {
 
     /// Connects to the peers to which there is no connection, and ends attempts that take too long.
     #[tactic(auto, using(crate::proofs::Continuation::still, crate::proofs::Continuation::twice))]
-    pub(crate) fn connect<R: Net + Files + Clock + Eprint + AllocGlobal, T: Tape + Drop>(
+    pub(crate) fn connect<R: Net + Clock + Eprint + AllocGlobal, T: Tape + Drop>(
         &mut self,
         context: &Context<'_, '_, R>,
         voter: &mut Voter<T>,
@@ -215,7 +221,7 @@ impl Mesh {
 
     /// Connects to a node, if it is a peer, there is no connection and it is time to; ends one that takes too long, or is to be compared.
     #[tactic(auto, using(crate::proofs::Continuation::still))]
-    fn connect_to<R: Net + Files + Clock + Eprint + AllocGlobal, T: Tape + Drop>(
+    fn connect_to<R: Net + Clock + Eprint + AllocGlobal, T: Tape + Drop>(
         &mut self,
         context: &Context<'_, '_, R>,
         voter: &mut Voter<T>,
@@ -248,7 +254,7 @@ impl Mesh {
     }
 
     /// Connects to a peer and greets it, if there is no connection and it is time to.
-    fn connect_if_due<R: Net + Files + Clock + Eprint + AllocGlobal, T: Tape + Drop>(
+    fn connect_if_due<R: Net + Clock + Eprint + AllocGlobal, T: Tape + Drop>(
         &mut self,
         context: &Context<'_, '_, R>,
         voter: &Voter<T>,
@@ -338,7 +344,7 @@ impl Mesh {
 
     /// Once the last sequence is published nobody asks any more: then each peer is greeted again on the connection from it, and learns by
     /// this that the node is there.
-    pub(crate) fn greet_again<R: Files + Clock + Eprint + AllocGlobal, T: Tape + Drop>(
+    pub(crate) fn greet_again<R: Clock + Eprint + AllocGlobal, T: Tape + Drop>(
         &mut self,
         context: &Context<'_, '_, R>,
         voter: &Voter<T>,
@@ -356,7 +362,7 @@ impl Mesh {
 
     /// Asks for what the node lacks, writes what waits for the peers, and extends the digests if there is time.
     #[tactic(auto, using(crate::proofs::Continuation::still, crate::proofs::Continuation::twice))]
-    pub(crate) fn go_on<R: Files + Clock + Eprint + AllocGlobal, T: Tape + Drop>(
+    pub(crate) fn go_on<R: Clock + Eprint + AllocGlobal, T: Tape + Drop>(
         &mut self,
         context: &Context<'_, '_, R>,
         voter: &mut Voter<T>,
@@ -370,7 +376,7 @@ impl Mesh {
 
     /// Writes what waits for the peers: nothing once the tape has failed.
     #[tactic(auto, using(crate::proofs::Continuation::still, crate::proofs::Continuation::twice))]
-    pub(crate) fn send<R: Files + Clock + Eprint + AllocGlobal, T: Tape + Drop>(
+    pub(crate) fn send<R: Clock + Eprint + AllocGlobal, T: Tape + Drop>(
         &mut self,
         context: &Context<'_, '_, R>,
         voter: &mut Voter<T>,
@@ -387,7 +393,7 @@ impl Mesh {
 
     /// Writes what waits for a peer, if anything does.
     #[tactic(auto, using(crate::proofs::Continuation::still, crate::proofs::Continuation::twice))]
-    fn send_to<R: Files + Clock + Eprint + AllocGlobal, T: Tape + Drop>(
+    fn send_to<R: Clock + Eprint + AllocGlobal, T: Tape + Drop>(
         &mut self,
         context: &Context<'_, '_, R>,
         voter: &mut Voter<T>,

@@ -1,57 +1,61 @@
 //! What comes from the peers of a node: connections, greetings and messages.
-ghost use Rattle.wf_loop.specs.Continuation.{Continues};
+ghost use Rattle.std.specs.Prelude.{◌≡◌};
+ghost use Rattle.wf_loop.specs.Continuation.{Continues, ContinuesIn};
 
-use crate::acts::{handle, open_receiver, receive};
+use crate::acts::{handle, is_heard_next, open_receiver, receive};
 use crate::event::{NodeEvent, PeerEnd};
 use crate::hub::Voter;
 use crate::inbound::{Came, Inbound};
 use crate::mesh::{INBOUND_SLOTS, Mesh};
-use crate::notes::Told;
+use crate::reopening::NodeFolder;
 use crate::token::Socket;
-use mio::net::TcpStream;
 use std::mem;
 use std::net::SocketAddr;
-use std::rt::Files;
 use std::time::Clock;
 use wf_ballot::{NodeId, SEQUENCES};
 use wf_folder::PeerAddress;
 use wf_peer::{Greeting, PeerRejection};
+use wf_sockets::{Connection, Network, SystemConnection};
 use wf_tape::Tape;
-use wf_visitors::{Context, micros, register, register_again};
+use wf_visitors::{Context, micros};
 
 /// The most pieces that a turn reads of a peer.
 const MOST_PIECES: u32 = 4;
 
 impl Mesh {
     /// Accepts connections from peers.
-    #[tactic(auto, using(crate::proofs::Continuation::still, crate::proofs::Continuation::twice))]
-    pub(crate) fn accept<R: Files + Clock + Eprint + AllocGlobal, T: Tape + Drop>(
+    #[tactic(auto, using(crate::proofs::Continuation::still_in, crate::proofs::Continuation::on_in, crate::proofs::Continuation::twice_in))]
+    pub(crate) fn accept<R: Clock + Eprint + AllocGlobal, T: Tape + Drop, F: NodeFolder<T>>(
         &mut self,
         context: &Context<'_, '_, R>,
         voter: &mut Voter<T>,
+        folder: &mut F,
     )
-        ensures { Continues T.Tape voter.old voter.new }
+        ensures on { ContinuesIn T.Tape (F.stands folder.old) voter.old
+            (F.stands folder.new) voter.new }
     {
         for _ in 0..INBOUND_SLOTS {
-            let Ok((stream, address)) = self.listener.accept() else {
+            let Ok((connection, address)) = context.network.accept(&mut self.listener) else {
                 return;
             };
             if voter.connects() {
-                self.admit(context, voter, stream, address);
+                self.admit(context, voter, folder, connection, address);
             }
         }
     }
 
     /// Puts a connection from a peer's address into a free slot.
-    #[tactic(auto, using(crate::proofs::Continuation::still))]
-    fn admit<R: Files + Clock + Eprint + AllocGlobal, T: Tape + Drop>(
+    #[tactic(auto, using(crate::proofs::Continuation::still_in, crate::proofs::Continuation::on_in))]
+    fn admit<R: Clock + Eprint + AllocGlobal, T: Tape + Drop, F: NodeFolder<T>>(
         &mut self,
         context: &Context<'_, '_, R>,
         voter: &mut Voter<T>,
-        mut stream: TcpStream,
+        folder: &mut F,
+        mut connection: SystemConnection,
         address: SocketAddr,
     )
-        ensures { Continues T.Tape voter.old voter.new }
+        ensures on { ContinuesIn T.Tape (F.stands folder.old) voter.old
+            (F.stands folder.new) voter.new }
     {
         if !is_known(self.plan.peers.as_slice(), address) {
             if self.unlisted.is_to_be_told(address, context.time) {
@@ -66,28 +70,27 @@ impl Mesh {
             });
             return;
         };
-        let _ = stream.set_nodelay(true);
-        if register(
-            context.registry,
-            &mut stream,
-            Socket::Inbound(index).token(),
-        )
-        .is_ok()
+        connection.send_at_once();
+        if context
+            .network
+            .watch(&mut connection, Socket::Inbound(index).token())
         {
-            let inbound = Inbound::new(context.alloc(), stream, address, context.time);
-            self.receive_out(context, voter, index, inbound);
+            let inbound = Inbound::new(context.alloc(), connection, address, context.time);
+            self.receive_out(context, voter, folder, index, inbound);
         }
     }
 
     /// Reads what came from a peer, a bounded part of it, and delivers it.
-    #[tactic(auto, using(crate::proofs::Continuation::still))]
-    pub(crate) fn handle<R: Files + Clock + Eprint + AllocGlobal, T: Tape + Drop>(
+    #[tactic(auto, using(crate::proofs::Continuation::still_in, crate::proofs::Continuation::on_in))]
+    pub(crate) fn handle<R: Clock + Eprint + AllocGlobal, T: Tape + Drop, F: NodeFolder<T>>(
         &mut self,
         context: &Context<'_, '_, R>,
         voter: &mut Voter<T>,
+        folder: &mut F,
         index: usize,
     )
-        ensures { Continues T.Tape voter.old voter.new }
+        ensures on { ContinuesIn T.Tape (F.stands folder.old) voter.old
+            (F.stands folder.new) voter.new }
     {
         let Some(slot) = self.inbounds.get_mut(index) else {
             return;
@@ -95,27 +98,27 @@ impl Mesh {
         let Some(inbound) = slot.take() else {
             return;
         };
-        self.receive_out(context, voter, index, inbound);
+        self.receive_out(context, voter, folder, index, inbound);
     }
 
     /// Reads what came on a connection from a peer, and keeps it in its slot unless it has ended.
-    fn receive_out<R: Files + Clock + Eprint + AllocGlobal, T: Tape + Drop>(
+    fn receive_out<R: Clock + Eprint + AllocGlobal, T: Tape + Drop, F: NodeFolder<T>>(
         &mut self,
         context: &Context<'_, '_, R>,
         voter: &mut Voter<T>,
+        folder: &mut F,
         index: usize,
         mut inbound: Inbound,
     )
-        ensures { Continues T.Tape voter.old voter.new }
+        ensures on { ContinuesIn T.Tape (F.stands folder.old) voter.old
+            (F.stands folder.new) voter.new }
     {
-        match self.read(context, voter, &mut inbound) {
+        match self.read(context, voter, folder, &mut inbound) {
             None => {
                 if self.is_busy {
-                    register_again(
-                        context.registry,
-                        inbound.stream(),
-                        Socket::Inbound(index).token(),
-                    );
+                    let _ = context
+                        .network
+                        .watch(inbound.connection(), Socket::Inbound(index).token());
                 }
                 if let Some(slot) = self.inbounds.get_mut(index) {
                     *slot = Some(inbound);
@@ -131,35 +134,39 @@ impl Mesh {
     }
 
     /// Reads what came on a connection, a bounded part of it. Some: it has ended.
-    #[tactic(auto, using(crate::proofs::Continuation::still))]
-    fn read<R: Files + Clock + Eprint + AllocGlobal, T: Tape + Drop>(
+    #[tactic(auto, using(crate::proofs::Continuation::still_in, crate::proofs::Continuation::on_in))]
+    fn read<R: Clock + Eprint + AllocGlobal, T: Tape + Drop, F: NodeFolder<T>>(
         &mut self,
         context: &Context<'_, '_, R>,
         voter: &mut Voter<T>,
+        folder: &mut F,
         inbound: &mut Inbound,
     ) -> Option<PeerEnd>
-        ensures { Continues T.Tape voter.old voter.new }
+        ensures on { ContinuesIn T.Tape (F.stands folder.old) voter.old
+            (F.stands folder.new) voter.new }
     {
         let mut piece = mem::replace(&mut self.piece, Vec::new(context.alloc()));
-        let ended = self.read_pieces(context, voter, inbound, piece.as_mut_slice());
+        let ended = self.read_pieces(context, voter, folder, inbound, piece.as_mut_slice());
         self.piece = piece;
         ended
     }
 
     /// Reads what came on a connection, a bounded number of pieces, each to the front of the buffer. Some: it has ended.
-    #[tactic(auto, using(crate::proofs::Continuation::still, crate::proofs::Continuation::twice))]
-    fn read_pieces<R: Files + Clock + Eprint + AllocGlobal, T: Tape + Drop>(
+    #[tactic(auto, using(crate::proofs::Continuation::still_in, crate::proofs::Continuation::on_in, crate::proofs::Continuation::twice_in))]
+    fn read_pieces<R: Clock + Eprint + AllocGlobal, T: Tape + Drop, F: NodeFolder<T>>(
         &mut self,
         context: &Context<'_, '_, R>,
         voter: &mut Voter<T>,
+        folder: &mut F,
         inbound: &mut Inbound,
         piece: &mut [u8],
     ) -> Option<PeerEnd>
-        ensures { Continues T.Tape voter.old voter.new }
+        ensures on { ContinuesIn T.Tape (F.stands folder.old) voter.old
+            (F.stands folder.new) voter.new }
     {
         for _ in 0..MOST_PIECES {
             let came = inbound.handle(piece, context.time);
-            match self.take_in(context, voter, inbound, came, piece) {
+            match self.take_in(context, voter, folder, inbound, came, piece) {
                 Ok(()) => {}
                 Err(ended) => return ended,
             }
@@ -169,29 +176,31 @@ impl Mesh {
     }
 
     /// Takes in what came in one piece. Err: nothing more is to be read now, and why the connection has ended if it has.
-    #[tactic(auto, using(crate::proofs::Continuation::still))]
-    fn take_in<R: Files + Clock + Eprint + AllocGlobal, T: Tape + Drop>(
+    #[tactic(auto, using(crate::proofs::Continuation::still_in, crate::proofs::Continuation::on_in))]
+    fn take_in<R: Clock + Eprint + AllocGlobal, T: Tape + Drop, F: NodeFolder<T>>(
         &mut self,
         context: &Context<'_, '_, R>,
         voter: &mut Voter<T>,
+        folder: &mut F,
         inbound: &mut Inbound,
         came: Came,
         piece: &[u8],
     ) -> Result<(), Option<PeerEnd>>
-        ensures { Continues T.Tape voter.old voter.new }
+        ensures on { ContinuesIn T.Tape (F.stands folder.old) voter.old
+            (F.stands folder.new) voter.new }
     {
         match came {
             Came::Nothing => Err(inbound.send()),
             Came::Part => Ok(()),
             Came::Greeting(greeting) => {
-                match self.let_in(context, voter, inbound, &greeting) {
+                match self.let_in(context, voter, folder, inbound, &greeting) {
                     Some(why) => Err(Some(why)),
                     None => Ok(()),
                 }
             }
             Came::Bytes(from, count) => {
                 let piece = piece.split_at(count.min(piece.len())).0;
-                match self.deliver(context, voter, from, piece) {
+                match self.deliver(context, voter, folder, from, piece) {
                     Some(why) => Err(Some(why)),
                     None => Ok(()),
                 }
@@ -201,17 +210,26 @@ impl Mesh {
     }
 
     /// Lets a peer in that has greeted, in the place of an older connection from it. Some: it isn't let in.
-    #[tactic(auto, using(crate::proofs::Continuation::still))]
-    fn let_in<R: Files + Clock + Eprint + AllocGlobal, T: Tape + Drop>(
+    #[tactic(auto, using(crate::proofs::Continuation::twice_in, crate::proofs::Continuation::on_in))]
+    fn let_in<R: Clock + Eprint + AllocGlobal, T: Tape + Drop, F: NodeFolder<T>>(
         &mut self,
         context: &Context<'_, '_, R>,
         voter: &mut Voter<T>,
+        folder: &mut F,
         inbound: &mut Inbound,
         greeting: &Greeting,
     ) -> Option<PeerEnd>
-        ensures { Continues T.Tape voter.old voter.new }
+        ensures on { ContinuesIn T.Tape (F.stands folder.old) voter.old
+            (F.stands folder.new) voter.new }
     {
-        let admitted = self.admit_peer(context, voter, Some(inbound.address()), None, greeting);
+        let admitted = self.admit_peer(
+            context,
+            voter,
+            folder,
+            Some(inbound.address()),
+            None,
+            greeting,
+        );
         if !voter.connects() {
             // what was heard of it isn't in the folder, so nothing is said
             return Some(PeerEnd::Unwritten);
@@ -236,16 +254,18 @@ impl Mesh {
 
     /// Whether a peer is let in that greets so, by all that the node has published: one that was dialed, or one from an address. What is
     /// heard of it is in the folder before it is answered, and so is of what it is accused. Whether its history differs is noted.
-    #[tactic(auto, using(crate::proofs::Continuation::still))]
-    pub(crate) fn admit_peer<R: Files + Clock + Eprint + AllocGlobal, T: Tape + Drop>(
+    #[tactic(auto, using(crate::proofs::Continuation::still_in, crate::proofs::Continuation::on_in))]
+    pub(crate) fn admit_peer<R: Clock + Eprint + AllocGlobal, T: Tape + Drop, F: NodeFolder<T>>(
         &mut self,
         context: &Context<'_, '_, R>,
         voter: &mut Voter<T>,
+        folder: &mut F,
         address: Option<SocketAddr>,
         index: Option<NodeId>,
         greeting: &Greeting,
     ) -> Result<(), PeerRejection>
-        ensures { Continues T.Tape voter.old voter.new }
+        ensures on { ContinuesIn T.Tape (F.stands folder.old) voter.old
+            (F.stands folder.new) voter.new }
     {
         self.notes.extend(voter.process.node().history());
         let published = voter.process.node().published().number();
@@ -262,12 +282,20 @@ impl Mesh {
                 }
             }
             Err(PeerRejection::OtherHistory) => {
+                self.count_rejection(number);
                 self.note_difference(context, greeting.node, greeting.progress.published.number());
             }
-            Err(_) => {}
+            Err(_) => self.count_rejection(number),
         }
-        let _ = self.save(context, voter);
+        let _ = self.save(context, voter, folder);
         admitted
+    }
+
+    /// A peer isn't let in.
+    fn count_rejection(&mut self, number: usize) {
+        if let Some(state) = self.states.get_mut(number) {
+            state.rejected = state.rejected.saturating_add(1);
+        }
     }
 
     /// Whether the node of this number is listed at an address; its port is any.
@@ -292,15 +320,17 @@ impl Mesh {
     }
 
     /// Judges what came from a peer, and delivers it. Some: the connection has ended.
-    #[tactic(auto, using(crate::proofs::Continuation::still, crate::proofs::Continuation::twice))]
-    fn deliver<R: Files + Clock + Eprint + AllocGlobal, T: Tape + Drop>(
+    #[tactic(auto, using(crate::proofs::Continuation::still_in, crate::proofs::Continuation::on_in, crate::proofs::Continuation::twice_in))]
+    fn deliver<R: Clock + Eprint + AllocGlobal, T: Tape + Drop, F: NodeFolder<T>>(
         &mut self,
         context: &Context<'_, '_, R>,
         voter: &mut Voter<T>,
+        folder: &mut F,
         peer: NodeId,
         piece: &[u8],
     ) -> Option<PeerEnd>
-        ensures { Continues T.Tape voter.old voter.new }
+        ensures on { ContinuesIn T.Tape (F.stands folder.old) voter.old
+            (F.stands folder.new) voter.new }
     {
         let Some(count) = receive(voter, peer, piece) else {
             return Some(PeerEnd::BadMessage);
@@ -319,7 +349,7 @@ impl Mesh {
                 // so are the others
                 return None;
             }
-            if let Some(why) = self.deliver_next(context, voter, peer) {
+            if let Some(why) = self.deliver_next(context, voter, folder, peer) {
                 open_receiver(context.alloc(), voter, peer);
                 return Some(why);
             }
@@ -329,31 +359,49 @@ impl Mesh {
 
     /// Judges the first message that has arrived from a peer, and delivers it: one that raises the peer's round or promise once that is
     /// in the folder. Some: it isn't delivered, and the connection ends.
-    #[tactic(auto, using(crate::proofs::Continuation::still, crate::proofs::Continuation::twice))]
-    fn deliver_next<R: Files + Clock + Eprint + AllocGlobal, T: Tape + Drop>(
+    #[tactic(auto, using(crate::proofs::Continuation::still_in, crate::proofs::Continuation::on_in, crate::proofs::Continuation::twice_in))]
+    fn deliver_next<R: Clock + Eprint + AllocGlobal, T: Tape + Drop, F: NodeFolder<T>>(
         &mut self,
         context: &Context<'_, '_, R>,
         voter: &mut Voter<T>,
+        folder: &mut F,
         peer: NodeId,
     ) -> Option<PeerEnd>
-        ensures { Continues T.Tape voter.old voter.new }
+        ensures on { ContinuesIn T.Tape (F.stands folder.old) voter.old
+            (F.stands folder.new) voter.new }
     {
-        match self.notes.hear(&voter.process, peer) {
-            Told::WrongSender => return Some(PeerEnd::WrongSender),
-            Told::More => {
-                if !self.save(context, voter) {
-                    return Some(PeerEnd::Unwritten);
-                }
-            }
-            Told::Less => {}
+        if !self.notes.hear(&voter.process, peer) {
+            return Some(PeerEnd::WrongSender);
+        }
+        if !self.keeps_next(context, voter, folder, peer) {
+            return Some(PeerEnd::Unwritten);
         }
         self.deliver_first(context, voter, peer);
         None
     }
 
+    /// Whether what the first message tells of a peer is in the folder: where it isn't, it is written.
+    #[tactic(auto, using(crate::proofs::Continuation::still_in))]
+    fn keeps_next<R: Clock + Eprint + AllocGlobal, T: Tape + Drop, F: NodeFolder<T>>(
+        &mut self,
+        context: &Context<'_, '_, R>,
+        voter: &mut Voter<T>,
+        folder: &mut F,
+        peer: NodeId,
+    ) -> bool
+        ensures on { ContinuesIn T.Tape (F.stands folder.old) voter.old
+            (F.stands folder.new) voter.new }
+    {
+        if is_heard_next(voter, peer) {
+            return true;
+        }
+        let is_saved = self.save(context, voter, folder);
+        is_saved && is_heard_next(voter, peer)
+    }
+
     /// Delivers the first message that has arrived from a peer, and writes the answer at once: the peers wait for it.
     #[tactic(auto, using(crate::proofs::Continuation::twice))]
-    fn deliver_first<R: Files + Clock + Eprint + AllocGlobal, T: Tape + Drop>(
+    fn deliver_first<R: Clock + Eprint + AllocGlobal, T: Tape + Drop>(
         &mut self,
         context: &Context<'_, '_, R>,
         voter: &mut Voter<T>,

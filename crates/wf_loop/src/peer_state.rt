@@ -54,7 +54,7 @@ pub(crate) struct Differing {
 
 /// What is known of a peer: whether it is heard, what it does and how far it is by its last greeting, how its history goes with this node's,
 /// when its last message came, whether it has answered since this node's start; how many messages to it were dropped since its connection opened, how
-/// many were put into its outboxes, how many came, and how many bytes were written to it.
+/// many were put into its outboxes, how many came, how many bytes were written to it, and by how many greetings it wasn't let in.
 #[derive(Clone, Copy, Default)]
 pub(crate) struct PeerState {
     pub(crate) is_connected: bool,
@@ -67,6 +67,7 @@ pub(crate) struct PeerState {
     pub(crate) posted: u64,
     pub(crate) received: u64,
     pub(crate) written: u64,
+    pub(crate) rejected: u64,
 }
 
 impl PeerState {

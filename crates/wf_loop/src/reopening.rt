@@ -1,5 +1,6 @@
 //! A node whose tape has failed opens it again, as the node that it was.
-ghost use Rattle.std.specs.Prelude.{◌≡◌, ◌+◌, ℕ, IfOk, OnErr, OnOk};
+ghost use Rattle.std.specs.Prelude.{◌≡◌, ◌+◌, IfOk, OnErr, OnOk};
+ghost use Rattle.wf_loop.specs.Folder.{IsHeardPut, Stand, counted};
 
 use std::fmt;
 use std::io::ErrorKind;
@@ -7,43 +8,73 @@ use thiserror::Error;
 use wf_actor::{Process, ReopenFault};
 use wf_digest::Digests;
 use wf_folder::{Reach, Suspension};
+use wf_store::{FileName, FolderFault};
 use wf_tape::Tape;
 use wf_visitors::{Level, LogEntry};
 
-/// A file of a node's folder, or the folder itself.
+/// Why a file of the node's folder isn't read or written.
 #[derive(Clone, Copy, Debug, PartialEq, Eq)]
-pub enum FolderFile {
-    /// The folder.
-    Folder,
-    /// The file `farm`.
-    Farm,
-    /// The file `heard`.
-    Heard,
-    /// The node's tape.
-    Tape,
+pub enum FolderError {
+    /// What is at the folder's path isn't the folder that this process has locked.
+    Other,
+    /// A call of the folder failed.
+    Store(FolderFault),
+}
+
+impl FolderError {
+    /// The file that is the cause. None: it is the folder itself, or no memory.
+    fn file(&self) -> Option<FileName> {
+        match self {
+            FolderError::Store(FolderFault::Unread(file, _))
+            | FolderError::Store(FolderFault::Unopened(file))
+            | FolderError::Store(FolderFault::Unwritten(file, _)) => Some(*file),
+            FolderError::Other | FolderError::Store(_) => None,
+        }
+    }
+}
+
+impl From<FolderFault> for FolderError {
+    ghost use Rattle.std.specs.Prelude.{◌≡◌};
+    ghost use Rattle.wf_loop.specs.declared.reopening.FolderError.TheVariants.{Store};
+
+    ghost from_gives = { λ fault error. error ≡ Store fault };
+
+    fn from(fault: FolderFault) -> Self {
+        FolderError::Store(fault)
+    }
+}
+
+impl fmt::Display for FolderError {
+    fn fmt<W: fmt::Write>(&self, f: &mut fmt::Formatter<W>) -> fmt::Result {
+        match self {
+            FolderError::Other => f.write_str("another folder is at its path"),
+            FolderError::Store(FolderFault::NoFolder(kind)) => {
+                write!(f, "the folder can't be opened: {kind}")
+            }
+            FolderError::Store(FolderFault::Unread(_, kind)) => {
+                write!(f, "it can't be read: {kind}")
+            }
+            FolderError::Store(FolderFault::Unopened(_)) => f.write_str("it can't be opened"),
+            FolderError::Store(FolderFault::Unwritten(_, kind)) => {
+                write!(f, "it can't be written: {kind}")
+            }
+            FolderError::Store(fault) => write!(f, "{fault}"),
+        }
+    }
 }
 
 /// Why the tape of a halted node isn't opened again.
 #[derive(Clone, Copy, Debug, PartialEq, Eq, Error)]
 pub enum NotReopened {
-    /// The folder can't be opened.
-    #[error("the folder can't be opened: {0}")]
-    NoFolder(ErrorKind),
-    /// What is at the folder's path isn't the folder that this process has locked.
-    #[error("another folder is at its path")]
-    OtherFolder,
-    /// The file can't be read.
-    #[error("it can't be read: {1}")]
-    Unread(FolderFile, ErrorKind),
+    /// The folder, or a file of it, can't be read.
+    #[error("{0}")]
+    Folder(FolderError),
     /// The file `farm` isn't the one that this process wrote last.
     #[error("it isn't the one that this process wrote")]
     OtherFarm,
     /// There is no tape.
     #[error("tape missing")]
     NoTape,
-    /// The tape is there and can't be opened.
-    #[error("it can't be opened")]
-    TapeUnopened,
     /// A node doesn't open on the tape, or it isn't this one.
     #[error("{0}")]
     Tape(ReopenFault),
@@ -59,64 +90,49 @@ pub enum NotReopened {
 }
 
 impl NotReopened {
-    /// The file that is the cause.
-    pub fn file(&self) -> FolderFile {
+    /// The file that is the cause, where the node's tape is this one. None: it is the folder itself.
+    fn file(&self, tape: FileName) -> Option<FileName> {
         match self {
-            NotReopened::NoFolder(_) | NotReopened::OtherFolder => FolderFile::Folder,
-            NotReopened::Unread(file, _) => *file,
+            NotReopened::Folder(error) => error.file(),
             NotReopened::OtherFarm | NotReopened::Uncounted(_) | NotReopened::NoFurtherStart => {
-                FolderFile::Farm
+                Some(FileName::Farm)
             }
-            NotReopened::NoTape
-            | NotReopened::TapeUnopened
-            | NotReopened::Tape(_)
-            | NotReopened::Memory => FolderFile::Tape,
+            NotReopened::NoTape | NotReopened::Tape(_) | NotReopened::Memory => Some(tape),
         }
     }
 }
 
-/// Why a file of the folder isn't written.
-#[derive(Clone, Copy, Debug, PartialEq, Eq, Error)]
-pub enum FolderFault {
-    /// The folder can't be opened.
-    #[error("the folder can't be opened: {0}")]
-    NoFolder(ErrorKind),
-    /// What is at the folder's path isn't the folder that this process has locked.
-    #[error("another folder is at its path")]
-    OtherFolder,
-    /// The file can't be written.
-    #[error("it can't be written: {0}")]
-    Unwritten(ErrorKind),
-    /// An allocation failed.
-    #[error("out of memory")]
-    Memory,
-}
-
 /// The folder of a node, which its process has locked.
 pub trait NodeFolder<T> {
-    /// How many starts the file `farm` counts, as this process wrote it last.
-    ghost starts: { Self → ℕ };
+    /// How many starts the file `farm` counts, as this process wrote it last, the calls of the folder before the node ran, and what the
+    /// file `heard` has.
+    ghost stands: { Self → Stand };
 
     /// Opens the node's tape, if the folder at its path is the one that is locked, and its file `farm` the one that this process wrote
     /// last. No file is made: a tape that is absent is an error.
     fn open(&mut self) -> Result<T, NotReopened>
-        ensures { starts self.new ≡ starts self.old };
+        ensures { stands self.new ≡ stands self.old };
 
     /// Counts one start more in the file `farm`, synced. Ok is their number. After an error the file may count it or not; the next call
     /// counts the same start.
     fn count_start(&mut self) -> Result<u32, NotReopened>
-        ensures number { IfOk result (λ number. number ≡ starts self.old + 1) }
-        ensures counted { OnOk result (starts self.new ≡ starts self.old + 1) }
-        ensures same { OnErr result (starts self.new ≡ starts self.old) };
+        ensures number { IfOk result (λ number. number ≡ (stands self.old).starts + 1) }
+        ensures counted { OnOk result (stands self.new ≡ counted (stands self.old)) }
+        ensures same { OnErr result (stands self.new ≡ stands self.old) };
 
     /// Raises in the file `farm` how far the node is known to have been, with the digest of its history up to its last published
     /// sequence, if that is more than the file has: synced, with the folder.
-    fn keep(&mut self, reach: &Reach, digest: [u8; 32]) -> Result<(), FolderFault>
-        ensures { starts self.new ≡ starts self.old };
+    fn keep(&mut self, reach: &Reach, digest: [u8; 32]) -> Result<(), FolderError>
+        ensures { stands self.new ≡ stands self.old };
 
     /// Writes into the file `farm` that a peer has suspended the node: synced, with the folder.
-    fn suspend(&mut self, suspension: Suspension) -> Result<(), FolderFault>
-        ensures { starts self.new ≡ starts self.old };
+    fn suspend(&mut self, suspension: Suspension) -> Result<(), FolderError>
+        ensures { stands self.new ≡ stands self.old };
+
+    /// Puts a text in the place of the file `heard`, what was heard of the peers: synced, with the folder, if the folder at its path is
+    /// the one that is locked. After an error the text from before or this one is there.
+    fn keep_heard(&mut self, text: Vec<u8>) -> Result<(), FolderError>
+        ensures { IsHeardPut result text.items (stands self.old) (stands self.new) };
 }
 
 /// A process that goes on for one whose tape has failed, with the digests of no history yet, and the number of its start.
@@ -127,11 +143,11 @@ pub(crate) struct NextRun<T: Tape> {
     pub(crate) starts: u32,
 }
 
-/// The tape of a halted node wasn't opened again: the paths of its folder and its tape, and why.
+/// The tape of a halted node wasn't opened again: the path of its folder, the name of its tape, and why.
 #[derive(Clone, Copy)]
 pub(crate) struct TapeNotReopened<'a> {
     pub(crate) folder: &'a str,
-    pub(crate) tape: &'a str,
+    pub(crate) tape: FileName,
     pub(crate) why: NotReopened,
 }
 
@@ -144,11 +160,9 @@ impl<'a> LogEntry for TapeNotReopened<'a> {
 impl<'a> fmt::Display for TapeNotReopened<'a> {
     fn fmt<W: fmt::Write>(&self, f: &mut fmt::Formatter<W>) -> fmt::Result {
         let TapeNotReopened { folder, tape, why } = self;
-        match why.file() {
-            FolderFile::Folder => write!(f, "tape-not-reopened file={folder} why=\"{why}\""),
-            FolderFile::Farm => write!(f, "tape-not-reopened file={folder}/farm why=\"{why}\""),
-            FolderFile::Heard => write!(f, "tape-not-reopened file={folder}/heard why=\"{why}\""),
-            FolderFile::Tape => write!(f, "tape-not-reopened file={tape} why=\"{why}\""),
+        match why.file(*tape) {
+            None => write!(f, "tape-not-reopened file={folder} why=\"{why}\""),
+            Some(file) => write!(f, "tape-not-reopened file={folder}/{file} why=\"{why}\""),
         }
     }
 }

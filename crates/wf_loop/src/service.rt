@@ -1,12 +1,13 @@
 //! How a hub begins, waits for its sockets and goes on, turn after turn.
-ghost use Rattle.std.specs.Prelude.{◌≡◌, ◌≤◌, ◌+◌, ◌↔◌, ◌++◌, ◌∷◌, [], Err, IfErr, IfOk, IsSome, IsTrue, OnErr, OnOk, Option};
+ghost use Rattle.std.specs.Prelude.{◌≡◌, ◌≤◌, ◌+◌, ◌↔◌, ◌++◌, ◌∷◌, [], ℕ, List, true, Err, IfErr, IfOk, IsSome, IsTrue, OnErr, OnOk, Option};
 ghost use Rattle.wf_actor.specs.Process.{IsBegun};
 ghost use Rattle.wf_digest.specs.Digest.{AreDigestsOf};
 ghost use Rattle.wf_folder.specs.declared.suspension.Suspension.{Suspension as SuspensionValue};
-ghost use Rattle.wf_loop.specs.Hub.{GreetsAsNow, HasAnswered, IsOutvoted, IsReopeningDue, IsSuspended, OnlyAnswersAsks, address_of, process_of, time_of};
+ghost use Rattle.wf_loop.specs.Folder.{counted};
+ghost use Rattle.wf_loop.specs.Hub.{GreetsAsNow, HasAnswered, IsHeardFirst, IsOutvoted, IsReopeningDue, IsSuspended, OnlyAnswersAsks, address_of, kept_of, process_of, time_of};
 ghost use Rattle.wf_node.specs.Reopening.{HasStoredAs};
 ghost use Rattle.wf_loop.specs.Lived.{HasLived};
-ghost use Rattle.wf_loop.specs.Continuation.{Continues, GoesOn, KeepsEarlier, StaysSuspended};
+ghost use Rattle.wf_loop.specs.Continuation.{Continues, ContinuesIn, Follows, GoesOn, KeepsEarlier, StaysSuspended};
 ghost use Rattle.wf_loop.specs.StartErrors.{IsCause};
 ghost use Rattle.wf_visitors.specs.Visitors.{responses_of};
 
@@ -20,20 +21,19 @@ use crate::pace::{Pace, TICK_MILLIS};
 use crate::parts::{HubParts, HubStart, MOST_EVENTS, bind};
 use crate::plan::{LoopFault, NodePlan};
 use crate::reach::reach_of;
-use crate::reopening::{
-    FolderFault, FolderFile, NextRun, NodeFolder, NotReopened, TapeNotReopened,
-};
+use crate::reopening::{FolderError, NextRun, NodeFolder, NotReopened, TapeNotReopened};
 use crate::tally::Tally;
 use crate::turn::{answer_operators, has_more, serve_all};
 use std::alloc::Global;
 use std::net::{Net, SocketAddr};
 use std::rt::Files;
-use std::time::{Clock, Duration};
+use std::time::Clock;
 use wf_actor::Process;
 use wf_digest::Digests;
 use wf_folder::Suspension;
 use wf_operator::{Behind, PictureCounts};
 use wf_peer::PeerProgress;
+use wf_store::{FileName, FolderFault};
 use wf_tape::Tape;
 use wf_visitors::{Context, Log, Visitors, now};
 
@@ -45,10 +45,12 @@ fn hub_of<T: Tape + Drop>(
     alloc: Global,
     begun: Result<HubStart, LoopFault>,
     process: Process<T>,
+    known: PeerProgress,
     time: u64,
 ) -> Result<Hub<T>, LoopFault>
     requires { IfOk begun (λ begun. responses_of begun.visitors ≡ []) }
     ensures hub { IfOk result (λ hub. process_of hub ≡ process) }
+    ensures kept { IfOk result (λ hub. kept_of hub ≡ known) }
     ensures time { IfOk result (λ hub. time_of hub ≡ time) }
     ensures suspended { (suspension : Option SuspensionValue) →
         IfOk begun (λ begun. begun.parts.mesh.suspension ≡ suspension) →
@@ -56,7 +58,9 @@ fn hub_of<T: Tape + Drop>(
     ensures fault { IfErr result (λ fault. begun ≡ Err fault) }
 {
     match begun {
-        Ok(HubStart { parts, visitors }) => Ok(assemble(alloc, parts, visitors, process, time)),
+        Ok(HubStart { parts, visitors }) => Ok(assemble(
+            alloc, parts, visitors, process, known, time,
+        )),
         Err(fault) => {
             drop(process);
             Err(fault)
@@ -68,9 +72,11 @@ fn hub_of<T: Tape + Drop>(
 fn voter_of<T: Tape>(
     alloc: Global,
     process: Process<T>,
+    kept: PeerProgress,
     suspension: &Option<Suspension>,
 ) -> Voter<T>
     ensures process { result.process ≡ process }
+    ensures kept { result.kept ≡ kept }
     ensures suspended { IsSome suspension.now → result.gate ≡ Gate.Suspended }
 {
     let gate = match suspension {
@@ -81,6 +87,7 @@ fn voter_of<T: Tape>(
         process,
         gate,
         is_outvoted: false,
+        kept,
         rejected: Tally::new(alloc),
         pictures: PictureCounts::default(),
     }
@@ -92,17 +99,19 @@ fn assemble<T: Tape + Drop>(
     parts: HubParts,
     visitors: Visitors,
     process: Process<T>,
+    known: PeerProgress,
     time: u64,
 ) -> Hub<T>
     requires { responses_of visitors ≡ [] }
     ensures hub { process_of result ≡ process }
+    ensures kept { kept_of result ≡ known }
     ensures suspended { IsSome parts.mesh.suspension → IsSuspended result }
     ensures time { time_of result ≡ time }
 {
     let pace = parts.pace(time);
-    let http = visitors.address();
+    let http = visitors.address(&parts.network);
     let clients = Clients::new(visitors);
-    let voter = voter_of(alloc, process, &parts.mesh.suspension);
+    let voter = voter_of(alloc, process, known, &parts.mesh.suspension);
     hub_with(parts, clients, voter, pace, http, time)
 }
 
@@ -140,12 +149,20 @@ impl<T: Tape + Drop> Hub<T> {
         known: PeerProgress,
     ) -> Result<Self, LoopFault>
         ensures process { IfOk result (λ hub. process_of hub ≡ process) }
+        // What the file `heard` has is what was heard, as long as nothing is written to it.
+        ensures kept { IfOk result (λ hub. kept_of hub ≡ known) }
         // A node that its folder says is suspended begins so.
         ensures suspended { IsSome plan.suspension → IfOk result IsSuspended }
         ensures cause { IfErr result (IsCause plan) }
     {
         let time = now(rt);
-        hub_of(rt.alloc(), bind(rt, plan, known, time), process, time)
+        hub_of(
+            rt.alloc(),
+            bind(rt, plan, known, time),
+            process,
+            known,
+            time,
+        )
     }
 
     /// Where clients come, as the system told it when the address was bound.
@@ -200,11 +217,16 @@ impl<T: Tape + Drop> Hub<T> {
         // It has stored what it had, or that and the record of the step that failed: whatever is on the tape, and of files too.
         ensures stored { OnOk result
             (HasStoredAs (process_of self.old).actor.node (process_of self.new).actor.node) }
-        ensures counted { OnOk result (F.starts folder.new ≡ F.starts folder.old + 1) }
-        ensures greets { OnOk result (GreetsAsNow (F.starts folder.new) self.new) }
+        ensures counted { OnOk result (F.stands folder.new ≡ counted (F.stands folder.old)) }
+        ensures before { (F.stands folder.new).begun ≡ (F.stands folder.old).begun }
+        ensures heard { IsHeardFirst (F.stands folder.old).heard self.old →
+            IsHeardFirst (F.stands folder.new).heard self.new }
+        ensures greets { OnOk result (GreetsAsNow (F.stands folder.new).starts self.new) }
         ensures suspended { IsSuspended self.old → IsSuspended self.new }
         ensures same { OnErr result (process_of self.new ≡ process_of self.old) }
-        ensures earlier { KeepsEarlier T.Tape (process_of self.old) (process_of self.new) }
+        // The run that begins follows the one that has ended.
+        ensures earlier { (process_of self.old).actor.node.halted ≡ true →
+            KeepsEarlier T.Tape (process_of self.old) (process_of self.new) }
     {
         match self.next_run(rt.alloc(), folder) {
             Ok(next) => {
@@ -214,10 +236,10 @@ impl<T: Tape + Drop> Hub<T> {
             }
             Err(why) => {
                 self.pace.postpone_reopening(self.time);
-                let NodePlan { folder, tape, .. } = &self.parts.mesh.plan;
+                let NodePlan { folder, own, .. } = &self.parts.mesh.plan;
                 log.write(&TapeNotReopened {
                     folder: folder.as_str(),
-                    tape: tape.as_str(),
+                    tape: FileName::NodeTape(own.node.number()),
                     why,
                 });
                 Err(why)
@@ -236,9 +258,13 @@ impl<T: Tape + Drop> Hub<T> {
             HasStoredAs (process_of self.now).actor.node next.process.actor.node) }
         ensures ended { IfOk result (λ next. next.process.ended.items ≡
             (process_of self.now).ended.items ++ ((process_of self.now).actor, 0) ∷ []) }
+        ensures follows { IfOk result (λ next. (process_of self.now).actor.node.halted ≡ true →
+            Follows T.Tape (process_of self.now).actor next.process.actor) }
         ensures digests { IfOk result (λ next. AreDigestsOf [] next.digests) }
-        ensures counted { IfOk result (λ next. F.starts folder.new ≡ F.starts folder.old + 1) }
-        ensures starts { IfOk result (λ next. next.starts ≡ F.starts folder.new) }
+        ensures counted { OnOk result (F.stands folder.new ≡ counted (F.stands folder.old)) }
+        ensures before { (F.stands folder.new).begun ≡ (F.stands folder.old).begun }
+        ensures heard { (F.stands folder.new).heard ≡ (F.stands folder.old).heard }
+        ensures starts { IfOk result (λ next. next.starts ≡ (F.stands folder.new).starts) }
     {
         let process = match self.open_process(alloc, folder) {
             Ok(process) => process,
@@ -263,6 +289,7 @@ impl<T: Tape + Drop> Hub<T> {
     }
 
     /// The process in its next run, on the tape of its folder.
+    #[tactic(auto, using(crate::proofs::Continuation::follows_opened))]
     fn open_process<F: NodeFolder<T>>(
         &self,
         alloc: Global,
@@ -273,7 +300,9 @@ impl<T: Tape + Drop> Hub<T> {
             HasStoredAs (process_of self.now).actor.node process.actor.node) }
         ensures ended { IfOk result (λ process. process.ended.items ≡
             (process_of self.now).ended.items ++ ((process_of self.now).actor, 0) ∷ []) }
-        ensures starts { F.starts folder.new ≡ F.starts folder.old }
+        ensures follows { IfOk result (λ process. (process_of self.now).actor.node.halted ≡ true →
+            Follows T.Tape (process_of self.now).actor process.actor) }
+        ensures stands { F.stands folder.new ≡ F.stands folder.old }
     {
         match folder.open() {
             Ok(tape) => match self.voter.process.reopen(alloc, tape) {
@@ -288,11 +317,17 @@ impl<T: Tape + Drop> Hub<T> {
     fn begin_run(&mut self, next: NextRun<T>)
         requires ended { next.process.ended.items ≡
             (process_of self.old).ended.items ++ ((process_of self.old).actor, 0) ∷ [] }
+        requires follows { (process_of self.old).actor.node.halted ≡ true →
+            Follows T.Tape (process_of self.old).actor next.process.actor }
         requires digests { AreDigestsOf [] next.digests }
+        requires given { next.process.actor.given.items ≡ [] }
         ensures process { process_of self.new ≡ next.process }
+        ensures heard { (heard : Option (List ℕ)) →
+            IsHeardFirst heard self.old → IsHeardFirst heard self.new }
         ensures greets { GreetsAsNow next.starts self.new }
         ensures suspended { IsSuspended self.old → IsSuspended self.new }
-        ensures earlier { KeepsEarlier T.Tape (process_of self.old) (process_of self.new) }
+        ensures earlier { (process_of self.old).actor.node.halted ≡ true →
+            KeepsEarlier T.Tape (process_of self.old) (process_of self.new) }
     {
         let NextRun {
             process,
@@ -324,7 +359,11 @@ impl<T: Tape + Drop> Hub<T> {
         // In a turn in which the history of a peer differs and no majority agrees, it is given no message but those that ask for what is
         // published, so it doesn't vote, and no client is answered.
         ensures outvoted { IsOutvoted self.new → OnlyAnswersAsks self.old self.new }
-        ensures starts { F.starts folder.new ≡ F.starts folder.old }
+        ensures starts { (F.stands folder.new).starts ≡ (F.stands folder.old).starts }
+        ensures begun { (F.stands folder.new).begun ≡ (F.stands folder.old).begun }
+        // What a message of a peer tells of its round and its promise is in the file `heard` before the node is given it.
+        ensures heard { IsHeardFirst (F.stands folder.old).heard self.old →
+            IsHeardFirst (F.stands folder.new).heard self.new }
         ensures time { time_of self.old ≤ time_of self.new }
     {
         let could_wait = self.wait(rt);
@@ -335,6 +374,7 @@ impl<T: Tape + Drop> Hub<T> {
         self.is_busy = self.act(
             rt,
             log,
+            folder,
             ready.split_at(count.min(MOST_EVENTS)).0,
             could_wait,
         );
@@ -346,6 +386,7 @@ impl<T: Tape + Drop> Hub<T> {
     /// it, clients and readers are sent away.
     fn judge<R: Clock + Eprint>(&mut self, log: &Log<'_, R>)
         ensures process { process_of self.new ≡ process_of self.old }
+        ensures kept { kept_of self.new ≡ kept_of self.old }
         ensures suspended { IsSuspended self.old → IsSuspended self.new }
         ensures befores { self.new.clients.before.items ≡ self.old.clients.before.items }
         ensures time { time_of self.new ≡ time_of self.old }
@@ -368,7 +409,7 @@ impl<T: Tape + Drop> Hub<T> {
         ensures voter { self.new.voter ≡ self.old.voter }
         ensures clients { self.new.clients ≡ self.old.clients }
         ensures time { time_of self.new ≡ time_of self.old }
-        ensures starts { F.starts folder.new ≡ F.starts folder.old }
+        ensures stands { F.stands folder.new ≡ F.stands folder.old }
     {
         let is_due = self.pace.is_keeping_due(self.time);
         let HubParts { mesh, .. } = &mut self.parts;
@@ -382,8 +423,8 @@ impl<T: Tape + Drop> Hub<T> {
             return;
         };
         match kept {
-            Ok(()) => mesh.note_written(FolderFile::Farm),
-            Err(why) => mesh.note_unwritten(log, self.time, FolderFile::Farm, why),
+            Ok(()) => mesh.note_written(FileName::Farm),
+            Err(why) => mesh.note_unwritten(log, self.time, FileName::Farm, why),
         }
     }
 
@@ -394,8 +435,12 @@ impl<T: Tape + Drop> Hub<T> {
         ensures time { time_of self.new ≡ time_of self.old }
     {
         let millis = self.patience(now(rt));
-        let HubParts { poll, events, .. } = &mut self.parts;
-        let _ = poll.poll(events, Some(Duration::from_millis(millis)));
+        let HubParts {
+            network,
+            events,
+            ..
+        } = &mut self.parts;
+        network.wait(events, millis);
         millis != 0
     }
 
@@ -427,14 +472,16 @@ impl<T: Tape + Drop> Hub<T> {
     }
 
     /// Does what the sockets that are ready ask for, and what the clock does. Returns whether there is more to do.
-    fn act<R: Net + Files + Clock + Eprint + AllocGlobal>(
+    fn act<R: Net + Files + Clock + Eprint + AllocGlobal, F: NodeFolder<T>>(
         &mut self,
         rt: &R,
         log: &Log<'_, R>,
+        folder: &mut F,
         ready: &[usize],
         could_wait: bool,
     ) -> bool
-        ensures on { Continues T.Tape self.old.voter self.new.voter }
+        ensures on { ContinuesIn T.Tape (F.stands folder.old) self.old.voter
+            (F.stands folder.new) self.new.voter }
         ensures outvoted { IsOutvoted self.old →
             self.new.clients.before.items ≡ self.old.clients.before.items }
         ensures time { time_of self.new ≡ time_of self.old }
@@ -449,7 +496,7 @@ impl<T: Tape + Drop> Hub<T> {
             ..
         } = self;
         let HubParts {
-            poll,
+            network,
             mesh,
             desk,
             ..
@@ -457,12 +504,12 @@ impl<T: Tape + Drop> Hub<T> {
         let context = Context {
             rt,
             log,
-            registry: poll.registry(),
+            network,
             time: *time,
         };
         mesh.begin_turn(could_wait, ready.len());
-        serve_all(&context, voter, mesh, desk, clients, ready);
-        pace.turn(&context, voter, mesh, desk, clients);
+        serve_all(&context, voter, folder, mesh, desk, clients, ready);
+        pace.turn(&context, voter, folder, mesh, desk, clients);
         answer_operators(&context, voter, mesh, desk, clients, behind);
         has_more(voter, mesh, clients)
     }
@@ -473,13 +520,13 @@ fn keep_reach<T: Tape + Drop, F: NodeFolder<T>>(
     process: &Process<T>,
     mesh: &mut Mesh,
     folder: &mut F,
-) -> Result<(), FolderFault>
-    ensures starts { F.starts folder.new ≡ F.starts folder.old }
+) -> Result<(), FolderError>
+    ensures stands { F.stands folder.new ≡ F.stands folder.old }
 {
     let node = process.node();
     mesh.notes.extend(node.history());
     match mesh.notes.digest_at(node.published().number()) {
         Some(digest) => folder.keep(&reach_of(node), digest),
-        None => Err(FolderFault::Memory),
+        None => Err(FolderError::Store(FolderFault::Memory)),
     }
 }

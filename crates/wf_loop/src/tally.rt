@@ -2,6 +2,7 @@
 
 use std::alloc::{AllocError, Global};
 use std::fmt::Write;
+use wf_operator::{MetricType, head};
 
 /// How many maps were rejected for one error, named by its number.
 #[derive(Drop)]
@@ -53,7 +54,12 @@ impl Tally {
 
     /// Appends the counts as metrics.
     pub(crate) fn push_to(&self, text: &mut String) -> Result<(), AllocError> {
-        text.push_str("# TYPE wfarm_rejected_maps_total counter\n")?;
+        head(
+            text,
+            "wfarm_rejected_maps_total",
+            "Maps that were rejected, by the number of their error",
+            MetricType::Counter,
+        )?;
         for count in &self.counts {
             let error = count.error.as_str();
             let number = count.number;

@@ -1,6 +1,6 @@
 //! What a turn does once it has waited.
 ghost use Rattle.std.specs.Prelude.{◌≡◌, true};
-ghost use Rattle.wf_loop.specs.Continuation.{Continues};
+ghost use Rattle.wf_loop.specs.Continuation.{Continues, ContinuesIn};
 
 use crate::acts::handle_own;
 use crate::clients::Clients;
@@ -8,6 +8,7 @@ use crate::desk::{Desk, serve_operators};
 use crate::facts::NodeFacts;
 use crate::hub::Voter;
 use crate::mesh::Mesh;
+use crate::reopening::NodeFolder;
 use crate::token::Socket;
 use std::net::Net;
 use std::rt::Files;
@@ -25,19 +26,21 @@ const MOST_OWN: u32 = 64;
 const MOST_SERVED: usize = 8;
 
 /// Does what the sockets with these tokens ask for, which are ready, and answers clients.
-pub(crate) fn serve_all<R: Net + Files + Clock + Eprint + AllocGlobal, T: Tape + Drop>(
+pub(crate) fn serve_all<R: Net + Clock + Eprint + AllocGlobal, T: Tape + Drop, F: NodeFolder<T>>(
     context: &Context<'_, '_, R>,
     voter: &mut Voter<T>,
+    folder: &mut F,
     mesh: &mut Mesh,
     desk: &mut Desk,
     clients: &mut Clients<T>,
     tokens: &[usize],
 )
-    ensures on { Continues T.Tape voter.old voter.new }
+    ensures on { ContinuesIn T.Tape (F.stands folder.old) voter.old
+        (F.stands folder.new) voter.new }
     ensures outvoted { voter.old.is_outvoted ≡ true →
         clients.new.before.items ≡ clients.old.before.items }
 {
-    act_on_all(context, voter, mesh, desk, clients, tokens);
+    act_on_all(context, voter, folder, mesh, desk, clients, tokens);
     handle_all_own(context, voter, mesh);
     serve_clients(context, voter, mesh, clients);
 }
@@ -52,34 +55,38 @@ pub(crate) fn has_more<T: Tape + Drop>(
 }
 
 /// Does what the sockets with these tokens ask for: those of peers first.
-#[tactic(auto, using(crate::proofs::Continuation::still, crate::proofs::Continuation::twice))]
-fn act_on_all<R: Net + Files + Clock + Eprint + AllocGlobal, T: Tape + Drop>(
+#[tactic(auto, using(crate::proofs::Continuation::still_in, crate::proofs::Continuation::on_in, crate::proofs::Continuation::twice_in))]
+fn act_on_all<R: Net + Clock + Eprint + AllocGlobal, T: Tape + Drop, F: NodeFolder<T>>(
     context: &Context<'_, '_, R>,
     voter: &mut Voter<T>,
+    folder: &mut F,
     mesh: &mut Mesh,
     desk: &mut Desk,
     clients: &mut Clients<T>,
     tokens: &[usize],
 )
-    ensures on { Continues T.Tape voter.old voter.new }
+    ensures on { ContinuesIn T.Tape (F.stands folder.old) voter.old
+        (F.stands folder.new) voter.new }
     ensures befores { clients.new.before.items ≡ clients.old.before.items }
 {
-    act_on_those(context, voter, mesh, desk, clients, tokens, true);
-    act_on_those(context, voter, mesh, desk, clients, tokens, false);
+    act_on_those(context, voter, folder, mesh, desk, clients, tokens, true);
+    act_on_those(context, voter, folder, mesh, desk, clients, tokens, false);
 }
 
 /// Does what those of the sockets with these tokens ask for that are of peers, or the others.
-#[tactic(auto, using(crate::proofs::Continuation::still, crate::proofs::Continuation::twice))]
-fn act_on_those<R: Net + Files + Clock + Eprint + AllocGlobal, T: Tape + Drop>(
+#[tactic(auto, using(crate::proofs::Continuation::still_in, crate::proofs::Continuation::on_in, crate::proofs::Continuation::twice_in))]
+fn act_on_those<R: Net + Clock + Eprint + AllocGlobal, T: Tape + Drop, F: NodeFolder<T>>(
     context: &Context<'_, '_, R>,
     voter: &mut Voter<T>,
+    folder: &mut F,
     mesh: &mut Mesh,
     desk: &mut Desk,
     clients: &mut Clients<T>,
     tokens: &[usize],
     are_of_peers: bool,
 )
-    ensures on { Continues T.Tape voter.old voter.new }
+    ensures on { ContinuesIn T.Tape (F.stands folder.old) voter.old
+        (F.stands folder.new) voter.new }
     ensures befores { clients.new.before.items ≡ clients.old.before.items }
 {
     for token in tokens {
@@ -87,29 +94,31 @@ fn act_on_those<R: Net + Files + Clock + Eprint + AllocGlobal, T: Tape + Drop>(
         if socket.is_of_peer() != are_of_peers {
             continue;
         }
-        act_on(context, voter, mesh, desk, clients, socket);
+        act_on(context, voter, folder, mesh, desk, clients, socket);
     }
 }
 
 /// Does what a ready socket asks for.
-#[tactic(auto, using(crate::proofs::Continuation::still))]
-fn act_on<R: Net + Files + Clock + Eprint + AllocGlobal, T: Tape + Drop>(
+#[tactic(auto, using(crate::proofs::Continuation::still_in, crate::proofs::Continuation::on_in))]
+fn act_on<R: Net + Clock + Eprint + AllocGlobal, T: Tape + Drop, F: NodeFolder<T>>(
     context: &Context<'_, '_, R>,
     voter: &mut Voter<T>,
+    folder: &mut F,
     mesh: &mut Mesh,
     desk: &mut Desk,
     clients: &mut Clients<T>,
     socket: Socket,
 )
-    ensures on { Continues T.Tape voter.old voter.new }
+    ensures on { ContinuesIn T.Tape (F.stands folder.old) voter.old
+        (F.stands folder.new) voter.new }
     ensures befores { clients.new.before.items ≡ clients.old.before.items }
 {
     match socket {
         Socket::Http => clients.accept(context),
         Socket::Client(index) => clients.turn(context, index),
-        Socket::Listen => mesh.accept(context, voter),
-        Socket::Dial(index) => mesh.turn(context, voter, index),
-        Socket::Inbound(index) => mesh.handle(context, voter, index),
+        Socket::Listen => mesh.accept(context, voter, folder),
+        Socket::Dial(index) => mesh.turn(context, voter, folder, index),
+        Socket::Inbound(index) => mesh.handle(context, voter, folder, index),
         Socket::Admin => desk.operators.accept(context),
         Socket::Asker(index) => desk.operators.turn(context, index),
         Socket::Readers => desk.readers.accept(context),
@@ -118,7 +127,7 @@ fn act_on<R: Net + Files + Clock + Eprint + AllocGlobal, T: Tape + Drop>(
 }
 
 /// Answers a reader, from what is published: nothing of the node can change by it.
-fn answer_reader<R: Files + Clock + Eprint + AllocGlobal, T: Tape + Drop>(
+fn answer_reader<R: Clock + Eprint + AllocGlobal, T: Tape + Drop>(
     context: &Context<'_, '_, R>,
     process: &Process<T>,
     mesh: &mut Mesh,
@@ -142,7 +151,7 @@ fn answer_reader<R: Files + Clock + Eprint + AllocGlobal, T: Tape + Drop>(
 
 /// Delivers messages of the node to itself, a bounded number of them.
 #[tactic(auto, using(crate::proofs::Continuation::still, crate::proofs::Continuation::twice))]
-fn handle_all_own<R: Files + Clock + Eprint + AllocGlobal, T: Tape + Drop>(
+fn handle_all_own<R: Clock + Eprint + AllocGlobal, T: Tape + Drop>(
     context: &Context<'_, '_, R>,
     voter: &mut Voter<T>,
     mesh: &mut Mesh,
@@ -159,7 +168,7 @@ fn handle_all_own<R: Files + Clock + Eprint + AllocGlobal, T: Tape + Drop>(
 /// Delivers the first message of the node to itself. What waits for the peers is written before: they store it while the node does.
 /// Returns whether a message waited.
 #[tactic(auto, using(crate::proofs::Continuation::twice))]
-fn handle_next_own<R: Files + Clock + Eprint + AllocGlobal, T: Tape + Drop>(
+fn handle_next_own<R: Clock + Eprint + AllocGlobal, T: Tape + Drop>(
     context: &Context<'_, '_, R>,
     voter: &mut Voter<T>,
     mesh: &mut Mesh,
@@ -177,7 +186,7 @@ fn handle_next_own<R: Files + Clock + Eprint + AllocGlobal, T: Tape + Drop>(
 
 /// Answers requests of clients that are whole, a bounded number of them.
 #[tactic(auto, using(crate::proofs::Continuation::still, crate::proofs::Continuation::twice))]
-fn serve_clients<R: Files + Clock + Eprint + AllocGlobal, T: Tape + Drop>(
+fn serve_clients<R: Clock + Eprint + AllocGlobal, T: Tape + Drop>(
     context: &Context<'_, '_, R>,
     voter: &mut Voter<T>,
     mesh: &mut Mesh,
@@ -197,7 +206,7 @@ fn serve_clients<R: Files + Clock + Eprint + AllocGlobal, T: Tape + Drop>(
 /// Answers the next request of a client, if it is whole. What it makes the node send is written to the peers before the client is
 /// written to. Returns whether there was one.
 #[tactic(auto, using(crate::proofs::Continuation::twice))]
-fn serve_next<R: Files + Clock + Eprint + AllocGlobal, T: Tape + Drop>(
+fn serve_next<R: Clock + Eprint + AllocGlobal, T: Tape + Drop>(
     context: &Context<'_, '_, R>,
     voter: &mut Voter<T>,
     mesh: &mut Mesh,
@@ -250,10 +259,12 @@ fn serve_facts<R: Files + Clock + Eprint + AllocGlobal, T: Tape + Drop>(
     let Desk {
         operators,
         readers,
+        started,
         ..
     } = desk;
     let facts = NodeFacts {
         rt: context.rt,
+        started: *started,
         history,
         notes: &mesh.notes,
         peers: mesh.states.as_slice(),

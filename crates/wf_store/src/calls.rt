@@ -3,13 +3,13 @@ ghost use Rattle.std.specs.Prelude.{◌≡◌, [], ◌∷◌, false};
 ghost use Rattle.wf_store.specs.Call.{IsAfter, OnlyReads, bytes_of, is_change};
 
 use crate::deed::Deed;
-use http_server::Log;
 use std::marker::Model;
+use wf_past::Past;
 
 /// The calls so far, the latest first. Only proofs read them, and they take no memory.
 #[derive(Drop)]
 pub(crate) struct Calls {
-    notes: Log<Option<Vec<u8>>, Deed>,
+    notes: Past<Option<Vec<u8>>, Deed>,
 }
 
 impl Model for Calls {
@@ -26,7 +26,7 @@ impl Calls {
     pub(crate) fn new() -> Calls
         ensures { result ≡ [] }
     {
-        Calls { notes: Log::new() }
+        Calls { notes: Past::new() }
     }
 
     /// One more call, with the bytes that it read or wrote.

@@ -1,5 +1,5 @@
 //! A file of the system that takes the place of another, as a disk.
-ghost use Rattle.std.specs.Prelude.{◌≡◌, ◌≤◌, [], None};
+ghost use Rattle.std.specs.Prelude.{◌≡◌, ◌≤◌, [], None, Some};
 ghost use Rattle.wf_disk.specs.Moments.{HasRisen};
 
 use crate::system_folder::sync;
@@ -19,7 +19,7 @@ pub(crate) struct NewFile<'a, R: Files> {
     path: &'a str,
     second_path: &'a str,
     second: Option<R::File>,
-    cause: ErrorKind,
+    cause: Option<ErrorKind>,
     failures: u64,
 }
 
@@ -32,24 +32,19 @@ impl<'a, R: Files> NewFile<'a, R> {
             path,
             second_path,
             second: None,
-            cause: ErrorKind::Other,
+            cause: None,
             failures: 0,
         }
-    }
-
-    /// The system's cause of the last failure.
-    pub(crate) fn cause(&self) -> ErrorKind {
-        self.cause
     }
 
     /// Counts a failure, and keeps its cause.
     fn fail(&mut self, cause: ErrorKind) -> DiskFault
         ensures fault { result ≡ DiskFault.Device }
-        ensures cause { self.new.cause ≡ cause }
+        ensures cause { self.new.cause ≡ Some cause }
         ensures risen { HasRisen self.old.failures self.new.failures }
         ensures later { self.old.failures ≤ self.new.failures }
     {
-        self.cause = cause;
+        self.cause = Some(cause);
         self.failures = self.failures.saturating_add(1);
         DiskFault::Device
     }
@@ -84,6 +79,8 @@ impl<'a, R: Files> Disk for NewFile<'a, R> {
     ghost folder = { λ _. record { own = None; second = None; earlier = [] } };
 
     ghost failed = { λ d. d.failures };
+
+    ghost said = { λ d. d.cause };
 
     ghost moment = { λ _. 0 };
 
@@ -149,5 +146,9 @@ impl<'a, R: Files> Disk for NewFile<'a, R> {
 
     fn failures(&self) -> u64 {
         self.failures
+    }
+
+    fn cause(&self) -> Option<ErrorKind> {
+        self.cause
     }
 }

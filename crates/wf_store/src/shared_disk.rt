@@ -7,6 +7,7 @@ use crate::file_name::FileName;
 use crate::memory_folder::MemoryFolder;
 use std::alloc::Global;
 use std::cell::RefMut;
+use std::io::ErrorKind;
 use wf_disk::{Disk, DiskFault, MemoryDisk, Name};
 
 /// The disk of a file of a folder in memory, which the folder keeps. No clause says what the folder holds, so it isn't durable.
@@ -140,5 +141,9 @@ impl<'a> Disk for SharedDisk<'a> {
 
     fn failures(&self) -> u64 {
         self.failures
+    }
+
+    fn cause(&self) -> Option<ErrorKind> {
+        None
     }
 }

@@ -10,7 +10,7 @@ use crate::replacement::replace_on;
 use std::io::ErrorKind;
 use std::rt::Files;
 use std::{fs, io};
-use wf_disk::DiskFault;
+use wf_disk::{Disk, DiskFault};
 use wf_folder::Presence;
 use wf_stream::{Stream, read_up_to};
 use wf_tape::{FileTape, TapeFault};
@@ -217,7 +217,7 @@ fn replace_at<R: Files + AllocGlobal>(
     };
     let mut disk = NewFile::new(rt, folder, path, second.as_str());
     let replaced = replace_on(&mut disk, bytes);
-    let cause = disk.cause();
+    let cause = disk.cause().unwrap_or(ErrorKind::Other);
     drop(disk);
     drop(second);
     match replaced {

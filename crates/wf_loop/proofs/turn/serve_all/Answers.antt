@@ -1,9 +1,9 @@
 use Rattle.std.proofs.Common.{◌∙◌}
-use Rattle.wf_loop.proofs.Continuation.{thrice}
+use Rattle.wf_loop.proofs.Continuation.{then_on}
 use Rattle.wf_loop.proofs.turn.serve_all.Goals as goal
 
 pub returns-clause-on : goal.returns-clause-on
-returns-clause-on g c = thrice g.T.Tape _ _ _ _ c.act_on_all.ensures.on c.handle_all_own.ensures c.serve_clients.ensures.on
+returns-clause-on g c = then_on g.T.Tape _ _ _ _ _ (then_on g.T.Tape _ _ _ _ _ c.act_on_all.ensures.on c.handle_all_own.ensures) c.serve_clients.ensures.on
 
 pub returns-clause-outvoted : goal.returns-clause-outvoted
 returns-clause-outvoted g c = λ is. c.serve_clients.ensures.outvoted (c.handle_all_own.ensures.outvoted ∙ (c.act_on_all.ensures.on.outvoted ∙ is)) ∙ c.act_on_all.ensures.befores

@@ -1,9 +1,9 @@
 use Rattle.std.proofs.Common.{◌∙◌}
-use Rattle.wf_loop.proofs.Continuation.{twice}
+use Rattle.wf_loop.proofs.Continuation.{twice_in}
 use Rattle.wf_loop.proofs.hub.Hub.act.Goals as goal
 
 pub returns-clause-on : goal.returns-clause-on
-returns-clause-on g c = twice g.T.Tape _ _ _ c.serve_all.ensures.on c.turn.ensures.on
+returns-clause-on g c = twice_in g.T.Tape _ _ _ _ _ _ c.serve_all.ensures.on c.turn.ensures.on
 
 pub returns-clause-outvoted : goal.returns-clause-outvoted
 returns-clause-outvoted g c = λ is. c.turn.ensures.befores ∙ c.serve_all.ensures.outvoted is
