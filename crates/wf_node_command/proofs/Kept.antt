@@ -1,5 +1,5 @@
 -- A tape that a start puts in order stands for what it stood for.
-use Rattle.std.proofs.Common.{◌≡◌, ◌≢◌, ◌∙◌, ℕ, List, ap, drop, sym, subst}
+use Rattle.std.proofs.Common.{◌≡◌, ◌≢◌, ◌∙◌, ℕ, List, [], ap, drop, sym, subst}
 use Rattle.std.specs.Prelude.{Some, Result, Ok, Err, IfErr, IfOk}
 use Rattle.wf_actor.specs.Process.{IsBegun}
 use Rattle.wf_actor.specs.Start.{IsOpened}
@@ -15,8 +15,8 @@ use Rattle.wf_journal.specs.declared.open_error.OpenFault.TheVariants.{TapeFaile
 use Rattle.wf_model.specs.DurableState.{DurableState, Record, fold}
 use Rattle.wf_node.specs.Images.{AllStandFor, StandsFor}
 use Rattle.wf_node.specs.OpenedNode.{IsFoldOf}
-use Rattle.wf_node_command.specs.Done.{IsStarted, StandsAlike}
-use Rattle.wf_node_command.specs.Held.{HasGoneBack, HasHeld, HoldsAll, HoldsLess, IsWhyNotHeld, IsWhyNotHeldBy, IsWhyNotOpened, ReadAlike}
+use Rattle.wf_node_command.specs.Start.{IsStartedOn, StandsAlike}
+use Rattle.wf_node_command.specs.Held.{HasHeld, HoldsAll, IsWhyNotHeld, IsWhyNotHeldBy, IsWhyNotOpened, ReadAlike}
 use Rattle.wf_node.specs.Node.{Node, stored_of}
 use Rattle.wf_node_command.specs.Fault.{IsFromSystem}
 use Rattle.wf_node_command.specs.declared.fault.CommandFault.{CommandFault}
@@ -100,15 +100,15 @@ stands_on old new stored same stands = record { records = stands.records; reads 
 -- the process was opened on the shortened tape, and its node holds all that is known
 pub is_started : {T : Type 0} (tapes : Tape T) (file : NodeFile) (found read short : T) (id : ℕ) (process : Process T tapes) → id ≡ file.node →
     HoldsAll file.known (stored_of process.actor.node) → (tapes.durable → ReadsSame (tapes.content found) (tapes.content read)) → (tapes.durable → StandsAlike (tapes.content read) (tapes.images short)) →
-    IsOpened tapes short id file.nodes process.actor.node → IsBegun process → process.n ≡ file.nodes → IsStarted tapes file process
-is_started tapes file found read short id process is holds same alike opened begun among = record {
-  found = found;
+    IsOpened tapes short id file.nodes process.actor.node → IsBegun process → process.ended.items ≡ [] → process.n ≡ file.nodes → IsStartedOn tapes found file process
+is_started tapes file found read short id process is holds same alike opened begun first among = record {
   kept = λ durable stored stands image left.
       let earlier = opened.images durable image left in
       stands_on earlier.0 image stored earlier.2 (alike durable stored (stands_on (tapes.content found) (tapes.content read) stored (same durable) stands) earlier.0 earlier.1);
   tape = short;
   opened = subst (λ (i : ℕ). IsOpened tapes short i file.nodes process.actor.node) is opened;
   begun = begun;
+  first = first;
   among = among;
   holds = holds;
 }
@@ -148,11 +148,11 @@ not_opened_on tapes file tape id n node fault opened why =
     let stands : StandsFor (stored_of node) found.bytes = record { records = found.folds.records; reads = (found.folds.rest, found.folds.tape.reads); folds = found.folds.folds } in
     not_opened_by file found.bytes fault (not_held_by file found.bytes (stored_of node) fault stands why)
 
-module _ {T : Type 0} (tapes : Tape T) (file : NodeFile) (process : Process T tapes) where
+module _ {T : Type 0} (tapes : Tape T) (file : NodeFile) (found : T) (process : Process T tapes) where
   -- its process, which was compared
-  pub started_by : (result : Result (Process T tapes × Known) CommandFault) → (HoldsAll file.known (stored_of process.actor.node) → IsStarted tapes file process)
-      → IfOk result (λ opened. opened.0 ≡ process) → IfOk result (λ opened. HoldsAll file.known (stored_of process.actor.node)) → IfOk result (λ opened. IsStarted tapes file opened.0)
-  started_by (Ok opened) make same holds = subst (λ (p : Process T tapes). IsStarted tapes file p) (sym same) (make holds)
+  pub started_by : (result : Result (Process T tapes × Known) CommandFault) → (HoldsAll file.known (stored_of process.actor.node) → IsStartedOn tapes found file process)
+      → IfOk result (λ opened. opened.0 ≡ process) → IfOk result (λ opened. HoldsAll file.known (stored_of process.actor.node)) → IfOk result (λ opened. IsStartedOn tapes found file opened.0)
+  started_by (Ok opened) make same holds = subst (λ (p : Process T tapes). IsStartedOn tapes found file p) (sym same) (make holds)
   started_by (Err why) make same holds = tt
 
   pub not_opened_by_process : (result : Result (Process T tapes × Known) CommandFault) (tape : T) (id n : ℕ) → IsOpened tapes tape id n process.actor.node

@@ -1,5 +1,12 @@
+mod Clearing
 mod Faults
+mod Found
 mod Kept
+mod Making
+mod Opening
 mod Own
 mod Reached
+mod Served
 mod Started
+mod Starting
+mod Stays

@@ -1,5 +1,5 @@
 -- What a node has stored, and its digests.
-use Rattle.std.proofs.Common.{◌≡◌, ◌≤◌, ◌<◌, ◌∙◌, ℕ, Bool, true, false, List, length, refl, sym, ap, subst, arith}
+use Rattle.std.proofs.Common.{◌≡◌, ◌≤◌, ◌<◌, ◌∙◌, ℕ, Bool, true, false, List, length, refl, sym, ap, subst}
 use Rattle.std.specs.Prelude.{Option, Some, None, nat_le, if◌then◌else◌}
 use Rattle.wf_def.specs.Definition.{Definition}
 use Rattle.std.proofs.lemmas.Bool.{leb-false, leb-true}

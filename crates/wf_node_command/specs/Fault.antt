@@ -1,9 +1,11 @@
 -- The exit status of an error, the error of a list of addresses, and the errors that the system causes.
-use Rattle.std.specs.Prelude.{ℕ, ⊤}
+use Rattle.std.specs.Prelude.{ℕ, ⊤, List}
 use Rattle.wf_address.specs.declared.list.ListFault.{ListFault}
 use Rattle.wf_address.specs.declared.list.ListFault.TheVariants as lists
+use Rattle.wf_node_command.specs.Folder.{IsHeardBad}
 use Rattle.wf_node_command.specs.declared.fault.CommandFault.{CommandFault}
 use Rattle.wf_node_command.specs.declared.fault.CommandFault.TheVariants as faults
+use Rattle.wf_store.specs.Call.{Call}
 
 -- 2 for a bad command line
 abbrev pub fault_status : CommandFault → ℕ
@@ -20,7 +22,7 @@ fault_of (lists.Bad index) = faults.BadPeer index
 fault_of (lists.Count count) = faults.PeerCount count
 fault_of lists.Memory = faults.Memory
 
--- The error is one that files, sockets or memory caused before a node began: none of the command line, or of where a node may begin.
+-- The error is one that files, sockets or memory caused before a node began: none of the command line, or of what its files say.
 abbrev pub IsFromSystem : CommandFault → Type 0
 IsFromSystem (faults.BadPeer index) = ⊥
 IsFromSystem (faults.PeerCount count) = ⊥
@@ -29,14 +31,14 @@ IsFromSystem (faults.Id id nodes) = ⊥
 IsFromSystem faults.Name = ⊥
 IsFromSystem (faults.NotEmpty why) = ⊥
 IsFromSystem (faults.Rejected why) = ⊥
+IsFromSystem (faults.PeerProgress why) = ⊥
 IsFromSystem (faults.FromUnread kind) = ⊥
 IsFromSystem (faults.FromBad offset) = ⊥
 IsFromSystem (faults.FromRejected why) = ⊥
 IsFromSystem (faults.BesideUnread kind) = ⊥
 IsFromSystem fault = ⊤
 
--- a file can't be written, or an allocation failed
-abbrev pub IsUnwritten : CommandFault → Type 0
-IsUnwritten (faults.Unwritten kind) = ⊤
-IsUnwritten faults.Memory = ⊤
-IsUnwritten fault = ⊥
+-- why nothing is known of what was heard: the file `heard` is bad, or the system failed
+abbrev pub IsWhyUnheard : List Call → CommandFault → Type 0
+IsWhyUnheard new (faults.PeerProgress why) = IsHeardBad new
+IsWhyUnheard new fault = IsFromSystem fault

@@ -6,7 +6,6 @@ use Rattle.wf_def.specs.Definition.{Definition}
 use Rattle.wf_folder.specs.FarmFile.{IsFarmFile, farm_text}
 use Rattle.wf_folder.specs.NodeFile.{IsNodeFile, IsTextOf}
 use Rattle.wf_folder.specs.declared.farm_file.FarmFile.{FarmFile}
-use Rattle.wf_folder.specs.declared.fault.NodeFileFault.{NodeFileFault}
 use Rattle.wf_folder.specs.declared.node_file.NodeFile.{NodeFile}
 use Rattle.wf_journal.specs.Records.{IsTapeOf}
 use Rattle.wf_model.specs.DurableState.{Accepted, DurableState, Promised, Published, Record, Tried, fold}

@@ -5,7 +5,6 @@ use Rattle.wf_digest.specs.Digest.{digest_at}
 use Rattle.wf_folder.specs.NodeAdmission.{IsTapeAdmitted, IsTapeRejection}
 use Rattle.wf_folder.specs.NodeFile.{raised_known}
 use Rattle.wf_folder.specs.declared.node_admission.NodeRejection.{NodeRejection}
-use Rattle.wf_folder.specs.declared.node_admission.NodeRejection.TheVariants as causes
 use Rattle.wf_folder.specs.declared.node_file.NodeFile.{NodeFile}
 use Rattle.wf_folder.specs.declared.reach.Known.{Known}
 use Rattle.wf_folder.specs.declared.reach.Reach.{Reach}

@@ -5,3 +5,6 @@ pub mod Folder
 pub mod FolderTheorems
 pub mod From
 pub mod Held
+pub mod Made
+pub mod Ready
+pub mod Start

@@ -1,79 +1,69 @@
 //! `wfarm clear`.
-ghost use Rattle.std.specs.Prelude.{◌≡◌, None, IfErr, IfOk};
+ghost use Rattle.std.specs.Prelude.{◌≡◌, ◌∷◌, None, IfErr, IfOk, OnErr, OnOk};
 ghost use Rattle.wf_folder.specs.NodeFile.{IsNodeFile};
-ghost use Rattle.wf_node_command.specs.Cleared.{IsClearDone, IsClearFault};
-ghost use Rattle.wf_node_command.specs.Fault.{IsFromSystem};
+ghost use Rattle.wf_node_command.specs.Cleared.{HasRead, IsClearDone, IsClearFault, IsCleared, IsRewritten, IsUncleared, IsUnwritten};
+ghost use Rattle.wf_store.specs.Call.{OnlyReads, locked};
 
 use crate::fault::CommandFault;
-use crate::folder::{find_in, hold, replace_farm, replace_heard};
-use std::fs::File;
-use std::rt::Files;
+use crate::folder::{find_in, write_farm, write_heard};
+use std::alloc::Global;
 use wf_folder::{NodeFile, NodeFound, NodeRejection};
-use wf_line::ClearLine;
 use wf_peer::PeerProgress;
+use wf_store::{FolderFault, Store};
 
 /// Ends the suspension of the node of a folder, and forgets what was heard of its peers, what they were accused of too: the folder's lock
 /// says that no process uses it. After an error a suspension stays, unless the folder alone couldn't be synced.
-#[tactic(auto, using(crate::proofs::Faults::system_of_clear))]
-pub(crate) fn clear<R: Files<File = File> + AllocGlobal>(
-    rt: &R,
-    line: &ClearLine<'_>,
-) -> Result<(), CommandFault>
-    ensures { IsClearDone result }
+#[tactic(auto, using(crate::proofs::Clearing::not_locked, crate::proofs::Clearing::locked_first))]
+pub(crate) fn clear<S: Store>(alloc: Global, store: &mut S) -> Result<(), CommandFault>
+    ensures { IsClearDone (S.calls store.old) (S.calls store.new) result }
 {
-    match hold(rt, line.state) {
-        Ok(held) => {
-            let cleared = clear_held(rt, line.state);
-            drop(held);
-            cleared
-        }
-        Err(fault) => Err(fault),
+    match store.lock() {
+        Ok(()) => clear_held(alloc, store),
+        Err(fault) => Err(CommandFault::Folder(fault)),
     }
 }
 
-/// Clears a folder, which is locked meanwhile.
-#[tactic(auto, using(crate::proofs::Faults::system_of_clear))]
-fn clear_held<R: Files + AllocGlobal>(rt: &R, folder: &str) -> Result<(), CommandFault>
-    ensures { IsClearDone result }
+/// Clears a folder, which is locked.
+#[tactic(auto, using(crate::proofs::Clearing::not_read, crate::proofs::Clearing::not_written, crate::proofs::Clearing::written))]
+fn clear_held<S: Store>(alloc: Global, store: &mut S) -> Result<(), CommandFault>
+    ensures cleared { OnOk result (IsCleared (S.calls store.old) (S.calls store.new)) }
+    ensures left { OnErr result (IsUncleared (S.calls store.old) (S.calls store.new)) }
+    ensures fault { IfErr result IsClearFault }
 {
-    let file = match file_in(rt, folder) {
+    let file = match file_in(store) {
         Ok(file) => file,
         Err(fault) => return Err(fault),
     };
-    match write_cleared(rt, folder, &file) {
-        Ok(_) => Ok(()),
-        Err(fault) => Err(fault),
+    match write_cleared(alloc, store, &file) {
+        Ok(()) => Ok(()),
+        Err(fault) => Err(CommandFault::Folder(fault)),
     }
 }
 
-/// Writes the files of a folder with this file `farm`: what was heard first, so that a suspension stays where that can't be written. Ok is
-/// the file `farm` as it was written.
-fn write_cleared<R: Files + AllocGlobal>(
-    rt: &R,
-    folder: &str,
-    file: &NodeFile,
-) -> Result<NodeFile, CommandFault>
+/// Writes the files of a folder with this file `farm`: what was heard first, so that a suspension stays where that can't be written.
+#[tactic(auto, using(crate::proofs::Clearing::not_heard, crate::proofs::Clearing::heard_alone, crate::proofs::Clearing::rewritten))]
+fn write_cleared<S: Store>(alloc: Global, store: &mut S, file: &NodeFile) -> Result<(), FolderFault>
     requires { IsNodeFile file.now }
-    ensures written { IfOk result (λ written. written ≡ record file.now { suspension = None }) }
-    ensures fault { IfErr result IsFromSystem }
+    ensures written { OnOk result (IsRewritten file.now (S.calls store.old) (S.calls store.new)) }
+    ensures left { OnErr result (IsUnwritten (S.calls store.old) (S.calls store.new)) }
 {
-    if let Err(fault) = replace_heard(rt, folder, &PeerProgress::new()) {
+    if let Err(fault) = write_heard(alloc, store, &PeerProgress::new()) {
         return Err(fault);
     }
-    let cleared = file.clear();
-    replace_farm(rt, folder, &cleared)
+    write_farm(alloc, store, &file.clear())
 }
 
 /// The node's file of a folder.
-#[tactic(auto, using(crate::proofs::Faults::system_of_clear))]
-fn file_in<R: Files + AllocGlobal>(rt: &R, folder: &str) -> Result<NodeFile, CommandFault>
-    ensures file { IfOk result IsNodeFile }
+#[tactic(auto, using(crate::proofs::Clearing::is_read))]
+fn file_in<S: Store>(store: &mut S) -> Result<NodeFile, CommandFault>
+    ensures file { IfOk result (λ file. HasRead file (S.calls store.old) (S.calls store.new)) }
+    ensures reads { OnlyReads (S.calls store.old) (S.calls store.new) }
     ensures fault { IfErr result IsClearFault }
 {
-    match find_in(rt, folder) {
+    match find_in(store) {
         Ok(NodeFound::File(file)) => Ok(file),
         Ok(NodeFound::Nothing) => Err(CommandFault::Rejected(NodeRejection::NoFile)),
         Ok(NodeFound::Bad(fault)) => { Err(CommandFault::Rejected(NodeRejection::BadFile(fault))) }
-        Err(fault) => Err(fault),
+        Err(fault) => Err(CommandFault::Folder(fault)),
     }
 }

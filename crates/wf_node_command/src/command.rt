@@ -11,23 +11,31 @@ use std::net::Net;
 use std::rt::Files;
 use std::time::Clock;
 use wf_line::NodeCommand;
-use wf_tape::{FileTape, Tape};
+use wf_store::Store;
 
-/// Runs a command: `init` makes the folder of a node, `node` serves it for this many turns, or until a peer tells it that it has to
-/// end, and `clear` ends a suspension; only `node` takes turns. A turn waits until a socket is ready, 0.1 seconds at most. Err: the cause,
-/// whose text is the line for standard error. After an error of `init` the folder may have a file without being a node's; it begins on no
-/// such folder.
-pub fn run<'a, R: Files<File = File> + Clock + Eprint + Net + AllocGlobal>(
-    rt: &'a R,
+/// Runs a command on its folder, which is handed back: `init` makes the folder of a node, `node` serves it for this many turns, or until a
+/// peer tells it that it has to end, and `clear` ends a suspension; only `node` takes turns. A turn waits until a socket is ready, 0.1
+/// seconds at most. Err: the cause, whose text is the line for standard error. After an error of `init` the folder may have a file
+/// without being a node's; it begins on no such folder.
+pub fn run<R: Files<File = File> + Clock + Eprint + Net + AllocGlobal, S: Store>(
+    rt: &R,
+    store: S,
     command: &NodeCommand<'_>,
     turns: u64,
-) -> Result<(), CommandFault>
+) -> (Result<(), CommandFault>, S)
     requires { IsNodeCommandInRange command.now }
-    ensures { IsDone ⟦<FileTape<&'a R> as Tape>⟧ command.now result }
+    ensures { IsDone S.Tape.Tape command.now (S.calls store) (S.calls result.1) result.0 }
 {
+    let mut store = store;
     match command {
-        NodeCommand::Init(line) => init(rt, line),
-        NodeCommand::Node(line) => node(rt, line, turns),
-        NodeCommand::Clear(line) => clear(rt, line),
+        NodeCommand::Init(line) => {
+            let made = init(rt, &mut store, line);
+            (made, store)
+        }
+        NodeCommand::Node(line) => node(rt, store, line, turns),
+        NodeCommand::Clear(_) => {
+            let cleared = clear(rt.alloc(), &mut store);
+            (cleared, store)
+        }
     }
 }

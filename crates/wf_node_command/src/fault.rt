@@ -9,6 +9,7 @@ use wf_address::AddressOption;
 use wf_folder::{NodeRejection, NotEmpty};
 use wf_loop::LoopFault;
 use wf_peer::PeerProgressFault;
+use wf_store::FolderFault;
 
 /// Why a command ends with an error. Its text is the line on standard error.
 #[derive(Clone, Copy, Debug, Error)]
@@ -28,21 +29,12 @@ pub enum CommandFault {
     /// No farm can have this name.
     #[error("bad farm name: 1 to 32 letters, digits, -, . and _ are wanted")]
     Name,
-    /// The folder isn't there, or can't be opened.
-    #[error("folder missing")]
-    NoFolder,
-    /// Another program has the folder.
-    #[error("folder held by another program")]
-    Held,
+    /// A call of the folder failed.
+    #[error("{0}")]
+    Folder(FolderFault),
     /// The folder of a new node isn't empty.
     #[error("{0}")]
     NotEmpty(NotEmpty),
-    /// A file of the folder can't be read.
-    #[error("the folder can't be read: {0}")]
-    Unread(io::ErrorKind),
-    /// A file of the folder can't be written.
-    #[error("the folder can't be written: {0}")]
-    Unwritten(io::ErrorKind),
     /// The node may not start on the folder.
     #[error("bad folder: {0}")]
     Rejected(NodeRejection),
@@ -73,9 +65,6 @@ pub enum CommandFault {
     /// The tape has a bad record at this byte offset.
     #[error("the tape is damaged: P2: a bad record at {0}")]
     TapeBad(usize),
-    /// The system gives no random bits.
-    #[error("no random bits")]
-    NoRandomBits,
     /// An allocation failed.
     #[error("out of memory")]
     Memory,
@@ -96,11 +85,8 @@ impl CommandFault {
             | CommandFault::BadAddress(_)
             | CommandFault::Id(..)
             | CommandFault::Name => 2,
-            CommandFault::NoFolder
-            | CommandFault::Held
+            CommandFault::Folder(_)
             | CommandFault::NotEmpty(_)
-            | CommandFault::Unread(_)
-            | CommandFault::Unwritten(_)
             | CommandFault::Rejected(_)
             | CommandFault::PeerProgress(_)
             | CommandFault::FromUnread(_)
@@ -111,7 +97,6 @@ impl CommandFault {
             | CommandFault::TapeUnwritten(_)
             | CommandFault::TapeFailed
             | CommandFault::TapeBad(_)
-            | CommandFault::NoRandomBits
             | CommandFault::Memory
             | CommandFault::Loop(_) => 1,
         }

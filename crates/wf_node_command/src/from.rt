@@ -7,17 +7,18 @@ ghost use Rattle.wf_journal.specs.Records.{AreRecords};
 ghost use Rattle.wf_node_command.specs.From.{AllCanBeOf, CanBeOf, CanBeRecordsOf, IsFrom, IsFromFault, IsNamed, IsOfNode, IsReadAs, IsTapeFault, IsRecordsFault, IsTapeOfNode, IsThatIfAny, IsUnopened, IsUnread, IsUntried, IsUntriedIn, IsWhyNotOfNode, ballot_of, digits, nodes_of, only_node, tape_name};
 
 use crate::fault::CommandFault;
-use crate::folder::read_file;
 use crate::from_rejection::{Beside, FromRejection};
 use crate::tape::MOST_TAPE_BYTES;
 use std::alloc::Global;
 use std::io::ErrorKind;
 use std::path::Path;
 use std::rt::Files;
+use std::{fs, io};
 use wf_ballot::{Ballot, NodeId};
 use wf_folder::{FarmFile, NodeFile, after};
 use wf_journal::{Journal, OpenFault, Record, records_are_read_one_way};
 use wf_node::Node;
+use wf_stream::{Stream, read_up_to};
 use wf_tape::MemoryTape;
 
 /// More bytes than a file `farm` has.
@@ -69,6 +70,16 @@ pub(crate) fn tape_from<R: Files + AllocGlobal>(
             Err(fault)
         }
     }
+}
+
+/// The bytes of a file, at most `limit` of them.
+pub(crate) fn read_file<R: Files + AllocGlobal>(
+    rt: &R,
+    path: &str,
+    limit: usize,
+) -> io::Result<Vec<u8>> {
+    let file = fs::open(rt, path)?;
+    read_up_to(rt.alloc(), &mut Stream::new(file), limit)
 }
 
 /// The bytes of the tape in a file.

@@ -1,28 +1,21 @@
-//! The folder of a node, as its process has locked it: there a tape that failed is opened again, and is written how far the node is.
-ghost use Rattle.std.specs.Prelude.{◌≡◌, ◌+◌, ◌≤◌, ◌<◌, false, IfErr, IfNone, IfOk, IfSome, IsTrue, MatchOption, Option, OnErr, OnOk, Some};
-ghost use Rattle.wf_folder.specs.NodeFile.{IsNodeFile, raised_known};
+//! The folder of a node, as its process has locked it: there a tape that failed is opened again, and is written how far the node is, and
+//! what it heard.
+ghost use Rattle.std.specs.Prelude.{◌≡◌, ◌+◌, IfOk, IfSome, OnOk};
+ghost use Rattle.wf_folder.specs.NodeFile.{IsNodeFile};
+ghost use Rattle.wf_node_command.specs.Folder.{AreFiles, StaysFrom, calls_in, heard_in, is_own};
 ghost use Rattle.wf_node_command.specs.FolderTheorems.{are_files_prop};
-ghost use Rattle.wf_node_command.specs.Folder.{AreFiles};
 
-use crate::fault::CommandFault;
-use crate::folder::{find_in, presence, replace_farm};
-use std::fs;
-use std::fs::{File, OpenFile};
+use crate::running::{RunningStore, not_reopened};
+use std::alloc::Global;
 use std::io::ErrorKind;
-use std::os::unix::fs::MetadataExt;
-use std::rt::Files;
 use wf_folder::{NodeFile, NodeFound, Reach, Suspension};
-use wf_loop::{FolderFault, FolderFile, NodeFolder, NotReopened};
-use wf_tape::{FileTape, TapeFault};
+use wf_loop::{FolderError, NodeFolder, NotReopened};
+use wf_store::{FileName, FolderFault, Store};
 
 /// The folder of a node, as its process has locked it, with the file `farm` that the process wrote last.
-#[derive(Drop)]
-pub(crate) struct HeldFolder<'a, 'p, R: Files<File = File>> {
-    rt: &'a R,
-    folder: &'p str,
-    tape: &'p str,
-    // what is locked
-    held: &'p File,
+pub(crate) struct HeldFolder<S: Store> {
+    alloc: Global,
+    running: RunningStore<S>,
     // the number of the last start that was counted
     starts: u32,
     // the file that was written last
@@ -32,47 +25,49 @@ pub(crate) struct HeldFolder<'a, 'p, R: Files<File = File>> {
     ghost sound: { AreFiles file attempted } by { are_files_prop file attempted },
 }
 
-impl<'a, 'p, R: Files<File = File> + AllocGlobal> HeldFolder<'a, 'p, R> {
-    /// The folder at a path that is locked, with the path of the node's tape, and the file that was written at this start.
-    pub(crate) fn new(
-        rt: &'a R,
-        folder: &'p str,
-        tape: &'p str,
-        held: &'p File,
-        file: NodeFile,
-    ) -> Self
+impl<S: Store> HeldFolder<S> {
+    /// The folder that is locked, with the file that was written at this start.
+    pub(crate) fn new(alloc: Global, store: S, file: NodeFile) -> Self
         requires { IsNodeFile file }
-        ensures { result.file ≡ file }
+        ensures began { calls_in S.calls result.running.began.items ≡ S.calls store }
+        ensures same { S.calls result.running.store ≡ S.calls store }
     {
         HeldFolder {
-            rt,
-            folder,
-            tape,
-            held,
+            alloc,
+            running: RunningStore::new(store),
             starts: file.starts,
             file,
             attempted: None,
         }
     }
 
-    /// Whether the folder at the path is the one that is locked.
-    fn examine_folder(&self) -> Result<(), FolderFault> {
-        let there = match fs::metadata(self.rt, self.folder) {
-            Ok(there) => there,
-            Err(error) => return Err(FolderFault::NoFolder(error.kind())),
-        };
-        match self.held.metadata() {
-            Ok(held) if held.dev() == there.dev() && held.ino() == there.ino() => Ok(()),
-            _ => Err(FolderFault::OtherFolder),
-        }
+    /// The folder, once the node isn't served any more.
+    pub(crate) fn close(self) -> S
+        ensures stays { ∥ StaysFrom (calls_in S.calls self.running.began.items) (S.calls result) ∥₁ }
+        ensures same { S.calls result ≡ S.calls self.running.store }
+    {
+        let HeldFolder {
+            alloc: _,
+            running,
+            starts: _,
+            file: _,
+            attempted: _,
+        } = self;
+        running.close()
     }
 
     /// Whether the file `farm` is one that this process wrote.
-    fn examine_farm(&self) -> Result<(), NotReopened> {
-        match find_in(self.rt, self.folder) {
+    fn examine_farm(&mut self) -> Result<(), NotReopened>
+        ensures starts { self.new.starts ≡ self.old.starts }
+        ensures own { is_own (S.calls self.new.running.store) ≡ is_own (S.calls self.old.running.store) }
+        ensures began { self.new.running.began.items ≡ self.old.running.began.items }
+        ensures heard { heard_in (S.calls self.new.running.store) ≡
+            heard_in (S.calls self.old.running.store) }
+    {
+        match self.running.find_farm() {
             Ok(NodeFound::File(found)) if self.is_own(&found) => Ok(()),
             Ok(_) => Err(NotReopened::OtherFarm),
-            Err(fault) => Err(cause_of(fault, FolderFile::Farm)),
+            Err(fault) => Err(not_reopened(FolderError::Store(fault))),
         }
     }
 
@@ -84,20 +79,6 @@ impl<'a, 'p, R: Files<File = File> + AllocGlobal> HeldFolder<'a, 'p, R> {
         match self.attempted {
             Some(attempted) => *found == attempted,
             None => false,
-        }
-    }
-
-    /// Opens the tape, which has to be there.
-    fn open_tape(&self) -> Result<FileTape<&'a R>, NotReopened> {
-        match presence(self.rt, self.tape) {
-            Ok(presence) if presence.is_there() => {}
-            Ok(_) => return Err(NotReopened::NoTape),
-            Err(fault) => return Err(cause_of(fault, FolderFile::Tape)),
-        }
-        match FileTape::open_existing(self.rt.alloc(), self.rt, self.tape) {
-            Ok(tape) => Ok(tape),
-            Err(TapeFault::Memory) => Err(NotReopened::Memory),
-            Err(TapeFault::Device) => Err(NotReopened::TapeUnopened),
         }
     }
 
@@ -121,78 +102,85 @@ impl<'a, 'p, R: Files<File = File> + AllocGlobal> HeldFolder<'a, 'p, R> {
     }
 
     /// Finds out which file is there after a failed writing, so that no more than two can be.
-    fn settle(&mut self) -> Result<(), FolderFault>
-        ensures { self.new.starts ≡ self.old.starts }
+    fn settle(&mut self) -> Result<(), FolderError>
+        ensures starts { self.new.starts ≡ self.old.starts }
+        ensures own { is_own (S.calls self.new.running.store) ≡ is_own (S.calls self.old.running.store) }
+        ensures began { self.new.running.began.items ≡ self.old.running.began.items }
+        ensures heard { heard_in (S.calls self.new.running.store) ≡
+            heard_in (S.calls self.old.running.store) }
     {
         if self.attempted.is_none() {
             return Ok(());
         }
-        match find_in(self.rt, self.folder) {
+        match self.running.find_farm() {
             Ok(NodeFound::File(found)) if self.is_own(&found) => {
                 self.file = found;
                 self.attempted = None;
                 Ok(())
             }
-            Ok(_) => Err(FolderFault::Unwritten(ErrorKind::InvalidData)),
-            Err(fault) => Err(folder_fault(fault)),
+            Ok(_) => Err(unwritten(ErrorKind::InvalidData)),
+            Err(FolderFault::Unread(_, kind)) => Err(unwritten(kind)),
+            Err(fault) => Err(FolderError::Store(fault)),
         }
     }
 
     /// Writes another file `farm`, synced, with the folder: only into the folder that is locked. After an error either may be there.
-    fn write(&mut self, next: &NodeFile) -> Result<(), FolderFault>
+    fn write(&mut self, next: &NodeFile) -> Result<(), FolderError>
         requires { IsNodeFile next.now }
         ensures starts { self.new.starts ≡ self.old.starts }
         ensures file { OnOk result (self.new.file ≡ next.now) }
+        ensures began { self.new.running.began.items ≡ self.old.running.began.items }
+        ensures heard { heard_in (S.calls self.new.running.store) ≡
+            heard_in (S.calls self.old.running.store) }
     {
-        self.examine_folder()?;
-        self.settle()?;
+        if let Err(error) = self.running.examine() {
+            return Err(error);
+        }
+        if let Err(error) = self.settle() {
+            return Err(error);
+        }
+        let Ok(text) = next.text(self.alloc) else {
+            return Err(FolderError::Store(FolderFault::Memory));
+        };
         self.attempted = Some(*next);
-        let written = self.replace(next)?;
-        self.file = written;
-        self.attempted = None;
-        Ok(())
-    }
-
-    /// Puts a file `farm` in the place of the one that is there. Ok is what was written: meanwhile another folder may have come to the
-    /// path, which is an error.
-    fn replace(&self, next: &NodeFile) -> Result<NodeFile, FolderFault>
-        requires { IsNodeFile next.now }
-        ensures { IfOk result (λ written. written ≡ next.now) }
-    {
-        match replace_farm(self.rt, self.folder, next) {
-            Ok(written) => match self.examine_folder() {
-                Ok(()) => Ok(written),
-                Err(fault) => Err(fault),
-            },
-            Err(fault) => Err(folder_fault(fault)),
+        match self.running.replace(FileName::Farm, text) {
+            Ok(()) => {
+                self.file = *next;
+                self.attempted = None;
+                Ok(())
+            }
+            Err(error) => Err(error),
         }
     }
 }
 
-impl<'a, 'p, R: Files<File = File> + AllocGlobal> NodeFolder<FileTape<&'a R>>
-    for HeldFolder<'a, 'p, R> {
-    ghost starts = { λ held. held.starts };
+impl<S: Store> NodeFolder<S::Tape> for HeldFolder<S> {
+    ghost stands = { λ held. record { starts = held.starts; begun = calls_in S.calls held.running.began.items; heard = heard_in (S.calls held.running.store) } };
 
-    fn open(&mut self) -> Result<FileTape<&'a R>, NotReopened> {
-        if let Err(fault) = self.examine_folder() {
-            return Err(not_counted(fault));
+    fn open(&mut self) -> Result<S::Tape, NotReopened> {
+        if let Err(error) = self.running.examine() {
+            return Err(not_reopened(error));
         }
-        self.examine_farm()?;
-        self.open_tape()
+        if let Err(why) = self.examine_farm() {
+            return Err(why);
+        }
+        self.running.open_tape(self.file.node)
     }
 
     fn count_start(&mut self) -> Result<u32, NotReopened> {
         let Some(next) = self.next_start() else {
             return Err(NotReopened::NoFurtherStart);
         };
-        if let Err(fault) = self.write(&next) {
-            return Err(not_counted(fault));
+        match self.write(&next) {
+            Ok(()) => {
+                self.starts = next.starts;
+                Ok(next.starts)
+            }
+            Err(error) => Err(not_counted(error)),
         }
-        self.starts = next.starts;
-        Ok(next.starts)
     }
 
-    fn keep(&mut self, reach: &Reach, digest: [u8; 32]) -> Result<(), FolderFault> {
+    fn keep(&mut self, reach: &Reach, digest: [u8; 32]) -> Result<(), FolderError> {
         let latest = self.latest();
         let next = latest.raise(reach, digest);
         if self.attempted.is_none() && next == self.file {
@@ -201,10 +189,18 @@ impl<'a, 'p, R: Files<File = File> + AllocGlobal> NodeFolder<FileTape<&'a R>>
         self.write(&next)
     }
 
-    fn suspend(&mut self, suspension: Suspension) -> Result<(), FolderFault> {
+    fn suspend(&mut self, suspension: Suspension) -> Result<(), FolderError> {
         let latest = self.latest();
         let next = latest.suspend(suspension);
         self.write(&next)
+    }
+
+    fn keep_heard(&mut self, text: Vec<u8>) -> Result<(), FolderError> {
+        if let Err(error) = self.running.examine() {
+            drop(text);
+            return Err(error);
+        }
+        self.running.replace(FileName::Heard, text)
     }
 }
 
@@ -218,30 +214,15 @@ fn with_starts(file: &NodeFile, starts: u32) -> NodeFile
     NodeFile { starts, ..*file }
 }
 
-/// Why a tape isn't opened again, by the error of the folder.
-fn not_counted(fault: FolderFault) -> NotReopened {
-    match fault {
-        FolderFault::NoFolder(kind) => NotReopened::NoFolder(kind),
-        FolderFault::OtherFolder => NotReopened::OtherFolder,
-        FolderFault::Unwritten(kind) => NotReopened::Uncounted(kind),
-        FolderFault::Memory => NotReopened::Memory,
-    }
+/// The file `farm` can't be written.
+fn unwritten(kind: ErrorKind) -> FolderError {
+    FolderError::Store(FolderFault::Unwritten(FileName::Farm, kind))
 }
 
-/// The cause in a file of the folder that is read.
-fn cause_of(fault: CommandFault, file: FolderFile) -> NotReopened {
-    match fault {
-        CommandFault::Unread(kind) => NotReopened::Unread(file, kind),
-        // Nothing else is left of what reads files.
-        _ => NotReopened::Memory,
-    }
-}
-
-/// The error of the file `farm` that is written.
-fn folder_fault(fault: CommandFault) -> FolderFault {
-    match fault {
-        CommandFault::Unread(kind) | CommandFault::Unwritten(kind) => FolderFault::Unwritten(kind),
-        // Nothing else is left of what reads and writes files.
-        _ => FolderFault::Memory,
+/// Why a start isn't counted, by the error of the folder.
+fn not_counted(error: FolderError) -> NotReopened {
+    match error {
+        FolderError::Store(FolderFault::Unwritten(_, kind)) => NotReopened::Uncounted(kind),
+        error => not_reopened(error),
     }
 }

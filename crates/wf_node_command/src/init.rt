@@ -1,58 +1,61 @@
 //! `wfarm init`.
-ghost use Rattle.std.specs.Prelude.{◌≡◌, ◌≤◌, ◌<◌, IfErr, IfOk, IsSome};
+ghost use Rattle.std.specs.Prelude.{◌≡◌, ◌≤◌, ◌<◌, ◌∷◌, IfErr, IfOk, IsSome, OnErr, OnOk};
 ghost use Rattle.wf_folder.specs.Name.{pad};
 ghost use Rattle.wf_line.specs.NodeLine.{IsInitInRange};
-ghost use Rattle.wf_node_command.specs.Done.{IsFirstFile, IsFirstTape, IsInitDone, IsInitFault};
+ghost use Rattle.wf_node_command.specs.Made.{IsFilled, IsFirstTape, IsInitCause, IsInitDone, IsUnfilled, IsWhyNotEmpty, made_empty};
 ghost use Rattle.wf_node_command.specs.Fault.{IsFromSystem};
+ghost use Rattle.wf_store.specs.Call.{OnlyReads};
 
 use crate::fault::CommandFault;
-use crate::folder::{count_names, hold, make_folder, new_mark, replace_farm, tape_path};
+use crate::folder::write_farm;
 use crate::from::{FirstTape, tape_from};
-use std::fs::File;
+use std::alloc::Global;
 use std::rt::Files;
 use wf_folder::{FarmName, NodeFile, admit_new};
 use wf_line::InitLine;
-use wf_loop::write_file;
+use wf_store::{FileName, Store};
 
 /// Makes the folder of a node.
-pub(crate) fn init<R: Files<File = File> + Eprint + AllocGlobal>(
+#[tactic(auto, using(crate::proofs::Making::not_made))]
+pub(crate) fn init<R: Files + Eprint + AllocGlobal, S: Store>(
     rt: &R,
+    store: &mut S,
     line: &InitLine<'_>,
 ) -> Result<(), CommandFault>
     requires { IsInitInRange line.now }
-    ensures { IsInitDone line.now result }
+    ensures { IsInitDone line.now (S.calls store.old) (S.calls store.new) result }
 {
     if line.nodes <= line.id {
         return Err(CommandFault::Id(line.id, line.nodes));
     }
     match FarmName::new(line.farm.as_bytes()) {
-        Some(farm) => make(rt, line, farm),
+        Some(farm) => make(rt, store, line, farm),
         None => Err(CommandFault::Name),
     }
 }
 
 /// Makes the folder: the tape to begin with is read first, so that nothing is made where that isn't taken. A tape of which no file says
 /// whose it is is taken with a warning.
-#[tactic(auto, using(crate::proofs::Faults::system_of_init))]
-fn make<R: Files<File = File> + Eprint + AllocGlobal>(
+#[tactic(auto, using(crate::proofs::Making::not_made))]
+fn make<R: Files + Eprint + AllocGlobal, S: Store>(
     rt: &R,
+    store: &mut S,
     line: &InitLine<'_>,
     farm: FarmName,
 ) -> Result<(), CommandFault>
     requires range { IsInitInRange line.now }
     requires member { line.now.id < line.now.nodes }
     requires farm { farm ≡ pad line.now.farm.now }
-    ensures { IsInitDone line.now result }
+    ensures { IsInitDone line.now (S.calls store.old) (S.calls store.new) result }
 {
-    let tape = match first_tape(rt, line) {
+    let FirstTape { bytes, is_known } = match first_tape(rt, line) {
         Ok(tape) => tape,
         Err(fault) => return Err(fault),
     };
-    let made = make_with(rt, line, farm, &tape.bytes);
-    if made.is_ok() && !tape.is_known {
+    let made = make_with(rt.alloc(), store, line, farm, bytes);
+    if made.is_ok() && !is_known {
         warn(rt, line);
     }
-    drop(tape);
     made
 }
 
@@ -66,86 +69,85 @@ fn warn<R: Eprint>(rt: &R, line: &InitLine<'_>) {
     }
 }
 
-/// Makes the folder that begins with a tape of these bytes, if its parent is there, and the files in it. It is locked meanwhile.
-#[tactic(auto, using(crate::proofs::Faults::system_of_init))]
-fn make_with<R: Files<File = File> + AllocGlobal>(
-    rt: &R,
+/// Makes the folder that begins with a tape of these bytes, if its parent is there and the folder has no names, and the files in it.
+#[tactic(auto, using(crate::proofs::Making::not_empty, crate::proofs::Making::made_so))]
+fn make_with<S: Store>(
+    alloc: Global,
+    store: &mut S,
     line: &InitLine<'_>,
     farm: FarmName,
-    tape: &[u8],
+    tape: Vec<u8>,
 ) -> Result<(), CommandFault>
     requires range { IsInitInRange line.now }
     requires member { line.now.id < line.now.nodes }
     requires farm { farm ≡ pad line.now.farm.now }
-    requires tape { IsFirstTape line.now tape.now }
-    ensures { IsInitDone line.now result }
+    requires tape { IsFirstTape line.now tape.items }
+    ensures { IsInitDone line.now (S.calls store.old) (S.calls store.new) result }
 {
-    if let Err(fault) = make_folder(rt, line.state) {
-        return Err(fault);
-    }
-    match hold(rt, line.state) {
-        Ok(held) => {
-            let made = fill_folder(rt, line, farm, tape);
-            drop(held);
-            made
+    match make_empty(store) {
+        Ok(()) => write_files(alloc, store, line, farm, tape),
+        Err(fault) => {
+            drop(tape);
+            Err(fault)
         }
-        Err(fault) => Err(fault),
     }
 }
 
-/// Makes the files of a folder, if it is empty.
-#[tactic(auto, using(crate::proofs::Faults::system_of_init))]
-fn fill_folder<R: Files + AllocGlobal>(
-    rt: &R,
+/// Makes a folder, if it isn't there, locks it, and sees that it has no names.
+#[tactic(auto, using(wf_store::specs::CallTheorems::reads_both, crate::proofs::Making::not_counted, crate::proofs::Making::has_names, crate::proofs::Making::is_empty))]
+fn make_empty<S: Store>(store: &mut S) -> Result<(), CommandFault>
+    ensures empty { OnOk result
+        (S.calls store.new ≡ made_empty (S.calls store.old)) }
+    ensures reads { OnlyReads (S.calls store.old) (S.calls store.new) }
+    ensures fault { IfErr result (IsWhyNotEmpty (S.calls store.old) (S.calls store.new)) }
+{
+    if let Err(fault) = store.make() {
+        return Err(CommandFault::Folder(fault));
+    }
+    if let Err(fault) = store.lock() {
+        return Err(CommandFault::Folder(fault));
+    }
+    let names = match store.count_names() {
+        Ok(names) => names,
+        Err(fault) => return Err(CommandFault::Folder(fault)),
+    };
+    match admit_new(names) {
+        Ok(()) => Ok(()),
+        Err(why) => Err(CommandFault::NotEmpty(why)),
+    }
+}
+
+/// Writes the tape and the file `farm` of an empty folder: the tape first, so that a folder with a file `farm` has one.
+#[tactic(auto, using(crate::proofs::Making::tape_failed, crate::proofs::Making::tape_alone, crate::proofs::Making::filled))]
+fn write_files<S: Store>(
+    alloc: Global,
+    store: &mut S,
     line: &InitLine<'_>,
     farm: FarmName,
-    tape: &[u8],
+    tape: Vec<u8>,
 ) -> Result<(), CommandFault>
     requires range { IsInitInRange line.now }
     requires member { line.now.id < line.now.nodes }
     requires farm { farm ≡ pad line.now.farm.now }
-    requires tape { IsFirstTape line.now tape.now }
-    ensures { IsInitDone line.now result }
-{
-    let names = match count_names(rt, line.state) {
-        Ok(names) => names,
-        Err(fault) => return Err(fault),
-    };
-    if let Err(why) = admit_new(names) {
-        return Err(CommandFault::NotEmpty(why));
-    }
-    match write_files(rt, line, farm, tape) {
-        Ok(_) => Ok(()),
-        Err(fault) => Err(fault),
-    }
-}
-
-/// Writes the tape and the file `farm` of an empty folder: the tape first, so that a folder with a file `farm` has one. Ok is that file.
-fn write_files<R: Files + AllocGlobal>(
-    rt: &R,
-    line: &InitLine<'_>,
-    farm: FarmName,
-    tape: &[u8],
-) -> Result<NodeFile, CommandFault>
-    requires range { IsInitInRange line.now }
-    requires member { line.now.id < line.now.nodes }
-    requires farm { farm ≡ pad line.now.farm.now }
-    ensures file { IfOk result (IsFirstFile line.now) }
+    ensures filled { OnOk result (IsFilled line.now tape.items (S.calls store.old) (S.calls store.new)) }
+    ensures left { OnErr result (IsUnfilled line.now tape.items (S.calls store.old) (S.calls store.new)) }
     ensures fault { IfErr result IsFromSystem }
 {
-    let mark = match new_mark(rt) {
+    let mark = match store.draw() {
         Ok(mark) => mark,
-        Err(fault) => return Err(fault),
+        Err(fault) => {
+            drop(tape);
+            return Err(CommandFault::Folder(fault));
+        }
     };
-    let path = match tape_path(rt.alloc(), line.state, line.id) {
-        Ok(path) => path,
-        Err(fault) => return Err(fault),
-    };
-    if let Err(error) = write_file(rt, path.as_str(), tape) {
-        return Err(CommandFault::Unwritten(error.kind()));
+    if let Err(fault) = store.replace(FileName::NodeTape(line.id), tape) {
+        return Err(CommandFault::Folder(fault));
     }
     let file = NodeFile::new(line.id, line.nodes, farm, mark);
-    replace_farm(rt, line.state, &file)
+    match write_farm(alloc, store, &file) {
+        Ok(()) => Ok(()),
+        Err(fault) => Err(CommandFault::Folder(fault)),
+    }
 }
 
 /// The tape that a node begins with.
@@ -157,7 +159,7 @@ fn first_tape<R: Files + AllocGlobal>(
     requires range { IsInitInRange line.now }
     requires member { line.now.id < line.now.nodes }
     ensures tape { IfOk result (λ tape. IsFirstTape line.now tape.bytes.items) }
-    ensures fault { IfErr result (IsInitFault line.now) }
+    ensures fault { IfErr result (IsInitCause line.now) }
 {
     match line.from {
         Some(from) => tape_from(rt, from, line.id, line.nodes),

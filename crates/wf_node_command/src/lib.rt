@@ -1,24 +1,32 @@
 //! The commands of a node in a process of its own: `wfarm init`, which makes its folder, and `wfarm node`, which serves it.
 //!
-//! [`run`] runs a parsed command line and returns its error, whose `Display` is the line for standard error and whose
-//! [`CommandFault::status`] is the exit status.
+//! [`run`] runs a parsed command line on a folder, a [`wf_store::Store`], and returns its error, whose `Display` is the line for standard
+//! error and whose [`CommandFault::status`] is the exit status; the folder is handed back.
 //!
-//! **Promises** (`specs/Done.antt`).
-//! - `node` begins only on a folder whose file `farm` was found, is a node's, of a farm of as many nodes as addresses are listed,
-//! and whose
-//!   tape is there: never on an empty or an unknown folder. Its node was opened on that tape as that node of that farm. Before, zeros
-//!   that were never synced are dropped from the tape (`wf_recovery`), and it is shortened; if it is durable, whatever a crash leaves
-//!   stands for all that its records said.
+//! **Promises** (`specs/Done.antt`), of the calls of the folder in their order (`specs/Start.antt`, `specs/Made.antt`, `specs/Cleared.antt`).
+//! - `node` locks the folder first. It begins only where the file `farm` that was read is a node's, of a farm of as many nodes as addresses
+//!   are listed, and its tape is there: never on an empty or an unknown folder. The tape is read, compared with what the file says is known
+//!   of the node, and then opened; the start is counted last, once the file `heard` was read. Its node was opened on a tape as that node of
+//!   that farm. Before, zeros that were never synced are dropped from the tape (`wf_recovery`), and it is shortened; if it is durable,
+//!   whatever a crash leaves stands for all that its records said.
+//! - A start that is rejected has changed no file of the folder, or has opened the tape that it had compared, which then held less. A bad
+//!   file `heard` is an error.
 //! - However many turns it was to take, and however it ended after it had begun, its process has lived as `HasLived` of `wf_loop` says,
-//!   from that node on, and each client was sent the response to exactly what had come of its request (`HasAnswered`).
-//! - `init` leaves the file of a node of that number, farm and name that never started, and a tape that is empty, or one on which that
-//!   node opens.
+//!   from that node on, and each client was sent the response to exactly what had come of its request (`HasAnswered`). Meanwhile no tape
+//!   was made or put in the place of another, and a file was opened or written only where the folder at its path had been seen to be the
+//!   one that is locked (`specs/Folder.antt`).
+//! - `init` makes and locks a folder without names, draws its mark, and leaves a tape that is empty, or one on which that node opens, and
+//!   then the file of a node of that number, farm and name that never started: these two files, in this order.
+//! - `clear` locks the folder, forgets what was heard, and then writes the file that it read without its suspension.
 //! - Each error has its cause, and its status: 2 where the command line is bad, else 1.
 //!
-//! **Doesn't.** What the system does with files, sockets and clocks has no model: that the file found is that of the folder, that its
-//! lock holds, and that what is written stays, is tried with the built program.
+//! **Doesn't.** What the system does with files, sockets and clocks has no model: that its lock holds, that what is read is what was written,
+//! and what comes of a tape between its reading and its opening. The tape of `--from`, and the file beside it, are of another folder, and
+//! are read by their paths. Where a tape failed, a start tries a second copy of it for the system's cause (`node-I.tape.new`, which is
+//! removed).
 #![tactic(auto)]
 
+mod addresses;
 mod clear;
 mod command;
 mod event;
@@ -30,6 +38,9 @@ mod held;
 mod held_state;
 mod init;
 mod node;
+mod ready;
+mod running;
+mod serve;
 mod settled;
 mod tape;
 

@@ -5,61 +5,75 @@ ghost use Rattle.wf_journal.specs.Journal.{ReadsSame};
 ghost use Rattle.wf_node.specs.Images.{AllStandFor, StandsFor};
 ghost use Rattle.wf_node.specs.Node.{stored_of};
 ghost use Rattle.wf_node.specs.OpenedNode.{IsFoldOf};
-ghost use Rattle.wf_node_command.specs.Done.{IsStarted, StandsAlike};
 ghost use Rattle.wf_node_command.specs.Fault.{IsFromSystem};
 ghost use Rattle.wf_node_command.specs.Held.{HasHeld, HoldsAll, IsKnownOf, IsWhyNotHeld, IsWhyNotHeldBy, IsWhyNotOpened};
+ghost use Rattle.wf_node_command.specs.Start.{IsCompared, IsStartedOn, IsWhyNotCompared, StandsAlike};
+ghost use Rattle.wf_store.specs.Call.{OnlyReads};
 
 use crate::event::TapeZeros;
 use crate::fault::CommandFault;
-use crate::folder::read_file;
+use crate::from::read_file;
 use crate::held_state::examine_node;
 use crate::settled::settle;
 use std::alloc::Global;
-use std::io::ErrorKind;
+use std::fs::{OpenFile, OpenOptions};
+use std::io::{ErrorKind, Write};
 use std::rt::Files;
 use std::time::Clock;
 use std::{fs, io};
 use wf_ballot::NodeId;
 use wf_folder::{Known, NodeFile};
 use wf_journal::{OpenFault, records_are_read_one_way};
-use wf_loop::{Log, Process, write_file};
+use wf_loop::{Log, Process};
 use wf_node::{Node, NodeFault};
-use wf_tape::{FileTape, MemoryTape, Tape, TapeFault};
+use wf_store::{FileName, FolderFault, Store};
+use wf_tape::{MemoryTape, Tape};
 
 /// The greatest length of a tape, in bytes.
 pub(crate) const MOST_TAPE_BYTES: usize = 8_589_934_592;
 
-/// The tape at a path.
-pub(crate) fn open_tape<'a, R: Files + AllocGlobal>(
-    rt: &'a R,
-    path: &str,
-) -> Result<FileTape<&'a R>, CommandFault>
-    ensures { IfErr result IsFromSystem }
+/// Whether the node of this file holds all that is known of it on its tape. It is opened on a copy of the tape's bytes in memory: no file
+/// is changed.
+#[tactic(auto, using(crate::proofs::Opening::compared_by, crate::proofs::Opening::not_compared_by, crate::proofs::Opening::uncompared_of_system))]
+pub(crate) fn examine_tape<S: Store>(
+    alloc: Global,
+    store: &mut S,
+    file: &NodeFile,
+) -> Result<(), CommandFault>
+    requires { IsNodeFile file.now }
+    ensures compared { OnOk result (IsCompared file.now (S.calls store.old) (S.calls store.new)) }
+    ensures reads { OnlyReads (S.calls store.old) (S.calls store.new) }
+    ensures fault { IfErr result
+        (IsWhyNotCompared file.now (S.calls store.old) (S.calls store.new)) }
 {
-    match FileTape::open(rt.alloc(), rt, path) {
-        Ok(tape) => Ok(tape),
-        Err(TapeFault::Memory) => Err(CommandFault::Memory),
-        Err(TapeFault::Device) => Err(cause_of_failure(rt, path)),
+    match store.read(FileName::NodeTape(file.node), MOST_TAPE_BYTES) {
+        Ok(Some(bytes)) => examine_bytes(alloc, file, bytes),
+        Ok(None) => Err(CommandFault::TapeUnread(ErrorKind::NotFound)),
+        Err(fault) => Err(unread(fault)),
     }
 }
 
-/// Whether the node of this file holds all that is known of it on the tape at a path. It is opened on a copy of the tape's bytes in
-/// memory: no file is changed.
-#[tactic(auto, using(crate::proofs::Kept::not_opened_by, crate::proofs::Kept::unopened_of_system))]
-pub(crate) fn examine_tape<R: Files + AllocGlobal>(
-    rt: &R,
-    file: &NodeFile,
-    path: &str,
-) -> Result<(), CommandFault>
-    requires { IsNodeFile file.now }
-    ensures { IfErr result (IsWhyNotOpened file.now) }
+/// The error of a tape that can't be read.
+fn unread(fault: FolderFault) -> CommandFault
+    ensures { IsFromSystem result }
 {
-    match read_file(rt, path, MOST_TAPE_BYTES) {
-        Ok(bytes) => examine_bytes(rt.alloc(), file, bytes),
-        Err(error) => Err(match error.kind() {
-            ErrorKind::OutOfMemory => CommandFault::Memory,
-            kind => CommandFault::TapeUnread(kind),
-        }),
+    match fault {
+        FolderFault::Unread(_, kind) => CommandFault::TapeUnread(kind),
+        _ => CommandFault::Folder(fault),
+    }
+}
+
+/// The error of a tape at a path that can't be opened.
+pub(crate) fn fault_of_tape<R: Files + AllocGlobal>(
+    rt: &R,
+    path: &str,
+    fault: FolderFault,
+) -> CommandFault
+    ensures { IsFromSystem result }
+{
+    match fault {
+        FolderFault::Unopened(_) => cause_of_failure(rt, path),
+        _ => CommandFault::Folder(fault),
     }
 }
 
@@ -143,7 +157,7 @@ pub(crate) fn open_process<R: Files + Clock + Eprint + AllocGlobal, T: Tape + Dr
     requires file { IsNodeFile file.now }
     requires least { 1 ≤ pictures }
     requires most { pictures ≤ 64 }
-    ensures started { IfOk result (λ opened. IsStarted T.Tape file.now opened.0) }
+    ensures started { IfOk result (λ opened. IsStartedOn T.Tape tape file.now opened.0) }
     ensures known { IfOk result (λ opened. IsKnownOf (stored_of opened.0.actor.node) opened.1) }
     ensures fault { IfErr result (IsWhyNotOpened file.now) }
 {
@@ -291,4 +305,13 @@ fn try_copy<R: Files + AllocGlobal>(rt: &R, path: &str, bytes: &[u8]) -> io::Res
     let written = write_file(rt, second.as_str(), bytes);
     let _ = fs::remove_file(rt, second.as_str());
     written
+}
+
+/// Writes a file, and syncs it.
+fn write_file<R: Files>(rt: &R, path: &str, bytes: &[u8]) -> io::Result<()> {
+    let mut options = OpenOptions::new();
+    options.write(true).create(true).truncate(true);
+    let mut file = options.open(rt, path)?;
+    file.write_all(bytes)?;
+    file.sync_all()
 }

@@ -1,0 +1,128 @@
+-- From a node that is ready to one that was served.
+use Rattle.std.proofs.Common.{◌≡◌, ◌∙◌, ℕ, Bool, true, List, [], ◌∷◌, ap, append-nil, inr, refl, sym, subst}
+use Rattle.std.specs.Prelude.{◌↔◌, IsTrue, Option, Some, None, Result, Ok, Err}
+use Rattle.wf_actor.specs.declared.actor.Actor.{Actor}
+use Rattle.wf_actor.specs.declared.actor.Origin.{Origin}
+use Rattle.wf_actor.specs.declared.process.Process.{Process}
+use Rattle.wf_codec.specs.Message.{view}
+use Rattle.wf_codec.specs.declared.message.Message.{Message}
+use Rattle.wf_line.specs.declared.node_line.NodeLine.{NodeLine}
+use Rattle.wf_loop.specs.Continuation.{AreHeardFrom, AreRunsHeardFrom, IsEarlier, KeepsEarlier}
+use Rattle.wf_loop.specs.Hub.{HasAnswered, IsHeardFirst, IsReopeningDue, kept_of, process_of}
+use Rattle.wf_loop.specs.Lived.{HasLived}
+use Rattle.wf_loop.specs.declared.hub.Hub.{Hub}
+use Rattle.wf_loop.specs.declared.plan.LoopFault.{LoopFault}
+use Rattle.wf_node_command.specs.Done.{HasLivedOn, IsNodeDone, IsServed}
+use Rattle.wf_node_command.specs.Fault.{IsFromSystem}
+use Rattle.wf_node_command.specs.Folder.{IsHeardIn, StaysFrom, heard_in}
+use Rattle.wf_node_command.specs.Ready.{IsFresh, IsReady}
+use Rattle.wf_node_command.specs.Start.{IsNodeCause, IsUnserved}
+use Rattle.wf_node_command.specs.declared.fault.CommandFault.{CommandFault}
+use Rattle.wf_node_command.specs.declared.fault.CommandFault.TheVariants as faults
+use Rattle.wf_node_command.specs.declared.ready.ReadyNode.{ReadyNode}
+use Rattle.wf_peer.specs.Told.{IsHeardOf, IsHeardText}
+use Rattle.wf_peer.specs.declared.heard.Heard.{Heard as HeardOfNode}
+use Rattle.wf_store.specs.Call.{Call, locked}
+use Rattle.wf_tape.specs.declared.tape.Tape.{Ghosts as Tape}
+
+system_cause : (line : NodeLine) (old new : List Call) (fault : CommandFault) → IsFromSystem fault → IsNodeCause line old new fault
+system_cause line old new (faults.BadPeer index) is = absurd is
+system_cause line old new (faults.PeerCount count) is = absurd is
+system_cause line old new (faults.BadAddress option) is = absurd is
+system_cause line old new (faults.Rejected why) is = absurd is
+system_cause line old new (faults.PeerProgress why) is = absurd is
+system_cause line old new fault is = is
+
+module _ {T : Type 0} (tapes : Tape T) where
+  pub kept_still : (process : Process T tapes) → KeepsEarlier tapes process process
+  kept_still process = λ past earlier. earlier
+
+  pub kept_same : (before after : Process T tapes) → after ≡ before → KeepsEarlier tapes before after
+  kept_same before after same = λ past earlier. subst (λ (p : Process T tapes). IsEarlier tapes past p) (sym same) earlier
+
+  -- it was time to open the tape of a halted node again
+  pub kept_due : (hub : Hub T tapes) (after : Process T tapes) (due : Bool) → (IsTrue due ↔ IsReopeningDue hub) → due ≡ true → ((process_of hub).actor.node.halted ≡ true → KeepsEarlier tapes (process_of hub) after)
+      → KeepsEarlier tapes (process_of hub) after
+  kept_due hub after due decides is keeps = keeps (decides.0 is).0
+
+  its_own : (process : Process T tapes) → IsEarlier tapes process process
+  its_own process = record {
+    since = [];
+    ended = sym (append-nil process.ended.items);
+    runs = record { number = refl; read_from = refl; began = refl; given = ([], append-nil _); emitted = ([], append-nil _) };
+  }
+
+  -- the hub's process, at whatever end, is a later moment of the one that it began with
+  pub lived_on : (begun hub : Hub T tapes) (calls : List Call) → HasLived tapes (process_of hub) → HasAnswered tapes hub → KeepsEarlier tapes (process_of begun) (process_of hub)
+      → IsHeardFirst (heard_in calls) hub → HasLivedOn tapes (process_of begun) calls
+  lived_on begun hub calls lived answered keeps heard = record { hub = hub; earlier = keeps (process_of begun) (its_own (process_of begun)); lived = lived; answered = answered; heard = heard }
+
+  pub served_on : (process : Process T tapes) (hub : Hub T tapes) (old new : List Call) → process_of hub ≡ process → HasLivedOn tapes (process_of hub) new → ∥ StaysFrom old new ∥₁
+      → IsServed tapes process old new (Ok tt)
+  served_on process hub old new same lived stays = (subst (λ (p : Process T tapes). HasLivedOn tapes p new) same lived, stays)
+
+  -- nothing was given to it yet, and what it heard is in the file
+  none_given_yet : (known : List (Option HeardOfNode)) → AreHeardFrom known []
+  unfolding AreHeardFrom
+  none_given_yet known = tt
+
+  none_given : (known : List (Option HeardOfNode)) (given : List (Message × Origin)) → given ≡ [] → AreHeardFrom known given
+  none_given known given none = subst (λ (xs : List (Message × Origin)). AreHeardFrom known xs) (sym none) (none_given_yet known)
+
+  none_ended_yet : (known : List (Option HeardOfNode)) → AreRunsHeardFrom tapes known []
+  unfolding AreRunsHeardFrom
+  none_ended_yet known = tt
+
+  no_runs : (known : List (Option HeardOfNode)) (runs : List (Actor T tapes × ℕ)) → runs ≡ [] → AreRunsHeardFrom tapes known runs
+  no_runs known runs none = subst (λ (xs : List (Actor T tapes × ℕ)). AreRunsHeardFrom tapes known xs) (sym none) (none_ended_yet known)
+
+  pub heard_at_first : (ready : ReadyNode T tapes) (hub : Hub T tapes) (calls : List Call) → IsFresh tapes ready calls → process_of hub ≡ ready.process → kept_of hub ≡ ready.heard
+      → IsHeardFirst (heard_in calls) hub
+  heard_at_first ready hub calls fresh same kept = record {
+    known = ready.heard;
+    text = fresh.heard;
+    all = λ i m is. subst (λ (k : List (Option HeardOfNode)). IsHeardOf k i (view m)) kept is;
+    given = none_given (kept_of hub) (process_of hub).actor.given.items (ap (λ (p : Process T tapes). p.actor.given.items) same ∙ fresh.begun.given);
+    ended = no_runs (kept_of hub) (process_of hub).ended.items (ap (λ (p : Process T tapes). p.ended.items) same ∙ fresh.first);
+  }
+
+  heard_text : (bytes : Option (List ℕ)) (known : List (Option HeardOfNode)) → IsHeardIn bytes known → IsHeardText bytes known
+  heard_text None known is = is
+  heard_text (Some bytes) known is = is.2
+
+  pub fresh_by : (line : NodeLine) (ready : ReadyNode T tapes) (old mid : List Call) → IsReady tapes line ready old mid → IsFresh tapes ready mid
+  fresh_by line ready old mid is =
+      let counted = is.is_ready.is_counted.is_counted in
+      record {
+        begun = is.is_ready.is_started.1.begun;
+        first = is.is_ready.is_started.1.first;
+        heard = subst (λ (bytes : Option (List ℕ)). IsHeardText bytes ready.heard) (sym (ap heard_in counted.calls)) (heard_text counted.bytes ready.heard counted.is_heard);
+      }
+
+  pub not_served : (process : Process T tapes) (calls : List Call) (why : LoopFault) → IsServed tapes process calls calls (Err (faults.Loop why))
+  not_served process calls why = (tt, refl)
+
+  -- a node that is ready was served, or not
+  pub served_by : (line : NodeLine) (ready : ReadyNode T tapes) (old mid new : List Call) (result : Result (Unit {0}) CommandFault) → IsReady tapes line ready (locked ∷ old) mid
+      → IsServed tapes ready.process mid new result → IsNodeDone tapes line old new result
+  served_by line ready old mid new (Ok done) is served = record {
+    file = is.file;
+    written = ready.file;
+    heard = ready.heard;
+    begun = mid;
+    is_start = record { admitted = is.admitted; is_admitted = is.is_admitted; is_counted = is.is_ready.is_counted };
+    started = ready.process;
+    is_started = is.is_ready.is_started;
+    is_raised = is.is_ready.is_raised;
+    on = served.0;
+    stays = served.1;
+  }
+  served_by line ready old mid new (Err fault) is served = record {
+    cause = system_cause line old new fault served.0;
+    left = inr (inr (subst (λ (calls : List Call). IsUnserved line (locked ∷ old) calls) (sym served.1) (record {
+      file = is.file;
+      written = ready.file;
+      heard = ready.heard;
+      is_start = record { admitted = is.admitted; is_admitted = is.is_admitted; is_counted = is.is_ready.is_counted };
+    })));
+  }

@@ -1,0 +1,13 @@
+-- The hub's process, at whatever end, is a later moment of the one that it began with, and what it heard is in the folder.
+use Rattle.std.proofs.Common.{List, subst, sym}
+use Rattle.wf_loop.specs.Hub.{IsHeardFirst}
+use Rattle.wf_node_command.proofs.Served.{lived_on}
+use Rattle.wf_node_command.proofs.serve.take_turns.Goals as goal
+use Rattle.wf_node_command.specs.Folder.{heard_in}
+use Rattle.wf_store.specs.Call.{Call}
+
+pub returns-clause-on : goal.returns-clause-on
+returns-clause-on g c =
+    let begun = subst (λ (calls : List Call). IsHeardFirst (heard_in calls) c.args.hub) (sym c.new-folder.ensures.same) c.requires.heard in
+    let heard = subst (λ (calls : List Call). IsHeardFirst (heard_in calls) c.go_on.new.hub) (sym c.close.ensures.same) (c.go_on.ensures.heard begun) in
+    lived_on g.S.Tape.Tape c.args.hub c.go_on.new.hub _ c.go_on.ensures.lived c.go_on.ensures.answered c.go_on.ensures.earlier heard
