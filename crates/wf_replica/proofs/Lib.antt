@@ -5,3 +5,4 @@ pub mod Completion
 pub mod Reported
 pub mod Digested
 pub mod Fitting
+pub mod Recorded

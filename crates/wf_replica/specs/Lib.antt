@@ -1,6 +1,7 @@
 pub mod Questions
 pub mod Refusals
 pub mod FarmFile
+pub mod Recorded
 pub mod Fit
 pub mod Follower
 pub mod Growth

@@ -24,8 +24,8 @@ abbrev pub IsSilentSince : Option ℕ → ℕ → Type 0
 IsSilentSince None now = ⊥
 IsSilentSince (Some since) now = silence ≤ now - since
 
-abbrev pub IsSilent : Asking → ℕ → Type 0
-IsSilent a now = IsSilentSince a.asked now
+abbrev pub IsSourceSilent : Asking → ℕ → Type 0
+IsSourceSilent a now = IsSilentSince a.asked now
 
 -- the next source, after a rest
 abbrev pub passed_on : ℕ → Asking → Asking

@@ -10,12 +10,12 @@ ghost use Rattle.wf_model.specs.Message.{Chosen};
 ghost use Rattle.wf_replica.specs.Fit.{IsQuestionOf};
 ghost use Rattle.wf_replica.specs.Follower.{Grows, Learns, answers_of, received_by, list_of};
 ghost use Rattle.wf_replica.specs.LearnedList.{learned, messages_of, numbered};
+ghost use Rattle.wf_replica.specs.Recorded.{HasAppended, HasStayedOrGone, IsRecorded};
 ghost use Rattle.wf_wms.specs.CachedPictures.{AllCached, most_cached};
 
 use crate::follower::Follower;
 use crate::record::record_bytes;
 use crate::shelf::Shelf;
-use http_server::Log;
 use std::alloc::{AllocError, Global};
 use wf_ballot::Slot;
 use wf_canon::Canon;
@@ -23,26 +23,28 @@ use wf_codec::Message;
 use wf_digest::Digests;
 use wf_folder::FarmName;
 use wf_learner::History;
+use wf_past::Past;
 use wf_reader::Question;
 use wf_tape::Tape;
 use wf_wms::Cache;
 
 impl<T: Tape + Drop> Follower<T> {
-    /// A replica that has learned nothing, with room for so many pictures. The only error is allocation failure; the tape is dropped.
-    #[tactic(auto, unfolding(crate::specs::LearnedList::learned))]
-    pub(crate) fn new(alloc: Global, tape: Option<T>, pictures: usize) -> Result<Self, AllocError>
+    /// A replica that has learned nothing, without a tape, with room for so many pictures. The only error is allocation failure.
+    #[tactic(auto, using(crate::proofs::Recorded::recorded_bare), unfolding(crate::specs::LearnedList::learned))]
+    pub(crate) fn new(alloc: Global, pictures: usize) -> Result<Self, AllocError>
         requires least { 1 ≤ pictures }
         requires most { pictures ≤ most_cached }
-        ensures { IfOk result (λ follower. list_of follower ≡ []) }
+        ensures list { IfOk result (λ follower. list_of follower ≡ []) }
+        ensures bare { IfOk result (λ follower. follower.tape ≡ None) }
     {
         let digests = Digests::new(alloc)?;
         let shelf = Shelf::new(alloc, pictures)?;
         Ok(Follower {
             shelf,
             digests,
-            tape,
-            received: Log::new(),
-            answers: Log::new(),
+            tape: None,
+            received: Past::new(),
+            answers: Past::new(),
         })
     }
 
@@ -81,9 +83,10 @@ impl<T: Tape + Drop> Follower<T> {
         self.tape.is_some()
     }
 
-    /// What it has learned is what it heard, always. The call does nothing.
+    /// What it has learned is what it heard, and its tape has the records of that, always. The call does nothing.
     pub fn always_learned(&self)
-        ensures { learned [] (received_by self.now) ≡ list_of self.now }
+        ensures learned { learned [] (received_by self.now) ≡ list_of self.now }
+        ensures recorded { IsRecorded T.Tape self.now.tape (list_of self.now) }
     {
         let _ = &self.received;
     }
@@ -108,6 +111,7 @@ impl<T: Tape + Drop> Follower<T> {
     /// Learns definitions that are chosen for the next sequences, in their order, and writes them on its tape, which is synced before they
     /// are published. The only error is allocation failure: some of them, from the first on, may have been learned. Once the last
     /// sequence is published nothing more is learned. Where the tape fails the replica goes on without it.
+    #[tactic(auto, using(crate::proofs::Recorded::recorded_still))]
     pub(crate) fn learn(&mut self, alloc: Global, definitions: &[Canon]) -> Result<(), AllocError>
         ensures learns { (k : ℕ) × Learns k self.old self.new definitions.now }
         ensures all { OnOk result (list_of self.new ≡ take last_sequence (list_of self.old ++ definitions.now)) }
@@ -139,7 +143,9 @@ impl<T: Tape + Drop> Follower<T> {
         }
     }
 
-    /// Learns the definition of the next sequence, and appends it to its tape. An allocation failure changes nothing.
+    /// Learns the definition of the next sequence, and appends it to its tape. An allocation failure changes nothing: the tape gets the
+    /// record only once the map is learned.
+    #[tactic(auto, using(crate::proofs::Recorded::recorded_bare, crate::proofs::Recorded::recorded_more, crate::proofs::Recorded::recorded_same))]
     fn learn_at(&mut self, alloc: Global, slot: Slot, definition: &Canon) -> Result<(), AllocError>
         requires { slot ≡ next_of (list_of self.old) }
         ensures received { OnOk result (received_by self.new ≡ received_by self.old ++ Chosen slot definition.now ∷ []) }
@@ -149,14 +155,24 @@ impl<T: Tape + Drop> Follower<T> {
     {
         let bytes = record_bytes(alloc, slot, definition)?;
         let message = Message::Chosen(slot, definition.copy()?);
-        self.receive(message)?;
-        append(&mut self.tape, &bytes);
-        Ok(())
+        let tape = self.tape.take();
+        match self.receive(message) {
+            Ok(()) => {
+                self.tape = appended(tape, &bytes);
+                Ok(())
+            }
+            Err(error) => {
+                self.tape = tape;
+                Err(error)
+            }
+        }
     }
 
-    /// Hears a message. An allocation failure changes nothing.
-    #[tactic(auto, using(crate::proofs::Received::learned_more, crate::proofs::Received::messages_more))]
+    /// Hears a message, without a tape: the caller has that. An allocation failure changes nothing.
+    #[tactic(auto, using(crate::proofs::Received::learned_more, crate::proofs::Received::messages_more, crate::proofs::Recorded::recorded_bare))]
     pub(crate) fn receive(&mut self, message: Message) -> Result<(), AllocError>
+        requires { self.old.tape ≡ None }
+        ensures bare { self.new.tape ≡ None }
         ensures received { OnOk result (received_by self.new ≡ received_by self.old ++ view message ∷ []) }
         ensures list { OnOk result (list_of self.new ≡ after_learning (list_of self.old) (view message)) }
         ensures same_received { OnErr result (received_by self.new ≡ received_by self.old) }
@@ -170,18 +186,26 @@ impl<T: Tape + Drop> Follower<T> {
     }
 }
 
-/// Appends bytes to a tape, which is dropped if it fails.
-fn append<T: Tape + Drop>(tape: &mut Option<T>, bytes: &[u8]) {
-    if let Some(mut held) = tape.take() {
-        match held.append(bytes) {
-            Ok(()) => *tape = Some(held),
-            Err(_) => drop(held),
-        }
+/// A tape with these bytes behind what it had. None: there was none, or it fails, and is dropped.
+fn appended<T: Tape + Drop>(tape: Option<T>, bytes: &[u8]) -> Option<T>
+    ensures { T.durable → HasAppended T.Tape bytes.now tape result }
+{
+    match tape {
+        Some(mut held) => match held.append(bytes) {
+            Ok(()) => Some(held),
+            Err(_) => {
+                drop(held);
+                None
+            }
+        },
+        None => None,
     }
 }
 
 /// Syncs a tape, which is dropped if it fails.
-fn sync<T: Tape + Drop>(tape: &mut Option<T>) {
+fn sync<T: Tape + Drop>(tape: &mut Option<T>)
+    ensures { T.durable → HasStayedOrGone T.Tape tape.old tape.new }
+{
     if let Some(mut held) = tape.take() {
         match held.sync() {
             Ok(()) => *tape = Some(held),

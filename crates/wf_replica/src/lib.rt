@@ -10,6 +10,8 @@
 //! - Its list is what it heard, message after message, as `wf_career`'s `Replica` learns them ([`Follower::always_learned`]). So it
 //! never
 //!   goes back ([`a_replica_never_goes_back`]).
+//! - A durable tape of it has exactly the records of its list, in their order (`specs/Recorded.antt`): a map is learned before its record
+//!   is written. A replica begins with all that its tape has, in its order; only a tape that has something else begins anew.
 //! - What an answer at a readers' port says is what a node answers when it is asked for the next definition ([`answers_report`]). Where it hears
 //!   only such answers, of processes of a farm or of their replicas, its list is at each moment one of which `wf_career`'s `replicas_agree`
 //!   says that all are beginnings of one history ([`what_is_learned_is_served`], [`what_is_learned_agrees`]).

@@ -1,7 +1,7 @@
 //! Whom a replica asks, and when.
 ghost use Rattle.std.specs.Prelude.{◌≡◌, ◌≤◌, ◌<◌, ◌+◌, ◌-◌, ◌%◌, ◌↔◌, IsTrue, Some, None, false, true};
 ghost use Rattle.wf_timing.specs.Moment.{later};
-ghost use Rattle.wf_replica.specs.Questions.{IsAsking, IsSilent, left_until, passed_on, rest, turn};
+ghost use Rattle.wf_replica.specs.Questions.{IsAsking, IsSourceSilent, left_until, passed_on, rest, turn};
 
 use wf_timing::Alarm;
 
@@ -61,7 +61,7 @@ impl Asking {
 
     /// Whether the source was silent for too long, since it was asked.
     pub fn is_silent(self, now: u64) -> bool
-        ensures { IsTrue result ↔ IsSilent self now }
+        ensures { IsTrue result ↔ IsSourceSilent self now }
     {
         match self.asked {
             Some(since) => SILENCE_MILLIS <= now.saturating_sub(since),

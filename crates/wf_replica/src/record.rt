@@ -1,7 +1,8 @@
 //! The record of a published definition, as it is on tapes.
 
 ghost use Rattle.std.specs.Prelude.{◌≡◌, ◌+◌, ◌≤◌, ◌++◌, length, vec_len, vec_capacity, IfOk};
-ghost use Rattle.wf_journal.specs.Encoding.{spelling};
+ghost use Rattle.wf_journal.specs.Encoding.{Spells, spelling};
+ghost use Rattle.wf_journal.specs.Record.{IsRecord};
 ghost use Rattle.wf_model.specs.DurableState.{Published};
 ghost use Rattle.wf_spelling.specs.Canon.{canon};
 
@@ -19,8 +20,10 @@ pub(crate) fn record_bytes(
     slot: Slot,
     definition: &Canon,
 ) -> Result<Vec<u8>, AllocError>
-    ensures { IfOk result (λ bytes. bytes.items ≡ spelling (Published slot definition.now)) }
+    ensures { IfOk result (λ bytes. Spells (Published slot definition.now) bytes.items) }
 {
+    // A slot and a canonical text are within the limits of records.
+    let _ = slot.number();
     let text = definition.text();
     let length = text.len() as u32 + 2;
     let mut bytes = Vec::new(alloc);

@@ -1,5 +1,5 @@
 -- A replica goes on from step to step.
-use Rattle.std.proofs.Common.{◌≡◌, ◌∙◌, ℕ, List, [], ◌++◌, refl, sym, ap, append_assoc, append-nil}
+use Rattle.std.proofs.Common.{◌≡◌, ◌∙◌, List, [], ◌++◌, refl, sym, ap, append_assoc, append-nil}
 use Rattle.wf_def.specs.Definition.{Definition}
 use Rattle.wf_model.specs.Message.{Message}
 use Rattle.wf_replica.specs.Follower.{Grows, IsSame, answers_of, list_of, received_by}

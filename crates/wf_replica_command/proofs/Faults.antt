@@ -1,8 +1,11 @@
 -- From the error of a part to that of the command, and from a hub to what it has served.
 use Rattle.std.proofs.Common.{◌≡◌, ◌∙◌, ℕ, List, [], ap, refl, subst}
-use Rattle.std.specs.Prelude.{Some, Result, Ok, Err, length, option_map, take}
+use Rattle.std.proofs.lemmas.Option.{none-some}
+use Rattle.std.specs.Prelude.{Option, Some, Result, Ok, Err, length, option_map}
+use Rattle.std.specs.declared.net.socket_addr.SocketAddr.{SocketAddr}
 use Rattle.std.proofs.Math.Seq.{take-length}
-use Rattle.wf_address.specs.Address.{IsNoAddress, words_of, IsListFault}
+use Rattle.wf_address.specs.Address.{IsNoAddress, IsSpelledBy, words_of, IsListFault}
+use Rattle.wf_address.specs.declared.address_option.AddressOption.{AddressOption}
 use Rattle.wf_address.specs.declared.address_option.AddressOption.TheVariants as options
 use Rattle.wf_address.specs.declared.list.ListFault.{ListFault}
 use Rattle.wf_address.specs.declared.list.ListFault.TheVariants as lists
@@ -14,13 +17,15 @@ use Rattle.wf_model.specs.Message.{Message}
 use Rattle.wf_reader.specs.declared.rejection.QuestionRejection.{QuestionRejection}
 use Rattle.wf_replica.specs.Theorems.{AreReported, LearnedAreServed}
 use Rattle.wf_replica.specs.LearnedList.{learned}
-use Rattle.wf_replica_command.specs.Done.{HasServed, IsDone, IsEnd}
-use Rattle.wf_replica_command.specs.Fault.{IsFromSystem, IsReplicaFault, fault_of}
+use Rattle.wf_replica_command.specs.Done.{HasServed, IsDone, IsEnd, IsServedUntil}
+use Rattle.wf_replica_command.specs.Fault.{IsFromSystem, IsOfFolder, IsPlanOf, IsReplicaFault, IsAddressTaken, plan_address, fault_of, value_of}
 use Rattle.wf_replica_command.specs.Heard.{Hears}
-use Rattle.wf_replica_command.specs.ReplicaHub.{HasAnswered, HasHeardNothing, HasLived, HasStayed, IsOfFarm, IsRefused, follower_of}
+use Rattle.wf_replica_command.specs.ReplicaHub.{HasAnswered, HasHeardNothing, HasLived, HasStayed, IsOfFarm, IsOnTape, IsRefused, follower_of}
 use Rattle.wf_replica_command.specs.declared.fault.ReplicaFault.{ReplicaFault}
 use Rattle.wf_replica_command.specs.declared.fault.ReplicaFault.TheVariants as faults
 use Rattle.wf_replica_command.specs.declared.hub.ReplicaHub.{ReplicaHub}
+use Rattle.wf_replica_command.specs.declared.hub.Turn.TheVariants as turns
+use Rattle.wf_replica_command.specs.declared.plan.ReplicaPlan.{ReplicaPlan}
 use Rattle.wf_tape.specs.declared.tape.Tape.{Ghosts as Tape}
 
 -- ---- the command line
@@ -39,102 +44,178 @@ bad_admin line bad = record { word = bad.0; is = bad.1; bad = bad.2 }
 pub bad_readers : (line : ReplicaLine) → (text : List ℕ) × (option_map (λ w. w.now) line.readers ≡ Some text) × IsNoAddress text → IsReplicaFault line (faults.BadAddress options.Readers)
 bad_readers line bad = record { word = bad.0; is = bad.1; bad = bad.2 }
 
+-- ---- addresses that are taken
+
+pub http_taken : (plan : ReplicaPlan) (fault : ReplicaFault) → IsAddressTaken options.Http (Some plan.http) fault → IsFromSystem plan fault
+http_taken plan (faults.BadPeer index) is = absurd is
+http_taken plan (faults.PeerCount count) is = absurd is
+http_taken plan (faults.BadAddress option) is = absurd is
+http_taken plan faults.Name is = absurd is
+http_taken plan (faults.Folder why) is = absurd is
+http_taken plan faults.NotEmpty is = absurd is
+http_taken plan faults.Version is = absurd is
+http_taken plan faults.Kind is = absurd is
+http_taken plan faults.OtherFarm is = absurd is
+http_taken plan faults.Poll is = absurd is
+http_taken plan (faults.Taken option address) is = ap (plan_address plan) is.0 ∙ is.1
+http_taken plan faults.Memory is = absurd is
+http_taken plan (faults.Ended why) is = absurd is
+
+pub admin_taken : (plan : ReplicaPlan) (fault : ReplicaFault) → IsAddressTaken options.Admin plan.admin fault → IsFromSystem plan fault
+admin_taken plan (faults.BadPeer index) is = absurd is
+admin_taken plan (faults.PeerCount count) is = absurd is
+admin_taken plan (faults.BadAddress option) is = absurd is
+admin_taken plan faults.Name is = absurd is
+admin_taken plan (faults.Folder why) is = absurd is
+admin_taken plan faults.NotEmpty is = absurd is
+admin_taken plan faults.Version is = absurd is
+admin_taken plan faults.Kind is = absurd is
+admin_taken plan faults.OtherFarm is = absurd is
+admin_taken plan faults.Poll is = absurd is
+admin_taken plan (faults.Taken option address) is = ap (plan_address plan) is.0 ∙ is.1
+admin_taken plan faults.Memory is = absurd is
+admin_taken plan (faults.Ended why) is = absurd is
+
+pub readers_taken : (plan : ReplicaPlan) (fault : ReplicaFault) → IsAddressTaken options.Readers plan.readers fault → IsFromSystem plan fault
+readers_taken plan (faults.BadPeer index) is = absurd is
+readers_taken plan (faults.PeerCount count) is = absurd is
+readers_taken plan (faults.BadAddress option) is = absurd is
+readers_taken plan faults.Name is = absurd is
+readers_taken plan (faults.Folder why) is = absurd is
+readers_taken plan faults.NotEmpty is = absurd is
+readers_taken plan faults.Version is = absurd is
+readers_taken plan faults.Kind is = absurd is
+readers_taken plan faults.OtherFarm is = absurd is
+readers_taken plan faults.Poll is = absurd is
+readers_taken plan (faults.Taken option address) is = ap (plan_address plan) is.0 ∙ is.1
+readers_taken plan faults.Memory is = absurd is
+readers_taken plan (faults.Ended why) is = absurd is
+
+-- the address that an option of a plan has is the one that the line's word spells
+spelled : (line : ReplicaLine) (plan : ReplicaPlan) (option : AddressOption) (address : SocketAddr) → IsPlanOf line plan → plan_address plan option ≡ Some address →
+    IsSpelledBy (value_of line option) (Some address)
+spelled line plan options.Http address planned has = subst (λ (a : Option SocketAddr). IsSpelledBy (value_of line options.Http) a) has planned.http
+spelled line plan options.Readers address planned has = subst (λ (a : Option SocketAddr). IsSpelledBy (value_of line options.Readers) a) has planned.readers
+spelled line plan options.Admin address planned has = subst (λ (a : Option SocketAddr). IsSpelledBy (value_of line options.Admin) a) has planned.admin
+spelled line plan options.Listen address planned has = absurd (none-some address has)
+
 -- ---- what the system causes
 
-pub system_fault : (line : ReplicaLine) (fault : ReplicaFault) → IsFromSystem fault → IsReplicaFault line fault
-system_fault line (faults.BadPeer index) is = absurd is
-system_fault line (faults.PeerCount count) is = absurd is
-system_fault line (faults.BadAddress option) is = absurd is
-system_fault line faults.Name is = absurd is
-system_fault line faults.NoFolder is = tt
-system_fault line faults.Held is = tt
-system_fault line faults.NotEmpty is = tt
-system_fault line faults.Version is = tt
-system_fault line faults.Kind is = tt
-system_fault line faults.OtherFarm is = tt
-system_fault line (faults.Unread kind) is = tt
-system_fault line (faults.Unwritten kind) is = tt
-system_fault line faults.Poll is = tt
-system_fault line (faults.Taken option) is = is
-system_fault line faults.Memory is = tt
-system_fault line (faults.Ended why) is = absurd is
+of_folder : (plan : ReplicaPlan) (fault : ReplicaFault) → IsOfFolder fault → IsFromSystem plan fault
+of_folder plan (faults.BadPeer index) is = absurd is
+of_folder plan (faults.PeerCount count) is = absurd is
+of_folder plan (faults.BadAddress option) is = absurd is
+of_folder plan faults.Name is = absurd is
+of_folder plan (faults.Folder why) is = tt
+of_folder plan faults.NotEmpty is = tt
+of_folder plan faults.Version is = tt
+of_folder plan faults.Kind is = tt
+of_folder plan faults.OtherFarm is = tt
+of_folder plan faults.Poll is = absurd is
+of_folder plan (faults.Taken option address) is = absurd is
+of_folder plan faults.Memory is = tt
+of_folder plan (faults.Ended why) is = absurd is
+
+system_fault : (line : ReplicaLine) (plan : ReplicaPlan) (fault : ReplicaFault) → IsPlanOf line plan → IsFromSystem plan fault → IsReplicaFault line fault
+system_fault line plan (faults.BadPeer index) planned is = absurd is
+system_fault line plan (faults.PeerCount count) planned is = absurd is
+system_fault line plan (faults.BadAddress option) planned is = absurd is
+system_fault line plan faults.Name planned is = absurd is
+system_fault line plan (faults.Folder why) planned is = tt
+system_fault line plan faults.NotEmpty planned is = tt
+system_fault line plan faults.Version planned is = tt
+system_fault line plan faults.Kind planned is = tt
+system_fault line plan faults.OtherFarm planned is = tt
+system_fault line plan faults.Poll planned is = tt
+system_fault line plan (faults.Taken option address) planned is = spelled line plan option address planned is
+system_fault line plan faults.Memory planned is = tt
+system_fault line plan (faults.Ended why) planned is = absurd is
+
+folder_fault : (line : ReplicaLine) (fault : ReplicaFault) → IsOfFolder fault → IsReplicaFault line fault
+folder_fault line (faults.BadPeer index) is = absurd is
+folder_fault line (faults.PeerCount count) is = absurd is
+folder_fault line (faults.BadAddress option) is = absurd is
+folder_fault line faults.Name is = absurd is
+folder_fault line (faults.Folder why) is = tt
+folder_fault line faults.NotEmpty is = tt
+folder_fault line faults.Version is = tt
+folder_fault line faults.Kind is = tt
+folder_fault line faults.OtherFarm is = tt
+folder_fault line faults.Poll is = absurd is
+folder_fault line (faults.Taken option address) is = absurd is
+folder_fault line faults.Memory is = tt
+folder_fault line (faults.Ended why) is = absurd is
 
 module _ {T : Type 0} (tapes : Tape T) where
-  -- a word of the command line is bad
+  -- a word of the command line is bad, or the system failed
   pub not_begun : (line : ReplicaLine) (fault : ReplicaFault) → IsReplicaFault line fault → IsDone tapes line (Err fault)
   not_begun line (faults.BadPeer index) is = is
   not_begun line (faults.PeerCount count) is = is
   not_begun line (faults.BadAddress option) is = is
   not_begun line faults.Name is = is
-  not_begun line faults.NoFolder is = is
-  not_begun line faults.Held is = is
+  not_begun line (faults.Folder why) is = is
   not_begun line faults.NotEmpty is = is
   not_begun line faults.Version is = is
   not_begun line faults.Kind is = is
   not_begun line faults.OtherFarm is = is
-  not_begun line (faults.Unread kind) is = is
-  not_begun line (faults.Unwritten kind) is = is
   not_begun line faults.Poll is = is
-  not_begun line (faults.Taken option) is = is
+  not_begun line (faults.Taken option address) is = is
   not_begun line faults.Memory is = is
   not_begun line (faults.Ended why) is = absurd is
 
-  pub not_served : (line : ReplicaLine) (fault : ReplicaFault) → IsFromSystem fault → IsDone tapes line (Err fault)
-  not_served line fault is = not_begun line fault (system_fault line fault is)
+  pub folder_done : (line : ReplicaLine) (fault : ReplicaFault) → IsOfFolder fault → IsDone tapes line (Err fault)
+  folder_done line fault is = not_begun line fault (folder_fault line fault is)
 
-  pub ended_so : (line : ReplicaLine) (result : Result (Unit {0}) ReplicaFault) → IsEnd tapes result → IsDone tapes line result
-  ended_so line (Ok done) is = is
-  ended_so line (Err (faults.Ended why)) is = is
-  ended_so line (Err (faults.BadPeer index)) is = absurd is
-  ended_so line (Err (faults.PeerCount count)) is = absurd is
-  ended_so line (Err (faults.BadAddress option)) is = absurd is
-  ended_so line (Err faults.Name) is = absurd is
-  ended_so line (Err faults.NoFolder) is = tt
-  ended_so line (Err faults.Held) is = tt
-  ended_so line (Err faults.NotEmpty) is = tt
-  ended_so line (Err faults.Version) is = tt
-  ended_so line (Err faults.Kind) is = tt
-  ended_so line (Err faults.OtherFarm) is = tt
-  ended_so line (Err (faults.Unread kind)) is = tt
-  ended_so line (Err (faults.Unwritten kind)) is = tt
-  ended_so line (Err faults.Poll) is = tt
-  ended_so line (Err (faults.Taken option)) is = is
-  ended_so line (Err faults.Memory) is = tt
+  pub ended_so : (line : ReplicaLine) (plan : ReplicaPlan) (result : Result (Unit {0}) ReplicaFault) → IsPlanOf line plan → IsEnd tapes plan result → IsDone tapes line result
+  ended_so line plan (Ok done) planned is = is
+  ended_so line plan (Err (faults.Ended why)) planned is = is
+  ended_so line plan (Err (faults.BadPeer index)) planned is = not_begun line (faults.BadPeer index) (system_fault line plan (faults.BadPeer index) planned is)
+  ended_so line plan (Err (faults.PeerCount count)) planned is = not_begun line (faults.PeerCount count) (system_fault line plan (faults.PeerCount count) planned is)
+  ended_so line plan (Err (faults.BadAddress option)) planned is = not_begun line (faults.BadAddress option) (system_fault line plan (faults.BadAddress option) planned is)
+  ended_so line plan (Err faults.Name) planned is = not_begun line faults.Name (system_fault line plan faults.Name planned is)
+  ended_so line plan (Err (faults.Folder why)) planned is = not_begun line (faults.Folder why) (system_fault line plan (faults.Folder why) planned is)
+  ended_so line plan (Err faults.NotEmpty) planned is = not_begun line faults.NotEmpty (system_fault line plan faults.NotEmpty planned is)
+  ended_so line plan (Err faults.Version) planned is = not_begun line faults.Version (system_fault line plan faults.Version planned is)
+  ended_so line plan (Err faults.Kind) planned is = not_begun line faults.Kind (system_fault line plan faults.Kind planned is)
+  ended_so line plan (Err faults.OtherFarm) planned is = not_begun line faults.OtherFarm (system_fault line plan faults.OtherFarm planned is)
+  ended_so line plan (Err faults.Poll) planned is = not_begun line faults.Poll (system_fault line plan faults.Poll planned is)
+  ended_so line plan (Err (faults.Taken option address)) planned is = not_begun line (faults.Taken option address) (system_fault line plan (faults.Taken option address) planned is)
+  ended_so line plan (Err faults.Memory) planned is = not_begun line faults.Memory (system_fault line plan faults.Memory planned is)
 
-  pub never_begun : (fault : ReplicaFault) → IsFromSystem fault → IsEnd tapes (Err fault)
-  never_begun (faults.BadPeer index) is = is
-  never_begun (faults.PeerCount count) is = is
-  never_begun (faults.BadAddress option) is = is
-  never_begun faults.Name is = is
-  never_begun faults.NoFolder is = is
-  never_begun faults.Held is = is
-  never_begun faults.NotEmpty is = is
-  never_begun faults.Version is = is
-  never_begun faults.Kind is = is
-  never_begun faults.OtherFarm is = is
-  never_begun (faults.Unread kind) is = is
-  never_begun (faults.Unwritten kind) is = is
-  never_begun faults.Poll is = is
-  never_begun (faults.Taken option) is = is
-  never_begun faults.Memory is = is
-  never_begun (faults.Ended why) is = absurd is
+  pub never_begun : (plan : ReplicaPlan) (fault : ReplicaFault) → IsFromSystem plan fault → IsEnd tapes plan (Err fault)
+  never_begun plan (faults.BadPeer index) is = is
+  never_begun plan (faults.PeerCount count) is = is
+  never_begun plan (faults.BadAddress option) is = is
+  never_begun plan faults.Name is = is
+  never_begun plan (faults.Folder why) is = is
+  never_begun plan faults.NotEmpty is = is
+  never_begun plan faults.Version is = is
+  never_begun plan faults.Kind is = is
+  never_begun plan faults.OtherFarm is = is
+  never_begun plan faults.Poll is = is
+  never_begun plan (faults.Taken option address) is = is
+  never_begun plan faults.Memory is = is
+  never_begun plan (faults.Ended why) is = absurd is
+
+  pub folder_ended : (plan : ReplicaPlan) (fault : ReplicaFault) → IsOfFolder fault → IsEnd tapes plan (Err fault)
+  folder_ended plan fault is = never_begun plan fault (of_folder plan fault is)
 
   -- ---- what was served
 
-  has_served : (begun hub : ReplicaHub T tapes) → HasHeardNothing tapes begun → Hears begun.asker (follower_of begun) hub.asker (follower_of hub) → HasLived tapes hub → IsOfFarm tapes hub →
+  has_served : (begun hub : ReplicaHub T tapes) → HasHeardNothing tapes begun → Hears begun.asker (follower_of begun) hub.asker (follower_of hub) → HasLived tapes hub → IsOnTape tapes hub → IsOfFarm tapes hub →
       HasAnswered tapes hub → HasStayed tapes hub → HasServed tapes
-  has_served begun hub unheard heard lived of_farm answered stayed =
-      record { begun = begun; unheard = unheard; hub = hub; heard = heard; lived = lived; of_farm = of_farm; answered = answered; stayed = stayed }
+  has_served begun hub unheard heard lived recorded of_farm answered stayed =
+      record { begun = begun; unheard = unheard; hub = hub; heard = heard; lived = lived; recorded = recorded; of_farm = of_farm; answered = answered; stayed = stayed }
 
-  pub served_to_the_end : (begun hub : ReplicaHub T tapes) → HasHeardNothing tapes begun → Hears begun.asker (follower_of begun) hub.asker (follower_of hub) → HasLived tapes hub → IsOfFarm tapes hub →
-      HasAnswered tapes hub → HasStayed tapes hub → IsEnd tapes (Ok tt)
-  served_to_the_end begun hub unheard heard lived of_farm answered stayed = has_served begun hub unheard heard lived of_farm answered stayed
+  pub served_to_the_end : (begun hub : ReplicaHub T tapes) → HasHeardNothing tapes begun → Hears begun.asker (follower_of begun) hub.asker (follower_of hub) → HasLived tapes hub → IsOnTape tapes hub → IsOfFarm tapes hub →
+      HasAnswered tapes hub → HasStayed tapes hub → IsServedUntil tapes turns.On
+  served_to_the_end begun hub unheard heard lived recorded of_farm answered stayed = has_served begun hub unheard heard lived recorded of_farm answered stayed
 
   pub served_until : (why : QuestionRejection) (begun hub : ReplicaHub T tapes) → HasHeardNothing tapes begun → Hears begun.asker (follower_of begun) hub.asker (follower_of hub) → HasLived tapes hub →
-      IsOfFarm tapes hub → HasAnswered tapes hub → HasStayed tapes hub → IsRefused tapes hub → IsEnd tapes (Err (faults.Ended why))
+      IsOnTape tapes hub → IsOfFarm tapes hub → HasAnswered tapes hub → HasStayed tapes hub → IsRefused tapes hub → IsServedUntil tapes (turns.Ended why)
   unfolding has_served
-  served_until why begun hub unheard heard lived of_farm answered stayed refused =
-      record { served = has_served begun hub unheard heard lived of_farm answered stayed; refused = refused }
+  served_until why begun hub unheard heard lived recorded of_farm answered stayed refused =
+      record { served = has_served begun hub unheard heard lived recorded of_farm answered stayed; refused = refused }
 
 -- what was learned of answers of a farm is one of its lists
 pub of_farm : {T : Type 0} (list : List Definition) (received : List (Message Definition)) → LearnedAreServed T → learned [] received ≡ list →

@@ -4,3 +4,4 @@ mod Continuation
 mod Order
 mod Hearing
 mod Noting
+mod Starting

@@ -3,21 +3,26 @@ use Rattle.std.specs.Prelude.{ℕ, Result, Ok, Err}
 use Rattle.wf_line.specs.declared.replica_line.ReplicaLine.{ReplicaLine}
 use Rattle.wf_replica_command.specs.Fault.{IsFromSystem, IsReplicaFault, fault_status}
 use Rattle.wf_replica_command.specs.Heard.{Hears}
-use Rattle.wf_replica_command.specs.ReplicaHub.{HasAnswered, HasHeardNothing, HasLived, HasStayed, IsOfFarm, IsRefused, follower_of}
+use Rattle.wf_replica_command.specs.ReplicaHub.{HasAnswered, HasHeardNothing, HasLived, HasStayed, IsOfFarm, IsOnTape, IsRefused, follower_of}
 use Rattle.wf_replica_command.specs.declared.fault.ReplicaFault.{ReplicaFault}
 use Rattle.wf_replica_command.specs.declared.fault.ReplicaFault.TheVariants as faults
 use Rattle.wf_replica_command.specs.declared.hub.ReplicaHub.{ReplicaHub}
+use Rattle.wf_replica_command.specs.declared.hub.Turn.{Turn}
+use Rattle.wf_replica_command.specs.declared.hub.Turn.TheVariants as turns
+use Rattle.wf_replica_command.specs.declared.plan.ReplicaPlan.{ReplicaPlan}
 use Rattle.wf_tape.specs.declared.tape.Tape.{Ghosts as Tape}
 
 module _ {T : Type 0} (tapes : Tape T) where
   -- It has served. From the list with which it began it went on by what it heard of its sources, and by nothing else; its list is what it
-  -- heard, which is the farm's if all that it heard was; each client was answered from the list as it then was; and the list never went back.
+  -- heard, which is the farm's if all that it heard was, and what its tape has; each client was answered from the list as it then was; and
+  -- the list never went back.
   pub record HasServed : Type 0 where
     pub begun : ReplicaHub T tapes
     pub unheard : HasHeardNothing tapes begun
     pub hub : ReplicaHub T tapes
     pub heard : Hears begun.asker (follower_of begun) hub.asker (follower_of hub)
     pub lived : HasLived tapes hub
+    pub recorded : IsOnTape tapes hub
     pub of_farm : IsOfFarm tapes hub
     pub answered : HasAnswered tapes hub
     pub stayed : HasStayed tapes hub
@@ -27,11 +32,16 @@ module _ {T : Type 0} (tapes : Tape T) where
     pub served : HasServed
     pub refused : IsRefused tapes served.hub
 
+  -- how the turns of a replica ended
+  abbrev pub IsServedUntil : Turn → Type 0
+  IsServedUntil turns.On = HasServed
+  IsServedUntil (turns.Ended why) = IsEndedBySources
+
   -- how a replica ended that could begin
-  abbrev pub IsEnd : Result (Unit {0}) ReplicaFault → Type 0
-  IsEnd (Ok done) = HasServed
-  IsEnd (Err (faults.Ended why)) = IsEndedBySources
-  IsEnd (Err fault) = IsFromSystem fault
+  abbrev pub IsEnd : ReplicaPlan → Result (Unit {0}) ReplicaFault → Type 0
+  IsEnd plan (Ok done) = HasServed
+  IsEnd plan (Err (faults.Ended why)) = IsEndedBySources
+  IsEnd plan (Err fault) = IsFromSystem plan fault
 
   -- what came of a command line
   abbrev pub IsDone : ReplicaLine → Result (Unit {0}) ReplicaFault → Type 0

@@ -1,14 +1,16 @@
 -- The exit status of an error, and what causes it.
 use Rattle.std.specs.Prelude.{◌≡◌, ◌<◌, ℕ, ⊤, List, Option, Some, None, length, option_map}
-use Rattle.wf_address.specs.Address.{IsFirstBad, IsNoAddress, words_of}
+use Rattle.std.specs.declared.net.socket_addr.SocketAddr.{SocketAddr}
+use Rattle.wf_address.specs.Address.{AreAddresses, IsFirstBad, IsNoAddress, IsSpelledBy, words_of}
 use Rattle.wf_address.specs.declared.address_option.AddressOption.{AddressOption}
 use Rattle.wf_address.specs.declared.address_option.AddressOption.TheVariants as options
 use Rattle.wf_address.specs.declared.list.ListFault.{ListFault}
 use Rattle.wf_address.specs.declared.list.ListFault.TheVariants as lists
-use Rattle.wf_folder.specs.Name.{IsNameText}
+use Rattle.wf_folder.specs.Name.{IsNameText, pad}
 use Rattle.wf_line.specs.declared.replica_line.ReplicaLine.{ReplicaLine}
 use Rattle.wf_replica_command.specs.declared.fault.ReplicaFault.{ReplicaFault}
 use Rattle.wf_replica_command.specs.declared.fault.ReplicaFault.TheVariants as faults
+use Rattle.wf_replica_command.specs.declared.plan.ReplicaPlan.{ReplicaPlan}
 
 -- 2 for a bad command line
 abbrev pub fault_status : ReplicaFault → ℕ
@@ -24,11 +26,6 @@ fault_of (lists.Bad index) = faults.BadPeer index
 fault_of (lists.Count count) = faults.PeerCount count
 fault_of lists.Memory = faults.Memory
 
--- a replica has this option: it has no peers that come to it
-abbrev pub IsReplicaOption : AddressOption → Type 0
-IsReplicaOption options.Listen = ⊥
-IsReplicaOption option = ⊤
-
 -- the value of an option, if it is given
 abbrev pub value_of : ReplicaLine → AddressOption → Option (List ℕ)
 value_of line options.Http = Some line.http.now
@@ -42,20 +39,52 @@ pub record IsBadOption (line : ReplicaLine) (option : AddressOption) : Type 0 wh
   pub is : value_of line option ≡ Some word
   pub bad : IsNoAddress word
 
--- The error is one that files, sockets or memory caused before the replica began.
-abbrev pub IsFromSystem : ReplicaFault → Type 0
-IsFromSystem (faults.BadPeer index) = ⊥
-IsFromSystem (faults.PeerCount count) = ⊥
-IsFromSystem (faults.BadAddress option) = ⊥
-IsFromSystem faults.Name = ⊥
-IsFromSystem (faults.Taken option) = IsReplicaOption option
-IsFromSystem (faults.Ended why) = ⊥
-IsFromSystem fault = ⊤
+-- ---- what a command line asks for
 
--- why a replica didn't begin: a word of its command line, or the system
+-- Each word of the line spells the plan's address, and the farm's name is the line's.
+pub record IsPlanOf (line : ReplicaLine) (plan : ReplicaPlan) : Type 0 where
+  pub farm : plan.farm ≡ pad line.farm.now
+  pub sources : AreAddresses (words_of line.peers.now) plan.sources.items
+  pub http : IsSpelledBy (value_of line options.Http) (Some plan.http)
+  pub admin : IsSpelledBy (value_of line options.Admin) plan.admin
+  pub readers : IsSpelledBy (value_of line options.Readers) plan.readers
+
+-- the address of an option in a plan, if it has one
+abbrev pub plan_address : ReplicaPlan → AddressOption → Option SocketAddr
+plan_address plan options.Http = Some plan.http
+plan_address plan options.Listen = None
+plan_address plan options.Readers = plan.readers
+plan_address plan options.Admin = plan.admin
+
+-- ---- why a replica didn't begin
+
+-- the address of an option is taken, or not permitted
+abbrev pub IsAddressTaken : AddressOption → Option SocketAddr → ReplicaFault → Type 0
+IsAddressTaken option address (faults.Taken taken at) = (taken ≡ option) × (address ≡ Some at)
+IsAddressTaken option address fault = ⊥
+
+-- the folder isn't this replica's, or a file of it or memory fails
+abbrev pub IsOfFolder : ReplicaFault → Type 0
+IsOfFolder (faults.Folder why) = ⊤
+IsOfFolder faults.NotEmpty = ⊤
+IsOfFolder faults.Version = ⊤
+IsOfFolder faults.Kind = ⊤
+IsOfFolder faults.OtherFarm = ⊤
+IsOfFolder faults.Memory = ⊤
+IsOfFolder fault = ⊥
+
+-- The error is one that files, sockets or memory caused before the replica began. An address that is taken is one of its own.
+abbrev pub IsFromSystem : ReplicaPlan → ReplicaFault → Type 0
+IsFromSystem plan faults.Poll = ⊤
+IsFromSystem plan (faults.Taken option address) = plan_address plan option ≡ Some address
+IsFromSystem plan fault = IsOfFolder fault
+
+-- a word of its command line, or the system; an address that is taken is the one that the option's word spells
 abbrev pub IsReplicaFault : ReplicaLine → ReplicaFault → Type 0
 IsReplicaFault line (faults.BadPeer index) = IsFirstBad (words_of line.peers.now) index
 IsReplicaFault line (faults.PeerCount count) = (count ≡ length (words_of line.peers.now)) × (64 < count)
 IsReplicaFault line (faults.BadAddress option) = IsBadOption line option
 IsReplicaFault line faults.Name = ¬ (IsNameText line.farm.now)
-IsReplicaFault line fault = IsFromSystem fault
+IsReplicaFault line faults.Poll = ⊤
+IsReplicaFault line (faults.Taken option address) = IsSpelledBy (value_of line option) (Some address)
+IsReplicaFault line fault = IsOfFolder fault

@@ -1,5 +1,5 @@
 -- What a replica heard of its sources, reply by reply, and what it made of that.
-use Rattle.std.specs.Prelude.{◌≡◌, ◌≢◌, ⊤, ℕ, Bool, true, List, [], ◌∷◌, ◌++◌, Option, Some, Result, slice_get}
+use Rattle.std.specs.Prelude.{◌≡◌, ◌≢◌, ⊤, ℕ, Bool, true, List, [], ◌∷◌, ◌++◌, Some, Result, slice_get}
 use Rattle.wf_def.specs.Definition.{Definition}
 use Rattle.wf_reader.specs.ReaderAnswer.{ReaderAnswer}
 use Rattle.wf_reader.specs.declared.question.Question.{Question}

@@ -5,3 +5,4 @@ pub mod Continuation
 pub mod ReplicaHub
 pub mod Heard
 pub mod Source
+pub mod Start

@@ -3,6 +3,7 @@ use Rattle.std.specs.Prelude.{◌≡◌, ℕ, [], true}
 use Rattle.wf_career.specs.Career.{Career}
 use Rattle.wf_career.specs.Replica.{IsServed}
 use Rattle.wf_replica.specs.Follower.{received_by, list_of}
+use Rattle.wf_replica.specs.Recorded.{IsRecorded}
 use Rattle.wf_replica.specs.Theorems.{AreReported}
 use Rattle.wf_replica.specs.LearnedList.{learned}
 use Rattle.wf_replica.specs.Refusals.{all_refuse}
@@ -27,6 +28,10 @@ HasLived tapes hub = learned [] (received_by (follower_of hub)) ≡ list_of (fol
 -- says that all are beginnings of one history.
 abbrev pub IsOfFarm : {T : Type 0} (tapes : Tape T) → ReplicaHub T tapes → Type 0
 IsOfFarm {T} tapes hub = (n : ℕ) (careers : ℕ → Career T) → AreReported n careers (received_by (follower_of hub)) → IsServed n careers (list_of (follower_of hub))
+
+-- its tape, if it has one that is durable, has the records of its list, in their order, and nothing else
+abbrev pub IsOnTape : {T : Type 0} (tapes : Tape T) → ReplicaHub T tapes → Type 0
+IsOnTape tapes hub = IsRecorded tapes (follower_of hub).tape (list_of (follower_of hub))
 
 -- each client that was answered was answered by the replica as it then was
 abbrev pub HasAnswered : {T : Type 0} (tapes : Tape T) → ReplicaHub T tapes → Type 0

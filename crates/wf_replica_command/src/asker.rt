@@ -6,8 +6,8 @@ ghost use Rattle.wf_replica.specs.Refusals.{all_refuse};
 
 use crate::asked::Asked;
 use crate::source::SourceConnection;
-use http_server::Log;
 use std::net::SocketAddr;
+use wf_past::Past;
 use wf_reader::{Answerer, QuestionRejection, Reply};
 use wf_replica::{Asking, Refusals};
 
@@ -21,7 +21,7 @@ pub(crate) struct Asker {
     // the one to which the connection is, and whether the log's last line about it says that it is asked
     pub(crate) of: usize,
     pub(crate) is_named: bool,
-    pub(crate) heard: Log<Reply, Asked>,
+    pub(crate) heard: Past<Reply, Asked>,
     pub(crate) refusals: Refusals,
     pub(crate) answerer: Answerer,
     pub(crate) received: u16,

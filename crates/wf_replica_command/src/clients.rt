@@ -3,16 +3,17 @@
 ghost use Rattle.std.specs.Prelude.{◌≡◌};
 ghost use Rattle.wf_replica.specs.Follower.{IsSame, received_by, list_of};
 ghost use Rattle.wf_replica.specs.LearnedList.{learned};
+ghost use Rattle.wf_replica.specs.Recorded.{IsRecorded};
 ghost use Rattle.wf_replica_command.specs.Answer.{AreAnswered, AreInOrder};
 ghost use Rattle.wf_replica_command.specs.Heard.{Hears};
 ghost use Rattle.wf_visitors.specs.Visitors.{responses_of};
 
 use crate::asker::Asker;
 use crate::renderer::Renderer;
-use http_server::Log as Past;
 use std::net::Net;
 use std::time::Clock;
 use wf_operator::PictureCounts;
+use wf_past::Past;
 use wf_replica::Follower;
 use wf_tape::Tape;
 use wf_visitors::{Context, Visitors};
@@ -50,10 +51,11 @@ impl<T: Tape + Drop> ReplicaClients<T> {
         }
     }
 
-    /// The replica's list is what it has heard, each client that was answered was answered from it, and it never went back, always. The call
-    /// does nothing.
+    /// The replica's list is what it has heard and what its tape has, each client that was answered was answered from it, and it never
+    /// went back, always. The call does nothing.
     pub(crate) fn always_served(&self)
         ensures lived { learned [] (received_by self.now.renderer.follower) ≡ list_of self.now.renderer.follower }
+        ensures recorded { IsRecorded T.Tape self.now.renderer.follower.tape (list_of self.now.renderer.follower) }
         ensures answered { ∥ AreAnswered T.Tape self.now.asked.items (responses_of self.now.visitors) ∥₁ }
         ensures in_order { ∥ AreInOrder T.Tape self.now.asked.items self.now.renderer.follower ∥₁ }
     {

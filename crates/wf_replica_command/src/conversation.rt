@@ -12,12 +12,12 @@ use crate::asked::Asked;
 use crate::asker::Asker;
 use crate::event::{ReplicaEvent, SourceEnd};
 use crate::source::{SourceConnection, SourceTurn};
-use http_server::Log;
 use std::alloc::{AllocError, Global};
 use std::net::{Net, SocketAddr};
 use std::time::Clock;
 use wf_ballot::Seq;
 use wf_folder::FarmName;
+use wf_past::Past;
 use wf_reader::{Answerer, MOST_DISTANCE, Question, QuestionRejection, ReaderAnswer, Reply};
 use wf_replica::{AnswerFault, Asking, Follower, Misfit, Refusals};
 use wf_tape::Tape;
@@ -52,7 +52,7 @@ impl Asker {
             source: None,
             of: 0,
             is_named: false,
-            heard: Log::new(),
+            heard: Past::new(),
             refusals,
             answerer: Answerer {
                 farm,
@@ -118,7 +118,7 @@ impl Asker {
         let Some(mut source) = self.source.take() else {
             return;
         };
-        let turned = source.turn(context.alloc(), context.registry, self.of, &mut self.heard);
+        let turned = source.turn(context.alloc(), context.network, self.of, &mut self.heard);
         self.source = Some(source);
         match turned {
             SourceTurn::Same => {}
@@ -342,7 +342,7 @@ impl Asker {
         self.source = SourceConnection::connect(
             context.rt,
             context.alloc(),
-            context.registry,
+            context.network,
             address,
         );
         if !self.is_named || self.of != index {

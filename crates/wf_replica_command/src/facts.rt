@@ -2,18 +2,21 @@
 
 use crate::asker::Asker;
 use std::alloc::AllocError;
-use std::fs;
 use std::rt::Files;
 use wf_ballot::Seq;
 use wf_digest::Digests;
 use wf_learner::History;
-use wf_operator::{Health, Operated, PictureCounts, counter, gauge, seconds};
+use wf_operator::{
+    Health, Operated, PictureCounts, StartTime, gauge, push_open, push_requests, push_sequences,
+    push_tape_bytes,
+};
 use wf_visitors::Counts;
 
 /// What a replica tells its operator.
 #[derive(Drop)]
 pub(crate) struct ReplicaFacts<'a, R> {
     pub(crate) rt: &'a R,
+    pub(crate) started: StartTime,
     pub(crate) history: &'a History,
     pub(crate) digests: &'a Digests,
     pub(crate) asker: &'a Asker,
@@ -59,41 +62,41 @@ impl<'a, R: Files> Operated for ReplicaFacts<'a, R> {
     }
 
     fn push_metrics(&self, text: &mut String) -> Result<(), AllocError> {
-        push_farm(text, self)?;
-        self.requests.push_to(text)?;
-        self.pictures.push_to(text)?;
-        counter(text, "wfarm_unkept_pictures_total", self.unkept)?;
-        seconds(
-            text,
-            "wfarm_drawing_seconds_total",
-            self.requests.duration("/wms", 200),
-        )?;
-        match fs::metadata(self.rt, self.tape) {
-            Ok(metadata) => gauge(text, "wfarm_tape_bytes", metadata.len()),
-            Err(_) => Ok(()),
-        }
+        let published = self.history.published().number();
+        self.started.push_to(text)?;
+        push_sequences(text, published, self.asker.received.max(published))?;
+        push_replica(text, self)?;
+        push_open(text, self.clients as u64, self.readers as u64)?;
+        push_requests(text, self.requests)?;
+        self.pictures.push_to(text, self.unkept)?;
+        push_tape_bytes(text, self.rt, self.tape)
     }
 }
 
-/// Appends what is known of the replica and its farm.
-fn push_farm<R>(text: &mut String, facts: &ReplicaFacts<'_, R>) -> Result<(), AllocError> {
-    let published = facts.history.published().number();
-    let received = facts.asker.received.max(published);
-    let distance = facts.asker.answerer.distance;
-    gauge(text, "wfarm_published_sequence", published as u64)?;
-    gauge(text, "wfarm_heard_sequence", received as u64)?;
+/// Appends how the replica stands to the farm, and what is wrong with it.
+fn push_replica<R>(text: &mut String, facts: &ReplicaFacts<'_, R>) -> Result<(), AllocError> {
     gauge(
         text,
         "wfarm_sources_connected",
+        "1 where a node of --peers is connected",
         facts.asker.is_connected() as u64,
     )?;
-    gauge(text, "wfarm_distance", distance as u64)?;
-    gauge(text, "wfarm_tape_failed", !facts.has_tape as u64)?;
+    gauge(
+        text,
+        "wfarm_distance",
+        "Replicas between this one and a node, itself counted",
+        facts.asker.answerer.distance as u64,
+    )?;
+    gauge(
+        text,
+        "wfarm_tape_failed",
+        "1 where the tape has failed",
+        !facts.has_tape as u64,
+    )?;
     gauge(
         text,
         "wfarm_history_differs",
+        "1 where the history of a peer or a reader is another one",
         facts.reader_differs.is_some() as u64,
-    )?;
-    gauge(text, "wfarm_open_clients", facts.clients as u64)?;
-    gauge(text, "wfarm_open_readers", facts.readers as u64)
+    )
 }

@@ -3,10 +3,11 @@ ghost use Rattle.std.specs.Prelude.{◌≡◌, ◌≤◌};
 ghost use Rattle.wf_replica_command.specs.Fault.{fault_status};
 
 use std::alloc::AllocError;
-use std::io;
+use std::net::SocketAddr;
 use thiserror::Error;
 use wf_address::AddressOption;
 use wf_reader::QuestionRejection;
+use wf_store::FolderFault;
 
 /// Why the command ends with an error. Its text is the line on standard error.
 #[derive(Clone, Copy, Debug, Error)]
@@ -23,12 +24,9 @@ pub enum ReplicaFault {
     /// No farm can have this name.
     #[error("bad farm name: 1 to 32 letters, digits, -, . and _ are wanted")]
     Name,
-    /// The folder isn't there, or can't be opened.
-    #[error("folder missing")]
-    NoFolder,
-    /// Another program has the folder.
-    #[error("folder held by another program")]
-    Held,
+    /// The folder, or a file of it, fails.
+    #[error("{0}")]
+    Folder(FolderFault),
     /// The folder has no file `farm`, and isn't empty.
     #[error("bad folder: not a replica's, and not empty")]
     NotEmpty,
@@ -41,18 +39,12 @@ pub enum ReplicaFault {
     /// The file `farm` is that of a replica of another farm.
     #[error("bad folder: a replica of another farm")]
     OtherFarm,
-    /// A file of the folder can't be read.
-    #[error("the folder can't be read: {0}")]
-    Unread(io::ErrorKind),
-    /// A file of the folder can't be written.
-    #[error("the folder can't be written: {0}")]
-    Unwritten(io::ErrorKind),
     /// The system gives no poll.
     #[error("no poll")]
     Poll,
-    /// An address is taken, or not permitted.
-    #[error("the address of {0} is taken or not permitted")]
-    Taken(AddressOption),
+    /// The address of this option is taken, or not permitted.
+    #[error("the address of {0} is taken or not permitted: {1}")]
+    Taken(AddressOption, SocketAddr),
     /// An allocation failed.
     #[error("out of memory")]
     Memory,
@@ -72,16 +64,13 @@ impl ReplicaFault {
             | ReplicaFault::PeerCount(_)
             | ReplicaFault::BadAddress(_)
             | ReplicaFault::Name => 2,
-            ReplicaFault::NoFolder
-            | ReplicaFault::Held
+            ReplicaFault::Folder(_)
             | ReplicaFault::NotEmpty
             | ReplicaFault::Version
             | ReplicaFault::Kind
             | ReplicaFault::OtherFarm
-            | ReplicaFault::Unread(_)
-            | ReplicaFault::Unwritten(_)
             | ReplicaFault::Poll
-            | ReplicaFault::Taken(_)
+            | ReplicaFault::Taken(_, _)
             | ReplicaFault::Memory
             | ReplicaFault::Ended(_) => 1,
         }

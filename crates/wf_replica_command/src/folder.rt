@@ -1,17 +1,16 @@
-//! The files of a replica's folder.
-ghost use Rattle.std.specs.Prelude.{◌≡◌, IfErr, OnOk};
+//! The file `farm` of a replica's folder.
+ghost use Rattle.std.specs.Prelude.{◌≡◌, ◌⊎◌, ◌∷◌, IfErr, OnErr, OnOk};
 ghost use Rattle.wf_replica.specs.FarmFile.{replica_text};
-ghost use Rattle.wf_replica_command.specs.Fault.{IsFromSystem};
+ghost use Rattle.wf_replica_command.specs.Fault.{IsOfFolder};
+ghost use Rattle.wf_replica_command.specs.Start.{IsClaimed, IsUnclaimed};
+ghost use Rattle.wf_store.specs.declared.file_name.FileName.TheVariants.{Farm};
+ghost use Rattle.wf_store.specs.Call.{OnlyReads, counted, failed_at, replaced};
 
 use crate::fault::ReplicaFault;
 use std::alloc::Global;
-use std::fs::{File, OpenFile, OpenOptions};
-use std::io::{ErrorKind, Write};
-use std::rt::Files;
-use std::{fs, io};
 use wf_folder::{FarmName, after};
 use wf_replica::replica_text;
-use wf_stream::{Stream, read_up_to};
+use wf_store::{FileName, Store};
 
 /// More bytes than a replica's file `farm` has.
 const MOST_FILE_BYTES: usize = 512;
@@ -21,67 +20,28 @@ const FIRST_LINE: &[u8] = b"wfarm folder 1\n";
 
 const KIND_LINE: &[u8] = b"kind replica\n";
 
-/// Locks a folder as long as the handle lives; the system releases the lock when the program ends in any way.
-pub(crate) fn hold<R: Files<File = File>>(rt: &R, folder: &str) -> Result<File, ReplicaFault>
-    ensures { IfErr result IsFromSystem }
-{
-    let Ok(handle) = fs::open(rt, folder) else {
-        return Err(ReplicaFault::NoFolder);
-    };
-    match handle.try_lock() {
-        Ok(()) => Ok(handle),
-        Err(error) => {
-            drop(error);
-            drop(handle);
-            Err(ReplicaFault::Held)
-        }
-    }
-}
-
-/// The path of a file in a folder.
-pub(crate) fn path_in(alloc: Global, folder: &str, name: &str) -> Result<String, ReplicaFault>
-    ensures { IfErr result IsFromSystem }
-{
-    match format!(in alloc; "{folder}/{name}") {
-        Ok(path) => Ok(path),
-        Err(_) => Err(ReplicaFault::Memory),
-    }
-}
-
-/// Whether a file is at a path.
-pub(crate) fn is_there<R: Files>(rt: &R, path: &str) -> bool {
-    fs::metadata(rt, path).is_ok()
-}
-
 /// Makes sure that a folder is that of a replica of this farm: its file `farm` says so, or the folder is empty, and gets such a file.
-pub(crate) fn claim<R: Files + AllocGlobal>(
-    rt: &R,
-    folder: &str,
+#[tactic(auto, using(crate::proofs::Starting::claimed_anew, crate::proofs::Starting::unclaimed_anew, crate::proofs::Starting::unclaimed_at))]
+pub(crate) fn claim<S: Store>(
+    alloc: Global,
+    store: &mut S,
     farm: &FarmName,
 ) -> Result<(), ReplicaFault>
-    ensures { IfErr result IsFromSystem }
+    ensures claimed { OnOk result (IsClaimed (replica_text farm.now) (S.calls store.old) (S.calls store.new)) }
+    ensures unclaimed { OnErr result (IsUnclaimed (S.calls store.old) (S.calls store.new)) }
+    ensures fault { IfErr result IsOfFolder }
 {
-    let path = path_in(rt.alloc(), folder, "farm")?;
-    match read_file(rt, path.as_str()) {
-        Ok(bytes) => judge(rt.alloc(), &bytes, farm),
-        Err(error) => match error.kind() {
-            ErrorKind::NotFound => make(rt, folder, path.as_str(), farm),
-            ErrorKind::OutOfMemory => Err(ReplicaFault::Memory),
-            kind => Err(ReplicaFault::Unread(kind)),
-        },
+    match store.read(FileName::Farm, MOST_FILE_BYTES) {
+        Ok(Some(bytes)) => judge(alloc, &bytes, farm),
+        Ok(None) => make(alloc, store, farm),
+        Err(fault) => Err(ReplicaFault::Folder(fault)),
     }
-}
-
-/// The bytes of a file, as many as a file `farm` may have.
-fn read_file<R: Files + AllocGlobal>(rt: &R, path: &str) -> io::Result<Vec<u8>> {
-    let file = fs::open(rt, path)?;
-    read_up_to(rt.alloc(), &mut Stream::new(file), MOST_FILE_BYTES)
 }
 
 /// Whether these bytes are the file of a replica of this farm.
 fn judge(alloc: Global, bytes: &[u8], farm: &FarmName) -> Result<(), ReplicaFault>
     ensures ours { OnOk result (bytes.now ≡ replica_text farm.now) }
-    ensures fault { IfErr result IsFromSystem }
+    ensures fault { IfErr result IsOfFolder }
 {
     let text = replica_text(alloc, farm)?;
     if text.as_slice() == bytes {
@@ -98,58 +58,31 @@ fn judge(alloc: Global, bytes: &[u8], farm: &FarmName) -> Result<(), ReplicaFaul
 }
 
 /// Makes the file of a replica of this farm in an empty folder.
-fn make<R: Files + AllocGlobal>(
-    rt: &R,
-    folder: &str,
-    path: &str,
-    farm: &FarmName,
-) -> Result<(), ReplicaFault>
-    ensures { IfErr result IsFromSystem }
+fn make<S: Store>(alloc: Global, store: &mut S, farm: &FarmName) -> Result<(), ReplicaFault>
+    ensures made { OnOk result
+        (S.calls store.new ≡ replaced Farm (replica_text farm.now) ∷ counted 0 ∷ S.calls store.old) }
+    ensures unmade { OnErr result (OnlyReads (S.calls store.old) (S.calls store.new)
+        ⊎ (S.calls store.new ≡ failed_at Farm ∷ counted 0 ∷ S.calls store.old)) }
+    ensures fault { IfErr result IsOfFolder }
 {
-    if has_names(rt, folder)? {
-        return Err(ReplicaFault::NotEmpty);
+    match store.count_names() {
+        Ok(0) => write(alloc, store, farm),
+        Ok(_) => Err(ReplicaFault::NotEmpty),
+        Err(fault) => Err(ReplicaFault::Folder(fault)),
     }
-    let text = replica_text(rt.alloc(), farm)?;
-    let second = path_in(rt.alloc(), folder, "farm.new")?;
-    match replace(rt, folder, path, second.as_str(), &text) {
+}
+
+/// Writes the file of a replica of this farm.
+fn write<S: Store>(alloc: Global, store: &mut S, farm: &FarmName) -> Result<(), ReplicaFault>
+    ensures written { OnOk result
+        (S.calls store.new ≡ replaced Farm (replica_text farm.now) ∷ S.calls store.old) }
+    ensures unwritten { OnErr result ((S.calls store.new ≡ S.calls store.old)
+        ⊎ (S.calls store.new ≡ failed_at Farm ∷ S.calls store.old)) }
+    ensures fault { IfErr result IsOfFolder }
+{
+    let text = replica_text(alloc, farm)?;
+    match store.replace(FileName::Farm, text) {
         Ok(()) => Ok(()),
-        Err(error) => Err(ReplicaFault::Unwritten(error.kind())),
+        Err(fault) => Err(ReplicaFault::Folder(fault)),
     }
-}
-
-/// Whether a folder has any name.
-fn has_names<R: Files + AllocGlobal>(rt: &R, folder: &str) -> Result<bool, ReplicaFault>
-    ensures { IfErr result IsFromSystem }
-{
-    let Ok(entries) = fs::read_dir(&rt, folder) else {
-        return Err(ReplicaFault::NoFolder);
-    };
-    for entry in entries {
-        match entry {
-            Ok(entry) => {
-                drop(entry);
-                return Ok(true);
-            }
-            Err(error) => return Err(ReplicaFault::Unread(error.kind())),
-        }
-    }
-    Ok(false)
-}
-
-/// Puts these bytes in the place of a file of a folder: whole and synced under a second name first, then under its own, and the folder
-/// synced last.
-fn replace<R: Files>(
-    rt: &R,
-    folder: &str,
-    path: &str,
-    second: &str,
-    bytes: &[u8],
-) -> io::Result<()> {
-    let mut options = OpenOptions::new();
-    options.write(true).create(true).truncate(true);
-    let mut file = options.open(rt, second)?;
-    file.write_all(bytes)?;
-    file.sync_all()?;
-    fs::rename(rt, second, path)?;
-    fs::open(rt, folder)?.sync_all()
 }

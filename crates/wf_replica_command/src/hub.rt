@@ -2,7 +2,7 @@
 ghost use Rattle.std.specs.Prelude.{◌≡◌, [], IfErr, IfOk};
 ghost use Rattle.wf_replica_command.specs.Fault.{IsFromSystem};
 ghost use Rattle.wf_replica_command.specs.Heard.{Hears};
-ghost use Rattle.wf_replica_command.specs.ReplicaHub.{HasAnswered, HasHeardNothing, HasLived, HasStayed, IsOfFarm, IsTurn, follower_of};
+ghost use Rattle.wf_replica_command.specs.ReplicaHub.{HasAnswered, HasHeardNothing, HasLived, HasStayed, IsOfFarm, IsOnTape, IsTurn, follower_of};
 ghost use Rattle.wf_visitors.specs.Visitors.{responses_of};
 
 use crate::asker::Asker;
@@ -12,15 +12,15 @@ use crate::fault::ReplicaFault;
 use crate::parts::{MOST_EVENTS, OPERATORS, ReplicaStart, bind};
 use crate::plan::ReplicaPlan;
 use crate::token::ReplicaSocket;
-use mio::{Events, Poll};
 use std::alloc::AllocError;
 use std::net::{Net, SocketAddr};
 use std::rt::Files;
-use std::time::{Clock, Duration};
-use wf_operator::{Behind, Operator};
+use std::time::Clock;
+use wf_operator::{Behind, Operator, StartTime};
 use wf_reader::QuestionRejection;
 use wf_readers_port::{PortView, ReadersPort};
 use wf_replica::{Follower, what_is_learned_is_served};
+use wf_sockets::{Events, SystemNetwork};
 use wf_tape::Tape;
 use wf_timing::Ticker;
 use wf_visitors::{Context, Log, Visitors, now};
@@ -31,18 +31,25 @@ const TICK_MILLIS: u64 = 100;
 /// A replica with its clients, the source that it asks, and who only reads.
 #[derive(Drop)]
 pub struct ReplicaHub<T: Tape> {
-    poll: Poll,
+    network: SystemNetwork,
     events: Events,
     operators: Visitors,
     readers: ReadersPort,
     asker: Asker,
     clients: ReplicaClients<T>,
-    // the path of its tape
-    tape: String,
+    desk: OperatorDesk,
     ticks: Ticker,
-    behind: Behind,
     time: u64,
     is_busy: bool,
+}
+
+/// What the operator is told that the replica itself doesn't know.
+#[derive(Drop)]
+struct OperatorDesk {
+    started: StartTime,
+    // the path of its tape
+    tape: String,
+    behind: Behind,
 }
 
 /// How a turn ended.
@@ -66,18 +73,23 @@ impl<T: Tape + Drop> ReplicaHub<T> {
         follower: Follower<T>,
     ) -> Result<Self, ReplicaFault>
         ensures begun { IfOk result (HasHeardNothing T.Tape) }
-        ensures fault { IfErr result IsFromSystem }
+        ensures fault { IfErr result (IsFromSystem plan) }
     {
         let time = now(rt);
+        let desk = OperatorDesk {
+            started: StartTime::now(rt),
+            tape,
+            behind: Behind::default(),
+        };
         match bind(rt, &plan) {
             Ok(begun) => {
                 let ReplicaPlan { farm, sources, .. } = plan;
                 let is_new = follower.history().published().number() == 0;
                 match Asker::new(rt.alloc(), sources, farm, first, is_new, time) {
-                    Ok(asker) => Ok(assemble(begun, asker, follower, tape, time)),
+                    Ok(asker) => Ok(assemble(begun, asker, follower, desk, time)),
                     Err(AllocError) => {
                         drop(begun);
-                        drop(tape);
+                        drop(desk);
                         drop(follower);
                         Err(ReplicaFault::Memory)
                     }
@@ -85,7 +97,7 @@ impl<T: Tape + Drop> ReplicaHub<T> {
             }
             Err(fault) => {
                 drop(plan);
-                drop(tape);
+                drop(desk);
                 drop(follower);
                 Err(fault)
             }
@@ -94,14 +106,15 @@ impl<T: Tape + Drop> ReplicaHub<T> {
 
     /// Where clients come.
     pub(crate) fn http(&self) -> Option<SocketAddr> {
-        self.clients.visitors.address()
+        self.clients.visitors.address(&self.network)
     }
 
-    /// The replica's list is what it has heard, each client that was answered was answered from it as it then was, and it never went back,
-    /// always. The call does nothing.
+    /// The replica's list is what it has heard and what its tape has, each client that was answered was answered from it as it then was,
+    /// and it never went back, always. The call does nothing.
     #[tactic(auto, using(crate::proofs::Faults::of_farm))]
     pub(crate) fn always_lived(&self)
         ensures lived { HasLived T.Tape self.now }
+        ensures recorded { IsOnTape T.Tape self.now }
         ensures of_farm { IsOfFarm T.Tape self.now }
         ensures answered { HasAnswered T.Tape self.now }
         ensures stayed { HasStayed T.Tape self.now }
@@ -116,8 +129,9 @@ impl<T: Tape + Drop> ReplicaHub<T> {
         rt: &R,
         log: &Log<'_, R>,
     ) -> Turn
-        // Whatever came, the list is what was heard, message after message.
+        // Whatever came, the list is what was heard, message after message, and what the tape has.
         ensures lived { HasLived T.Tape self.new }
+        ensures recorded { IsOnTape T.Tape self.new }
         ensures of_farm { IsOfFarm T.Tape self.new }
         // Each response that any client was sent is the one to exactly what had come of its request, over the list as it then was.
         ensures answered { HasAnswered T.Tape self.new }
@@ -151,8 +165,12 @@ impl<T: Tape + Drop> ReplicaHub<T> {
             let tick = self.ticks.due.saturating_sub(time).min(TICK_MILLIS);
             tick.min(self.asker.left(time))
         };
-        let ReplicaHub { poll, events, .. } = self;
-        let _ = poll.poll(events, Some(Duration::from_millis(millis)));
+        let ReplicaHub {
+            network,
+            events,
+            ..
+        } = self;
+        network.wait(events, millis);
     }
 
     /// The tokens of the sockets that are ready, and their number.
@@ -178,36 +196,27 @@ impl<T: Tape + Drop> ReplicaHub<T> {
         ensures { Hears self.old.asker (follower_of self.old) self.new.asker (follower_of self.new) }
     {
         let ReplicaHub {
-            poll,
+            network,
             operators,
             readers,
             asker,
             clients,
-            tape,
+            desk,
             ticks,
-            behind,
             time,
             ..
         } = self;
         let context = Context {
             rt,
             log,
-            registry: poll.registry(),
+            network,
             time: *time,
         };
         clients.ask(&context, asker);
         act_on_each(&context, asker, clients, operators, readers, ready);
         let is_busy = clients.serve(&context);
         tick(&context, ticks, clients, operators, readers);
-        answer_operators(
-            &context,
-            operators,
-            readers,
-            asker,
-            clients,
-            tape.as_str(),
-            behind,
-        );
+        answer_operators(&context, operators, readers, asker, clients, desk);
         is_busy || clients.visitors.is_busy()
     }
 }
@@ -217,14 +226,14 @@ fn assemble<T: Tape + Drop>(
     begun: ReplicaStart,
     asker: Asker,
     follower: Follower<T>,
-    tape: String,
+    desk: OperatorDesk,
     time: u64,
 ) -> ReplicaHub<T>
     requires { responses_of begun.visitors ≡ [] }
     ensures { result.asker ≡ asker }
 {
     let ReplicaStart {
-        poll,
+        network,
         events,
         visitors,
         operators,
@@ -232,15 +241,14 @@ fn assemble<T: Tape + Drop>(
     } = begun;
     let clients = ReplicaClients::new(visitors, follower);
     ReplicaHub {
-        poll,
+        network,
         events,
         operators,
         readers,
         asker,
         clients,
-        tape,
+        desk,
         ticks: Ticker::new(time, TICK_MILLIS),
-        behind: Behind::default(),
         time,
         is_busy: false,
     }
@@ -330,23 +338,24 @@ fn answer_operators<R: Files + Clock + Eprint + AllocGlobal, T: Tape + Drop>(
     readers: &ReadersPort,
     asker: &Asker,
     clients: &ReplicaClients<T>,
-    tape: &str,
-    behind: &mut Behind,
+    desk: &mut OperatorDesk,
 ) {
     let follower = &clients.renderer.follower;
     let published = follower.history().published().number();
+    let is_behind = desk.behind.judge(published < asker.received, context.time);
     let mut operator = Operator::new(ReplicaFacts {
         rt: context.rt,
+        started: desk.started,
         history: follower.history(),
         digests: follower.digests(),
         asker,
         requests: clients.visitors.counts(),
         pictures: clients.renderer.pictures,
         unkept: follower.cache().unkept(),
-        tape,
+        tape: desk.tape.as_str(),
         has_tape: follower.has_tape(),
         reader_differs: readers.differs(context.time),
-        is_behind: behind.judge(published < asker.received, context.time),
+        is_behind,
         clients: clients.visitors.taken_slots(),
         readers: readers.reader_count(),
     });

@@ -11,13 +11,16 @@
 //! - Each client that was answered was sent the response of `wf_replica` to exactly what had come of its request, over the list as it then
 //!   was: a publish is 404.
 //! - The list never went back: that by which a client was answered is a beginning of the next one's, and of what it is now.
+//! - A durable tape of it has the records of the list, in their order, and nothing else.
 //! - Each reply is one to a question that was open. From the list with which it began, reply by reply (`specs/Heard.antt`): an answer that fits
 //!   its question is taken whole, as far as memory allows, and any other, as any rejection, leaves the list as it was.
 //! - It ends by itself only where all of its sources, as each last replied, are of another farm or another history.
-//! - An error of the command line has its cause, and status 2; any other has status 1.
+//! - Its folder (`wf_store`) is locked first. The tape is opened only once the file `farm` was read as this replica's, or was written in an
+//!   empty folder; a folder that it doesn't take is left as it was (`specs/Start.antt`).
+//! - An error of the command line has its cause, and status 2; any other has status 1. The address in one is that which an option spells.
 //!
-//! **Doesn't.** What the system does with files, sockets and clocks has no model: that answers come, that the folder is locked and what its
-//! files hold is tried with the built program.
+//! **Doesn't.** What the system does with files, sockets and clocks has no model: that answers come, that a lock keeps others out and what
+//! the folder's files hold is tried with the built program.
 #![tactic(auto)]
 
 mod asked;

@@ -1,18 +1,17 @@
 //! The addresses of a replica, and what comes there.
-ghost use Rattle.std.specs.Prelude.{◌≡◌, [], IfErr, IfOk};
-ghost use Rattle.wf_replica_command.specs.Fault.{IsFromSystem, IsReplicaOption};
+ghost use Rattle.std.specs.Prelude.{◌≡◌, [], IfErr, IfOk, Some};
+ghost use Rattle.wf_replica_command.specs.Fault.{IsFromSystem, IsAddressTaken};
 ghost use Rattle.wf_visitors.specs.Visitors.{responses_of};
 
 use crate::fault::ReplicaFault;
 use crate::plan::ReplicaPlan;
 use crate::token::{ASKER, CLIENT, READER, ReplicaSocket};
-use mio::net::TcpListener;
-use mio::{Events, Poll, Registry};
 use std::alloc::Global;
 use std::net::{Net, SocketAddr};
 use wf_address::AddressOption;
 use wf_readers_port::ReadersPort;
-use wf_visitors::{Visitors, listen};
+use wf_sockets::{Events, Network, SystemListener, SystemNetwork};
+use wf_visitors::Visitors;
 
 /// The most events of a turn.
 pub(crate) const MOST_EVENTS: usize = 256;
@@ -29,52 +28,50 @@ const READERS: usize = 64;
 /// All of a replica's sockets but its source's.
 #[derive(Drop)]
 pub(crate) struct ReplicaStart {
-    pub(crate) poll: Poll,
+    pub(crate) network: SystemNetwork,
     pub(crate) events: Events,
     pub(crate) visitors: Visitors,
     pub(crate) operators: Visitors,
     pub(crate) readers: ReadersPort,
 }
 
-/// A poll, and the listeners registered at it.
+/// A network, and the listeners on it.
 #[derive(Drop)]
 struct ReplicaDoors {
-    poll: Poll,
-    http: TcpListener,
-    admin: Option<TcpListener>,
-    readers: Option<TcpListener>,
+    network: SystemNetwork,
+    http: SystemListener,
+    admin: Option<SystemListener>,
+    readers: Option<SystemListener>,
 }
 
-/// A listener at an address, registered.
+/// A listener at an address.
 fn listen_at<R: Net>(
     rt: &R,
-    registry: &Registry,
+    network: &SystemNetwork,
     address: SocketAddr,
     socket: ReplicaSocket,
     option: AddressOption,
-) -> Result<TcpListener, ReplicaFault>
-    requires { IsReplicaOption option }
-    ensures { IfErr result IsFromSystem }
+) -> Result<SystemListener, ReplicaFault>
+    ensures { IfErr result (IsAddressTaken option (Some address)) }
 {
-    match listen(rt, registry, address, socket.token()) {
-        Ok(listener) => Ok(listener),
-        Err(_) => Err(ReplicaFault::Taken(option)),
+    match network.listen(rt, address, socket.token()) {
+        Some(listener) => Ok(listener),
+        None => Err(ReplicaFault::Taken(option, address)),
     }
 }
 
-/// A listener at an address, registered, if there is an address.
+/// A listener at an address, if there is an address.
 fn listen_if<R: Net>(
     rt: &R,
-    registry: &Registry,
+    network: &SystemNetwork,
     address: Option<SocketAddr>,
     socket: ReplicaSocket,
     option: AddressOption,
-) -> Result<Option<TcpListener>, ReplicaFault>
-    requires { IsReplicaOption option }
-    ensures { IfErr result IsFromSystem }
+) -> Result<Option<SystemListener>, ReplicaFault>
+    ensures { IfErr result (IsAddressTaken option address) }
 {
     match address {
-        Some(address) => match listen_at(rt, registry, address, socket, option) {
+        Some(address) => match listen_at(rt, network, address, socket, option) {
             Ok(listener) => Ok(Some(listener)),
             Err(fault) => Err(fault),
         },
@@ -84,42 +81,46 @@ fn listen_if<R: Net>(
 
 /// Binds the addresses of a replica.
 fn doors_of<R: Net>(rt: &R, plan: &ReplicaPlan) -> Result<ReplicaDoors, ReplicaFault>
-    ensures { IfErr result IsFromSystem }
+    ensures { IfErr result (IsFromSystem plan.now) }
 {
-    match Poll::new(rt) {
-        Ok(poll) => doors_at(rt, plan, poll),
+    match SystemNetwork::new(rt) {
+        Ok(network) => doors_at(rt, plan, network),
         Err(_) => Err(ReplicaFault::Poll),
     }
 }
 
-/// Binds the addresses of a replica, registered at a poll.
-fn doors_at<R: Net>(rt: &R, plan: &ReplicaPlan, poll: Poll) -> Result<ReplicaDoors, ReplicaFault>
-    ensures { IfErr result IsFromSystem }
+/// Binds the addresses of a replica on a network.
+#[tactic(auto, using(crate::proofs::Faults::http_taken, crate::proofs::Faults::admin_taken, crate::proofs::Faults::readers_taken))]
+fn doors_at<R: Net>(
+    rt: &R,
+    plan: &ReplicaPlan,
+    network: SystemNetwork,
+) -> Result<ReplicaDoors, ReplicaFault>
+    ensures { IfErr result (IsFromSystem plan.now) }
 {
-    let registry = poll.registry();
     let http = listen_at(
         rt,
-        registry,
+        &network,
         plan.http,
         ReplicaSocket::Http,
         AddressOption::Http,
     )?;
     let admin = listen_if(
         rt,
-        registry,
+        &network,
         plan.admin,
         ReplicaSocket::Admin,
         AddressOption::Admin,
     )?;
     let readers = listen_if(
         rt,
-        registry,
+        &network,
         plan.readers,
         ReplicaSocket::Readers,
         AddressOption::Readers,
     )?;
     Ok(ReplicaDoors {
-        poll,
+        network,
         http,
         admin,
         readers,
@@ -132,7 +133,7 @@ fn begin_at(alloc: Global, doors: ReplicaDoors) -> Result<ReplicaStart, ReplicaF
     ensures memory { IfErr result (λ why. why ≡ ReplicaFault.Memory) }
 {
     let ReplicaDoors {
-        poll,
+        network,
         http,
         admin,
         readers,
@@ -142,7 +143,7 @@ fn begin_at(alloc: Global, doors: ReplicaDoors) -> Result<ReplicaStart, ReplicaF
     let operators = Visitors::new(alloc, OPERATORS, admin, ASKER)?;
     let readers = ReadersPort::new(alloc, READERS, readers, READER)?;
     Ok(ReplicaStart {
-        poll,
+        network,
         events,
         visitors,
         operators,
@@ -156,7 +157,7 @@ pub(crate) fn bind<R: Net + AllocGlobal>(
     plan: &ReplicaPlan,
 ) -> Result<ReplicaStart, ReplicaFault>
     ensures new { IfOk result (λ begun. responses_of begun.visitors ≡ []) }
-    ensures fault { IfErr result IsFromSystem }
+    ensures fault { IfErr result (IsFromSystem plan.now) }
 {
     match doors_of(rt, plan) {
         Ok(doors) => begin_at(rt.alloc(), doors),

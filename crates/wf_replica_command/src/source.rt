@@ -7,13 +7,11 @@ use crate::asked::Asked;
 use crate::event::SourceEnd;
 use crate::open_question::OpenQuestion;
 use crate::token::ReplicaSocket;
-use http_server::Log;
-use mio::Registry;
-use mio::net::TcpStream;
 use std::alloc::{AllocError, Global};
 use std::net::{Net, SocketAddr};
+use wf_past::Past;
 use wf_reader::{Question, Reply, ReplyFault, decode_reply, reply_length};
-use wf_visitors::{Done, read, register, register_again, write};
+use wf_sockets::{Connection, Moved, Network, SystemConnection, SystemNetwork};
 
 /// The most bytes of a piece.
 const PIECE_BYTES: usize = 16_384;
@@ -24,7 +22,7 @@ const MOST_PIECES: usize = 64;
 /// The connection to a source: the question that has no reply yet, and what has come of its reply.
 #[derive(Drop)]
 pub(crate) struct SourceConnection {
-    stream: TcpStream,
+    connection: SystemConnection,
     question: Option<OpenQuestion>,
     came: Vec<u8>,
 }
@@ -41,24 +39,23 @@ pub(crate) enum SourceTurn {
 }
 
 impl SourceConnection {
-    /// A connection in progress, registered. None: the system rejects it.
+    /// A connection in progress, watched. None: the system rejects it.
     pub(crate) fn connect<R: Net>(
         rt: &R,
         alloc: Global,
-        registry: &Registry,
+        network: &SystemNetwork,
         address: SocketAddr,
     ) -> Option<SourceConnection> {
-        let Ok(mut stream) = TcpStream::connect(rt, address) else {
-            return None;
-        };
-        let _ = stream.set_nodelay(true);
-        match register(registry, &mut stream, ReplicaSocket::Source.token()) {
-            Ok(()) => Some(SourceConnection {
-                stream,
+        let mut connection = network.connect(rt, address)?;
+        connection.send_at_once();
+        if network.watch(&mut connection, ReplicaSocket::Source.token()) {
+            Some(SourceConnection {
+                connection,
                 question: None,
                 came: Vec::new(alloc),
-            }),
-            Err(_) => None,
+            })
+        } else {
+            None
         }
     }
 
@@ -75,9 +72,9 @@ impl SourceConnection {
     pub(crate) fn turn(
         &mut self,
         alloc: Global,
-        registry: &Registry,
+        network: &SystemNetwork,
         source: usize,
-        heard: &mut Log<Reply, Asked>,
+        heard: &mut Past<Reply, Asked>,
     ) -> SourceTurn
         ensures logged { IsLogged source result heard.old.items heard.new.items }
         ensures reply { IsOpenReply result self.old.question self.new.question }
@@ -97,8 +94,8 @@ impl SourceConnection {
         };
         let conversed = converse(
             alloc,
-            registry,
-            &mut self.stream,
+            network,
+            &mut self.connection,
             &mut asked,
             &mut self.came,
         );
@@ -123,11 +120,11 @@ impl SourceConnection {
     /// Reads what came while no question is open. Returns why the connection has ended, if it has.
     fn read_unasked(&mut self) -> Option<SourceEnd> {
         let mut piece = [0u8; 1];
-        match read(&mut self.stream, &mut piece) {
-            Done::Bytes(_) => Some(SourceEnd::Unasked),
-            Done::Blocked => None,
-            Done::Closed => Some(SourceEnd::Closed),
-            Done::Failed => Some(SourceEnd::Failed),
+        match self.connection.read(&mut piece) {
+            Moved::Bytes(_) => Some(SourceEnd::Unasked),
+            Moved::Blocked => None,
+            Moved::Closed => Some(SourceEnd::Closed),
+            Moved::Failed => Some(SourceEnd::Failed),
         }
     }
 }
@@ -135,18 +132,18 @@ impl SourceConnection {
 /// Writes what is left of a question, and reads what came of its reply, which is taken in behind what came before. None: more is needed.
 fn converse(
     alloc: Global,
-    registry: &Registry,
-    stream: &mut TcpStream,
+    network: &SystemNetwork,
+    connection: &mut SystemConnection,
     asked: &mut OpenQuestion,
     came: &mut Vec<u8>,
 ) -> Result<Option<Reply>, SourceEnd> {
-    if let Some(why) = send(stream, asked) {
+    if let Some(why) = send(connection, asked) {
         return Err(why);
     }
     let mut piece = [0u8; PIECE_BYTES];
     for _ in 0..MOST_PIECES {
-        match read(stream, &mut piece) {
-            Done::Bytes(count) => {
+        match connection.read(&mut piece) {
+            Moved::Bytes(count) => {
                 // There is no reply to a question that isn't written yet.
                 if !asked.rest().is_empty() {
                     return Err(SourceEnd::Unasked);
@@ -156,26 +153,26 @@ fn converse(
                     taken => return taken,
                 }
             }
-            Done::Blocked => return Ok(None),
-            Done::Closed => return Err(SourceEnd::Closed),
-            Done::Failed => return Err(SourceEnd::Failed),
+            Moved::Blocked => return Ok(None),
+            Moved::Closed => return Err(SourceEnd::Closed),
+            Moved::Failed => return Err(SourceEnd::Failed),
         }
     }
-    register_again(registry, stream, ReplicaSocket::Source.token());
+    let _ = network.watch(connection, ReplicaSocket::Source.token());
     Ok(None)
 }
 
 /// Writes what is left of a question. Returns why the connection has ended, if it has.
-fn send(stream: &mut TcpStream, asked: &mut OpenQuestion) -> Option<SourceEnd> {
+fn send(connection: &mut SystemConnection, asked: &mut OpenQuestion) -> Option<SourceEnd> {
     for _ in 0..u64::MAX {
         if asked.rest().is_empty() {
             return None;
         }
-        match write(stream, asked.rest()) {
-            Done::Bytes(count) => asked.advance(count),
-            Done::Blocked => return None,
-            Done::Closed => return Some(SourceEnd::Closed),
-            Done::Failed => return Some(SourceEnd::Failed),
+        match connection.write(asked.rest()) {
+            Moved::Bytes(count) => asked.advance(count),
+            Moved::Blocked => return None,
+            Moved::Closed => return Some(SourceEnd::Closed),
+            Moved::Failed => return Some(SourceEnd::Failed),
         }
     }
     None

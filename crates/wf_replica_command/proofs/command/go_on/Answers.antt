@@ -8,7 +8,7 @@ pub returns-in-Ended : goal.returns-in-Ended
 returns-in-Ended g c =
     served_until g.T.Tape c.in-Ended.why c.args.hub.now c.go_on.new.self c.requires
     (hears_twice c.args.hub.now.asker c.loop.hub.asker c.go_on.new.self.asker (follower_of c.args.hub.now) (follower_of c.loop.hub) (follower_of c.go_on.new.self) c.loop.invariant c.go_on.ensures.heard)
-    c.go_on.ensures.lived c.go_on.ensures.of_farm c.go_on.ensures.answered c.go_on.ensures.stayed c.in-Ended.ensures.ended
+    c.go_on.ensures.lived c.go_on.ensures.recorded c.go_on.ensures.of_farm c.go_on.ensures.answered c.go_on.ensures.stayed c.in-Ended.ensures.ended
 
 pub loop-preserved : goal.loop-preserved
 loop-preserved g c =
