@@ -7,7 +7,7 @@ use Rattle.wf_def.specs.Definition.{Definition}
 use Rattle.wf_model.specs.DurableState.{definition_at}
 use Rattle.wf_serve.specs.Difference.{Agree, AgreeAt, DifferAt}
 
-none_past : (definitions : List Definition) (s : ℕ) → length definitions < s → definition_at definitions s ≡ None
+pub none_past : (definitions : List Definition) (s : ℕ) → length definitions < s → definition_at definitions s ≡ None
 unfolding definition_at
 none_past definitions zero past = refl
 none_past definitions (suc k) past = slice_get_past definitions k (omega (arith, past))

@@ -15,3 +15,7 @@ mod Responded
 mod Serves
 mod Shortened
 mod NodeResponse
+mod Surveyed
+mod Checked
+mod Taken
+mod Started

@@ -12,3 +12,8 @@ pub mod Agreement
 pub mod Compaction
 pub mod Publication
 pub mod First
+pub mod TapeCheck
+pub mod LongestTape
+pub mod TapesTaken
+pub mod StartCause
+pub mod Start

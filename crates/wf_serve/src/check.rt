@@ -1,49 +1,53 @@
 //! The tapes of a folder are read before any of them is opened: none changes if one is bad, or two differ.
-ghost use Rattle.std.specs.Prelude.{◌≡◌, ◌≢◌, ◌+◌, ◌<◌, ◌≤◌, false, true, length, IfErr, IfNone, IfOk, IfSome};
+ghost use Rattle.std.specs.Prelude.{◌≡◌, ◌≢◌, ◌+◌, ◌<◌, ◌≤◌, ◌∷◌, Some, false, true, length, IfErr, IfNone, IfOk, IfSome, OnOk};
+ghost use Rattle.wf_folder.specs.Admission.{IsStart};
 ghost use Rattle.wf_node.specs.Node.{stored_of};
-ghost use Rattle.wf_node.specs.OpenedNode.{IsFoldOf, IsWhyBad};
+ghost use Rattle.wf_node.specs.OpenedNode.{IsFoldOf};
 ghost use Rattle.wf_serve.specs.Difference.{Agree, AgreeAt, DifferAt};
+ghost use Rattle.wf_serve.specs.TapeCheck.{AreTapesChecked, IsTapeRead};
+ghost use Rattle.wf_serve.specs.LongestTape.{IsKeptOrNext, IsLongerOf, IsNextChecked, IsNextLongest, IsOneOf, IsWhyDifferent, IsWhyNoNode, IsWhyNotNext, cause_of};
+ghost use Rattle.wf_serve.specs.StartCause.{IsStartCause, start_cause};
+ghost use Rattle.wf_store.specs.Call.{OnlyReads, read};
+ghost use Rattle.wf_store.specs.declared.file_name.FileName.TheVariants.{NodeTape};
 
 use crate::event::Cause;
-use crate::survey::{Survey, tape_path};
+use crate::survey::Survey;
 use std::alloc::Global;
-use std::fs;
-use std::rt::Files;
 use wf_ballot::{NODES, NodeId, Slot};
 use wf_canon::Canon;
 use wf_folder::{FoundFile, Presence, Start, StartRejection, admit};
 use wf_journal::OpenFault;
 use wf_learner::History;
-use wf_listing::{TapeReadFault, read_tape};
+use wf_listing::MOST_TAPE_BYTES;
 use wf_node::Node;
-use wf_stream::Stream;
+use wf_store::{FileName, FolderFault, Store};
 use wf_tape::MemoryTape;
 
 /// The node that has published most so far, and its number.
 #[derive(Drop)]
-struct Longest {
+pub(crate) struct Longest {
     number: u8,
     node: Node<MemoryTape>,
 }
 
 /// Reads the tapes of n nodes in a folder, and changes none. Err: one can't be read, holds a bad record, or two hold different maps
 /// as published under one sequence; or an allocation fails. A tape that isn't there holds nothing.
-pub fn check_tapes<R: Files + AllocGlobal>(
-    rt: &R,
-    folder: &str,
+#[tactic(auto, using(crate::proofs::Checked::all_checked, wf_store::specs::CallTheorems::reads_both))]
+pub fn check_tapes<S: Store>(
+    alloc: Global,
+    store: &mut S,
     n: u8,
     tapes: &[Presence],
 ) -> Result<(), Cause>
     requires nodes { n ≤ 64 }
     requires tapes { n ≤ length tapes.now }
+    ensures checked { OnOk result
+        (AreTapesChecked n tapes.now (S.calls store.old) (S.calls store.new)) }
+    ensures reads { OnlyReads (S.calls store.old) (S.calls store.new) }
 {
     let mut longest = None;
     for number in 0..n {
-        let bytes = match tapes[number as usize] {
-            Presence::Written => read(rt, folder, number),
-            Presence::Absent | Presence::Empty => Ok(Vec::new(rt.alloc())),
-        };
-        match with_next(rt.alloc(), longest, bytes, number, n) {
+        match check_next(alloc, store, longest, number, n, tapes[number as usize]) {
             Ok(longer) => longest = Some(longer),
             Err(cause) => return Err(cause),
         }
@@ -52,21 +56,17 @@ pub fn check_tapes<R: Files + AllocGlobal>(
     Ok(())
 }
 
-/// On what the nodes of a folder's farm would start, and how many they are: as many as its file says, or as there are tapes. Err:
-/// why they wouldn't. Nothing changes.
-pub fn examine<R: Files + AllocGlobal>(
-    rt: &R,
-    folder: &str,
-    survey: &Survey,
-) -> Result<(u8, Start), Cause>
+/// On what the nodes of a folder's farm would start where its tapes are sound, and how many they are: as many as its file says, or as
+/// there are tapes. Err: why they wouldn't.
+#[tactic(auto, using(crate::proofs::Taken::start_caused))]
+pub fn examine(survey: &Survey) -> Result<(u8, Start), Cause>
     requires { length survey.now.tapes ≡ 64 }
+    ensures start { IfOk result (λ x. IsStart x.0 survey.now.found survey.now.tapes x.1) }
+    ensures cause { IfErr result (IsStartCause survey.now) }
 {
     let n = nodes_of(survey);
     match admit(n, survey.found, survey.tapes.as_slice()) {
-        Ok(start) => match check_tapes(rt, folder, n, survey.tapes.as_slice()) {
-            Ok(()) => Ok((n, start)),
-            Err(cause) => Err(cause),
-        },
+        Ok(start) => Ok((n, start)),
         Err(why) => Err(cause_of_rejection(why)),
     }
 }
@@ -100,7 +100,9 @@ fn count_of(tapes: &[Presence]) -> u8
 }
 
 /// The cause of a rejected start.
-pub(crate) fn cause_of_rejection(why: StartRejection) -> Cause {
+pub(crate) fn cause_of_rejection(why: StartRejection) -> Cause
+    ensures { result ≡ start_cause why }
+{
     match why {
         StartRejection::BadFile(fault) => Cause::BadFile(fault),
         StartRejection::OtherNodes(nodes) => Cause::OtherNodes(nodes),
@@ -109,42 +111,80 @@ pub(crate) fn cause_of_rejection(why: StartRejection) -> Cause {
     }
 }
 
-/// The bytes of a tape in a folder.
-fn read<R: Files + AllocGlobal>(rt: &R, folder: &str, number: u8) -> Result<Vec<u8>, Cause> {
-    let Ok(path) = tape_path(rt.alloc(), folder, number) else {
-        return Err(Cause::Memory);
-    };
-    let bytes = match fs::open(rt, path.as_str()) {
-        Ok(file) => read_tape(rt.alloc(), &mut Stream::new(file)),
-        Err(error) => {
-            drop(error);
-            Err(TapeReadFault::Failed)
+/// Reads the next tape. Returns the node that has published most by then.
+fn check_next<S: Store>(
+    alloc: Global,
+    store: &mut S,
+    longest: Option<Longest>,
+    number: u8,
+    n: u8,
+    presence: Presence,
+) -> Result<Longest, Cause>
+    requires nodes { n ≤ 64 }
+    requires member { number < n }
+    ensures next { IfOk result (λ longer.
+        IsNextChecked presence number longest longer (S.calls store.old) (S.calls store.new)) }
+    ensures reads { OnlyReads (S.calls store.old) (S.calls store.new) }
+{
+    match tape_bytes(alloc, store, number, presence) {
+        Ok(bytes) => with_next(alloc, longest, bytes, number, n),
+        Err(cause) => {
+            drop(longest);
+            Err(cause)
         }
-    };
-    drop(path);
-    match bytes {
-        Ok(bytes) => Ok(bytes),
-        Err(TapeReadFault::Failed) => Err(Cause::TapeUnreadable(number as usize)),
-        Err(TapeReadFault::Memory | TapeReadFault::NoMap) => Err(Cause::Memory),
+    }
+}
+
+/// The bytes of a tape, none if it isn't there or has none.
+fn tape_bytes<S: Store>(
+    alloc: Global,
+    store: &mut S,
+    number: u8,
+    presence: Presence,
+) -> Result<Vec<u8>, Cause>
+    ensures read { IfOk result (λ bytes.
+        IsTapeRead presence number bytes.items (S.calls store.old) (S.calls store.new)) }
+    ensures reads { OnlyReads (S.calls store.old) (S.calls store.new) }
+{
+    match presence {
+        Presence::Written => read_tape(store, number),
+        Presence::Absent | Presence::Empty => Ok(Vec::new(alloc)),
+    }
+}
+
+/// The bytes of a tape that is there.
+fn read_tape<S: Store>(store: &mut S, number: u8) -> Result<Vec<u8>, Cause>
+    ensures read { IfOk result (λ bytes.
+        S.calls store.new ≡ read (NodeTape number) (Some bytes.items) ∷ S.calls store.old) }
+    ensures reads { OnlyReads (S.calls store.old) (S.calls store.new) }
+{
+    match store.read(FileName::NodeTape(number), MOST_TAPE_BYTES + 1) {
+        Ok(Some(bytes)) if bytes.len() <= MOST_TAPE_BYTES => Ok(bytes),
+        Ok(found) => {
+            drop(found);
+            Err(Cause::TapeUnreadable(number as usize))
+        }
+        Err(FolderFault::Memory) => Err(Cause::Memory),
+        Err(_) => Err(Cause::TapeUnreadable(number as usize)),
     }
 }
 
 /// The node that has published most, with the node of one more tape.
-fn with_next(
+#[tactic(auto, using(crate::proofs::Checked::first_longest, crate::proofs::Taken::first_kept, crate::proofs::Taken::no_node_next))]
+pub(crate) fn with_next(
     alloc: Global,
     longest: Option<Longest>,
-    bytes: Result<Vec<u8>, Cause>,
+    bytes: Vec<u8>,
     number: u8,
     n: u8,
 ) -> Result<Longest, Cause>
     requires nodes { n ≤ 64 }
     requires member { number < n }
+    ensures next { IfOk result (IsNextLongest bytes.items longest) }
+    ensures kept { IfOk result (IsKeptOrNext number bytes.items longest) }
+    ensures cause { IfErr result (IsWhyNotNext number bytes.items longest) }
 {
-    let node = match bytes {
-        Ok(bytes) => node_of(alloc, bytes, number, n),
-        Err(cause) => Err(cause),
-    };
-    match node {
+    match node_of(alloc, bytes, number, n) {
         Ok(node) => match longest {
             Some(longest) => longer(longest, Longest { number, node }),
             None => Ok(Longest { number, node }),
@@ -157,7 +197,14 @@ fn with_next(
 }
 
 /// The one of two nodes that has published more. Err: they have published different maps under one sequence.
-fn longer(first: Longest, second: Longest) -> Result<Longest, Cause> {
+#[tactic(auto, using(crate::proofs::Checked::first_is_longer, crate::proofs::Checked::second_is_longer, crate::proofs::Taken::is_first, crate::proofs::Taken::is_second))]
+fn longer(first: Longest, second: Longest) -> Result<Longest, Cause>
+    ensures longer { IfOk result (λ longer.
+        IsLongerOf (stored_of first.node) (stored_of second.node) (stored_of longer.node)) }
+    ensures one { IfOk result (IsOneOf first second) }
+    ensures cause { IfErr result (IsWhyDifferent first.number second.number
+        (stored_of first.node) (stored_of second.node)) }
+{
     match first_difference(first.node.history(), second.node.history()) {
         Some(sequence) => {
             let (tape, other) = (first.number as usize, second.number as usize);
@@ -170,7 +217,7 @@ fn longer(first: Longest, second: Longest) -> Result<Longest, Cause> {
             })
         }
         None => {
-            if first.node.published() < second.node.published() {
+            if first.node.published().number() < second.node.published().number() {
                 drop(first);
                 Ok(second)
             } else {
@@ -181,11 +228,13 @@ fn longer(first: Longest, second: Longest) -> Result<Longest, Cause> {
     }
 }
 
-/// The node of a tape with these bytes.
+/// The node of a tape with these bytes. Err: a bad record, or an allocation failed.
+#[tactic(auto, using(crate::proofs::Taken::no_node))]
 fn node_of(alloc: Global, bytes: Vec<u8>, number: u8, n: u8) -> Result<Node<MemoryTape>, Cause>
     requires nodes { n ≤ 64 }
     requires member { number < n }
-    ensures { IfOk result (λ node. IsFoldOf (stored_of node) bytes.items) }
+    ensures node { IfOk result (λ node. IsFoldOf (stored_of node) bytes.items) }
+    ensures cause { IfErr result (IsWhyNoNode number bytes.items) }
 {
     let id = NodeId::new(number).unwrap();
     match Node::open(alloc, MemoryTape::new(bytes), id, n) {
@@ -198,7 +247,9 @@ fn node_of(alloc: Global, bytes: Vec<u8>, number: u8, n: u8) -> Result<Node<Memo
 }
 
 /// Why a tape opens no node.
-fn cause_of(number: u8, fault: OpenFault) -> Cause {
+fn cause_of(number: u8, fault: OpenFault) -> Cause
+    ensures { result ≡ cause_of number fault }
+{
     let tape = number as usize;
     match fault {
         OpenFault::BadRecord(offset) => Cause::TapeBad { tape, offset },

@@ -6,8 +6,6 @@ ghost use Rattle.wf_serve.specs.OpenedNodes.{WasRead};
 ghost use Rattle.wf_serve.specs.Compaction.{IsLeft, IsOpened, IsShort};
 
 use std::alloc::Global;
-use std::fs;
-use std::rt::Files;
 use wf_ballot::NodeId;
 use wf_node::{Node, NodeFault};
 use wf_tape::Tape;
@@ -51,13 +49,5 @@ fn shorten<T: Tape>(alloc: Global, mut node: Node<T>) -> Result<(Node<T>, bool),
         Ok(()) => Ok((node, true)),
         Err(NodeFault::Memory) => Ok((node, false)),
         Err(_) => Err(node.close()),
-    }
-}
-
-/// The number of bytes of the file at a path. None if the system doesn't say.
-pub(crate) fn bytes_at<R: Files>(rt: &R, path: &str) -> Option<u64> {
-    match fs::metadata(rt, path) {
-        Ok(metadata) => Some(metadata.len()),
-        Err(_) => None,
     }
 }

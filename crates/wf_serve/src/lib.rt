@@ -4,12 +4,13 @@
 //! the folder of the nodes' tapes. [`serve`] binds the port, opens the nodes, and goes on in steps that a caller can also take
 //! alone:
 //! - [`listen`] returns a listener at 127.0.0.1.
+//! - [`open_folder`] opens the nodes on their tapes in a folder, and [`serve_folder`] serves these at a listener.
 //! - [`serve_nodes`] lets a farm's nodes catch up ([`catch_up`]), prints the port and serves them.
 //! - [`serve_connections`] serves a number of connections.
 //! - [`serve_connection`] serves one, over any reader and writer.
 //!
 //! [`inspect`] looks what is in a folder, [`check_tapes`] reads its tapes, [`examine`] says whether the nodes of its farm would start on
-//! it. A [`Log`] writes each [`ServeEvent`] on standard error, a [`StartFault`] with its [`Cause`].
+//! it, a [`TapeCheck`] whether tapes that others read are sound, and no two contradict each other (`specs/TapesTaken.antt`). A [`Log`] writes each [`ServeEvent`] on standard error, a [`StartFault`] with its [`Cause`].
 //!
 //! **Promises.**
 //! - A connection is served by the farm's node at the given index with its cache, as by `wf_edge`'s `serve_one_cached`: the request is
@@ -25,8 +26,11 @@
 //! - A tape: [`open_shortened`] opens a node on its tape and shortens it. On a durable tape the node has stored what the tape's
 //!   records fold to, and the tape holds exactly the records of a shortened one, or is as it was if an allocation failed. If the
 //!   tape fails meanwhile, what a crash leaves of it reads as before, or stands for the same (`specs/Compaction.antt`).
-//! - Node i of n is at index i throughout, and its tape in a folder is `node-i.tape` (`specs/Folder.antt`). Tapes in a folder are
-//!   opened only for a start that `admit` of `wf_folder` returned for what was found in it.
+//! - Node i of n is at index i throughout. A folder is a `Store` of `wf_store`, and a start on it a list of its calls
+//!   (`specs/Start.antt`): it is locked; its file `farm` is read, and which tapes are there is seen; by just this `admit` of `wf_folder`
+//!   returned the start; the nodes' tapes are read, their records fold, and no two contradict each other (`specs/TapeCheck.antt`); only
+//!   then each is opened, node i's as `node-i.tape`; and a folder without a file `farm` gets it last, with a mark that was drawn. A start
+//!   that is rejected before a tape is opened changed no file; of a later one it is known which tapes were opened.
 //! - [`first_difference`] of two histories: the sequence under which they have different definitions, none only if they have no
 //!   different ones (`specs/Difference.antt`).
 //! - The port: the line that is written names it, and it is the requested one unless that is 0. An error reports why the nodes
@@ -45,7 +49,8 @@
 //!   ([`caught_up_nodes_stay_new`]), and what the first connection published all of them have published after any later ones
 //!   ([`the_first_map_is_published`], `specs/First.antt`).
 //!
-//! **Doesn't.** It doesn't state that memory suffices for a delivery, what a file holds, what the log's lines are, what a socket receives or sends, that a connection is
+//! **Doesn't.** It doesn't state that memory suffices for a delivery, what a file holds, that a tape which is opened has the bytes that
+//! were read of it before, what the log's lines are, what a socket receives or sends, that a connection is
 //! accepted, which port the system chooses, how long a client is waited for, that a response is one write where the socket takes all of
 //! it, nor that a proposal is published: sockets and clocks have no model. Tests cover these (`wf_test_failures`), as do runs of the
 //! built program that aren't in CI.
@@ -57,9 +62,7 @@ mod compaction;
 mod connection_effect;
 mod connections;
 mod event;
-mod farm_file;
 mod fault;
-mod folder_lock;
 mod limited;
 mod linger_close;
 mod node_request;
@@ -69,6 +72,7 @@ mod port;
 mod port_listener;
 mod publication;
 mod survey;
+mod tape_check;
 mod timed_reader;
 mod timed_writer;
 mod watch;
@@ -79,11 +83,13 @@ pub use connection_effect::{ConnectionOutcome, catch_up, serve_connection};
 pub use connections::serve_connections;
 pub use event::{Cause, ServeEvent, StartFault};
 pub use fault::ServeFault;
+pub use node_start::open_folder;
 pub use port::listen;
-pub use port_listener::{serve, serve_nodes};
+pub use port_listener::{serve, serve_folder, serve_nodes};
 pub use publication::{
     an_accepted_map_is_published, caught_up_nodes_stay_new, the_first_map_is_published,
 };
 pub use survey::{Survey, inspect};
+pub use tape_check::TapeCheck;
 pub use wf_service::Service;
 pub use wf_visitors::{Level, Log};

@@ -1,152 +1,216 @@
 //! Opening the nodes.
-ghost use Rattle.std.specs.Prelude.{◌≡◌, ◌<◌, ◌≤◌, ◌+◌, length, IfOk, IfSome, OnOk, string_bytes};
+ghost use Rattle.std.specs.Prelude.{◌≡◌, ◌<◌, ◌≤◌, ◌+◌, ◌∷◌, length, IfErr, IfOk, OnOk};
 ghost use Rattle.wf_farm.specs.Farm.{size};
 ghost use Rattle.wf_farm.specs.Nodes.{AllRun, nodes_in};
 ghost use Rattle.wf_folder.specs.Admission.{IsStart};
-ghost use Rattle.wf_serve.specs.Folder.{tape_path};
+ghost use Rattle.wf_folder.specs.FarmFile.{IsFarmFile, farm_text};
 ghost use Rattle.wf_serve.specs.OpenedNodes.{AreOpened, WasRead, WereRead};
+ghost use Rattle.wf_serve.specs.Start.{HaveOpened, IsDrawn, IsFarmAdmitted, IsFarmBegun, IsFarmRejected, IsFarmStarted, IsFiled, IsTapeOpened, IsTapeStopped, IsUnwritten, IsWritten};
+ghost use Rattle.wf_store.specs.Call.{OnlyReads, locked, replaced};
 
 use crate::check::{cause_of_rejection, check_tapes};
-use crate::compaction::{bytes_at, open_shortened};
+use crate::compaction::open_shortened;
 use crate::event::{Cause, ServeEvent};
-use crate::farm_file::{new_file, write_file};
-use crate::folder_lock::hold;
-use crate::survey::{Survey, inspect, tape_path};
-use std::fs::File;
-use std::rt::Files;
+use crate::survey::{Survey, inspect};
+use std::alloc::{AllocError, Global};
 use std::time::Clock;
 use wf_ballot::NodeId;
 use wf_farm::{Farm, NodeHost};
 use wf_folder::{Beginning, FarmFile, Start, admit};
 use wf_node::Node;
-use wf_tape::{FileTape, Tape};
+use wf_store::{FileName, FolderFault, Store, path_in};
+use wf_tape::Tape;
 use wf_visitors::Log;
 
-/// A farm on its tapes in a folder, and the handle by which that is locked.
-pub(crate) type Opened<'a, R> = (Farm<FileTape<&'a R>>, File);
-
-/// Locks a folder, and opens the farm of n nodes on their tapes in it. Err: also if another program has locked it; then nothing
-/// changes in it.
-pub(crate) fn open_folder<'a, R: Files<File = File> + Eprint + Clock + AllocGlobal>(
-    rt: &'a R,
+/// Locks the folder at a path, and opens the farm of n nodes on their tapes in it, if it is new, this farm's or taken over; then it has
+/// its file `farm`. It is locked before anything in it is read, and its tapes are read before any is opened: if another program has
+/// locked it, it isn't the farm's, a tape is bad or two differ, nothing in it changes. The path is for the log alone. The folder's tapes
+/// are of a kind that isn't known to be durable, as a file isn't (`Farm::open`).
+#[tactic(auto, using(crate::proofs::Started::only_read))]
+pub fn open_folder<R: Eprint + Clock, S: Store>(
+    alloc: Global,
     log: &Log<'_, R>,
+    store: &mut S,
     n: u8,
     folder: &str,
-) -> Result<Opened<'a, R>, Cause>
+) -> Result<Farm<S::Tape>, Cause>
     requires some { 1 ≤ n }
     requires most { n ≤ 64 }
-    ensures size { IfOk result (λ opened. size opened.0 ≡ n) }
-    ensures running { IfOk result (λ opened. AllRun opened.0.hosts) }
-    ensures read { IfOk result (λ opened. WereRead (nodes_in opened.0)) }
-{
-    let held = hold(rt, folder)?;
-    match open_held(rt, log, n, folder) {
-        Ok(farm) => Ok((farm, held)),
-        Err(cause) => {
-            drop(held);
-            Err(cause)
-        }
-    }
-}
-
-/// The farm of n nodes on their tapes in a locked folder, if the folder is new, this farm's or taken over; then it has its file
-/// `farm`. The folder is looked at and its tapes are read first: if it isn't the farm's, a tape is bad, or two differ, nothing
-/// changes in it.
-fn open_held<'a, R: Files + Eprint + Clock + AllocGlobal>(
-    rt: &'a R,
-    log: &Log<'_, R>,
-    n: u8,
-    folder: &str,
-) -> Result<Farm<FileTape<&'a R>>, Cause>
-    requires some { 1 ≤ n }
-    requires most { n ≤ 64 }
+    requires outside { S.Tape.Tape.durable → ⊥ }
     ensures size { IfOk result (λ farm. size farm ≡ n) }
     ensures running { IfOk result (λ farm. AllRun farm.hosts) }
     ensures read { IfOk result (λ farm. WereRead (nodes_in farm)) }
+    ensures started { OnOk result
+        (IsFarmStarted n (locked ∷ S.calls store.old) (S.calls store.new)) }
+    ensures rejected { IfErr result
+        (λ cause. IsFarmRejected n cause (S.calls store.old) (S.calls store.new)) }
 {
-    let survey = inspect(rt, folder)?;
-    match admit(n, survey.found, survey.tapes.as_slice()) {
-        Ok(start) => open_admitted(rt, log, n, folder, &survey, start),
-        Err(why) => Err(cause_of_rejection(why)),
+    match store.lock() {
+        Ok(()) => open_locked(alloc, log, store, n, folder),
+        Err(FolderFault::Held) => Err(Cause::FolderHeld),
+        Err(_) => Err(Cause::NoFolder),
     }
 }
 
-/// The farm on a folder on which it may start.
-fn open_admitted<'a, R: Files + Eprint + Clock + AllocGlobal>(
-    rt: &'a R,
+/// The farm of n nodes on their tapes in a locked folder.
+#[tactic(auto, using(crate::proofs::Started::only_read))]
+fn open_locked<R: Eprint + Clock, S: Store>(
+    alloc: Global,
     log: &Log<'_, R>,
+    store: &mut S,
+    n: u8,
+    folder: &str,
+) -> Result<Farm<S::Tape>, Cause>
+    requires some { 1 ≤ n }
+    requires most { n ≤ 64 }
+    requires outside { S.Tape.Tape.durable → ⊥ }
+    ensures size { IfOk result (λ farm. size farm ≡ n) }
+    ensures running { IfOk result (λ farm. AllRun farm.hosts) }
+    ensures read { IfOk result (λ farm. WereRead (nodes_in farm)) }
+    ensures started { OnOk result (IsFarmStarted n (S.calls store.old) (S.calls store.new)) }
+    ensures rejected { IfErr result
+        (λ cause. IsFarmRejected n cause (S.calls store.old) (S.calls store.new)) }
+{
+    match inspect(store) {
+        Ok(survey) => match admit(n, survey.found, survey.tapes.as_slice()) {
+            Ok(start) => open_admitted(alloc, log, store, n, folder, &survey, start),
+            Err(why) => Err(cause_of_rejection(why)),
+        },
+        Err(cause) => Err(cause),
+    }
+}
+
+/// The farm on a folder on which it may start, once its tapes were read.
+#[tactic(auto, using(crate::proofs::Started::only_read))]
+fn open_admitted<R: Eprint + Clock, S: Store>(
+    alloc: Global,
+    log: &Log<'_, R>,
+    store: &mut S,
     n: u8,
     folder: &str,
     survey: &Survey,
     start: Start,
-) -> Result<Farm<FileTape<&'a R>>, Cause>
+) -> Result<Farm<S::Tape>, Cause>
     requires some { 1 ≤ n }
     requires most { n ≤ 64 }
+    requires outside { S.Tape.Tape.durable → ⊥ }
     requires tapes { length survey.now.tapes ≡ 64 }
     requires start { IsStart n survey.now.found survey.now.tapes start }
     ensures size { IfOk result (λ farm. size farm ≡ n) }
     ensures running { IfOk result (λ farm. AllRun farm.hosts) }
     ensures read { IfOk result (λ farm. WereRead (nodes_in farm)) }
+    ensures admitted { OnOk result
+        (IsFarmAdmitted n survey.now start (S.calls store.old) (S.calls store.new)) }
+    ensures rejected { IfErr result
+        (λ cause. IsFarmRejected n cause (S.calls store.old) (S.calls store.new)) }
 {
-    check_tapes(rt, folder, n, survey.tapes.as_slice())?;
-    match start {
-        Start::Own(file) => open_own(rt, log, n, folder, &file),
-        Start::New => open_new(rt, log, n, folder, Beginning::Empty),
-        Start::TakenOver => open_new(rt, log, n, folder, Beginning::Found),
+    match check_tapes(alloc, store, n, survey.tapes.as_slice()) {
+        Ok(()) => open_started(alloc, log, store, n, folder, start),
+        Err(cause) => Err(cause),
     }
 }
 
-/// The farm on a folder that has its file.
-fn open_own<'a, R: Files + Eprint + Clock + AllocGlobal>(
-    rt: &'a R,
+/// The farm on such a folder, whose tapes were read.
+fn open_started<R: Eprint + Clock, S: Store>(
+    alloc: Global,
     log: &Log<'_, R>,
+    store: &mut S,
     n: u8,
     folder: &str,
-    file: &FarmFile,
-) -> Result<Farm<FileTape<&'a R>>, Cause>
+    start: Start,
+) -> Result<Farm<S::Tape>, Cause>
     requires some { 1 ≤ n }
     requires most { n ≤ 64 }
+    requires outside { S.Tape.Tape.durable → ⊥ }
     ensures size { IfOk result (λ farm. size farm ≡ n) }
     ensures running { IfOk result (λ farm. AllRun farm.hosts) }
     ensures read { IfOk result (λ farm. WereRead (nodes_in farm)) }
+    ensures begun { OnOk result (IsFarmBegun n start (S.calls store.old) (S.calls store.new)) }
+    ensures rejected { IfErr result
+        (λ cause. IsFarmRejected n cause (S.calls store.old) (S.calls store.new)) }
 {
-    write_folder(log, folder, file);
-    in_files(rt, log, n, folder)
+    match start {
+        Start::Own(file) => {
+            write_folder(log, folder, &file);
+            open_tapes(alloc, log, store, n, folder)
+        }
+        Start::New => open_new(alloc, log, store, n, folder, Beginning::Empty),
+        Start::TakenOver => open_new(alloc, log, store, n, folder, Beginning::Found),
+    }
 }
 
 /// The farm on a folder that has no file: it gets one once the tapes are open.
-fn open_new<'a, R: Files + Eprint + Clock + AllocGlobal>(
-    rt: &'a R,
+#[tactic(auto, using(crate::proofs::Started::only_read))]
+fn open_new<R: Eprint + Clock, S: Store>(
+    alloc: Global,
     log: &Log<'_, R>,
+    store: &mut S,
     n: u8,
     folder: &str,
     beginning: Beginning,
-) -> Result<Farm<FileTape<&'a R>>, Cause>
+) -> Result<Farm<S::Tape>, Cause>
     requires some { 1 ≤ n }
     requires most { n ≤ 64 }
+    requires outside { S.Tape.Tape.durable → ⊥ }
     ensures size { IfOk result (λ farm. size farm ≡ n) }
     ensures running { IfOk result (λ farm. AllRun farm.hosts) }
     ensures read { IfOk result (λ farm. WereRead (nodes_in farm)) }
+    ensures filed { OnOk result (IsFiled n beginning (S.calls store.old) (S.calls store.new)) }
+    ensures rejected { IfErr result
+        (λ cause. IsFarmRejected n cause (S.calls store.old) (S.calls store.new)) }
 {
-    let file = new_file(rt, n, beginning)?;
-    write_folder(log, folder, &file);
-    let farm = in_files(rt, log, n, folder)?;
-    farm_if_written(farm, write_file(rt, folder, &file))
+    match draw_file(store, n, beginning) {
+        Ok(file) => open_with(alloc, log, store, n, folder, &file),
+        Err(cause) => Err(cause),
+    }
 }
 
-/// The farm, if the file of its folder was written.
-fn farm_if_written<T: Tape + Drop>(
-    farm: Farm<T>,
-    written: Result<(), Cause>,
-) -> Result<Farm<T>, Cause>
-    ensures { IfOk result (λ same. same ≡ farm) }
+/// A file `farm` with a new mark.
+fn draw_file<S: Store>(store: &mut S, n: u8, beginning: Beginning) -> Result<FarmFile, Cause>
+    requires some { 1 ≤ n }
+    requires most { n ≤ 64 }
+    ensures drawn { IfOk result
+        (λ file. IsDrawn n beginning file (S.calls store.old) (S.calls store.new)) }
+    ensures reads { OnlyReads (S.calls store.old) (S.calls store.new) }
 {
-    match written {
-        Ok(()) => Ok(farm),
-        Err(cause) => {
-            drop(farm);
-            Err(cause)
-        }
+    match store.draw() {
+        Ok(mark) => Ok(FarmFile::new(n, beginning, mark)),
+        Err(_) => Err(Cause::NoRandomBits),
+    }
+}
+
+/// The farm on a folder whose file is written once the tapes are open.
+#[tactic(auto, using(crate::proofs::Started::written_last))]
+fn open_with<R: Eprint + Clock, S: Store>(
+    alloc: Global,
+    log: &Log<'_, R>,
+    store: &mut S,
+    n: u8,
+    folder: &str,
+    file: &FarmFile,
+) -> Result<Farm<S::Tape>, Cause>
+    requires some { 1 ≤ n }
+    requires most { n ≤ 64 }
+    requires outside { S.Tape.Tape.durable → ⊥ }
+    requires file { IsFarmFile file.now }
+    ensures size { IfOk result (λ farm. size farm ≡ n) }
+    ensures running { IfOk result (λ farm. AllRun farm.hosts) }
+    ensures read { IfOk result (λ farm. WereRead (nodes_in farm)) }
+    ensures written { OnOk result
+        (IsWritten n file.now (S.calls store.old) (S.calls store.new)) }
+    ensures rejected { IfErr result
+        (λ cause. IsFarmRejected n cause (S.calls store.old) (S.calls store.new)) }
+{
+    write_folder(log, folder, file);
+    match open_tapes(alloc, log, store, n, folder) {
+        Ok(farm) => match write_file(alloc, store, file) {
+            Ok(()) => Ok(farm),
+            Err(cause) => {
+                drop(farm);
+                Err(cause)
+            }
+        },
+        Err(cause) => Err(cause),
     }
 }
 
@@ -159,22 +223,46 @@ fn write_folder<R: Eprint + Clock>(log: &Log<'_, R>, folder: &str, file: &FarmFi
     });
 }
 
-/// Returns the farm of n nodes on their tapes in a folder, `node-0.tape` and so on; a missing tape is created.
-fn in_files<'a, R: Files + Eprint + Clock + AllocGlobal>(
-    rt: &'a R,
+/// Writes the file `farm`.
+#[tactic(auto, using(crate::proofs::Started::no_text, crate::proofs::Started::not_written))]
+fn write_file<S: Store>(alloc: Global, store: &mut S, file: &FarmFile) -> Result<(), Cause>
+    requires { IsFarmFile file.now }
+    ensures written { OnOk result
+        (S.calls store.new ≡ replaced FileName.Farm (farm_text file.now) ∷ S.calls store.old) }
+    ensures unwritten { IfErr result
+        (λ cause. IsUnwritten cause (S.calls store.old) (S.calls store.new)) }
+{
+    let Ok(text) = file.text(alloc) else {
+        return Err(Cause::Memory);
+    };
+    match store.replace(FileName::Farm, text) {
+        Ok(()) => Ok(()),
+        Err(FolderFault::Memory) => Err(Cause::Memory),
+        Err(_) => Err(Cause::FileUnwritten),
+    }
+}
+
+/// The farm of n nodes on their tapes, `node-0.tape` and so on; a missing tape is created.
+fn open_tapes<R: Eprint + Clock, S: Store>(
+    alloc: Global,
     log: &Log<'_, R>,
+    store: &mut S,
     n: u8,
     folder: &str,
-) -> Result<Farm<FileTape<&'a R>>, Cause>
+) -> Result<Farm<S::Tape>, Cause>
     requires some { 1 ≤ n }
     requires most { n ≤ 64 }
+    requires outside { S.Tape.Tape.durable → ⊥ }
     ensures size { IfOk result (λ farm. size farm ≡ n) }
     ensures running { IfOk result (λ farm. AllRun farm.hosts) }
     ensures read { IfOk result (λ farm. WereRead (nodes_in farm)) }
+    ensures opened { OnOk result (HaveOpened n (S.calls store.old) (S.calls store.new)) }
+    ensures rejected { IfErr result
+        (λ cause. IsFarmRejected n cause (S.calls store.old) (S.calls store.new)) }
 {
-    let mut hosts = Vec::new(rt.alloc());
+    let mut hosts = Vec::new(alloc);
     for number in 0..n {
-        match add_file(rt, log, &mut hosts, number, n, folder) {
+        match open_tape(alloc, log, store, &mut hosts, number, n, folder) {
             Ok(()) => {}
             Err(cause) => {
                 drop(hosts);
@@ -182,14 +270,16 @@ fn in_files<'a, R: Files + Eprint + Clock + AllocGlobal>(
             }
         }
     }
-    Ok(Farm::open(rt.alloc(), hosts))
+    Ok(Farm::open(alloc, hosts))
 }
 
-/// Appends the node of this number, of n, opened from its tape in a folder.
-fn add_file<'a, R: Files + Eprint + Clock + AllocGlobal>(
-    rt: &'a R,
+/// Appends the node of this number, of n, opened from its tape.
+#[tactic(auto, using(crate::proofs::Started::none_stopped))]
+fn open_tape<R: Eprint + Clock, S: Store>(
+    alloc: Global,
     log: &Log<'_, R>,
-    hosts: &mut Vec<NodeHost<FileTape<&'a R>>>,
+    store: &mut S,
+    hosts: &mut Vec<NodeHost<S::Tape>>,
     number: u8,
     n: u8,
     folder: &str,
@@ -200,47 +290,55 @@ fn add_file<'a, R: Files + Eprint + Clock + AllocGlobal>(
     requires opened { AreOpened n hosts.old.items }
     ensures opened { OnOk result (AreOpened n hosts.new.items) }
     ensures size { OnOk result (length hosts.new.items ≡ number + 1) }
+    ensures tape { OnOk result (IsTapeOpened number (S.calls store.old) (S.calls store.new)) }
+    ensures stopped { IfErr result
+        (λ cause. IsTapeStopped number cause (S.calls store.old) (S.calls store.new)) }
 {
-    let Ok(path) = tape_path(rt.alloc(), folder, number) else {
+    let Ok(path) = path_in(alloc, folder, FileName::NodeTape(number)) else {
         return Err(Cause::Memory);
     };
-    let added = add_at(rt, log, hosts, number, n, folder, path.as_str());
+    let added = add_node(alloc, log, store, hosts, number, n, path.as_str());
     drop(path);
     added
 }
 
-/// Appends the node of this number, of n, opened from the tape at its path in a folder, which is shortened then.
-fn add_at<'a, R: Files + Eprint + Clock + AllocGlobal>(
-    rt: &'a R,
+/// Appends the node of this number, of n, opened from its tape, which is shortened then. The path is for the log.
+fn add_node<R: Eprint + Clock, S: Store>(
+    alloc: Global,
     log: &Log<'_, R>,
-    hosts: &mut Vec<NodeHost<FileTape<&'a R>>>,
+    store: &mut S,
+    hosts: &mut Vec<NodeHost<S::Tape>>,
     number: u8,
     n: u8,
-    folder: &str,
     path: &str,
 ) -> Result<(), Cause>
     requires most { n ≤ 64 }
     requires member { number < n }
     requires next { length hosts.old.items ≡ number }
     requires opened { AreOpened n hosts.old.items }
-    requires own { path.now ≡ tape_path folder.now number }
     ensures opened { OnOk result (AreOpened n hosts.new.items) }
     ensures size { OnOk result (length hosts.new.items ≡ number + 1) }
+    ensures tape { OnOk result (IsTapeOpened number (S.calls store.old) (S.calls store.new)) }
+    ensures stopped { IfErr result
+        (λ cause. IsTapeStopped number cause (S.calls store.old) (S.calls store.new)) }
 {
-    let before = bytes_at(rt, path);
-    let Ok(tape) = FileTape::open(rt.alloc(), rt, path) else {
+    let before = store.length(FileName::NodeTape(number));
+    let Ok(tape) = store.open(FileName::NodeTape(number)) else {
         return Err(Cause::TapeFailed(number as usize));
     };
-    match open_shortened(rt.alloc(), tape, id_of(number), n) {
+    match open_shortened(alloc, tape, id_of(number), n) {
         Ok((node, is_short)) => {
-            let after = bytes_at(rt, path);
+            let after = store.length(FileName::NodeTape(number));
             log.write(&ServeEvent::Tape {
                 path,
                 before,
                 after,
                 is_short,
             });
-            put(hosts, node, n)
+            match put(hosts, node, n) {
+                Ok(()) => Ok(()),
+                Err(AllocError) => Err(Cause::Memory),
+            }
         }
         Err(tape) => {
             drop(tape);
@@ -258,7 +356,7 @@ fn id_of(number: u8) -> NodeId
 }
 
 /// Appends the next node of n.
-fn put<T: Tape + Drop>(hosts: &mut Vec<NodeHost<T>>, node: Node<T>, n: u8) -> Result<(), Cause>
+fn put<T: Tape + Drop>(hosts: &mut Vec<NodeHost<T>>, node: Node<T>, n: u8) -> Result<(), AllocError>
     requires next { node.id ≡ length hosts.old.items }
     requires of { node.n ≡ n }
     requires read { WasRead node }
@@ -270,7 +368,7 @@ fn put<T: Tape + Drop>(hosts: &mut Vec<NodeHost<T>>, node: Node<T>, n: u8) -> Re
         Ok(()) => Ok(()),
         Err(back) => {
             drop(back);
-            Err(Cause::Memory)
+            Err(AllocError)
         }
     }
 }

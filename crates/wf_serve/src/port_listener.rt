@@ -1,13 +1,15 @@
 //! Opens the nodes, lets them catch up, prints their port, and serves the connections.
-ghost use Rattle.std.specs.Prelude.{◌≡◌, Err, IfOk, OnOk};
+ghost use Rattle.std.specs.Prelude.{◌≡◌, ◌∷◌, Err, IfOk, OnErr, OnOk};
 ghost use Rattle.wf_farm.specs.Nodes.{AllRun, nodes_in};
 ghost use Rattle.wf_serve.specs.Agreement.{HaveGoneOn};
 ghost use Rattle.wf_serve.specs.CacheSet.{AreCached, HaveRoom};
 ghost use Rattle.wf_serve.specs.Connections.{IsServing};
 ghost use Rattle.wf_serve.specs.StartFault.{CountsWrites};
 ghost use Rattle.wf_serve.specs.PortLine.{IsEnded, IsPrinted, PrintsPort};
-ghost use Rattle.wf_serve.specs.Served.{HasServed, HaveServed};
+ghost use Rattle.wf_serve.specs.Served.{HasServed, HaveServed, Served};
+ghost use Rattle.wf_serve.specs.Start.{HasNotServed, IsFarmStarted};
 ghost use Rattle.wf_service.specs.Service.{IsService};
+ghost use Rattle.wf_store.specs.Call.{locked};
 
 use crate::cache_set::caches_for;
 use crate::connection_effect::{agree_still, catch_up};
@@ -23,6 +25,7 @@ use std::rt::Files;
 use std::time::Clock;
 use wf_farm::Farm;
 use wf_service::Service;
+use wf_store::{Store, SystemStore};
 use wf_stream::Sink;
 use wf_tape::{FileTape, MemoryTape, Tape};
 use wf_visitors::Log;
@@ -39,6 +42,7 @@ use wf_wms::Cache;
 /// Err: `Start` if the port can't be bound, the folder can't be locked or isn't this farm's, a tape doesn't open or an allocation
 /// fails; the writer isn't called then. `Write` if the line can't be written; a prefix of it may be, and the failed write is the
 /// last call. The port is the service's, or one chosen by the system if that is 0.
+#[tactic(auto, using(crate::proofs::Serves::served_in_files))]
 pub fn serve<
     'a,
     R: Files<File = File>
@@ -65,15 +69,47 @@ pub fn serve<
             Ok(mut farm) => serve_nodes(rt, &log, &listener, service, &mut farm, sink),
             Err(_) => fault(&log, Cause::Memory, None),
         },
-        Some(folder) => match open_folder(rt, &log, service.nodes, folder) {
-            Ok((mut farm, held)) => {
-                let outcome = serve_nodes(rt, &log, &listener, service, &mut farm, sink);
-                close(farm);
-                drop(held);
-                outcome
-            }
-            Err(cause) => fault(&log, cause, Some(folder)),
-        },
+        Some(folder) => {
+            let mut store = SystemStore::new(rt, folder);
+            let outcome = serve_folder(rt, &log, &listener, &mut store, service, folder, sink);
+            drop(store);
+            outcome
+        }
+    }
+}
+
+/// Serves the nodes on their tapes in a folder at a listener: they are opened by [`open_folder`], and it goes on as [`serve_nodes`].
+/// The folder's path is for the log alone; events are written to it.
+///
+/// Err: `Start` if the folder can't be locked or isn't this farm's, a tape doesn't open, or for the causes of [`serve_nodes`]; the
+/// writer isn't called then. `Write` as there.
+pub fn serve_folder<R: Clock + Eprint + AllocGlobal, S: Store, K: Sink>(
+    rt: &R,
+    log: &Log<'_, R>,
+    listener: &TcpListener,
+    store: &mut S,
+    service: Service<'_>,
+    folder: &str,
+    sink: &mut K,
+) -> Result<(), ServeFault>
+    requires service { IsService service }
+    requires outside { S.Tape.Tape.durable → ⊥ }
+    ensures reported { IsPrinted service.entry.port (K.written sink.old) (K.written sink.new) result }
+    ensures writes { CountsWrites result (K.failures sink.old) (K.failures sink.new) }
+    ensures last { IsEnded K.Sink service.entry.port sink.old sink.new result }
+    ensures served { OnOk result (Served S.Tape.Tape service.entry) }
+    ensures started { OnOk result
+        (IsFarmStarted service.entry.nodes (locked ∷ S.calls store.old) (S.calls store.new)) }
+    ensures left { OnErr result
+        (HasNotServed service.entry.nodes (S.calls store.old) (S.calls store.new)) }
+{
+    match open_folder(rt.alloc(), log, store, service.nodes, folder) {
+        Ok(mut farm) => {
+            let outcome = serve_nodes(rt, log, listener, service, &mut farm, sink);
+            close(farm);
+            outcome
+        }
+        Err(cause) => fault(log, cause, Some(folder)),
     }
 }
 

@@ -1,15 +1,14 @@
 //! What is in a farm's folder: its file `farm`, and its tapes.
-ghost use Rattle.std.specs.Prelude.{◌≡◌, length, IfOk, string_bytes};
-ghost use Rattle.wf_serve.specs.Folder.{tape_path};
+ghost use Rattle.std.specs.Prelude.{◌≡◌, ◌∷◌, Some, length, IfOk};
+ghost use Rattle.wf_folder.specs.declared.presence.Presence.TheVariants.{Absent};
+ghost use Rattle.wf_serve.specs.Start.{HasFound, IsFarmFound, IsSurveyed, looks};
+ghost use Rattle.wf_store.specs.Call.{OnlyReads, bytes_of, read, seen};
+ghost use Rattle.wf_store.specs.declared.file_name.FileName.TheVariants.{Farm, NodeTape};
 
 use crate::event::Cause;
-use std::alloc::{AllocError, Global};
-use std::fs;
-use std::io::ErrorKind;
-use std::rt::Files;
 use wf_ballot::NODES;
 use wf_folder::{FarmFile, FoundFile, Presence};
-use wf_stream::{Stream, read_up_to};
+use wf_store::{FileName, FolderFault, Store};
 
 /// More bytes than a file `farm` has.
 const MOST_FILE_BYTES: usize = 256;
@@ -24,102 +23,75 @@ pub struct Survey {
 }
 
 /// Looks what is in a folder, and changes nothing. Err: the system doesn't say, or an allocation fails.
-pub fn inspect<R: Files + AllocGlobal>(rt: &R, folder: &str) -> Result<Survey, Cause>
-    ensures { IfOk result (λ survey. length survey.tapes ≡ 64) }
+#[tactic(auto, using(crate::proofs::Surveyed::surveyed, wf_store::specs::CallTheorems::reads_both))]
+pub fn inspect<S: Store>(store: &mut S) -> Result<Survey, Cause>
+    ensures surveyed { IfOk result
+        (λ survey. IsSurveyed survey (S.calls store.old) (S.calls store.new)) }
+    ensures size { IfOk result (λ survey. length survey.tapes ≡ 64) }
+    ensures reads { OnlyReads (S.calls store.old) (S.calls store.new) }
 {
-    let found = find_in(rt, folder)?;
+    match find_farm(store) {
+        Ok(found) => match look_for_tapes(store) {
+            Ok(tapes) => Ok(Survey { found, tapes }),
+            Err(cause) => Err(cause),
+        },
+        Err(cause) => Err(cause),
+    }
+}
+
+/// Whether each tape that a farm may have is there.
+#[tactic(auto, using(wf_store::specs::CallTheorems::reads_both))]
+fn look_for_tapes<S: Store>(store: &mut S) -> Result<[Presence; 64], Cause>
+    ensures seen { IfOk result
+        (λ tapes. S.calls store.new ≡ looks tapes 64 (S.calls store.old)) }
+    ensures size { IfOk result (λ tapes. length tapes ≡ 64) }
+    ensures reads { OnlyReads (S.calls store.old) (S.calls store.new) }
+{
     let mut tapes = [Presence::Absent; 64];
     for number in 0..NODES {
-        tapes[number as usize] = tape_in(rt, folder, number)?;
-    }
-    Ok(Survey { found, tapes })
-}
-
-/// The path of a node's tape in a folder.
-pub(crate) fn tape_path(alloc: Global, folder: &str, number: u8) -> Result<String, AllocError>
-    ensures { IfOk result (λ path. string_bytes path ≡ tape_path folder.now number) }
-{
-    match format!(in alloc; "{folder}/node-{number}.tape") {
-        Ok(path) => Ok(path),
-        Err(error) => Err(error),
-    }
-}
-
-/// Whether the tape of a node is in a folder.
-fn tape_in<R: Files + AllocGlobal>(rt: &R, folder: &str, number: u8) -> Result<Presence, Cause> {
-    let Ok(path) = tape_path(rt.alloc(), folder, number) else {
-        return Err(Cause::Memory);
-    };
-    let presence = presence_at(rt, path.as_str());
-    drop(path);
-    match presence {
-        Some(presence) => Ok(presence),
-        None => Err(Cause::TapeUnreadable(number as usize)),
-    }
-}
-
-/// Whether a file is at a path. None if the system doesn't say.
-fn presence_at<R: Files>(rt: &R, path: &str) -> Option<Presence> {
-    match fs::metadata(rt, path) {
-        Ok(metadata) => Some(if metadata.len() == 0 {
-            Presence::Empty
-        } else {
-            Presence::Written
-        }),
-        Err(error) => {
-            let is_absent = error.kind() == ErrorKind::NotFound;
-            drop(error);
-            if is_absent {
-                Some(Presence::Absent)
-            } else {
-                None
-            }
+        match look_for_tape(store, number) {
+            Ok(there) => tapes[number as usize] = there,
+            Err(cause) => return Err(cause),
         }
     }
+    Ok(tapes)
 }
 
-/// The file `farm` of a folder.
-fn find_in<R: Files + AllocGlobal>(rt: &R, folder: &str) -> Result<FoundFile, Cause> {
-    let Ok(path) = format!(in rt.alloc(); "{folder}/farm") else {
-        return Err(Cause::Memory);
-    };
-    let found = find_at(rt, path.as_str());
-    drop(path);
-    found
-}
-
-/// The file `farm` at a path.
-fn find_at<R: Files + AllocGlobal>(rt: &R, path: &str) -> Result<FoundFile, Cause> {
-    match presence_at(rt, path) {
-        Some(Presence::Absent) => Ok(FoundFile::Nothing),
-        Some(_) => read_found(rt, path),
-        None => Err(Cause::FileUnreadable),
+/// Whether the tape of a node is there.
+fn look_for_tape<S: Store>(store: &mut S, number: u8) -> Result<Presence, Cause>
+    ensures seen { IfOk result
+        (λ there. S.calls store.new ≡ seen (NodeTape number) there ∷ S.calls store.old) }
+    ensures reads { OnlyReads (S.calls store.old) (S.calls store.new) }
+{
+    match store.presence(FileName::NodeTape(number)) {
+        Ok(presence) => Ok(presence),
+        Err(FolderFault::Memory) => Err(Cause::Memory),
+        Err(_) => Err(Cause::TapeUnreadable(number as usize)),
     }
 }
 
-/// What the file at a path says.
-fn read_found<R: Files + AllocGlobal>(rt: &R, path: &str) -> Result<FoundFile, Cause> {
-    let Ok(file) = fs::open(rt, path) else {
-        return Err(Cause::FileUnreadable);
-    };
-    let mut source = Stream::new(file);
-    let read = read_up_to(rt.alloc(), &mut source, MOST_FILE_BYTES);
-    drop(source);
-    match read {
-        Ok(bytes) => {
+/// What the file `farm` says, if it is there.
+#[tactic(auto, using(crate::proofs::Surveyed::none_found, crate::proofs::Surveyed::one_found))]
+fn find_farm<S: Store>(store: &mut S) -> Result<FoundFile, Cause>
+    ensures found { IfOk result (λ found. HasFound found (S.calls store.old) (S.calls store.new)) }
+    ensures reads { OnlyReads (S.calls store.old) (S.calls store.new) }
+{
+    match store.read(FileName::Farm, MOST_FILE_BYTES) {
+        Ok(None) => Ok(FoundFile::Nothing),
+        Ok(Some(bytes)) => {
             let found = classify_file(&bytes);
             drop(bytes);
             Ok(found)
         }
-        Err(error) => {
-            drop(error);
-            Err(Cause::FileUnreadable)
-        }
+        Err(FolderFault::Memory) => Err(Cause::Memory),
+        Err(_) => Err(Cause::FileUnreadable),
     }
 }
 
 /// What a file with these bytes says.
-fn classify_file(bytes: &[u8]) -> FoundFile {
+fn classify_file(bytes: &[u8]) -> FoundFile
+    ensures { IsFarmFound (Some bytes.now) result }
+{
     match FarmFile::read(bytes) {
         Ok(file) => FoundFile::File(file),
         Err(fault) => FoundFile::Bad(fault),

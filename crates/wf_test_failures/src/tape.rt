@@ -2,6 +2,7 @@
 use crate::value::round;
 use std::alloc::Global;
 use std::fs;
+use std::io::ErrorKind;
 use std::process::Abort;
 use std::rt::Files;
 use wf_journal::{AddFault, Journal, OpenFault, Record};
@@ -220,6 +221,10 @@ impl Tape for Unsynced {
 
     fn failures(&self) -> u64 {
         self.failures
+    }
+
+    fn cause(&self) -> Option<ErrorKind> {
+        None
     }
 
     fn is_doubtful(&self) -> bool {

@@ -1,0 +1,144 @@
+-- A start of a farm on the folder of its tapes, by the calls of the folder, the latest first.
+use Rattle.std.specs.Prelude.{◌≡◌, ◌≢◌, ◌≤◌, ◌<◌, ◌⊎◌, ℕ, zero, suc, Bool, true, false, List, ◌∷◌, Option, Some, None, length, slice_index_or}
+use Rattle.wf_folder.specs.Admission.{IsStart}
+use Rattle.wf_folder.specs.FarmFile.{IsFarmFile, farm_text}
+use Rattle.wf_folder.specs.declared.admission.FoundFile.{FoundFile}
+use Rattle.wf_folder.specs.declared.admission.FoundFile.TheVariants as finds
+use Rattle.wf_folder.specs.declared.admission.Start.{Start}
+use Rattle.wf_folder.specs.declared.admission.Start.TheVariants as starts
+use Rattle.wf_folder.specs.declared.farm_file.Beginning.{Beginning}
+use Rattle.wf_folder.specs.declared.farm_file.Beginning.TheVariants as beginnings
+use Rattle.wf_folder.specs.declared.farm_file.FarmFile.{FarmFile}
+use Rattle.wf_folder.specs.declared.presence.Presence.{Presence}
+use Rattle.wf_folder.specs.declared.presence.Presence.TheVariants.{Absent}
+use Rattle.wf_serve.specs.TapeCheck.{AreTapesChecked}
+use Rattle.wf_serve.specs.declared.event.Cause.{Cause}
+use Rattle.wf_serve.specs.declared.event.Cause.TheVariants.{FileUnwritten, Memory, TapeFailed}
+use Rattle.wf_serve.specs.declared.survey.Survey.{Survey}
+use Rattle.wf_store.specs.Call.{Call, IsAfter, changes, drawn, failed_at, locked, opened, read, replaced, seen}
+use Rattle.wf_store.specs.declared.file_name.FileName.TheVariants.{Farm, NodeTape}
+
+-- ---- what is in the folder
+
+-- what the bytes say that were read of the file `farm`, if it is there
+abbrev pub IsFarmFound : Option (List ℕ) → FoundFile → Type 0
+IsFarmFound None finds.Nothing = Unit {0}
+IsFarmFound None (finds.File file) = ⊥
+IsFarmFound None (finds.Bad fault) = ⊥
+IsFarmFound (Some bytes) finds.Nothing = ⊥
+IsFarmFound (Some bytes) (finds.File file) = IsFarmFile file × (bytes ≡ farm_text file)
+IsFarmFound (Some bytes) (finds.Bad fault) = (file : FarmFile) → IsFarmFile file → bytes ≢ farm_text file
+
+-- The file `farm` was read: this was found.
+pub record HasFound (found : FoundFile) (old new : List Call) : Type 0 where
+  pub bytes : Option (List ℕ)
+  pub says : IsFarmFound bytes found
+  pub calls : new ≡ read Farm bytes ∷ old
+
+-- whether the first tapes are there was seen in turn
+unfoldable pub looks : List Presence → ℕ → List Call → List Call
+looks tapes zero before = before
+looks tapes (suc number) before = seen (NodeTape number) (slice_index_or tapes number Absent) ∷ looks tapes number before
+
+-- Then whether each of 64 tapes is there was seen.
+pub record IsSurveyed (survey : Survey) (old new : List Call) : Type 0 where
+  pub middle : List Call
+  pub found : HasFound survey.found old middle
+  pub size : length survey.tapes ≡ 64
+  pub seen : new ≡ looks survey.tapes 64 middle
+
+-- ---- what is made of it
+
+-- the tapes of the first nodes were opened in turn
+unfoldable pub tape_opens : ℕ → List Call → List Call
+tape_opens zero before = before
+tape_opens (suc number) before = opened (NodeTape number) ∷ tape_opens number before
+
+-- They were, and nothing else was changed.
+pub record HaveOpened (count : ℕ) (old new : List Call) : Type 0 where
+  pub after : IsAfter old new
+  pub changed : changes new ≡ tape_opens count (changes old)
+
+-- A mark was drawn for a file `farm` of n nodes.
+pub record IsDrawn (n : ℕ) (beginning : Beginning) (file : FarmFile) (old new : List Call) : Type 0 where
+  pub is_file : IsFarmFile file
+  pub of : file.nodes ≡ n
+  pub begun : file.beginning ≡ beginning
+  pub mark : new ≡ drawn file.mark ∷ old
+
+-- The tapes of n nodes were opened, and then this file `farm` was written.
+pub record IsWritten (n : ℕ) (file : FarmFile) (old new : List Call) : Type 0 where
+  pub before : List Call
+  pub opened : HaveOpened n old before
+  pub written : new ≡ replaced Farm (farm_text file) ∷ before
+
+-- It has that mark.
+pub record IsFiled (n : ℕ) (beginning : Beginning) (old new : List Call) : Type 0 where
+  pub file : FarmFile
+  pub marked : List Call
+  pub drawn : IsDrawn n beginning file old marked
+  pub written : IsWritten n file marked new
+
+-- in a folder of the farm's own its tapes were opened; one that is new, or taken over, got its file too
+abbrev pub IsFarmBegun : ℕ → Start → List Call → List Call → Type 0
+IsFarmBegun n (starts.Own file) old new = HaveOpened n old new
+IsFarmBegun n starts.New old new = IsFiled n beginnings.Empty old new
+IsFarmBegun n starts.TakenOver old new = IsFiled n beginnings.Found old new
+
+-- By what was found the farm of n nodes may start; their tapes were read, and agree; and only then was one opened.
+pub record IsFarmAdmitted (n : ℕ) (survey : Survey) (start : Start) (old new : List Call) : Type 0 where
+  pub checked : List Call
+  pub tapes : AreTapesChecked n survey.tapes old checked
+  pub begun : IsFarmBegun n start checked new
+
+-- A farm of n nodes started on a folder that is locked.
+pub record IsFarmStarted (n : ℕ) (held new : List Call) : Type 0 where
+  pub survey : Survey
+  pub surveyed : List Call
+  pub found : IsSurveyed survey held surveyed
+  pub start : Start
+  pub may : IsStart n survey.found survey.tapes start
+  pub admitted : IsFarmAdmitted n survey start surveyed new
+
+-- ---- what is left where it doesn't start
+
+-- the cause is one that comes before any tape is opened
+abbrev pub is_early : Cause → Bool
+is_early (TapeFailed tape) = false
+is_early FileUnwritten = false
+is_early Memory = false
+is_early cause = true
+
+-- the tapes of so many nodes were opened, and then nothing was changed, or the next one couldn't be opened, or the file be written
+abbrev pub IsStoppedAt : ℕ → ℕ → List Call → List Call → Type 0
+IsStoppedAt n count before after = (after ≡ tape_opens count before) ⊎ ((count < n) × (after ≡ failed_at (NodeTape count) ∷ tape_opens count before)) ⊎ (after ≡ failed_at Farm ∷ tape_opens n before)
+
+-- The farm didn't start: the first of its tapes were opened, or none was; and none was for an early cause.
+pub record IsFarmRejected (n : ℕ) (cause : Cause) (old new : List Call) : Type 0 where
+  pub after : IsAfter old new
+  pub count : ℕ
+  pub most : count ≤ n
+  pub stopped : IsStoppedAt n count (changes old) (changes new)
+  pub early : is_early cause ≡ true → changes new ≡ changes old
+
+-- no connection was served: the farm started, but its port wasn't printed; or it didn't start
+abbrev pub HasNotServed : ℕ → List Call → List Call → Type 0
+HasNotServed n old new = IsFarmStarted n (locked ∷ old) new ⊎ ((cause : Cause) × IsFarmRejected n cause old new)
+
+-- ---- for the crate's own contracts
+
+-- The tape of a node was opened, and nothing else was changed.
+pub record IsTapeOpened (number : ℕ) (old new : List Call) : Type 0 where
+  pub after : IsAfter old new
+  pub changed : changes new ≡ opened (NodeTape number) ∷ changes old
+
+-- The node isn't opened: nothing was changed, or to open its tape failed, or the tape was opened, and that was all.
+pub record IsTapeStopped (number : ℕ) (cause : Cause) (old new : List Call) : Type 0 where
+  pub after : IsAfter old new
+  pub changed : (changes new ≡ changes old) ⊎ (changes new ≡ failed_at (NodeTape number) ∷ changes old) ⊎ (changes new ≡ opened (NodeTape number) ∷ changes old)
+  pub late : is_early cause ≡ false
+
+-- The file `farm` isn't written: its text wasn't made, or to write it failed.
+pub record IsUnwritten (cause : Cause) (old new : List Call) : Type 0 where
+  pub left : (new ≡ old) ⊎ (new ≡ failed_at Farm ∷ old)
+  pub late : is_early cause ≡ false
