@@ -99,9 +99,8 @@ def write_data(folder, columns=20, rows=10, depth=5, roads=300, towns=60):
     """communes.shp in Latin-1, and net.gpkg with the tables roads and towns."""
     source = random.Random(37)
     names = ("Genève", "Zürich", "Neuchâtel", "Bülach", "Fribourg", "Aigle")
-    communes = [
-        (polygon(ring), (f"{names[i % 6]} {i}", USES[i * 7 % 4], i * 37 % 5000, i + 1)) for i, ring in enumerate(coverage(columns, rows, depth))
-    ]
+    communes = [(polygon(ring), (f"{names[i % 6]} {i}", USES[i * 7 % 4], i * 37 % 5000, i + 1)) for i,
+                ring in enumerate(coverage(columns, rows, depth))]
     fields = [("NAME", ogr.OFTString), ("USE", ogr.OFTString), ("POP", ogr.OFTInteger), ("NR", ogr.OFTInteger)]
     write_table(folder / "communes.shp", "ESRI Shapefile", "communes", ogr.wkbPolygon, fields, communes, options=["ENCODING=ISO-8859-1"])
     ways = []
@@ -112,9 +111,8 @@ def write_data(folder, columns=20, rows=10, depth=5, roads=300, towns=60):
         ways.append((line([*crooked(start, end, 4, source), end]), ("AHNK"[i % 4], f"{'AHNK'[i % 4]}{i}", i % 3)))
     fields = [("class", ogr.OFTString), ("number", ogr.OFTString), ("lanes", ogr.OFTInteger)]
     write_table(folder / "net.gpkg", "GPKG", "roads", ogr.wkbLineString, fields, ways)
-    places = [
-        (point(WEST + source.uniform(0, WIDTH), SOUTH + source.uniform(0, HEIGHT)), (f"Stadt-{i}", source.randrange(200, 90_000))) for i in range(towns)
-    ]
+    places = [(point(WEST + source.uniform(0, WIDTH), SOUTH + source.uniform(0, HEIGHT)),
+               (f"Stadt-{i}", source.randrange(200, 90_000))) for i in range(towns)]
     write_table(folder / "net.gpkg", "GPKG", "towns", ogr.wkbPoint, [("name", ogr.OFTString), ("people", ogr.OFTInteger)], places)
 
 

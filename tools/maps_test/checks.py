@@ -1,6 +1,8 @@
 """What no single input shows: borders by area, features as one shape, pictures beside MapServer's, and speed."""
 
+import json
 import re
+import subprocess
 import time
 from pathlib import Path
 
@@ -317,12 +319,43 @@ def report_of_what_is_lost(folder, program, keep):
     return None if report.strip() == said(done) and "layer roads: left out: PATTERN 4 2 of STYLE (net.inc, line 10)" in report else report
 
 
+# ---- the report of `wfarm check` as JSON
+
+
+def wrong_json(program, text):
+    """What `check --format json` says that `check` doesn't, or a place that isn't the offset's."""
+    said, as_json = (subprocess.run([program, "check", *words], input=text, capture_output=True) for words in ([], ["--format", "json"]))
+    if (said.returncode, said.stderr, bool(said.stdout)) != (as_json.returncode, as_json.stderr, bool(as_json.stdout)):
+        return f"{said} {as_json}"
+    if not said.stdout:
+        return None
+    found = json.loads(as_json.stdout)
+    heading, _, _, *message = said.stdout.decode().rstrip("\n").split("\n")
+    before = text[: found["offset"]]
+    place = {"line": before.count(b"\n") + 1, "column": len(before.split(b"\n")[-1].decode()) + 1, "offset": len(before)}
+    wanted = place | {"error": heading.split()[4], "message": "\n".join(message)}
+    if found != wanted or not heading.startswith(f"line {place['line']}, column {place['column']}: ") or as_json.stdout.count(b"\n") != 1:
+        return f"{found} where {wanted} is wanted, {heading}"
+    return None
+
+
+def check_as_json(folder, program, keep):
+    """Of examples, whole, cut and with a wrong byte, and of odd texts."""
+    texts = [b"", b"/*", b"\xff", b"MAP\r\n\tNAME 'a \"\\'\r\n x", 'MAP NAME "ü\u2028é" {x'.encode(), b'MAP "\x01" END', b" " * 140_000]
+    for path in sorted(EXAMPLES.glob("*.map")):
+        text = path.read_bytes()
+        texts += [text] + [text[:end] for end in range(0, len(text), len(text) // 4 + 1)]
+        texts += [text[:end] + b"!" + text[end + 1 :] for end in range(0, len(text), len(text) // 4 + 1)]
+    wrong = [found for found in (wrong_json(program, text) for text in texts) if found]
+    return wrong[0] if wrong else None
+
+
 CHECKS = {
     check.__name__.replace("_", " "): check
     for check in (
         borders_stay_shared, borders_do_not_cross, weights_of_a_line, numbers_as_written, one_shape_looks_alike,
         neighbours_as_one_look_alike, own_maps_stay, polygons_beside_mapserver, whole_map_beside_mapserver, fast_enough,
         cut_borders_stay_shared, a_part_has_more_detail, preview_of_data, preview_of_many_points, preview_of_a_mapfile, own_map_of_mapserver,
-        query_of_the_map, report_of_what_is_lost, table_of_the_page, keywords_of_the_page, a_map_of_each_keyword,
+        query_of_the_map, report_of_what_is_lost, table_of_the_page, keywords_of_the_page, a_map_of_each_keyword, check_as_json,
     )
 }  # fmt: skip

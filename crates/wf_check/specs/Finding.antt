@@ -77,6 +77,6 @@ headed number column rest = codes "line " ++ decimal number ++ codes ", column "
 abbrev pub IsReport : Finding → List ℕ → Type 0
 IsReport finding text = (rest : List ℕ) × (text ≡ headed finding.line.number (characters finding.line.before.now + 1) rest)
 
--- The text is a report of a finding of the bytes with this error.
-abbrev pub IsReportOf : List ℕ → CheckFault → List ℕ → Type 0
-IsReportOf bytes fault text = (finding : Finding) × IsFinding bytes finding × (finding.fault ≡ fault) × IsReport finding text
+-- The text is a report, in a format, of a finding of the bytes with this error.
+abbrev pub IsReportOf : (Finding → List ℕ → Type 0) → List ℕ → CheckFault → List ℕ → Type 0
+IsReportOf IsIn bytes fault text = (finding : Finding) × IsFinding bytes finding × (finding.fault ≡ fault) × IsIn finding text

@@ -4,7 +4,7 @@ use Rattle.std.specs.List.{list_any}
 use Rattle.std.specs.Str.{str_eq_ignore_ascii_case}
 use Rattle.wf_def.specs.Limit.{most_points}
 use Rattle.wf_token.specs.Token.{Token}
-use Rattle.wf_block.specs.Grammar.{◌>>=◌, argument, choice, text, whole}
+use Rattle.wf_block.specs.Grammar.{◌>>=◌, argument, text, whole}
 use Rattle.wf_class.specs.Class.{class, class_put, expression, no_class}
 use Rattle.wf_class.specs.Color.{color}
 use Rattle.wf_class.specs.Label.{label, label_put, no_label}

@@ -1,3 +1,4 @@
 pub mod NumberedLine
 pub mod Finding
 pub mod Keywords
+pub mod Json

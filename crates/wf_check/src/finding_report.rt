@@ -57,20 +57,20 @@ fn push_headed(out: &mut String, number: usize, column: usize, rest: &str) -> Re
 
 /// The report of a finding behind its line and column.
 fn rest_of_report(alloc: Global, finding: &Finding<'_>) -> Result<String, AllocError> {
-    let Finding {
-        fault,
-        file,
-        offset,
-        reach: _,
-        line,
-    } = *finding;
-    let text = match fault {
-        CheckFault::Map(fault) => sentence(alloc, file, fault, offset)?,
-        CheckFault::TooBig => explain_excess(alloc, file)?,
-    };
-    let rest = format!(in alloc; "{fault}\n{line}{text}\n");
-    drop(text);
+    let fault = finding.fault;
+    let line = finding.line;
+    let message = message(alloc, finding)?;
+    let rest = format!(in alloc; "{fault}\n{line}{message}\n");
+    drop(message);
     rest
+}
+
+/// What was found and what is allowed there.
+pub(crate) fn message(alloc: Global, finding: &Finding<'_>) -> Result<String, AllocError> {
+    match finding.fault {
+        CheckFault::Map(fault) => sentence(alloc, finding.file, fault, finding.offset),
+        CheckFault::TooBig => explain_excess(alloc, finding.file),
+    }
 }
 
 /// A line that is cut at an offset, with a mark under the offset. Of a long line at most 50 bytes

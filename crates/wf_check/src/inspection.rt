@@ -32,7 +32,10 @@ pub fn check<'a>(alloc: Global, bytes: &'a [u8]) -> Result<Option<Finding<'a>>, 
             }
         }
         Err(MapFault::Memory) => Err(AllocError),
-        Err(fault) => Ok(Some(finding_of_fault(alloc, bytes, fault)?)),
+        Err(fault) => {
+            let place = place_of_fault(alloc, bytes, fault)?;
+            Ok(Some(finding(bytes, CheckFault::Map(fault), place)))
+        }
     }
 }
 
@@ -57,19 +60,6 @@ fn place_if_long(alloc: Global, bytes: &[u8], map: &MapDef) -> Result<Option<Pla
         Err(CanonFault::TooBig) => Ok(Some(place_of_excess(alloc, bytes, map)?)),
         Err(_) => Err(AllocError),
     }
-}
-
-/// The finding for an error of the reader.
-fn finding_of_fault<'a>(
-    alloc: Global,
-    bytes: &'a [u8],
-    fault: MapFault,
-) -> Result<Finding<'a>, AllocError>
-    requires { IsWhy bytes.now (CheckFault.Map fault) }
-    ensures { IfOk result (IsFinding bytes.now) }
-{
-    let place = place_of_fault(alloc, bytes, fault)?;
-    Ok(finding(bytes, CheckFault::Map(fault), place))
 }
 
 /// The place of an error of the reader.

@@ -13,9 +13,11 @@
 //! M11 come with the last token before the reach, the place of K1, the sentence of a report and the
 //! numbers in it. Not here: whether the map is a good one.
 //!
+//! A report as JSON is a line of exactly the object that `specs/Json.antt` says.
+//!
 //! Modules: `inspection` is the check, `finding` and `fault` are what it finds; `line` finds the line
 //! of an offset, `place` the place of an error without one. `finding_report` is a finding's text, with
-//! `sentence`, `excess` (of K1) and `shown`. `grammar` has the keywords of each block, `outline` the
+//! `sentence`, `excess` (of K1) and `shown`; `json` is the line of JSON. `grammar` has the keywords of each block, `outline` the
 //! items of a file's blocks, `size` the length of a canonical text that is too long.
 #![tactic(auto)]
 
@@ -25,6 +27,7 @@ mod finding;
 mod finding_report;
 mod grammar;
 mod inspection;
+mod json;
 mod line;
 mod outline;
 mod place;
@@ -36,5 +39,6 @@ pub use fault::CheckFault;
 pub use finding::Finding;
 pub use finding_report::report;
 pub use inspection::{check, no_map_with_an_error_is_publishable};
+pub use json::report_as_json;
 pub use line::NumberedLine;
 pub use sentence::MOST_COUNTED_BYTES;

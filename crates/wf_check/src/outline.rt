@@ -5,8 +5,15 @@
 use crate::grammar::{Block, Keyword, Takes};
 use std::alloc::{AllocError, Global};
 use std::fmt;
-use wf_block::{is_end, is_name};
+use wf_block::{choose, is_end};
 use wf_token::{Token, TokenKind};
+
+/// The kinds of layer, each with its word and the fewest points of a shape in it.
+static FEWEST_POINTS: [(&str, (&str, usize)); 3] = [
+    ("POINT", ("POINT", 1)),
+    ("LINE", ("LINE", 2)),
+    ("POLYGON", ("POLYGON", 3)),
+];
 
 /// An item of a block: a keyword with its arguments or its block, the text of PROJECTION, a pair of
 /// METADATA, or a point.
@@ -198,17 +205,12 @@ impl<'a> Outline<'a> {
 
     /// The index of a block of a kind in the block of the item at an index, counted from 0.
     pub(crate) fn nth(&self, number: usize, block: Block, parent: usize) -> Option<usize> {
-        let mut left = number;
-        for index in 0..self.items.len() {
-            let item = self.items[index];
-            if item.parent == parent && block_of(item) == Some(block) {
-                if left == 0 {
-                    return Some(index);
-                }
-                left -= 1;
-            }
-        }
-        None
+        self.items
+            .iter()
+            .enumerate()
+            .filter(|(_, item)| item.parent == parent && block_of(**item) == Some(block))
+            .map(|(index, _)| index)
+            .nth(number)
     }
 
     /// The number of items that are blocks of an item's kind, or points as it is: those in its
@@ -235,7 +237,7 @@ impl<'a> Outline<'a> {
     pub(crate) fn fewest_points(&self, shape: usize) -> Option<(&'static str, usize)> {
         let feature = self.item(self.item(shape)?.parent)?;
         let kind = self.child(feature.parent, "TYPE")?.argument?;
-        Some(fewest_points(kind.text))
+        choose(&FEWEST_POINTS, kind.text)
     }
 
     /// The END of the first shape with fewer points than its kind of layer needs, in the layer at
@@ -294,17 +296,6 @@ pub(crate) fn block_of(item: Item<'_>) -> Option<Block> {
 /// Whether the first token of an item is its argument's first.
 fn begins_with_argument(takes: Takes) -> bool {
     matches!(takes, Takes::Point | Takes::System)
-}
-
-/// The word of a kind of layer, and the fewest points of a shape in it.
-fn fewest_points(kind: &[u8]) -> (&'static str, usize) {
-    if is_name(kind, "POLYGON") {
-        ("POLYGON", 3)
-    } else if is_name(kind, "LINE") {
-        ("LINE", 2)
-    } else {
-        ("POINT", 1)
-    }
 }
 
 /// Whether a token is the word END.

@@ -4,16 +4,13 @@ ghost use Rattle.wf_mapfile.specs.Rejection.{HasError};
 
 use crate::grammar::Block;
 use crate::outline::{Item, Outline};
-use crate::size::{feature_length, features_length, heading_length, layer_length};
+use crate::size::{END, feature_length, features_length, heading_length, layer_length};
 use std::alloc::{AllocError, Global};
 use wf_block::MapFault;
 use wf_def::MapDef;
 use wf_mapfile::read;
 use wf_spelling::MOST_CANON_BYTES;
 use wf_token::{Token, TokenKind, tokenize};
-
-/// The bytes of a layer's last line, which follows its features.
-const END: usize = 4;
 
 /// The place of an error.
 #[derive(Clone, Copy)]

@@ -67,12 +67,22 @@ fn not_utf8(alloc: Global, rest: &[u8]) -> Result<String, AllocError> {
 
 /// About a place where no token may begin or go on.
 fn bad_token(alloc: Global, rest: &[u8]) -> Result<String, AllocError> {
+    if rest.starts_with(b"/*") {
+        return format!(in alloc;
+            "Found a comment that isn't closed. Allowed: a comment up to the next */."
+        );
+    }
     let character = first_character(rest).unwrap_or('\u{FFFD}');
-    let found = BadCharacter {
-        character,
-        begins_comment: rest.starts_with(b"/*"),
+    let found = BadCharacter(character);
+    let allowed = match character {
+        '"' | '\'' => "a text up to the next quote of the same kind",
+        '{' | '\n' | '\r' => {
+            "a list after white space, up to the next }, in one line and without a { in it"
+        }
+        '(' | ')' | '[' | ']' | '}' => "this character between quotes only",
+        '\u{FFFE}' | '\u{FFFF}' | '\u{0}'..='\u{7F}' => "this character nowhere in a mapfile",
+        _ => "this character between quotes only",
     };
-    let allowed = found.allowed();
     format!(in alloc; "Found {found}. Allowed: {allowed}.")
 }
 
@@ -84,37 +94,18 @@ fn first_character(bytes: &[u8]) -> Option<char> {
     }
 }
 
-/// A character at which no token may begin or go on, or a comment that isn't closed.
+/// A character at which no token may begin or go on.
 #[derive(Clone, Copy)]
-struct BadCharacter {
-    character: char,
-    begins_comment: bool,
-}
-
-impl BadCharacter {
-    /// What is allowed there.
-    fn allowed(self) -> &'static str {
-        match self.character {
-            _ if self.begins_comment => "a comment up to the next */",
-            '"' | '\'' => "a text up to the next quote of the same kind",
-            '{' | '\n' | '\r' => {
-                "a list after white space, up to the next }, in one line and without a { in it"
-            }
-            '(' | ')' | '[' | ']' | '}' => "this character between quotes only",
-            '\u{FFFE}' | '\u{FFFF}' | '\u{0}'..='\u{7F}' => "this character nowhere in a mapfile",
-            _ => "this character between quotes only",
-        }
-    }
-}
+struct BadCharacter(char);
 
 impl fmt::Display for BadCharacter {
     fn fmt<W: fmt::Write>(&self, f: &mut fmt::Formatter<W>) -> fmt::Result {
-        match self.character {
-            _ if self.begins_comment => write!(f, "a comment that isn't closed"),
+        let BadCharacter(character) = *self;
+        match character {
             '"' | '\'' => write!(f, "a quote that isn't closed"),
             '{' => write!(f, "a {{ that begins no list"),
-            '!'..='~' => write!(f, "{}", self.character),
-            _ => write!(f, "the character U+{:04X}", u32::from(self.character)),
+            '!'..='~' => write!(f, "{character}"),
+            _ => write!(f, "the character U+{:04X}", u32::from(character)),
         }
     }
 }

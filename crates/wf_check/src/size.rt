@@ -1,33 +1,68 @@
 //! The lengths of canonical texts, also of those that are too long to be written.
 
 use wf_def::{
-    Class, Color, Expression, Extent, Feature, Label, LabelSize, Layer, LayerKind, MapDef, Micro,
-    Part, Style,
+    Class, Color, Expression, Feature, Label, LabelSize, Layer, LayerKind, MapDef, Micro, Part,
+    Point, Style,
 };
 use wf_text::{NumberText, Text};
 
-/// The bytes of a line END, which ends a block.
-const END: usize = 4;
-
 /// The length of a map's canonical text.
 pub(crate) fn text_length(map: &MapDef) -> usize {
-    let mut length = sum(&[heading_length(map), END]);
+    let mut length = heading_length(map).saturating_add(END);
     for index in 0..map.layer_count() {
         let (name, layer) = map.layer(index);
-        length = sum(&[length, layer_length(name, layer)]);
+        length = length.saturating_add(layer_length(name, layer));
     }
     length
 }
 
+/// The length of the line END, which ends a block.
+pub(crate) const END: usize = "END\n".len();
+
+/// The length of the lines before the first layer.
+pub(crate) fn heading_length(map: &MapDef) -> usize {
+    let extent = map.extent();
+    sum(&[
+        line("MAP", &[]),
+        line("NAME", &[quoted(map.name())]),
+        line(
+            "EXTENT",
+            &[
+                number(extent.minx()),
+                number(extent.miny()),
+                number(extent.maxx()),
+                number(extent.maxy()),
+            ],
+        ),
+        line("PROJECTION", &[]),
+        line("\"init=epsg:4326\"", &[]),
+        END,
+        line("WEB", &[]),
+        line("METADATA", &[]),
+        line("\"wms_title\"", &[quoted(map.title())]),
+        line("\"wms_abstract\"", &[quoted(map.abstract_text())]),
+        line("\"wms_onlineresource\"", &[quoted(map.address())]),
+        END,
+        END,
+    ])
+}
+
 /// The length of a layer's lines.
 pub(crate) fn layer_length(name: &Text, layer: &Layer) -> usize {
-    let mut classes = 0usize;
-    for class in layer.classes() {
-        classes = sum(&[classes, class_size(class)]);
-    }
     sum(&[
-        layer_heading(name, layer),
-        classes,
+        line("LAYER", &[]),
+        line("NAME", &[quoted(name)]),
+        line("TYPE", &[kind_word(layer.kind()).len()]),
+        line("CLASSITEM", &[quoted(layer.class_item())]),
+        line("LABELITEM", &[quoted(layer.label_item())]),
+        line(
+            "PROCESSING",
+            &[sum(&["ITEMS=".len(), quoted(layer.items())])],
+        ),
+        line("METADATA", &[]),
+        line("\"wms_title\"", &[quoted(layer.title())]),
+        END,
+        total(layer.classes(), class_length),
         features_length(layer.features()),
         END,
     ])
@@ -35,14 +70,116 @@ pub(crate) fn layer_length(name: &Text, layer: &Layer) -> usize {
 
 /// The length of the lines of features.
 pub(crate) fn features_length(features: &[Feature]) -> usize {
-    let mut length = 0usize;
-    for feature in features {
-        length = sum(&[length, feature_length(feature)]);
-    }
-    length
+    total(features, feature_length)
 }
 
-/// The sum of some lengths.
+/// The length of a feature's lines.
+pub(crate) fn feature_length(feature: &Feature) -> usize {
+    sum(&[
+        line("FEATURE", &[]),
+        line("ITEMS", &[quoted(feature.items())]),
+        line("TEXT", &[quoted(feature.text())]),
+        total(feature.parts(), part_length),
+        END,
+    ])
+}
+
+fn part_length(part: &Part) -> usize {
+    sum(&[
+        line("POINTS", &[]),
+        total(part.as_slice(), point_length),
+        END,
+    ])
+}
+
+/// Two numbers, a space and LF.
+fn point_length(point: &Point) -> usize {
+    sum(&[number(point.x), number(point.y), 2])
+}
+
+fn class_length(class: &Class) -> usize {
+    let label = match class.label() {
+        Some(label) => label_length(&label),
+        None => 0,
+    };
+    sum(&[
+        line("CLASS", &[]),
+        line("NAME", &[quoted(class.name())]),
+        expression_length(class.expression()),
+        total(class.styles(), style_length),
+        label,
+        END,
+    ])
+}
+
+fn expression_length(expression: &Option<Expression>) -> usize {
+    match expression {
+        None => 0,
+        Some(Expression::Equals(text)) => line("EXPRESSION", &[quoted(text)]),
+        Some(Expression::OneOf(list)) => {
+            line("EXPRESSION", &[sum(&[list.as_bytes().len(), "{}".len()])])
+        }
+    }
+}
+
+fn style_length(style: &Style) -> usize {
+    sum(&[
+        line("STYLE", &[]),
+        optional_color("COLOR", style.color),
+        optional_color("OUTLINECOLOR", style.outline_color),
+        line("WIDTH", &[digits(style.width.get())]),
+        line("SIZE", &[digits(style.size.get())]),
+        END,
+    ])
+}
+
+fn label_length(label: &Label) -> usize {
+    let force = if label.force { "TRUE" } else { "FALSE" };
+    sum(&[
+        line("LABEL", &[]),
+        optional_color("COLOR", Some(label.color)),
+        line("SIZE", &[size_word(label.size).len()]),
+        line("POSITION", &["CC".len()]),
+        line("PRIORITY", &[digits(label.priority.get())]),
+        line("FORCE", &[force.len()]),
+        line("BUFFER", &[digits(label.buffer.get())]),
+        END,
+    ])
+}
+
+/// A line of a keyword and a colour, if there is a colour.
+fn optional_color(keyword: &str, color: Option<Color>) -> usize {
+    match color {
+        Some(color) => line(
+            keyword,
+            &[digits(color.r), digits(color.g), digits(color.b)],
+        ),
+        None => 0,
+    }
+}
+
+/// A line: a keyword, a space before each of its arguments, and LF.
+fn line(keyword: &str, arguments: &[usize]) -> usize {
+    sum(&[keyword.len(), arguments.len(), sum(arguments), 1])
+}
+
+/// A text in its quotes.
+fn quoted(text: &Text) -> usize {
+    sum(&[text.as_bytes().len(), 2])
+}
+
+fn number(number: Micro) -> usize {
+    NumberText::of(number).as_bytes().len()
+}
+
+fn digits(whole: u8) -> usize {
+    match whole {
+        0..=9 => 1,
+        10..=99 => 2,
+        _ => 3,
+    }
+}
+
 fn sum(lengths: &[usize]) -> usize {
     let mut sum = 0usize;
     for length in lengths {
@@ -51,191 +188,17 @@ fn sum(lengths: &[usize]) -> usize {
     sum
 }
 
-/// A line of a keyword alone.
-fn alone(keyword: &str) -> usize {
-    sum(&[keyword.len(), 1])
-}
-
-/// A line of a keyword and a text in its quotes.
-fn with_text(keyword: &str, text: &Text) -> usize {
-    sum(&[keyword.len(), text.as_bytes().len(), 4])
-}
-
-/// A line of a key and a text, both in their quotes.
-fn with_key(key: &str, text: &Text) -> usize {
-    sum(&[key.len(), text.as_bytes().len(), 6])
-}
-
-/// A line of a keyword and a word.
-fn with_word(keyword: &str, word: &str) -> usize {
-    sum(&[keyword.len(), word.len(), 2])
-}
-
-/// A line of a keyword and a whole number.
-fn with_whole(keyword: &str, whole: u8) -> usize {
-    sum(&[keyword.len(), digits(whole), 2])
-}
-
-/// A line of a keyword and a colour.
-fn with_color(keyword: &str, color: Color) -> usize {
-    sum(&[
-        keyword.len(),
-        digits(color.r),
-        digits(color.g),
-        digits(color.b),
-        4,
-    ])
-}
-
-/// A line of a keyword and a colour, if there is a colour.
-fn with_optional_color(keyword: &str, color: Option<Color>) -> usize {
-    match color {
-        Some(color) => with_color(keyword, color),
-        None => 0,
+/// The sum of the lengths of some items.
+fn total<T, F: Fn(&T) -> usize>(items: &[T], length: F) -> usize
+    requires { F.IsAlwaysCallable length }
+{
+    let mut sum = 0usize;
+    for item in items {
+        sum = sum.saturating_add(length(item));
     }
+    sum
 }
 
-/// The digits of a whole number.
-fn digits(whole: u8) -> usize {
-    if whole >= 100 {
-        3
-    } else if whole >= 10 {
-        2
-    } else {
-        1
-    }
-}
-
-/// The text of a number.
-fn number(number: Micro) -> usize {
-    NumberText::of(number).as_bytes().len()
-}
-
-/// The lines before the first layer.
-pub(crate) fn heading_length(map: &MapDef) -> usize {
-    sum(&[
-        alone("MAP"),
-        with_text("NAME", map.name()),
-        with_extent(map.extent()),
-        // PROJECTION, `"init=epsg:4326"` or `"init=epsg:3857"`, END
-        11 + 17 + END,
-        alone("WEB"),
-        alone("METADATA"),
-        with_key("wms_title", map.title()),
-        with_key("wms_abstract", map.abstract_text()),
-        with_key("wms_onlineresource", map.address()),
-        END + END,
-    ])
-}
-
-/// The line of a box.
-fn with_extent(extent: Extent) -> usize {
-    sum(&[
-        6,
-        number(extent.minx()),
-        number(extent.miny()),
-        number(extent.maxx()),
-        number(extent.maxy()),
-        5,
-    ])
-}
-
-/// The lines of a layer before its classes.
-fn layer_heading(name: &Text, layer: &Layer) -> usize {
-    sum(&[
-        alone("LAYER"),
-        with_text("NAME", name),
-        with_word("TYPE", kind_word(layer.kind())),
-        with_text("CLASSITEM", layer.class_item()),
-        with_text("LABELITEM", layer.label_item()),
-        with_text("PROCESSINGITEMS=", layer.items()),
-        alone("METADATA"),
-        with_key("wms_title", layer.title()),
-        END,
-    ])
-}
-
-/// The lines of a class.
-fn class_size(class: &Class) -> usize {
-    let mut styles = 0usize;
-    for style in class.styles() {
-        styles = styles.saturating_add(style_size(style));
-    }
-    let label = match class.label() {
-        Some(label) => label_size(&label),
-        None => 0,
-    };
-    sum(&[
-        alone("CLASS"),
-        with_text("NAME", class.name()),
-        expression_size(class.expression()),
-        styles,
-        label,
-        END,
-    ])
-}
-
-/// The line of an expression, if there is one.
-fn expression_size(expression: &Option<Expression>) -> usize {
-    match expression {
-        None => 0,
-        Some(Expression::Equals(text)) => with_text("EXPRESSION", text),
-        Some(Expression::OneOf(list)) => sum(&[10, list.as_bytes().len(), 4]),
-    }
-}
-
-/// The lines of a style.
-fn style_size(style: &Style) -> usize {
-    sum(&[
-        alone("STYLE"),
-        with_optional_color("COLOR", style.color),
-        with_optional_color("OUTLINECOLOR", style.outline_color),
-        with_whole("WIDTH", style.width.get()),
-        with_whole("SIZE", style.size.get()),
-        END,
-    ])
-}
-
-/// The lines of a label.
-fn label_size(label: &Label) -> usize {
-    sum(&[
-        alone("LABEL"),
-        with_color("COLOR", label.color),
-        with_word("SIZE", size_word(label.size)),
-        // POSITION and two letters.
-        12,
-        with_whole("PRIORITY", label.priority.get()),
-        with_word("FORCE", if label.force { "TRUE" } else { "FALSE" }),
-        with_whole("BUFFER", label.buffer.get()),
-        END,
-    ])
-}
-
-/// The lines of a feature.
-pub(crate) fn feature_length(feature: &Feature) -> usize {
-    let mut parts = 0usize;
-    for part in feature.parts() {
-        parts = parts.saturating_add(part_size(part));
-    }
-    sum(&[
-        alone("FEATURE"),
-        with_text("ITEMS", feature.items()),
-        with_text("TEXT", feature.text()),
-        parts,
-        END,
-    ])
-}
-
-/// The lines of a shape.
-fn part_size(part: &Part) -> usize {
-    let mut points = 0usize;
-    for point in part.as_slice() {
-        points = points.saturating_add(sum(&[number(point.x), number(point.y), 2]));
-    }
-    sum(&[alone("POINTS"), points, END])
-}
-
-/// The word of a layer's kind.
 fn kind_word(kind: LayerKind) -> &'static str {
     match kind {
         LayerKind::Points => "POINT",
@@ -244,7 +207,6 @@ fn kind_word(kind: LayerKind) -> &'static str {
     }
 }
 
-/// The word of a label's size.
 fn size_word(size: LabelSize) -> &'static str {
     match size {
         LabelSize::Tiny => "TINY",

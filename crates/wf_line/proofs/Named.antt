@@ -19,7 +19,7 @@ use Rattle.clap.specs.declared.parser.matches.ArgMatches.TheViews.{out-SubComman
 use Rattle.clap.specs.declared.parser.matches.ArgMatches.{ArgMatches}
 use Rattle.clap.specs.declared.parser.matches.Found.{Found}
 use Rattle.clap.specs.declared.parser.matches.SubCommand.{SubCommand}
-use Rattle.wf_line.specs.CommandLine.{Asks, IsCacheBy, IsCapsOf, IsDrawOf, IsMapBy, IsRejection, IsServeOf, IsServiceOf, IsTapeOf, program, rejections}
+use Rattle.wf_line.specs.CommandLine.{Asks, IsCacheBy, IsCapsOf, IsCheckAsked, IsDrawOf, IsMapBy, IsRejection, IsServeOf, IsServiceOf, IsTapeOf, program, rejections}
 use Rattle.wf_ballot.specs.Sequence.{last_sequence}
 use Rattle.wf_line.specs.Line.{IsInRange}
 use Rattle.wf_line.specs.declared.command_line.Line.{Line}
@@ -42,7 +42,7 @@ asks_of : (p : Text × List Row) (rows : List Row) → p.1 ≡ rows → p.0 ≡ 
 asks_of p rows has named none (lines.Caps seq query) asks = none (lines.Caps seq query) (rw has at asks.1)
 asks_of p rows has named none (lines.Draw query) asks = false≢true (sym (ap (bytes_eq (codes "caps")) (sym named ∙ asks.0)))
 asks_of p rows has named none lines.Canon asks = let clash : codes "caps" ≡ codes "canon" = sym named ∙ asks in cc
-asks_of p rows has named none lines.Check asks = false≢true (sym (ap (bytes_eq (codes "caps")) (sym named ∙ asks)))
+asks_of p rows has named none (lines.Check format) asks = false≢true (sym (ap (bytes_eq (codes "caps")) (sym named ∙ asks.0)))
 asks_of p rows has named none (lines.Tape file map) asks = false≢true (sym (ap (bytes_eq (codes "caps")) (sym named ∙ asks.0)))
 asks_of p rows has named none lines.Run asks = let clash : codes "caps" ≡ codes "run" = sym named ∙ asks in cc
 asks_of p rows has named none lines.Wire asks = false≢true (sym (ap (bytes_eq (codes "caps")) (sym named ∙ asks)))
@@ -53,7 +53,7 @@ serve_asks_of : (p : Text × List Row) (rows : List Row) → p.1 ≡ rows → p.
 serve_asks_of p rows has named none (lines.Caps seq query) asks = false≢true (sym (ap (bytes_eq (codes "serve")) (sym named ∙ asks.0)))
 serve_asks_of p rows has named none (lines.Draw query) asks = false≢true (sym (ap (bytes_eq (codes "serve")) (sym named ∙ asks.0)))
 serve_asks_of p rows has named none lines.Canon asks = false≢true (sym (ap (bytes_eq (codes "serve")) (sym named ∙ asks)))
-serve_asks_of p rows has named none lines.Check asks = false≢true (sym (ap (bytes_eq (codes "serve")) (sym named ∙ asks)))
+serve_asks_of p rows has named none (lines.Check format) asks = false≢true (sym (ap (bytes_eq (codes "serve")) (sym named ∙ asks.0)))
 serve_asks_of p rows has named none (lines.Tape file map) asks = false≢true (sym (ap (bytes_eq (codes "serve")) (sym named ∙ asks.0)))
 serve_asks_of p rows has named none lines.Run asks = false≢true (sym (ap (bytes_eq (codes "serve")) (sym named ∙ asks)))
 serve_asks_of p rows has named none lines.Wire asks = false≢true (sym (ap (bytes_eq (codes "serve")) (sym named ∙ asks)))
@@ -70,7 +70,7 @@ draw_asks_of : (p : Text × List Row) (rows : List Row) → p.1 ≡ rows → p.0
 draw_asks_of p rows has named none (lines.Caps seq query) asks = false≢true (sym (ap (bytes_eq (codes "draw")) (sym named ∙ asks.0)))
 draw_asks_of p rows has named none (lines.Draw query) asks = none (lines.Draw query) (rw has at asks.1)
 draw_asks_of p rows has named none lines.Canon asks = false≢true (sym (ap (bytes_eq (codes "draw")) (sym named ∙ asks)))
-draw_asks_of p rows has named none lines.Check asks = false≢true (sym (ap (bytes_eq (codes "draw")) (sym named ∙ asks)))
+draw_asks_of p rows has named none (lines.Check format) asks = false≢true (sym (ap (bytes_eq (codes "draw")) (sym named ∙ asks.0)))
 draw_asks_of p rows has named none (lines.Tape file map) asks = false≢true (sym (ap (bytes_eq (codes "draw")) (sym named ∙ asks.0)))
 draw_asks_of p rows has named none lines.Run asks = false≢true (sym (ap (bytes_eq (codes "draw")) (sym named ∙ asks)))
 draw_asks_of p rows has named none lines.Wire asks = false≢true (sym (ap (bytes_eq (codes "draw")) (sym named ∙ asks)))
@@ -87,7 +87,7 @@ tape_asks_of : (p : Text × List Row) (rows : List Row) → p.1 ≡ rows → p.0
 tape_asks_of p rows has named none (lines.Caps seq query) asks = false≢true (sym (ap (bytes_eq (codes "tape")) (sym named ∙ asks.0)))
 tape_asks_of p rows has named none (lines.Draw query) asks = false≢true (sym (ap (bytes_eq (codes "tape")) (sym named ∙ asks.0)))
 tape_asks_of p rows has named none lines.Canon asks = false≢true (sym (ap (bytes_eq (codes "tape")) (sym named ∙ asks)))
-tape_asks_of p rows has named none lines.Check asks = false≢true (sym (ap (bytes_eq (codes "tape")) (sym named ∙ asks)))
+tape_asks_of p rows has named none (lines.Check format) asks = false≢true (sym (ap (bytes_eq (codes "tape")) (sym named ∙ asks.0)))
 tape_asks_of p rows has named none (lines.Tape file map) asks = none (lines.Tape file map) (rw has at asks.1)
 tape_asks_of p rows has named none lines.Run asks = false≢true (sym (ap (bytes_eq (codes "tape")) (sym named ∙ asks)))
 tape_asks_of p rows has named none lines.Wire asks = false≢true (sym (ap (bytes_eq (codes "tape")) (sym named ∙ asks)))
@@ -98,6 +98,23 @@ pub none_listed : (line : Option Line) (met : Option (Text × List Row)) (rows :
 none_listed (Some line) met rows has named none = tt
 none_listed None None rows has named none = λ l asks. asks
 none_listed None (Some p) rows has named none = tape_asks_of p rows (let is : p.1 ≡ rows = cc in is) (let is : p.0 ≡ codes "tape" = cc in is) none
+
+-- if `check` was named and no `check` line has its arguments, they ask for nothing
+check_asks_of : (p : Text × List Row) (rows : List Row) → p.1 ≡ rows → p.0 ≡ codes "check" → ((l : Line) → ¬ (IsCheckAsked rows l)) → (l : Line) → ¬ (Asks (Some p) l)
+check_asks_of p rows has named none (lines.Caps seq query) asks = false≢true (sym (ap (bytes_eq (codes "check")) (sym named ∙ asks.0)))
+check_asks_of p rows has named none (lines.Draw query) asks = false≢true (sym (ap (bytes_eq (codes "check")) (sym named ∙ asks.0)))
+check_asks_of p rows has named none lines.Canon asks = false≢true (sym (ap (bytes_eq (codes "check")) (sym named ∙ asks)))
+check_asks_of p rows has named none (lines.Check format) asks = none (lines.Check format) (rw has at asks.1)
+check_asks_of p rows has named none (lines.Tape file map) asks = false≢true (sym (ap (bytes_eq (codes "check")) (sym named ∙ asks.0)))
+check_asks_of p rows has named none lines.Run asks = false≢true (sym (ap (bytes_eq (codes "check")) (sym named ∙ asks)))
+check_asks_of p rows has named none lines.Wire asks = false≢true (sym (ap (bytes_eq (codes "check")) (sym named ∙ asks)))
+check_asks_of p rows has named none (lines.Serve service) asks = false≢true (sym (ap (bytes_eq (codes "check")) (sym named ∙ asks.0)))
+
+pub none_checked : (line : Option Line) (met : Option (Text × List Row)) (rows : List Row) → option_map (λ p. p.1) met ≡ Some rows
+    → option_map (λ p. p.0) met ≡ Some (codes "check") → IfNone line ((l : Line) → ¬ (IsCheckAsked rows l)) → IfNone line ((l : Line) → ¬ (Asks met l))
+none_checked (Some line) met rows has named none = tt
+none_checked None None rows has named none = λ l asks. asks
+none_checked None (Some p) rows has named none = check_asks_of p rows (let is : p.1 ≡ rows = cc in is) (let is : p.0 ≡ codes "check" = cc in is) none
 
 -- the numbers of the line that is asked for are in range
 cache_in_range : (word : Option Text) (cached : ℕ) → IsCacheBy word cached → (1 ≤ cached) × (cached ≤ most_cached)
@@ -118,7 +135,7 @@ asked_in_range None line asks = absurd asks
 asked_in_range (Some named) (lines.Caps seq query) (is, (word, text, first, second, (sequence, same))) = sequence.most
 asked_in_range (Some named) (lines.Draw query) asks = tt
 asked_in_range (Some named) lines.Canon asks = tt
-asked_in_range (Some named) lines.Check asks = tt
+asked_in_range (Some named) (lines.Check format) asks = tt
 asked_in_range (Some named) (lines.Tape file map) (is, (word, first, (same, by))) = map_in_range (first_of (codes "map") named.1) map by
 asked_in_range (Some named) lines.Run asks = tt
 asked_in_range (Some named) lines.Wire asks = tt

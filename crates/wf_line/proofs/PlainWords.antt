@@ -15,7 +15,7 @@ use Rattle.clap.specs.Takes.{bundle_passes, default_passes, flag_word_passes, is
 use Rattle.clap.specs.ValueTests.{accepts}
 use Rattle.clap.specs.declared.builder.value_parser.ValueParser.TheVariants.{Signed}
 use Rattle.clap.specs.Walk.{Held, Row, finished, nothing_held, pushed, settled, walk, Rule, Text, Walk, after_step, arg_by_index, first_of, idle, long_or_other, short_or_plain, trailing, to_positional, value, walk_from, walked, word_met}
-use Rattle.wf_line.specs.CommandLine.{caps_shape, draw_shape, tape_shape, PlainCapsIsAsked, PlainDrawIsAsked, PlainCanonIsAsked, PlainRunIsAsked, PlainTapeIsAsked, PlainWireIsAsked, IsMapBy, is_plain, program, PlainCheckIsAsked}
+use Rattle.wf_line.specs.CommandLine.{caps_shape, draw_shape, tape_shape, PlainCapsIsAsked, PlainDrawIsAsked, PlainCanonIsAsked, PlainRunIsAsked, PlainTapeIsAsked, PlainWireIsAsked, IsMapBy, is_plain, program, PlainCheckIsAsked, JsonCheckIsAsked}
 use Rattle.wf_line.specs.Line.{IsSequence}
 use Rattle.wf_line.specs.declared.command_line.Line.TheVariants as lines
 
@@ -134,7 +134,7 @@ caps_asked word query (lines.Caps seq asked) plain_word plain_query is =
     (caps_taken word query plain_word plain_query (sequence_accepted word seq plain_word is.0), rw found.1 (refl, (word, query, found.2, found.3, is)))
 caps_asked word query (lines.Draw asked) plain_word plain_query is = absurd is
 caps_asked word query lines.Canon plain_word plain_query is = absurd is
-caps_asked word query lines.Check plain_word plain_query is = absurd is
+caps_asked word query (lines.Check format) plain_word plain_query is = absurd is
 caps_asked word query (lines.Tape asked map) plain_word plain_query is = absurd is
 caps_asked word query lines.Run plain_word plain_query is = absurd is
 caps_asked word query lines.Wire plain_word plain_query is = absurd is
@@ -176,7 +176,7 @@ draw_asked query (lines.Draw asked) plain is =
     let found = draw_rows query plain in
     (draw_taken query plain, rw found.1 (refl, (query, found.2, is)))
 draw_asked query lines.Canon plain is = absurd is
-draw_asked query lines.Check plain is = absurd is
+draw_asked query (lines.Check format) plain is = absurd is
 draw_asked query (lines.Tape asked map) plain is = absurd is
 draw_asked query lines.Run plain is = absurd is
 draw_asked query lines.Wire plain is = absurd is
@@ -216,7 +216,7 @@ pub tape_asked : PlainTapeIsAsked
 tape_asked file (lines.Caps seq asked) plain is = absurd is
 tape_asked file (lines.Draw asked) plain is = absurd is
 tape_asked file lines.Canon plain is = absurd is
-tape_asked file lines.Check plain is = absurd is
+tape_asked file (lines.Check format) plain is = absurd is
 tape_asked file (lines.Tape asked map) plain is =
     let found = tape_rows file plain in
     (tape_taken file plain, rw found.1 (refl, (file, found.2, (is.0, subst (λ word. IsMapBy word map) (sym found.3) is.1))))
@@ -230,7 +230,11 @@ canon_asked = (refl, refl)
 
 pub check_asked : PlainCheckIsAsked
 unfolding clap_on_literals
-check_asked = (refl, refl)
+check_asked = (refl, (refl, refl))
+
+pub json_asked : JsonCheckIsAsked
+unfolding clap_on_literals
+json_asked = (refl, (refl, refl))
 
 pub run_asked : PlainRunIsAsked
 unfolding clap_on_literals

@@ -1,5 +1,5 @@
 -- What the arguments of a command line ask for, by the rules of `clap`.
-use Rattle.std.specs.Prelude.{◌≡◌, ◌⊎◌, ℕ, option_map, ◌==◌, not, Bool, List, [], ◌∷◌, Option, Some, None, false, true, codes, pos}
+use Rattle.std.specs.Prelude.{◌≡◌, ◌⊎◌, ℕ, if◌then◌else◌, option_map, ◌==◌, not, Bool, List, [], ◌∷◌, Option, Some, None, false, true, codes, pos}
 use Rattle.clap.specs.Faults.{fault_of}
 use Rattle.clap.specs.Kinds.{IsAmong}
 use Rattle.clap.specs.Matches.{found_of}
@@ -20,6 +20,8 @@ use Rattle.wf_line.specs.declared.command_line.Line.{Line}
 use Rattle.wf_service.specs.Service.{last_port, most_nodes, most_requests}
 use Rattle.wf_service.specs.declared.service.Service.{Service}
 use Rattle.wf_line.specs.declared.command_line.Line.TheVariants as lines
+use Rattle.wf_line.specs.declared.command_line.Format.{Format}
+use Rattle.wf_line.specs.declared.command_line.Format.TheVariants as formats
 use Rattle.wf_service.specs.Service.{most_cached}
 
 -- ---- the arguments that the program takes
@@ -60,9 +62,13 @@ tape_shape = record (new_shape (codes "tape")) { rules = file_rule ∷ map_rule 
 abbrev pub canon_shape : Shape
 canon_shape = new_shape (codes "canon")
 
--- `check`
+-- `--format FORMAT`: a text
+abbrev pub format_rule : Rule
+format_rule = record (new_rule (codes "format")) { long = Some (codes "format"); value_names = 1 }
+
+-- `check --format FORMAT`
 abbrev pub check_shape : Shape
-check_shape = new_shape (codes "check")
+check_shape = record (new_shape (codes "check")) { rules = format_rule ∷ [] }
 
 -- `run`
 abbrev pub run_shape : Shape
@@ -150,7 +156,7 @@ abbrev pub IsCapsLine : Text → Text → Line → Type 0
 IsCapsLine word query (lines.Caps seq asked) = IsSequence word seq × (asked.now ≡ query)
 IsCapsLine word query (lines.Draw asked) = ⊥
 IsCapsLine word query lines.Canon = ⊥
-IsCapsLine word query lines.Check = ⊥
+IsCapsLine word query (lines.Check format) = ⊥
 IsCapsLine word query (lines.Tape file map) = ⊥
 IsCapsLine word query lines.Run = ⊥
 IsCapsLine word query lines.Wire = ⊥
@@ -166,7 +172,7 @@ abbrev pub IsDrawLine : Text → Line → Type 0
 IsDrawLine query (lines.Caps seq asked) = ⊥
 IsDrawLine query (lines.Draw asked) = asked.now ≡ query
 IsDrawLine query lines.Canon = ⊥
-IsDrawLine query lines.Check = ⊥
+IsDrawLine query (lines.Check format) = ⊥
 IsDrawLine query (lines.Tape file map) = ⊥
 IsDrawLine query lines.Run = ⊥
 IsDrawLine query lines.Wire = ⊥
@@ -190,7 +196,7 @@ abbrev pub IsTapeLine : Text → Option Text → Line → Type 0
 IsTapeLine file word (lines.Caps seq query) = ⊥
 IsTapeLine file word (lines.Draw query) = ⊥
 IsTapeLine file word lines.Canon = ⊥
-IsTapeLine file word lines.Check = ⊥
+IsTapeLine file word (lines.Check format) = ⊥
 IsTapeLine file word (lines.Tape asked map) = (asked.now ≡ file) × IsMapBy word map
 IsTapeLine file word lines.Run = ⊥
 IsTapeLine file word lines.Wire = ⊥
@@ -199,6 +205,30 @@ IsTapeLine file word (lines.Serve service) = ⊥
 -- The line is `tape` with the arguments parsed for FILE and `--map`.
 abbrev pub IsTapeOf : List Row → Line → Type 0
 IsTapeOf rows line = (file : Text) × (first_of (codes "FILE") rows ≡ Some file) × IsTapeLine file (first_of (codes "map") rows) line
+
+-- the format that a word names
+abbrev pub format_named : Text → Option Format
+format_named word = if bytes_eq word (codes "text") then Some formats.Text else if bytes_eq word (codes "json") then Some formats.Json else None
+
+-- the format of a report, by an argument if there is one
+abbrev pub format_by : Option Text → Option Format
+format_by None = Some formats.Text
+format_by (Some word) = format_named word
+
+-- The line is `check` with the format that an argument asks for if there is one.
+abbrev pub IsCheckBy : Option Text → Line → Type 0
+IsCheckBy word (lines.Caps seq query) = ⊥
+IsCheckBy word (lines.Draw query) = ⊥
+IsCheckBy word lines.Canon = ⊥
+IsCheckBy word (lines.Check format) = format_by word ≡ Some format
+IsCheckBy word (lines.Tape file map) = ⊥
+IsCheckBy word lines.Run = ⊥
+IsCheckBy word lines.Wire = ⊥
+IsCheckBy word (lines.Serve service) = ⊥
+
+-- The line is `check` with the argument parsed for `--format`.
+abbrev pub IsCheckAsked : List Row → Line → Type 0
+IsCheckAsked rows line = IsCheckBy (first_of (codes "format") rows) line
 
 -- the argument parsed for a number spells it
 abbrev pub IsNumberOf : List Row → Text → ℕ → ℕ → ℕ → Type 0
@@ -236,7 +266,7 @@ abbrev pub IsServeOf : List Row → Line → Type 0
 IsServeOf rows (lines.Caps seq query) = ⊥
 IsServeOf rows (lines.Draw query) = ⊥
 IsServeOf rows lines.Canon = ⊥
-IsServeOf rows lines.Check = ⊥
+IsServeOf rows (lines.Check format) = ⊥
 IsServeOf rows (lines.Tape file map) = ⊥
 IsServeOf rows lines.Run = ⊥
 IsServeOf rows lines.Wire = ⊥
@@ -248,7 +278,7 @@ Asks None line = ⊥
 Asks (Some named) (lines.Caps seq query) = (named.0 ≡ codes "caps") × IsCapsOf named.1 (lines.Caps seq query)
 Asks (Some named) (lines.Draw query) = (named.0 ≡ codes "draw") × IsDrawOf named.1 (lines.Draw query)
 Asks (Some named) lines.Canon = named.0 ≡ codes "canon"
-Asks (Some named) lines.Check = named.0 ≡ codes "check"
+Asks (Some named) (lines.Check format) = (named.0 ≡ codes "check") × IsCheckAsked named.1 (lines.Check format)
 Asks (Some named) (lines.Tape file map) = (named.0 ≡ codes "tape") × IsTapeOf named.1 (lines.Tape file map)
 Asks (Some named) lines.Run = named.0 ≡ codes "run"
 Asks (Some named) lines.Wire = named.0 ≡ codes "wire"
@@ -292,9 +322,14 @@ PlainTapeIsAsked = (file : Text) (line : Line) → is_plain file ≡ true → Is
 abbrev pub PlainCanonIsAsked : Type 0
 PlainCanonIsAsked = (takes program (codes "canon" ∷ []) ≡ true) × Asks (subcommand_of program (codes "canon" ∷ [])) lines.Canon
 
--- The parser accepts `check` alone; it asks to check the mapfile.
+-- The parser accepts `check` alone; it asks to check the mapfile, with a report as text.
 abbrev pub PlainCheckIsAsked : Type 0
-PlainCheckIsAsked = (takes program (codes "check" ∷ []) ≡ true) × Asks (subcommand_of program (codes "check" ∷ [])) lines.Check
+PlainCheckIsAsked = (takes program (codes "check" ∷ []) ≡ true) × Asks (subcommand_of program (codes "check" ∷ [])) (lines.Check formats.Text)
+
+-- The parser accepts `check --format json`; it asks to check the mapfile, with a report as JSON.
+abbrev pub JsonCheckIsAsked : Type 0
+JsonCheckIsAsked = (takes program (codes "check" ∷ codes "--format" ∷ codes "json" ∷ []) ≡ true)
+    × Asks (subcommand_of program (codes "check" ∷ codes "--format" ∷ codes "json" ∷ [])) (lines.Check formats.Json)
 
 -- The parser accepts `run` alone; it asks to play a script.
 abbrev pub PlainRunIsAsked : Type 0

@@ -11,7 +11,7 @@ abbrev pub IsInRange : Line → Type 0
 IsInRange (lines.Caps seq query) = seq ≤ last_sequence
 IsInRange (lines.Draw query) = ⊤
 IsInRange lines.Canon = ⊤
-IsInRange lines.Check = ⊤
+IsInRange (lines.Check format) = ⊤
 IsInRange (lines.Tape file map) = IfSome map (λ seq. (1 ≤ seq) × (seq ≤ last_sequence))
 IsInRange lines.Run = ⊤
 IsInRange lines.Wire = ⊤
@@ -22,7 +22,7 @@ abbrev pub IsOfInput : Line → Type 0
 IsOfInput (lines.Caps seq query) = ⊤
 IsOfInput (lines.Draw query) = ⊤
 IsOfInput lines.Canon = ⊤
-IsOfInput lines.Check = ⊤
+IsOfInput (lines.Check format) = ⊤
 IsOfInput (lines.Tape file map) = ⊥
 IsOfInput lines.Run = ⊤
 IsOfInput lines.Wire = ⊤

@@ -1,23 +1,22 @@
 //! Parses the command line.
-ghost use Rattle.std.specs.Prelude.{◌≡◌, ◌∷◌, [], ℕ, IfErr, IfNone, IfOk, IfSome, Option, false, map};
+ghost use Rattle.std.specs.Prelude.{◌≡◌, ◌∷◌, [], ℕ, codes, IfErr, IfNone, IfOk, IfSome, Option, false, map};
 ghost use Rattle.clap.specs.Simple.{app_of, shape_of, subcommand_of, subcommand_rows_of};
 ghost use Rattle.clap.specs.Values.{kind_of};
 ghost use Rattle.clap.specs.Walk.{first_of, rule_of};
 ghost use Rattle.clap.specs.declared.builder.command.Command.TheViews.{out-Command};
-ghost use Rattle.wf_line.specs.CommandLine.{Asks, HasSubcommands, IsCacheOf, IsCapsOf, IsDrawOf, IsNumberOf, IsOfShape, IsRejection, IsServeOf, IsServiceOf, IsTapeOf, IsWhyRejected, PlainCanonIsAsked, PlainCapsIsAsked, PlainDrawIsAsked, PlainRunIsAsked, PlainTapeIsAsked, PlainWireIsAsked, program, caps_shape, draw_shape, canon_shape, run_shape, wire_shape, tape_shape, required_serve_shape, serve_shape, rows_in, is_set, IsMapOf, map_rule, log_rule, sequence_rule, query_rule, file_rule, nodes_rule, port_rule, requests_rule, cache_rule, state_rule, PlainCheckIsAsked, check_shape};
+ghost use Rattle.wf_line.specs.CommandLine.{Asks, HasSubcommands, IsCacheOf, IsCapsOf, IsDrawOf, IsNumberOf, IsOfShape, IsRejection, IsServeOf, IsServiceOf, IsTapeOf, IsWhyRejected, PlainCanonIsAsked, PlainCapsIsAsked, PlainDrawIsAsked, PlainRunIsAsked, PlainTapeIsAsked, PlainWireIsAsked, program, caps_shape, draw_shape, canon_shape, run_shape, wire_shape, tape_shape, required_serve_shape, serve_shape, rows_in, is_set, IsMapOf, map_rule, log_rule, sequence_rule, query_rule, file_rule, nodes_rule, port_rule, requests_rule, cache_rule, state_rule, PlainCheckIsAsked, JsonCheckIsAsked, check_shape, format_rule, IsCheckAsked, format_by};
 ghost use Rattle.wf_line.specs.Line.{IsInRange, IsNumber, IsSequence};
 ghost use Rattle.wf_line.specs.declared.command_line.Line.{Line};
 ghost use Rattle.wf_service.specs.declared.service.Service.{Service};
 
-use crate::command_line::Line;
+use crate::command_line::{Format, Line};
 use clap::error::ErrorKind;
 use clap::{Arg, ArgAction, ArgMatches, Command, Error};
 use std::alloc::{AllocError, Global};
 use std::convert::AsStr;
 use wf_ballot::SEQUENCES;
 use wf_service::Service;
-
-const VERSION: &str = "0.1.0";
+use wf_version::BUILD;
 
 const CAPS_HELP: &str =
     "caps answers GetCapabilities; it does not support GetMap, which draw answers.
@@ -42,6 +41,8 @@ Errors (status 1): map fault M1 to M12, canon fault K1 and K3, read fault";
 const CHECK_HELP: &str = "A file is read as standard input: wfarm check < FILE
 Nothing is written where a farm would publish the map. Else the first error: its line, column and number, the line itself
 with a mark under the place, what was found there and what is allowed there; the status is 1 then, with no other line.
+With --format json it is one line of JSON: {\"column\":3,\"error\":\"M5\",\"line\":1,\"message\":\"Found ..\",\"offset\":2}. Lines and
+columns count from 1, columns in characters, offsets in bytes from 0.
 
 Limits: a mapfile has at most 131,072 bytes, a canonical text 65,536
 Errors (status 1): map fault M1, read fault";
@@ -168,14 +169,25 @@ fn canon_command<'a>(alloc: Global) -> Command<'a>
         .after_help(CANON_HELP)
 }
 
-// `check`.
-fn check_command<'a>(alloc: Global) -> Command<'a>
-    ensures shape { shape_of result ≡ check_shape }
-    ensures local { (out-Command result).has_globals ≡ false }
+// `--format FORMAT`.
+fn format_argument<'a>(alloc: Global) -> Arg<'a>
+    ensures rule { rule_of result ≡ format_rule }
+    ensures local { result.global ≡ false }
+{
+    Arg::new(alloc, "format")
+        .long("format")
+        .value_name("FORMAT")
+        .help("The format of the report, text or json; text where it is absent")
+}
+
+// `check --format FORMAT`.
+fn check_command<'a>(alloc: Global) -> Result<Command<'a>, AllocError>
+    ensures { IfOk result (IsOfShape check_shape) }
 {
     Command::new(alloc, "check")
         .about("Checks the mapfile on standard input, and shows its first error with the line")
         .after_help(CHECK_HELP)
+        .arg(format_argument(alloc))
 }
 
 // `run`.
@@ -326,7 +338,7 @@ fn first_command<'a>(alloc: Global) -> Result<Command<'a>, AllocError>
 {
     let caps = caps_command(alloc)?;
     Command::new(alloc, "wfarm")
-        .version(VERSION)
+        .version(BUILD)
         .about("Runs a farm of Web Map Service servers that publish one history of maps")
         .after_help(PROCESSES_HELP)
         .no_binary_name(true)
@@ -334,15 +346,22 @@ fn first_command<'a>(alloc: Global) -> Result<Command<'a>, AllocError>
         .subcommand(caps)
 }
 
+// The commands that answer a request about a mapfile.
+fn drawing_commands<'a>(alloc: Global) -> Result<Command<'a>, AllocError>
+    ensures { IfOk result (HasSubcommands (caps_shape ∷ draw_shape ∷ [])) }
+{
+    let draw = draw_command(alloc)?;
+    first_command(alloc)?.subcommand(draw)
+}
+
 // The commands about a mapfile.
 fn mapfile_commands<'a>(alloc: Global) -> Result<Command<'a>, AllocError>
     ensures { IfOk result (HasSubcommands (caps_shape ∷ draw_shape ∷ canon_shape ∷ check_shape ∷ [])) }
 {
-    let draw = draw_command(alloc)?;
-    first_command(alloc)?
-        .subcommand(draw)?
+    let check = check_command(alloc)?;
+    drawing_commands(alloc)?
         .subcommand(canon_command(alloc))?
-        .subcommand(check_command(alloc))
+        .subcommand(check)
 }
 
 // The commands about an input.
@@ -435,6 +454,28 @@ fn map<'a>(found: &ArgMatches<'a>) -> Option<Option<u16>>
         }
         None => Some(None),
     }
+}
+
+// The format of a report, by the parsed arguments.
+#[tactic(auto, using(crate::proofs::Named::word_in_row))]
+fn format<'a>(found: &ArgMatches<'a>) -> Option<Format>
+    ensures { result ≡ format_by (first_of (codes "format") (rows_in found.now)) }
+{
+    match found.get_str("format") {
+        None => Some(Format::Text),
+        Some(word) if word == "text" => Some(Format::Text),
+        Some(word) if word == "json" => Some(Format::Json),
+        Some(_) => None,
+    }
+}
+
+// The `check` line of the parsed arguments.
+fn check<'a>(found: &ArgMatches<'a>) -> Option<Line<'a>>
+    ensures some { IfSome result (IsCheckAsked (rows_in found.now)) }
+    ensures none { IfNone result ((line : Line) → ¬ (IsCheckAsked (rows_in found.now) line)) }
+{
+    let format = format(found)?;
+    Some(Line::Check { format })
 }
 
 // The `tape` line of the parsed arguments.
@@ -532,7 +573,7 @@ fn line_of<'a>(matches: &ArgMatches<'a>) -> Option<Line<'a>>
         Some(("caps", found)) => caps(found),
         Some(("draw", found)) => draw(found),
         Some(("canon", _)) => Some(Line::Canon),
-        Some(("check", _)) => Some(Line::Check),
+        Some(("check", found)) => check(found),
         Some(("run", _)) => Some(Line::Run),
         Some(("wire", _)) => Some(Line::Wire),
         Some(("tape", found)) => tape(found),
@@ -567,13 +608,15 @@ pub fn line<'a, S: AsStr>(alloc: Global, words: &'a [S]) -> Result<Line<'a>, Err
 }
 
 /// `caps` with an update sequence and a query, `draw` with a query, `tape` with a file, and `canon`, `check`, `run` and `wire` alone ask
-/// for these lines, if no argument begins with a hyphen. A theorem: the call does nothing.
+/// for these lines, if no argument begins with a hyphen; `check --format json` asks for that format. A theorem: the call does
+/// nothing.
 pub fn plain_words_are_taken()
     ensures caps { PlainCapsIsAsked }
     ensures draw { PlainDrawIsAsked }
     ensures tape { PlainTapeIsAsked }
     ensures canon { PlainCanonIsAsked }
     ensures check { PlainCheckIsAsked }
+    ensures json { JsonCheckIsAsked }
     ensures run { PlainRunIsAsked }
     ensures wire { PlainWireIsAsked }
 {}

@@ -21,7 +21,7 @@ mod replica_arguments;
 mod replica_line;
 
 pub use arguments::{line, plain_words_are_taken};
-pub use command_line::Line;
+pub use command_line::{Format, Line};
 pub use node_line::{ClearLine, InitLine, NodeCommand, NodeLine};
 pub use process_arguments::{names_process_command, process_command};
 pub use process_line::ProcessCommand;

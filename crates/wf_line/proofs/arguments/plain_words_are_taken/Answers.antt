@@ -1,4 +1,4 @@
-use Rattle.wf_line.proofs.PlainWords.{canon_asked, caps_asked, check_asked, draw_asked, run_asked, tape_asked, wire_asked}
+use Rattle.wf_line.proofs.PlainWords.{canon_asked, caps_asked, check_asked, draw_asked, json_asked, run_asked, tape_asked, wire_asked}
 use Rattle.wf_line.proofs.arguments.plain_words_are_taken.Goals as goal
 
 pub returns-clause-caps : goal.returns-clause-caps
@@ -15,6 +15,9 @@ returns-clause-canon c = canon_asked
 
 pub returns-clause-check : goal.returns-clause-check
 returns-clause-check c = check_asked
+
+pub returns-clause-json : goal.returns-clause-json
+returns-clause-json c = json_asked
 
 pub returns-clause-run : goal.returns-clause-run
 returns-clause-run c = run_asked
