@@ -1,6 +1,6 @@
 -- From the result of a command to the run of its line.
 use Rattle.std.specs.Borrow.{Bor}
-use Rattle.std.proofs.Common.{◌≡◌, ◌∙◌, ℕ, Bool, true, false, List, [], ap, refl, subst, sym, inl, inr, arith}
+use Rattle.std.proofs.Common.{◌≡◌, ℕ, Bool, true, false, List, [], refl, subst, sym, inl, inr, arith}
 use Rattle.std.specs.Prelude.{Option, Some, None, Result, Ok, Err, OnOk}
 use Rattle.std.specs.declared.io.ErrorKind.{ErrorKind as IoErrorKind}
 use Rattle.clap.specs.Walk.{Text}
@@ -14,13 +14,14 @@ use Rattle.wf_serve.specs.declared.fault.ServeFault.TheVariants as serve
 use Rattle.wf_service.specs.declared.service.Service.{Service}
 use Rattle.wf_stream.specs.KnownTheorems.{consumes_none}
 use Rattle.wf_stream.specs.Effects.{TakesUpTo}
+use Rattle.wf_store.specs.Call.{Call}
 use Rattle.wf_tape.specs.declared.tape.Tape.{Ghosts as Tape}
 use Rattle.wf_commands.specs.FailureCount.{CountsReads, CountsWrites}
 use Rattle.wf_commands.specs.ProgramEnd.{left_to_report, rejection_status, reported, run_status, unreadable_status}
 use Rattle.wf_commands.specs.Contents.{Contents}
 use Rattle.wf_commands.specs.Folder.{HasFolderListing, IsTapeDone}
 use Rattle.wf_commands.specs.Program.{IsFarmProcess, IsProcess, IsDone, IsRun, IsRunOf, Serves}
-use Rattle.wf_commands.specs.Run.{HasListing, HasMap, IsTapeWriting, IsWhyUnlisted, IsWhyUnwritten, most_read}
+use Rattle.wf_commands.specs.Run.{HasListing, HasMap, IsTapeWriting, IsWhyListless, IsWhyMapless, most_read}
 use Rattle.wf_commands.specs.ServeRun.{IsLineServed, IsMachineServing, IsServing, run_outcome}
 use Rattle.wf_commands.specs.declared.program.Ending.{Ending}
 use Rattle.wf_commands.specs.declared.fault.RunFault.{RunFault}
@@ -36,6 +37,7 @@ use Rattle.wf_line.specs.declared.replica_line.ReplicaLine.{ReplicaLine}
 use Rattle.wf_node_command.specs.Done as nodes
 use Rattle.wf_node_command.specs.declared.fault.CommandFault.{CommandFault}
 use Rattle.wf_replica_command.specs.Done as replicas
+use Rattle.wf_replica_command.specs.Start.{IsLineRun}
 use Rattle.wf_replica_command.specs.declared.fault.ReplicaFault.{ReplicaFault}
 
 -- a reader that isn't called has given nothing
@@ -58,10 +60,10 @@ writing_reads_nothing HasOutput why old new (Err faults.Wire) count writes = abs
 pub listing_reads_nothing : (contents : Contents) (path : List ℕ) (map : Option ℕ) (old new : Option (List ℕ)) (result : Result (Unit {0}) RunFault) (count : ℕ) →
     IsTapeDone contents path map old new result → CountsReads result count count
 listing_reads_nothing contents path (Some sequence) old new result count done =
-    writing_reads_nothing (HasMap (contents.file path) sequence) (IsWhyUnwritten (contents.file path) sequence) old new result count done
+    writing_reads_nothing (HasMap (contents.file path) sequence) (IsWhyMapless (contents.file path) sequence) old new result count done
 listing_reads_nothing contents path None old new result count done = elim done [
-  | inl file ↦ writing_reads_nothing (HasListing (contents.file path)) (IsWhyUnlisted (contents.file path)) old new result count file
-  | inr folder ↦ writing_reads_nothing (HasFolderListing contents path folder.tapes) (λ fault. Unit {0}) old new result count folder.listed
+  | inl file ↦ writing_reads_nothing (HasListing (contents.file path)) (IsWhyListless (contents.file path)) old new result count file
+  | inr folder ↦ writing_reads_nothing (HasFolderListing contents path folder.survey) (λ fault. Unit {0}) old new result count folder.listed
 ]
 
 module _ (serves : Serves) (contents : Contents) (input left old new : Option (List ℕ)) (reads reads_after writes writes_after : ℕ) (ending : Ending) where
@@ -117,7 +119,7 @@ module _ (serves : Serves) (contents : Contents) (input old new : Option (List �
   service_ended (lines.Caps seq query) result done counts reported_as status = absurd done
   service_ended (lines.Draw query) result done counts reported_as status = absurd done
   service_ended lines.Canon result done counts reported_as status = absurd done
-  service_ended lines.Check result done counts reported_as status = absurd done
+  service_ended (lines.Check format) result done counts reported_as status = absurd done
   service_ended (lines.Tape file map) result done counts reported_as status = absurd done
   service_ended lines.Run result done counts reported_as status = absurd done
   service_ended lines.Wire result done counts reported_as status = absurd done
@@ -149,12 +151,17 @@ machine_serves inside outside service old new result reported_as served = record
 
 module _ {T : Type 0} (tapes : Tape T) (status : ℕ) where
   pub node_run : (words : List Text) → names_process_command words ≡ true → (command : NodeCommand) → AsksProcess (subcommand_of process_program words) (processes.Node command) →
-      (result : Result (Unit {0}) CommandFault) → nodes.IsDone tapes command result → status ≡ nodes.command_status result → IsFarmProcess tapes status
-  node_run words own command asked result done is = inl (record { words = words; own = own; command = command; asked = asked; result = result; done = done; is = is })
+      (result : Result (Unit {0}) CommandFault) (none calls : List Call) → none ≡ [] → nodes.IsDone tapes command none calls result → status ≡ nodes.command_status result → IsFarmProcess tapes status
+  node_run words own command asked result none calls empty done is =
+      let begun : nodes.IsDone tapes command [] calls result = subst (λ (old : List Call). nodes.IsDone tapes command old calls result) empty done in
+      inl (record { words = words; own = own; command = command; asked = asked; result = result; calls = calls; done = begun; is = is })
 
   pub replica_run : (words : List Text) → names_process_command words ≡ true → (line : ReplicaLine) → AsksProcess (subcommand_of process_program words) (processes.Replica line) →
-      (result : Result (Unit {0}) ReplicaFault) → replicas.IsDone tapes line result → status ≡ replicas.replica_status result → IsFarmProcess tapes status
-  replica_run words own line asked result done is = inr (inl (record { words = words; own = own; line = line; asked = asked; result = result; done = done; is = is }))
+      (result : Result (Unit {0}) ReplicaFault) → replicas.IsDone tapes line result → (none calls : List Call) → none ≡ [] → IsLineRun line none calls result →
+      status ≡ replicas.replica_status result → IsFarmProcess tapes status
+  replica_run words own line asked result done none calls empty folder is =
+      let begun : IsLineRun line [] calls result = subst (λ (old : List Call). IsLineRun line old calls result) empty folder in
+      inr (inl (record { words = words; own = own; line = line; asked = asked; result = result; done = done; calls = calls; folder = begun; is = is }))
 
   pub farm_rejected : (words : List Text) → names_process_command words ≡ true → (kind : ErrorKind) → IsProcessRejection words kind → (printed : Bool) × (status ≡ rejection_status kind printed) →
       IsFarmProcess tapes status

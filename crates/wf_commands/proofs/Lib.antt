@@ -1,6 +1,8 @@
 mod Checked
 mod Ended
 mod Folders
+mod FolderStart
+mod Distinct
 mod Examined
 mod Last
 mod Listed

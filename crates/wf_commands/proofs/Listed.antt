@@ -9,11 +9,10 @@ use Rattle.wf_listing.specs.TapeBytes.{most_tape_bytes}
 use Rattle.wf_listing.specs.declared.fault.TapeReadFault.{TapeReadFault}
 use Rattle.wf_listing.specs.declared.fault.TapeReadFault.TheVariants as tapes
 use Rattle.wf_stream.specs.KnownTheorems.{keeps_same}
-use Rattle.wf_folder.specs.declared.presence.Presence.{Presence}
 use Rattle.wf_serve.specs.declared.survey.Survey.{Survey}
 use Rattle.wf_commands.specs.Contents.{Contents}
 use Rattle.wf_commands.specs.Folder.{IsFolderListed, IsTapeDone}
-use Rattle.wf_commands.specs.Run.{HasListing, HasMap, IsListed, IsMapWritten, IsWhyUnlisted, IsWhyUnwritten}
+use Rattle.wf_commands.specs.Run.{HasListing, HasMap, IsListed, IsMapWritten, IsWhyListless, IsWhyMapless}
 use Rattle.wf_commands.specs.declared.fault.RunFault.{RunFault}
 use Rattle.wf_commands.specs.declared.fault.RunFault.TheVariants as faults
 
@@ -35,7 +34,7 @@ same_listing : (content : Option (List ℕ)) (bytes : List ℕ) (P : List ℕ �
 same_listing None bytes P is (found, text, same, listing, holds) = (found, text, tt, listing, holds)
 same_listing (Some known) bytes P is (found, text, same, listing, holds) = (found, text, same ∙ is, listing, holds)
 
-same_why : (content : Option (List ℕ)) (bytes : List ℕ) (fault : TapeReadFault) → IfSome content (λ known. bytes ≡ known) → IsWhyUnlisted (Some bytes) fault → IsWhyUnlisted content fault
+same_why : (content : Option (List ℕ)) (bytes : List ℕ) (fault : TapeReadFault) → IfSome content (λ known. bytes ≡ known) → IsWhyListless (Some bytes) fault → IsWhyListless content fault
 same_why None bytes tapes.Failed is why = tt
 same_why (Some known) bytes tapes.Failed is why = subst (λ (t : List ℕ). most_tape_bytes < length t) is why
 same_why content bytes tapes.Memory is why = tt
@@ -86,8 +85,8 @@ same_map : (content : Option (List ℕ)) (bytes : List ℕ) (sequence : ℕ) (P 
 same_map None bytes sequence P is (found, (text, same, of, holds)) = (found, (text, tt, of, holds))
 same_map (Some known) bytes sequence P is (found, (text, same, of, holds)) = (found, (text, same ∙ is, of, holds))
 
-same_why_map : (content : Option (List ℕ)) (bytes : List ℕ) (sequence : ℕ) (fault : TapeReadFault) → IfSome content (λ known. bytes ≡ known) → IsWhyUnwritten (Some bytes) sequence fault →
-    IsWhyUnwritten content sequence fault
+same_why_map : (content : Option (List ℕ)) (bytes : List ℕ) (sequence : ℕ) (fault : TapeReadFault) → IfSome content (λ known. bytes ≡ known) → IsWhyMapless (Some bytes) sequence fault →
+    IsWhyMapless content sequence fault
 same_why_map None bytes sequence tapes.Failed is why = tt
 same_why_map (Some known) bytes sequence tapes.Failed is why = subst (λ (t : List ℕ). most_tape_bytes < length t) is why
 same_why_map content bytes sequence tapes.Memory is why = tt
@@ -123,11 +122,11 @@ no_content None found there is none = refl
 no_content (Some known) found there is none = let clash : Some there ≡ None = sym is ∙ none in cc
 
 pub folder_done : (contents : Contents) (path : List ℕ) (found : Option Survey) (there : Survey) (old new : Option (List ℕ)) (result : Result (Unit {0}) RunFault) → found ≡ Some there →
-    IfSome (contents.file path) (λ _. found ≡ None) → length there.tapes ≡ 64 → IfSome (contents.tapes path) (λ known. there.tapes ≡ known) →
-    IsFolderListed contents path there.tapes old new result → IsTapeDone contents path None old new result
+    IfSome (contents.file path) (λ _. found ≡ None) → length there.tapes ≡ 64 → IfSome (contents.folder path) (λ known. there ≡ known) →
+    IsFolderListed contents path there old new result → IsTapeDone contents path None old new result
 folder_done contents path found there old new result is none size known listed = inr (record {
   no_file = no_content (contents.file path) found there is none;
-  tapes = there.tapes;
+  survey = there;
   size = size;
   known = known;
   listed = listed;

@@ -1,8 +1,18 @@
 -- The last line of a folder's listing: what a start on the folder would do.
-use Rattle.std.specs.Prelude.{◌≡◌, ◌++◌, List, ℕ, codes, decimal}
+use Rattle.std.specs.Prelude.{◌≡◌, ◌==◌, ◌⊎◌, ◌++◌, Bool, true, if◌then◌else◌, List, [], ◌∷◌, Option, Some, None, ℕ, codes, decimal, slice_index_or}
+use Rattle.wf_folder.specs.Admission.{IsStart}
+use Rattle.wf_folder.specs.NodeAdmission.{IsNodeRejection, IsNodeStart}
+use Rattle.wf_folder.specs.declared.node_admission.NodeFound.TheVariants as nodes_found
+use Rattle.wf_serve.specs.declared.survey.Survey.{Survey}
+use Rattle.wf_folder.specs.declared.node_file.NodeFile.{NodeFile}
+use Rattle.wf_folder.specs.declared.presence.Presence.{Presence}
+use Rattle.wf_folder.specs.declared.presence.Presence.TheVariants.{Absent}
 use Rattle.wf_folder.specs.declared.farm_file.Beginning.{Beginning}
 use Rattle.wf_folder.specs.declared.farm_file.Beginning.TheVariants as beginnings
+use Rattle.wf_folder.specs.declared.admission.Start.{Start}
 use Rattle.wf_folder.specs.declared.admission.Start.TheVariants as starts
+use Rattle.wf_serve.specs.StartCause.{IsStartCause}
+use Rattle.wf_serve.specs.TapesTaken.{AreSound, IsTapeCause, NumberedTape}
 use Rattle.wf_commands.specs.declared.folder_state.FolderState.{FolderState}
 use Rattle.wf_commands.specs.declared.folder_state.FolderState.TheVariants as states
 
@@ -26,6 +36,44 @@ node_line node = codes "whole, the tape of node " ++ decimal node ++ codes "\n"
 -- of a rejected start, with why
 abbrev pub rejection_line : List ℕ → List ℕ
 rejection_line why = codes "not whole, " ++ why ++ codes "\n"
+
+-- the tape of a node in a folder
+abbrev pub tape_of : ℕ → Survey → Presence
+tape_of node survey = slice_index_or survey.tapes node Absent
+
+-- ---- what a start on a folder would do: of a node that has it for itself, or of the nodes of a farm
+
+-- a tape that has to be sound: the node's own, or each tape of a farm's folder
+abbrev pub is_own : Option NodeFile → ℕ → Bool
+is_own None number = true
+is_own (Some file) number = file.node == number
+
+unfoldable pub own_tapes : Option NodeFile → List NumberedTape → List NumberedTape
+own_tapes owner [] = []
+own_tapes owner (tape ∷ tapes) = if is_own owner tape.0 then tape ∷ own_tapes owner tapes else own_tapes owner tapes
+
+-- The nodes of a farm start by what is in the folder, and the tapes are sound; or they don't by what is in it; or they would, and a tape is
+-- why they don't.
+abbrev pub IsFarmState : Survey → List NumberedTape → FolderState → Type 0
+IsFarmState survey tapes (states.Farm nodes start) = IsStart nodes survey.found survey.tapes start × AreSound tapes
+IsFarmState survey tapes (states.Rejected cause) =
+    IsStartCause survey cause ⊎ ((nodes : ℕ) × (start : Start) × IsStart nodes survey.found survey.tapes start × IsTapeCause tapes cause)
+IsFarmState survey tapes (states.Node file) = ⊥
+IsFarmState survey tapes (states.NodeRejected rejection) = ⊥
+
+-- So of the node with a file, and its tape.
+abbrev pub IsNodeState : NodeFile → Survey → List NumberedTape → FolderState → Type 0
+IsNodeState file survey tapes (states.Farm nodes start) = ⊥
+IsNodeState file survey tapes (states.Rejected cause) =
+    (now : NodeFile) × IsNodeStart file.nodes (nodes_found.File file) (tape_of file.node survey) now × IsTapeCause tapes cause
+IsNodeState file survey tapes (states.Node own) =
+    (own ≡ file) × ((now : NodeFile) × IsNodeStart file.nodes (nodes_found.File file) (tape_of file.node survey) now) × AreSound tapes
+IsNodeState file survey tapes (states.NodeRejected rejection) = IsNodeRejection file.nodes (nodes_found.File file) (tape_of file.node survey) rejection
+
+-- What is in the folder, whose it is, and what its tapes hold decide what a start would do.
+abbrev pub IsStateOf : Survey → Option NodeFile → List NumberedTape → FolderState → Type 0
+IsStateOf survey None tapes state = IsFarmState survey tapes state
+IsStateOf survey (Some file) tapes state = IsNodeState file survey tapes state
 
 -- The line of each state. What a rejection says after its first words is the text of its cause.
 abbrev pub IsLastLine : FolderState → List ℕ → Type 0

@@ -1,6 +1,6 @@
 -- What a run of the program does: from the words of its command line and its standard input to what it reads and writes, the error
 -- that it reports and its exit status.
-use Rattle.std.specs.Prelude.{◌≡◌, ◌⊎◌, ℕ, Bool, true, false, List, Option, Result}
+use Rattle.std.specs.Prelude.{◌≡◌, ◌⊎◌, ℕ, Bool, true, false, List, [], Option, Result}
 use Rattle.std.specs.declared.io.ErrorKind.{ErrorKind as IoErrorKind}
 use Rattle.clap.specs.Simple.{subcommand_of}
 use Rattle.clap.specs.Walk.{Text}
@@ -26,7 +26,9 @@ use Rattle.wf_line.specs.declared.replica_line.ReplicaLine.{ReplicaLine}
 use Rattle.wf_node_command.specs.Done as nodes
 use Rattle.wf_node_command.specs.declared.fault.CommandFault.{CommandFault}
 use Rattle.wf_replica_command.specs.Done as replicas
+use Rattle.wf_replica_command.specs.Start.{IsLineRun}
 use Rattle.wf_replica_command.specs.declared.fault.ReplicaFault.{ReplicaFault}
+use Rattle.wf_store.specs.Call.{Call}
 use Rattle.wf_tape.specs.declared.tape.Tape.{Ghosts as Tape}
 
 -- What serving means: of a service, the bytes written before and after, and the server's result.
@@ -39,7 +41,7 @@ abbrev pub IsDone : Serves → Contents → Line → Option (List ℕ) → Optio
 IsDone serves contents (lines.Caps seq query) input old new result = IsOutcomeOf (lines.Caps seq query) input old new result
 IsDone serves contents (lines.Draw query) input old new result = IsOutcomeOf (lines.Draw query) input old new result
 IsDone serves contents lines.Canon input old new result = IsOutcomeOf lines.Canon input old new result
-IsDone serves contents lines.Check input old new result = IsOutcomeOf lines.Check input old new result
+IsDone serves contents (lines.Check format) input old new result = IsOutcomeOf (lines.Check format) input old new result
 IsDone serves contents lines.Run input old new result = IsOutcomeOf lines.Run input old new result
 IsDone serves contents lines.Wire input old new result = IsOutcomeOf lines.Wire input old new result
 IsDone serves contents (lines.Tape file map) input old new result = IsTapeDone contents file.now map old new result
@@ -97,17 +99,18 @@ pub record WasUnreadable (status : ℕ) : Type 0 where
 
 -- ---- a process of a farm
 
--- It ran the command about a node that its words ask for, and ended with its status.
+-- It ran the command about a node that its words ask for, by these calls of its folder, and ended with its status.
 pub record HasRunNode {T : Type 0} (tapes : Tape T) (status : ℕ) : Type 0 where
   pub words : List Text
   pub own : names_process_command words ≡ true
   pub command : NodeCommand
   pub asked : AsksProcess (subcommand_of process_program words) (processes.Node command)
   pub result : Result (Unit {0}) CommandFault
-  pub done : nodes.IsDone tapes command result
+  pub calls : List Call
+  pub done : nodes.IsDone tapes command [] calls result
   pub is : status ≡ nodes.command_status result
 
--- It served the replica that its words ask for, and ended with its status.
+-- It served the replica that its words ask for, by these calls of its folder, and ended with its status.
 pub record HasRunReplica {T : Type 0} (tapes : Tape T) (status : ℕ) : Type 0 where
   pub words : List Text
   pub own : names_process_command words ≡ true
@@ -115,6 +118,8 @@ pub record HasRunReplica {T : Type 0} (tapes : Tape T) (status : ℕ) : Type 0 w
   pub asked : AsksProcess (subcommand_of process_program words) (processes.Replica line)
   pub result : Result (Unit {0}) ReplicaFault
   pub done : replicas.IsDone tapes line result
+  pub calls : List Call
+  pub folder : IsLineRun line [] calls result
   pub is : status ≡ replicas.replica_status result
 
 -- Its words are rejected, and it ended with the status of that, by whether their text was printed.

@@ -29,7 +29,7 @@ is_found _ = false
 
 -- the command has written a report of the error
 abbrev pub is_written : Line → RunFault → Bool
-is_written lines.Check fault = is_found fault
+is_written (lines.Check format) fault = is_found fault
 is_written _ fault = false
 
 -- the error that is printed after the command: one that it has written a report of isn't

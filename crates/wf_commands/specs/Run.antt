@@ -10,6 +10,7 @@ use Rattle.wf_spelling.specs.Canon.{canon, IsCauseOf}
 use Rattle.wf_spelling.specs.declared.fault.CanonFault.{CanonFault}
 use Rattle.wf_spelling.specs.declared.fault.CanonFault.TheVariants as canons
 use Rattle.wf_check.specs.Finding.{IsPublishable, IsReport, IsReportOf}
+use Rattle.wf_check.specs.Json.{IsJsonReport}
 use Rattle.wf_check.specs.declared.fault.CheckFault.{CheckFault}
 use Rattle.wf_check.specs.declared.fault.CheckFault.TheVariants as found
 use Rattle.wf_check.specs.declared.finding.Finding.{Finding}
@@ -27,6 +28,8 @@ use Rattle.wf_listing.specs.declared.fault.TapeReadFault.{TapeReadFault}
 use Rattle.wf_listing.specs.declared.fault.TapeReadFault.TheVariants as tapes
 use Rattle.wf_line.specs.declared.command_line.Line.{Line}
 use Rattle.wf_line.specs.declared.command_line.Line.TheVariants as lines
+use Rattle.wf_line.specs.declared.command_line.Format.{Format}
+use Rattle.wf_line.specs.declared.command_line.Format.TheVariants as formats
 use Rattle.wf_commands.specs.declared.fault.RunFault.{RunFault}
 use Rattle.wf_commands.specs.declared.fault.RunFault.TheVariants as faults
 
@@ -44,7 +47,7 @@ abbrev pub most_read : Line → ℕ
 most_read (lines.Caps seq query) = most_input_bytes
 most_read (lines.Draw query) = most_input_bytes
 most_read lines.Canon = most_input_bytes
-most_read lines.Check = most_checked_bytes
+most_read (lines.Check format) = most_checked_bytes
 most_read lines.Run = most_script_bytes + 1
 most_read lines.Wire = most_script_bytes + 1
 most_read (lines.Tape file map) = 0
@@ -181,45 +184,50 @@ abbrev pub fault_of : CheckFault → RunFault
 fault_of (found.Map fault) = faults.Map fault
 fault_of found.TooBig = faults.Canon canons.TooBig
 
--- P holds of the report of a finding of the bytes with this error
-abbrev pub HasReport : List ℕ → CheckFault → (List ℕ → Type 0) → Type 0
-HasReport bytes fault P = (text : List ℕ) × IsReportOf bytes fault text × P text
+-- the text is the report of a finding in this format
+unfoldable pub IsReportIn : Format → Finding → List ℕ → Type 0
+IsReportIn formats.Text finding text = IsReport finding text
+IsReportIn formats.Json finding text = IsJsonReport finding text
+
+-- P holds of the report, in a format, of a finding of the bytes with this error
+abbrev pub HasReport : Format → List ℕ → CheckFault → (List ℕ → Type 0) → Type 0
+HasReport format bytes fault P = (text : List ℕ) × IsReportOf (IsReportIn format) bytes fault text × P text
 
 -- the same for the prefix of an input that is read, if the input is known
-abbrev pub HasReportIn : Option (List ℕ) → CheckFault → (List ℕ → Type 0) → Type 0
-HasReportIn input fault P = (text : List ℕ) × IfSome input (λ known. IsReportOf (checked known) fault text) × P text
+abbrev pub HasReportIn : Format → Option (List ℕ) → CheckFault → (List ℕ → Type 0) → Type 0
+HasReportIn format input fault P = (text : List ℕ) × IfSome input (λ known. IsReportOf (IsReportIn format) (checked known) fault text) × P text
 
--- What `check` writes: nothing if the input is a map that a farm publishes; else the report of a finding, whose error is that of
+-- What `check` writes: nothing if the input is a map that a farm publishes; else the report, in a format, of a finding whose error is that of
 -- the run, or a prefix of it if the writer failed. Nothing if a read or an allocation failed.
-abbrev pub IsChecked : Option (List ℕ) → Option (List ℕ) → Option (List ℕ) → Result (Unit {0}) RunFault → Type 0
-IsChecked input old new (Ok done) = IfSome input IsPublishable × Keeps old new
-IsChecked input old new (Err (faults.Map fault)) =
-    (is_memory fault ≡ true → Keeps old new) × (is_memory fault ≡ false → HasReportIn input (found.Map fault) (λ text. Appends old new text))
-IsChecked input old new (Err (faults.Canon fault)) = (fault ≡ canons.TooBig) × HasReportIn input found.TooBig (λ text. Appends old new text)
-IsChecked input old new (Err faults.Write) = (fault : CheckFault) × HasReportIn input fault (λ text. AppendsPart old new text)
-IsChecked input old new (Err faults.Read) = Keeps old new
-IsChecked input old new (Err (faults.Script fault)) = ⊥
-IsChecked input old new (Err (faults.Tape fault)) = ⊥
-IsChecked input old new (Err faults.Serve) = ⊥
-IsChecked input old new (Err faults.Wire) = ⊥
+abbrev pub IsChecked : Format → Option (List ℕ) → Option (List ℕ) → Option (List ℕ) → Result (Unit {0}) RunFault → Type 0
+IsChecked format input old new (Ok done) = IfSome input IsPublishable × Keeps old new
+IsChecked format input old new (Err (faults.Map fault)) =
+    (is_memory fault ≡ true → Keeps old new) × (is_memory fault ≡ false → HasReportIn format input (found.Map fault) (λ text. Appends old new text))
+IsChecked format input old new (Err (faults.Canon fault)) = (fault ≡ canons.TooBig) × HasReportIn format input found.TooBig (λ text. Appends old new text)
+IsChecked format input old new (Err faults.Write) = (fault : CheckFault) × HasReportIn format input fault (λ text. AppendsPart old new text)
+IsChecked format input old new (Err faults.Read) = Keeps old new
+IsChecked format input old new (Err (faults.Script fault)) = ⊥
+IsChecked format input old new (Err (faults.Tape fault)) = ⊥
+IsChecked format input old new (Err faults.Serve) = ⊥
+IsChecked format input old new (Err faults.Wire) = ⊥
 
 -- the same for bytes that were read
-abbrev pub IsCheckOf : List ℕ → Option (List ℕ) → Option (List ℕ) → Result (Unit {0}) RunFault → Type 0
-IsCheckOf bytes old new (Ok done) = IsPublishable bytes × Keeps old new
-IsCheckOf bytes old new (Err (faults.Map fault)) =
-    (is_memory fault ≡ true → Keeps old new) × (is_memory fault ≡ false → HasReport bytes (found.Map fault) (λ text. Appends old new text))
-IsCheckOf bytes old new (Err (faults.Canon fault)) = (fault ≡ canons.TooBig) × HasReport bytes found.TooBig (λ text. Appends old new text)
-IsCheckOf bytes old new (Err faults.Write) = (fault : CheckFault) × HasReport bytes fault (λ text. AppendsPart old new text)
-IsCheckOf bytes old new (Err faults.Read) = ⊥
-IsCheckOf bytes old new (Err (faults.Script fault)) = ⊥
-IsCheckOf bytes old new (Err (faults.Tape fault)) = ⊥
-IsCheckOf bytes old new (Err faults.Serve) = ⊥
-IsCheckOf bytes old new (Err faults.Wire) = ⊥
+abbrev pub IsCheckOf : Format → List ℕ → Option (List ℕ) → Option (List ℕ) → Result (Unit {0}) RunFault → Type 0
+IsCheckOf format bytes old new (Ok done) = IsPublishable bytes × Keeps old new
+IsCheckOf format bytes old new (Err (faults.Map fault)) =
+    (is_memory fault ≡ true → Keeps old new) × (is_memory fault ≡ false → HasReport format bytes (found.Map fault) (λ text. Appends old new text))
+IsCheckOf format bytes old new (Err (faults.Canon fault)) = (fault ≡ canons.TooBig) × HasReport format bytes found.TooBig (λ text. Appends old new text)
+IsCheckOf format bytes old new (Err faults.Write) = (fault : CheckFault) × HasReport format bytes fault (λ text. AppendsPart old new text)
+IsCheckOf format bytes old new (Err faults.Read) = ⊥
+IsCheckOf format bytes old new (Err (faults.Script fault)) = ⊥
+IsCheckOf format bytes old new (Err (faults.Tape fault)) = ⊥
+IsCheckOf format bytes old new (Err faults.Serve) = ⊥
+IsCheckOf format bytes old new (Err faults.Wire) = ⊥
 
 -- what is written of a finding: its report, and its error is returned; a prefix of the report; nothing if an allocation failed
-abbrev pub IsFindingWritten : Finding → Option (List ℕ) → Option (List ℕ) → Result (Unit {0}) RunFault → Type 0
-IsFindingWritten finding old new result =
-    ((text : List ℕ) × IsReport finding text
+abbrev pub IsFindingWritten : Format → Finding → Option (List ℕ) → Option (List ℕ) → Result (Unit {0}) RunFault → Type 0
+IsFindingWritten format finding old new result =
+    ((text : List ℕ) × IsReportIn format finding text
     × (((result ≡ Err (fault_of finding.fault)) × Appends old new text) ⊎ ((result ≡ Err faults.Write) × AppendsPart old new text)))
     ⊎ ((fault : MapFault) × (result ≡ Err (faults.Map fault)) × (is_memory fault ≡ true) × Keeps old new)
 
@@ -240,35 +248,35 @@ abbrev pub HasListing : Option (List ℕ) → (List ℕ → Type 0) → Type 0
 HasListing content P = (bytes text : List ℕ) × IfSome content (λ known. bytes ≡ known) × IsListing bytes text × P text
 
 -- why a tape isn't listed: its file can't be read, if its content is known only since it is too long; or an allocation failed
-abbrev pub IsWhyUnlisted : Option (List ℕ) → TapeReadFault → Type 0
-IsWhyUnlisted content tapes.Failed = IfSome content (λ known. most_tape_bytes < length known)
-IsWhyUnlisted content tapes.Memory = Unit {0}
-IsWhyUnlisted content tapes.NoMap = ⊥
+abbrev pub IsWhyListless : Option (List ℕ) → TapeReadFault → Type 0
+IsWhyListless content tapes.Failed = IfSome content (λ known. most_tape_bytes < length known)
+IsWhyListless content tapes.Memory = Unit {0}
+IsWhyListless content tapes.NoMap = ⊥
 
 -- What is written of a tape in a file: the listing of its bytes, which are the file's content, if that is known.
 abbrev pub IsListed : Option (List ℕ) → Option (List ℕ) → Option (List ℕ) → Result (Unit {0}) RunFault → Type 0
-IsListed content old new result = IsTapeWriting (HasListing content) (IsWhyUnlisted content) old new result
+IsListed content old new result = IsTapeWriting (HasListing content) (IsWhyListless content) old new result
 
 -- P holds of the text of the map that some bytes have as published under a sequence, those of the file if they are known
 abbrev pub HasMap : Option (List ℕ) → ℕ → (List ℕ → Type 0) → Type 0
 HasMap content sequence P = (bytes : List ℕ) × ((text : Vec ℕ Global) × IfSome content (λ known. bytes ≡ known) × IsTextOf bytes sequence (Some text) × P text.items)
 
 -- why such a map isn't written: the tape can't be read; an allocation failed; or it has none
-abbrev pub IsWhyUnwritten : Option (List ℕ) → ℕ → TapeReadFault → Type 0
-IsWhyUnwritten content sequence tapes.Failed = IfSome content (λ known. most_tape_bytes < length known)
-IsWhyUnwritten content sequence tapes.Memory = Unit {0}
-IsWhyUnwritten content sequence tapes.NoMap = (bytes : List ℕ) × IfSome content (λ known. bytes ≡ known) × IsTextOf bytes sequence None
+abbrev pub IsWhyMapless : Option (List ℕ) → ℕ → TapeReadFault → Type 0
+IsWhyMapless content sequence tapes.Failed = IfSome content (λ known. most_tape_bytes < length known)
+IsWhyMapless content sequence tapes.Memory = Unit {0}
+IsWhyMapless content sequence tapes.NoMap = (bytes : List ℕ) × IfSome content (λ known. bytes ≡ known) × IsTextOf bytes sequence None
 
 -- What is written of a map on a tape in a file: its canonical text.
 abbrev pub IsMapWritten : Option (List ℕ) → ℕ → Option (List ℕ) → Option (List ℕ) → Result (Unit {0}) RunFault → Type 0
-IsMapWritten content sequence old new result = IsTapeWriting (HasMap content sequence) (IsWhyUnwritten content sequence) old new result
+IsMapWritten content sequence old new result = IsTapeWriting (HasMap content sequence) (IsWhyMapless content sequence) old new result
 
 -- the outcome of a command over a reader and a writer; never of `tape` and `serve`
 abbrev pub IsOutcomeOf : Line → Option (List ℕ) → Option (List ℕ) → Option (List ℕ) → Result (Unit {0}) RunFault → Type 0
 IsOutcomeOf (lines.Caps seq query) input old new result = IsOutcome (IsDescription seq query.now) (λ _ _. ⊥) input old new result
 IsOutcomeOf (lines.Draw query) input old new result = IsOutcome (IsPreview query.now) (λ _ _. ⊥) input old new result
 IsOutcomeOf lines.Canon input old new result = IsOutcome IsCanonical IsCauseOf input old new result
-IsOutcomeOf lines.Check input old new result = IsChecked input old new result
+IsOutcomeOf (lines.Check format) input old new result = IsChecked format input old new result
 IsOutcomeOf lines.Run input old new result = IsPlayed ⊥ input old new result
 IsOutcomeOf lines.Wire input old new result = IsPlayed (Unit {0}) input old new result
 IsOutcomeOf (lines.Tape file map) input old new result = ⊥

@@ -1,18 +1,20 @@
 //! The listing of a folder's tapes.
-ghost use Rattle.std.specs.Prelude.{◌≡◌, ◌++◌, [], IfOk, OnOk, length, string_bytes};
+ghost use Rattle.std.specs.Prelude.{◌≡◌, ◌<◌, ◌++◌, [], IfOk, OnOk, length, string_bytes};
 ghost use Rattle.wf_commands.specs.FailureCount.{CountsWrites, FailsLast};
-ghost use Rattle.wf_commands.specs.Folder.{AreListed, HasListingAppended, IsAppended, IsEnded, IsFolderListed, IsFolderListing, IsNamedListing, IsRejected, tape_line};
-ghost use Rattle.wf_commands.specs.FolderEnd.{node_line, own_line, rejection_line, taken_over_line};
+ghost use Rattle.wf_commands.specs.Folder.{AreTakenUpTo, HasListingAppended, HasTakenNext, IsEnded, IsFolderListed, IsFolderListing, IsListedAndTaken, IsNamedAndTaken, IsNamedListing, IsNextTaken, IsRejected, ListingsAreDistinct, tape_line};
+ghost use Rattle.wf_commands.specs.FolderEnd.{is_own, node_line, own_line, rejection_line, taken_over_line};
+ghost use Rattle.wf_folder.specs.Admission.{is_there};
 ghost use Rattle.wf_serve.specs.Folder.{tape_path};
 
 use crate::fault::RunFault;
+use crate::folder_start::state_of;
 use crate::folder_state::FolderState;
 use crate::tapes::Tapes;
 use std::alloc::{AllocError, Global};
 use std::fmt::Write;
-use wf_folder::{Beginning, NodeRejection, Start};
+use wf_folder::{Beginning, NodeFile, NodeRejection, Presence, Start};
 use wf_listing::{TapeReadFault, list};
-use wf_serve::{Cause, StartFault, Survey};
+use wf_serve::{Cause, StartFault, Survey, TapeCheck};
 use wf_stream::{Sink, write_all};
 
 /// Writes the listing of the tapes in the folder at a path with this in it: each tape's, after a line with its name, and a line that
@@ -26,7 +28,7 @@ pub(crate) fn run_folder<K: Sink, V: Tapes>(
     tapes: &V,
 ) -> Result<(), RunFault>
     requires { length survey.now.tapes ≡ 64 }
-    ensures listed { IsFolderListed (V.content tapes.now) path.now survey.now.tapes
+    ensures listed { IsFolderListed (V.content tapes.now) path.now survey.now
         (K.written sink.old) (K.written sink.new) result }
     ensures writes { CountsWrites result (K.failures sink.old) (K.failures sink.new) }
     ensures last { FailsLast K.Sink sink.old sink.new }
@@ -52,7 +54,7 @@ fn text_of<V: Tapes>(
 ) -> Result<String, TapeReadFault>
     requires { length survey.now.tapes ≡ 64 }
     ensures { IfOk result (λ text.
-        IsFolderListing (V.content tapes.now) path.now survey.now.tapes (string_bytes text)) }
+        IsFolderListing (V.content tapes.now) path.now survey.now (string_bytes text)) }
 {
     let mut text = String::new(alloc);
     let pushed = push_all(alloc, &mut text, path, survey, tapes);
@@ -66,7 +68,7 @@ fn text_of<V: Tapes>(
 }
 
 /// Appends the listing of a folder.
-#[tactic(auto, using(crate::proofs::Folders::whole))]
+
 fn push_all<V: Tapes>(
     alloc: Global,
     text: &mut String,
@@ -76,62 +78,154 @@ fn push_all<V: Tapes>(
 ) -> Result<(), TapeReadFault>
     requires tapes { length survey.now.tapes ≡ 64 }
     requires empty { string_bytes text.old ≡ [] }
-    ensures { OnOk result (IsFolderListing (V.content tapes.now) path.now survey.now.tapes
+    ensures { OnOk result (IsFolderListing (V.content tapes.now) path.now survey.now
         (string_bytes text.new)) }
 {
-    match push_tapes(alloc, text, path, survey, tapes) {
-        Ok(()) => match push_end(alloc, text, path, &tapes.examine(path, survey)) {
-            Ok(()) => Ok(()),
-            Err(AllocError) => Err(TapeReadFault::Memory),
-        },
+    let owner = tapes.owner(path);
+    match push_tapes(alloc, text, path, survey, &owner, tapes) {
+        Ok(check) => {
+            let cause = check.cause();
+            drop(check);
+            match push_end(alloc, text, path, &state_of(survey, owner, cause)) {
+                Ok(()) => Ok(()),
+                Err(AllocError) => Err(TapeReadFault::Memory),
+            }
+        }
         Err(fault) => Err(fault),
     }
 }
 
-/// Appends the listing of each tape that is there.
+/// Appends the listing of each tape that is there. Returns the check of those that have to be sound, by the file of the folder's owner.
 fn push_tapes<V: Tapes>(
     alloc: Global,
     text: &mut String,
     path: &str,
     survey: &Survey,
+    owner: &Option<NodeFile>,
     tapes: &V,
-) -> Result<(), TapeReadFault>
+) -> Result<TapeCheck, TapeReadFault>
     requires size { length survey.now.tapes ≡ 64 }
     requires empty { string_bytes text.old ≡ [] }
-    ensures { OnOk result (AreListed (V.content tapes.now) path.now survey.now.tapes
-        (length survey.now.tapes) (string_bytes text.new)) }
+    ensures { IfOk result (λ check. AreTakenUpTo (V.content tapes.now) path.now survey.now.tapes
+        (length survey.now.tapes) owner.now check (string_bytes text.new)) }
 {
+    let mut check = TapeCheck::new();
     for (number, tape) in survey.tapes.iter().enumerate() {
-        if tape.is_there() {
-            push_tape(alloc, text, path, number, tapes)?;
+        match push_next(alloc, text, path, number, *tape, owner, check, tapes) {
+            Ok(after) => check = after,
+            Err(fault) => return Err(fault),
         }
     }
-    Ok(())
+    Ok(check)
 }
 
-/// Appends the listing of a tape, after a line with its name.
+/// Appends the listing of a tape, if it is there, and lets the check take it.
+#[tactic(auto, using(crate::proofs::Folders::next_there, crate::proofs::Folders::next_absent))]
+fn push_next<V: Tapes>(
+    alloc: Global,
+    text: &mut String,
+    path: &str,
+    number: usize,
+    presence: Presence,
+    owner: &Option<NodeFile>,
+    check: TapeCheck,
+    tapes: &V,
+) -> Result<TapeCheck, TapeReadFault>
+    requires { number < 64 }
+    ensures { IfOk result (λ after. IsNextTaken (V.content tapes.now) path.now number
+        (is_there presence) owner.now check after (string_bytes text.old) (string_bytes text.new)) }
+{
+    if presence.is_there() {
+        push_tape(alloc, text, path, number, owner, check, tapes)
+    } else {
+        Ok(check)
+    }
+}
+
+/// Appends the listing of a tape, after a line with its name, and lets the check take it.
 #[tactic(auto, using(crate::proofs::Folders::appended))]
 fn push_tape<V: Tapes>(
     alloc: Global,
     text: &mut String,
     path: &str,
     number: usize,
+    owner: &Option<NodeFile>,
+    check: TapeCheck,
     tapes: &V,
-) -> Result<(), TapeReadFault>
-    ensures { OnOk result (IsAppended (V.content tapes.now) path.now number
-        (string_bytes text.old) (string_bytes text.new)) }
+) -> Result<TapeCheck, TapeReadFault>
+    requires { number < 64 }
+    ensures { IfOk result (λ after. IsListedAndTaken (V.content tapes.now) path.now number owner.now
+        check after (string_bytes text.old) (string_bytes text.new)) }
 {
     let Ok(file) = tape_path(alloc, path, number) else {
+        drop(check);
         return Err(TapeReadFault::Memory);
     };
     let bytes = tapes.read(alloc, file.as_str());
     drop(file);
-    let bytes = bytes?;
-    let pushed = push_bytes(alloc, text, number, &bytes);
-    drop(bytes);
-    match pushed {
-        Ok(()) => Ok(()),
-        Err(AllocError) => Err(TapeReadFault::Memory),
+    match bytes {
+        Ok(bytes) => push_read(alloc, text, number, owner, check, bytes),
+        Err(fault) => {
+            drop(check);
+            Err(fault)
+        }
+    }
+}
+
+/// Appends the listing of a tape's bytes, after a line with its name, and lets the check take them.
+#[tactic(auto, using(crate::proofs::Folders::named_and_taken))]
+fn push_read(
+    alloc: Global,
+    text: &mut String,
+    number: usize,
+    owner: &Option<NodeFile>,
+    check: TapeCheck,
+    bytes: Vec<u8>,
+) -> Result<TapeCheck, TapeReadFault>
+    requires { number < 64 }
+    ensures { IfOk result (λ after. IsNamedAndTaken bytes.items number owner.now check after
+        (string_bytes text.old) (string_bytes text.new)) }
+{
+    match push_bytes(alloc, text, number, &bytes) {
+        Ok(()) => match take_own(alloc, number, owner, check, bytes) {
+            Ok(after) => Ok(after),
+            Err(AllocError) => Err(TapeReadFault::Memory),
+        },
+        Err(AllocError) => {
+            drop(bytes);
+            drop(check);
+            Err(TapeReadFault::Memory)
+        }
+    }
+}
+
+/// Lets the check take a tape, if it has to be sound.
+#[tactic(auto, using(crate::proofs::Folders::own_taken, crate::proofs::Folders::other_taken))]
+fn take_own(
+    alloc: Global,
+    number: usize,
+    owner: &Option<NodeFile>,
+    check: TapeCheck,
+    bytes: Vec<u8>,
+) -> Result<TapeCheck, AllocError>
+    requires { number < 64 }
+    ensures { IfOk result (HasTakenNext owner.now number bytes.items check) }
+{
+    if is_own(owner, number) {
+        check.take(alloc, number as u8, bytes)
+    } else {
+        drop(bytes);
+        Ok(check)
+    }
+}
+
+/// Whether the tape of a node has to be sound: the owner's, or each in a farm's folder.
+fn is_own(owner: &Option<NodeFile>, number: usize) -> bool
+    ensures { result ≡ is_own owner.now number }
+{
+    match owner {
+        Some(file) => file.node as usize == number,
+        None => true,
     }
 }
 
@@ -288,3 +382,8 @@ fn push_rejection(text: &mut String, why: &str) -> Result<(), AllocError>
 {
     writeln!(text, "not whole, {why}")
 }
+
+/// No text is the listing of a file and of a folder. A theorem: the call does nothing.
+pub fn listings_are_distinct()
+    ensures { ListingsAreDistinct }
+{}

@@ -33,10 +33,11 @@
 //! of the writer, so that no text is written once more.
 //!
 //! [`run_tape`] promises: after Ok exactly the listing of the file's bytes is written (wf_listing defines it), or of a
-//! folder those of exactly the tapes in it, in order, each after its name, and one last line of what a start on it would do; or the
+//! folder those of exactly the tapes in it, in order, each after its name, and one last line of what a start on it would do, by the
+//! bytes that are listed; or the
 //! text of the map that the tape has as published. Before a write error
 //! a prefix of it is written, before any other error nothing. A file with known content is listed unless it is too long or an
-//! allocation fails.
+//! allocation fails. No text is the listing of both a file and a folder ([`listings_are_distinct`]).
 //!
 //! [`run_words`] promises that exactly the command of that line was run, or none: for `serve`, that the server was called
 //! with the line's numbers of nodes, connections and pictures, its port and its folder, or none if it has none, and whether it asks
@@ -53,16 +54,16 @@
 
 mod fault;
 mod folder;
+mod folder_start;
 mod folder_state;
 mod map_check;
-mod node_folder;
 mod program;
 mod run;
 mod server;
 mod tapes;
 
 pub use fault::RunFault;
-pub use folder_state::FolderState;
+pub use folder::listings_are_distinct;
 pub use map_check::run_check;
 pub use program::{Ending, rejection_status, run_process, run_serve, run_words};
 pub use run::{

@@ -29,12 +29,13 @@ use std::rt::{Env, Files};
 use std::time::Clock;
 use std::{env, io};
 use wf_farm::Carrier;
-use wf_line::{Line, ProcessCommand, line, names_process_command, process_command};
+use wf_line::{Line, NodeCommand, ProcessCommand, line, names_process_command, process_command};
 use wf_link::Connection;
 use wf_mapfile::MapFault;
 use wf_node_command::CommandFault;
 use wf_replica_command::ReplicaFault;
 use wf_serve::ServeFault;
+use wf_store::SystemStore;
 use wf_stream::{Sink, Source, Stream};
 use wf_tape::{FileTape, MemoryTape, Tape};
 
@@ -123,7 +124,7 @@ fn is_written(line: Line<'_>, fault: RunFault) -> bool
     ensures { result ≡ is_written line.entry fault }
 {
     match line {
-        Line::Check => is_found(fault),
+        Line::Check { format: _ } => is_found(fault),
         _ => false,
     }
 }
@@ -191,7 +192,7 @@ pub fn run_words<'a, S: AsStr, I: Source, K: Sink, V: NodeServer + Tapes, C: Car
             Line::Caps { .. }
             | Line::Draw { .. }
             | Line::Canon
-            | Line::Check
+            | Line::Check { format: _ }
             | Line::Run
             | Line::Wire => Ok(end(line, run_line(alloc, line, source, sink, carrier))),
         },
@@ -277,6 +278,15 @@ fn report_replica<R: Eprint>(rt: &R, outcome: Result<(), ReplicaFault>) -> ExitC
     }
 }
 
+// The folder of a command about a node.
+fn folder_of<'a>(command: &NodeCommand<'a>) -> &'a str {
+    match command {
+        NodeCommand::Init(line) => line.state,
+        NodeCommand::Node(line) => line.state,
+        NodeCommand::Clear(line) => line.state,
+    }
+}
+
 // Runs a command line about a process of a farm, which serves as long as the process lives.
 #[tactic(auto, using(crate::proofs::Ended::node_run, crate::proofs::Ended::replica_run, crate::proofs::Ended::farm_rejected))]
 fn run_farm<'a, S: AsStr, R: Files<File = File> + Clock + Print + Eprint + Net + AllocGlobal>(
@@ -289,10 +299,16 @@ fn run_farm<'a, S: AsStr, R: Files<File = File> + Clock + Print + Eprint + Net +
 {
     match process_command(rt.alloc(), words) {
         Ok(ProcessCommand::Node(command)) => {
-            report_node(rt, wf_node_command::run(rt, &command, u64::MAX))
+            let store = SystemStore::new(rt, folder_of(&command));
+            let (ended, store) = wf_node_command::run(rt, store, &command, u64::MAX);
+            drop(store);
+            report_node(rt, ended)
         }
         Ok(ProcessCommand::Replica(line)) => {
-            report_replica(rt, wf_replica_command::run(rt, &line, u64::MAX))
+            let mut store = SystemStore::new(rt, line.state);
+            let ended = wf_replica_command::run(rt, &mut store, &line, u64::MAX);
+            drop(store);
+            report_replica(rt, ended)
         }
         Err(error) => {
             let code = rejection(rt, &error);

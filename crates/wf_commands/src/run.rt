@@ -326,7 +326,7 @@ pub fn run_line<S: Source, K: Sink, C: Carrier>(
         Line::Caps { seq, query } => run_caps(alloc, source, sink, seq, query.as_bytes()),
         Line::Draw { query } => run_draw(alloc, source, sink, query.as_bytes()),
         Line::Canon => run_canon(alloc, source, sink),
-        Line::Check => run_check(alloc, source, sink),
+        Line::Check { format } => run_check(alloc, format, source, sink),
         Line::Run => run_script(alloc, source, sink),
         Line::Wire => wire_script(alloc, carrier, source, sink),
         Line::Tape { .. } | Line::Serve(_) => unreachable!(),

@@ -4,19 +4,24 @@ ghost use Rattle.wf_commands.specs.FailureCount.{CountsWrites, FailsLast};
 ghost use Rattle.wf_commands.specs.Contents.{Contents, nothing_known};
 ghost use Rattle.wf_commands.specs.Folder.{IsTapeDone};
 ghost use Rattle.wf_commands.specs.Run.{IsListed, IsMapWritten};
+ghost use Rattle.wf_folder.specs.NodeFile.{IsNodeFile};
 ghost use Rattle.wf_listing.specs.TapeBytes.{most_tape_bytes};
 
 use crate::fault::RunFault;
 use crate::folder::run_folder;
-use crate::folder_state::FolderState;
-use crate::node_folder::{examine_node, node_file};
 use crate::server::Host;
 use std::alloc::Global;
 use std::fs;
+use std::fs::File;
 use std::rt::Files;
+use wf_folder::NodeFile;
 use wf_listing::{TapeReadFault, list, read_tape, text_of_map};
-use wf_serve::{Survey, examine, inspect};
+use wf_serve::{Survey, inspect};
+use wf_store::{FileName, Store, SystemStore};
 use wf_stream::{Sink, Stream, write_all};
+
+/// More bytes than a node's file `farm` has.
+const MOST_FILE_BYTES: usize = 512;
 
 /// What reads tapes: the machine's files, or in a test what stands for them.
 pub trait Tapes {
@@ -37,15 +42,16 @@ pub trait Tapes {
         ensures file { IfSome ((content self.now).file path.now) (λ _. result ≡ None) }
         ensures tapes { IfSome result (λ survey. length survey.tapes ≡ 64) }
         ensures known { IfSome result (λ survey.
-            IfSome ((content self.now).tapes path.now) (λ known. survey.tapes ≡ known)) };
+            IfSome ((content self.now).folder path.now) (λ known. survey ≡ known)) };
 
-    /// What a start on the folder at a path with this in it would do.
-    fn examine(&self, path: &str, survey: &Survey) -> FolderState
-        requires { length survey.now.tapes ≡ 64 };
+    /// The file `farm` of the folder at a path, if that is the file of a node that has the folder for itself.
+    fn owner(&self, path: &str) -> Option<NodeFile>
+        ensures file { IfSome result IsNodeFile }
+        ensures known { IfSome ((content self.now).owner path.now) (λ known. result ≡ known) };
 }
 
 /// Reads the machine's files, whose content is in no contract. The files are opened to be read and for nothing else.
-impl<'a, R: Files + AllocGlobal> Tapes for Host<'a, R> {
+impl<'a, R: Files<File = File> + AllocGlobal> Tapes for Host<'a, R> {
     ghost content = { λ _. nothing_known };
 
     fn read(&self, alloc: Global, path: &str) -> Result<Vec<u8>, TapeReadFault> {
@@ -61,27 +67,34 @@ impl<'a, R: Files + AllocGlobal> Tapes for Host<'a, R> {
 
     fn folder(&self, path: &str) -> Option<Survey> {
         if is_folder(self.0, path) {
-            inspect(self.0, path).ok()
+            let mut store = SystemStore::new(self.0, path);
+            let survey = inspect(&mut store).ok();
+            drop(store);
+            survey
         } else {
             None
         }
     }
 
-    fn examine(&self, path: &str, survey: &Survey) -> FolderState {
-        match node_file(self.0, path) {
-            Some(file) => examine_node(self.0, path, &file, survey),
-            None => examine_farm(self.0, path, survey),
-        }
+    fn owner(&self, path: &str) -> Option<NodeFile> {
+        let mut store = SystemStore::new(self.0, path);
+        let file = node_file(&mut store);
+        drop(store);
+        file
     }
 }
 
-/// What a start of the nodes of a farm would do on the folder at a path with this in it.
-fn examine_farm<R: Files + AllocGlobal>(rt: &R, path: &str, survey: &Survey) -> FolderState
-    requires { length survey.now.tapes ≡ 64 }
+/// The file `farm` of a folder, if that is a node's.
+fn node_file<S: Store>(store: &mut S) -> Option<NodeFile>
+    ensures { IfSome result IsNodeFile }
 {
-    match examine(rt, path, survey) {
-        Ok((nodes, start)) => FolderState::Farm(nodes, start),
-        Err(cause) => FolderState::Rejected(cause),
+    match store.read(FileName::Farm, MOST_FILE_BYTES) {
+        Ok(Some(bytes)) => {
+            let file = NodeFile::read(&bytes).ok();
+            drop(bytes);
+            file
+        }
+        Ok(None) | Err(_) => None,
     }
 }
 

@@ -2,6 +2,7 @@
 use std::alloc::Global;
 use wf_ballot::Seq;
 use wf_commands::{RunFault, run_canon, run_caps, run_check};
+use wf_line::Format;
 use wf_stream::Stream;
 use wf_test_table::{Answered, CaseInput, Transcript, Unanswered, unescape};
 
@@ -31,7 +32,7 @@ pub(crate) fn canon(asked: CaseInput<'_>, answer: &mut Transcript) -> Answered {
 fn run_check_on(alloc: Global, input: &[u8], output: &mut Transcript) -> Result<(), RunFault> {
     let mut source = Stream::new(input);
     let mut sink = Stream::new(output.target());
-    run_check(alloc, &mut source, &mut sink)
+    run_check(alloc, Format::Text, &mut source, &mut sink)
 }
 
 /// `check`: what the command `check` writes, and its error line or `fine`.

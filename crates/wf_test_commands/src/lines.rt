@@ -4,7 +4,7 @@ use clap::Error;
 use std::alloc::Global;
 use wf_commands::{Ending, rejection_status, run_words};
 use wf_farm::Carrier;
-use wf_line::{Line, Service, line};
+use wf_line::{Format, Line, Service, line};
 use wf_stream::Stream;
 use wf_test_table::{Answered, CaseInput, Transcript, Unanswered, unescape};
 
@@ -33,7 +33,12 @@ pub(crate) fn write_bracketed(text: &str, answer: &mut Transcript) {
 fn write_line(asked_for: Line<'_>, answer: &mut Transcript) {
     match asked_for {
         Line::Canon => answer.line("canon"),
-        Line::Check => answer.line("check"),
+        Line::Check {
+            format: Format::Text,
+        } => answer.line("check"),
+        Line::Check {
+            format: Format::Json,
+        } => answer.line("check json"),
         Line::Run => answer.line("run"),
         Line::Wire => answer.line("wire"),
         Line::Tape { file, map } => {

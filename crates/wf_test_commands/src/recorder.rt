@@ -2,14 +2,14 @@
 ghost use Rattle.std.specs.Prelude.{◌≡◌, length};
 ghost use Rattle.wf_commands.specs.FailureCount.{FailsLast};
 ghost use Rattle.wf_serve.specs.StartFault.{CountsWrites};
-ghost use Rattle.wf_test_commands.specs.Files.{files_of, is_file, two_tapes};
+ghost use Rattle.wf_test_commands.specs.Files.{files_of, found_with, is_file, survey_of};
 
 use std::alloc::Global;
-use wf_commands::{FolderState, NodeServer, ServeFault, Tapes};
-use wf_folder::{FoundFile, Presence, Start};
+use wf_commands::{NodeServer, ServeFault, Tapes};
+use wf_folder::{Beginning, FarmFile, FoundFile, NodeFile, Presence};
 use wf_line::Service;
 use wf_listing::TapeReadFault;
-use wf_serve::{Cause, Survey};
+use wf_serve::Survey;
 use wf_stream::{Sink, write_all};
 
 /// The port that this server never gets.
@@ -26,7 +26,7 @@ const FIRST_PATH: &str = "farm/node-0.tape";
 const SECOND_PATH: &str = "farm/node-1.tape";
 
 /// Writes a line with the service in place of serving nodes. Port 1 is taken. The only files are `node-0.tape` and two like it in
-/// the folder `farm`; if they are empty, a third one is missing there.
+/// the folder `farm`; if they are empty, that is a folder of three nodes.
 #[derive(Drop)]
 pub(crate) struct Recorder<'a> {
     pub(crate) alloc: Global,
@@ -48,17 +48,14 @@ impl<'a> Tapes for Recorder<'a> {
 
     fn folder(&self, path: &str) -> Option<Survey> {
         if path == FOLDER_PATH && !is_file(path) {
-            Some(two_tapes())
+            Some(survey_of(self.tape))
         } else {
             None
         }
     }
 
-    fn examine(&self, _: &str, _: &Survey) -> FolderState {
-        if self.tape.is_empty() {
-            return FolderState::Rejected(Cause::TapeMissing(2));
-        }
-        FolderState::Farm(2, Start::TakenOver)
+    fn owner(&self, _: &str) -> Option<NodeFile> {
+        None
     }
 }
 
@@ -70,17 +67,31 @@ fn is_file(path: &str) -> bool
     path == TAPE_PATH || path == FIRST_PATH || path == SECOND_PATH
 }
 
-/// What is in the folder `farm`: two tapes, and no file `farm`.
-fn two_tapes() -> Survey
+/// What is in the folder `farm` where the files have this content.
+fn survey_of(tape: &[u8]) -> Survey
     ensures size { length result.tapes ≡ 64 }
-    ensures tapes { result.tapes ≡ two_tapes }
+    ensures is { result ≡ survey_of tape.now }
 {
     let mut tapes = [Presence::Absent; 64];
     tapes[0] = Presence::Written;
     tapes[1] = Presence::Written;
     Survey {
-        found: FoundFile::Nothing,
+        found: found_with(tape),
         tapes,
+    }
+}
+
+/// Its file `farm`: that of a farm of three nodes if the files are empty.
+fn found_with(tape: &[u8]) -> FoundFile
+    ensures { result ≡ found_with tape.now }
+{
+    match tape {
+        [] => FoundFile::File(FarmFile {
+            nodes: 3,
+            beginning: Beginning::Empty,
+            mark: [0; 16],
+        }),
+        [_, ..] => FoundFile::Nothing,
     }
 }
 

@@ -31,6 +31,8 @@ pub fn is_first(line: Line<'_>) -> bool {
     match line {
         Line::Caps { seq: _, query: _ } | Line::Canon | Line::Run | Line::Wire => true,
         Line::Serve(_service) => true,
-        Line::Draw { query: _ } | Line::Check | Line::Tape { file: _, map: _ } => false,
+        Line::Draw { query: _ } | Line::Check { format: _ } | Line::Tape { file: _, map: _ } => {
+            false
+        }
     }
 }
