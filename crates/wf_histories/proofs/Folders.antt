@@ -1,0 +1,119 @@
+-- The processes on one folder are the career of their node.
+use Rattle.std.proofs.Common.{◌≡◌, ℕ, List, [], ◌∷◌, ◌++◌, Option, Some, refl, sym, ap, subst, ◌∙◌, append-nil, append_assoc}
+use Rattle.std.proofs.lemmas.List.{map-append}
+use Rattle.wf_actor.specs.Farm.{AreOwn, RunsAreOwn, item_of, items}
+use Rattle.wf_actor.specs.declared.actor.Actor.{Actor}
+use Rattle.wf_career.specs.Career.{AreRuns, Ended, items_at, items_by, items_in, values_in, values_of}
+use Rattle.wf_career.specs.CrashImages.{ComparisonLeaves}
+use Rattle.wf_career.specs.Run.{Between, End, Failed, IsOpenedFrom, IsRun, Run, Within}
+use Rattle.wf_loop.specs.Continuation.{AreRunsFrom}
+use Rattle.wf_loop.specs.Hub.{process_of}
+use Rattle.wf_tape.specs.declared.tape.Tape.{Ghosts as Tape}
+use Rattle.wf_histories.specs.Nodes.{AreOnFolder, IsProcessOf, NodeProcess, bytes_read, cut_before, cut_step, made_by, steps_on, values_on}
+use Rattle.wf_histories.specs.Runs.{steps_made, steps_over, values_made, values_over}
+use Rattle.wf_histories.proofs.Acts.{IsReceived, items_made, own_made, received_of}
+use Rattle.wf_histories.proofs.Careers.{IsCareerWith, career_with}
+use Rattle.wf_histories.proofs.Left.{left_before}
+
+items_cut : (i : ℕ) (end : End) → items (cut_step i end) ≡ items_at i end
+items_cut i Between = refl
+items_cut i (Within input) = refl
+items_cut i (Failed input) = refl
+
+own_cut : (i : ℕ) (end : End) → AreOwn [] (cut_step i end)
+unfolding AreOwn
+own_cut i Between = tt
+own_cut i (Within input) = (tt, tt)
+own_cut i (Failed input) = tt
+
+module _ {T : Type 0} (tapes : Tape T) (n i : ℕ) where
+  -- ---- one process
+
+  received : (p : NodeProcess tapes) → IsReceived (made_by tapes p)
+  received p = received_of tapes (process_of p.has.on.hub).ended.items (process_of p.has.on.hub).actor p.lives p.over p.made
+
+  opened_as : (p : NodeProcess tapes) → IsProcessOf tapes n i p → IsOpenedFrom n i (bytes_read tapes p) p.has.started.actor.node
+  opened_as p is =
+      let opened = p.has.is_started.1.opened in
+      record { id = opened.number ∙ is.number; among = opened.among ∙ is.among; runs = opened.runs; stored = is.on_read; idle = opened.idle }
+
+  -- its runs follow one another from its start on
+  all_runs : (p : NodeProcess tapes) → AreRunsFrom tapes p.has.started.actor (process_of p.has.on.hub).ended.items (process_of p.has.on.hub).actor
+  all_runs p =
+      let earlier = p.has.on.earlier in
+      let none = p.has.is_started.1.first in
+      subst (λ (ended : List (Actor T tapes × ℕ)). AreRunsFrom tapes p.has.started.actor ended (process_of p.has.on.hub).actor)
+      (sym (earlier.ended ∙ ap (λ (runs : List (Actor T tapes × ℕ)). runs ++ earlier.since) none)) earlier.runs
+
+  with_later : ComparisonLeaves tapes → (p : NodeProcess tapes) → IsProcessOf tapes n i p → (later : List (Ended T)) (now : Option (Run T))
+      → ((from : List ℕ) → IsRun tapes n i from (made_by tapes p).last.run → AreRuns tapes n i from later now) → IsCareerWith tapes n i (bytes_read tapes p) (made_by tapes p) later now
+  with_later compares p is later now next =
+      career_with tapes n i compares (bytes_read tapes p) p.has.started.actor (process_of p.has.on.hub).ended.items (process_of p.has.on.hub).actor (opened_as p is)
+      p.has.is_started.1.begun.began (all_runs p) p.lives p.over p.made later now next
+
+  -- ---- all of them
+
+  -- Runs of a career from these bytes, whose items are those of the processes' steps, and whose values are theirs.
+  pub record AreCareer (bytes : List ℕ) (processes : List (NodeProcess tapes)) : Type 0 where
+    pub ended : List (Ended T)
+    pub now : Option (Run T)
+    pub runs : AreRuns tapes n i bytes ended now
+    pub its_items : items (steps_on tapes i processes) ≡ items_in i ended now
+    pub its_values : values_of ended now ≡ values_on tapes processes
+
+  pub last_career : ComparisonLeaves tapes → (p : NodeProcess tapes) → IsProcessOf tapes n i p → AreCareer (bytes_read tapes p) (p ∷ [])
+  unfolding steps_on values_on items_in values_of
+  last_career compares p is =
+      let made = made_by tapes p in
+      let so = with_later compares p is [] (Some made.last.run) (λ from run. run) in
+      record {
+        ended = so.ended;
+        now = Some made.last.run;
+        runs = so.runs;
+        its_items = ap items (append-nil (steps_made i made)) ∙ items_made i made (received p) ∙ sym so.its_items;
+        its_values = so.its_values ∙ sym (append-nil (values_made made));
+      }
+
+  more_career : ComparisonLeaves tapes → (p next : NodeProcess tapes) (later : List (NodeProcess tapes)) (left : List ℕ) → AreOnFolder tapes n i left (p ∷ (next ∷ later)) → AreCareer (bytes_read tapes next) (next ∷ later)
+      → AreCareer (bytes_read tapes p) (p ∷ (next ∷ later))
+  unfolding steps_on values_on items_in values_of
+  more_career compares p next later left are rest =
+      let made = made_by tapes p in
+      let over : Ended T = record { run = made.last.run; end = p.end; left = bytes_read tapes next } in
+      let so = with_later compares p are.0 (over ∷ rest.ended) rest.now
+      (λ from run. (record { run = run; left = left_before p.left (bytes_read tapes next) are.3.1 made.last.run p.end are.2 }, rest.runs)) in
+      record {
+        ended = so.ended;
+        now = rest.now;
+        runs = so.runs;
+        its_items =
+            map-append item_of (steps_made i made) (cut_step i p.end ++ steps_on tapes i (next ∷ later))
+            ∙ ap (λ xs. xs ++ items (cut_step i p.end ++ steps_on tapes i (next ∷ later))) (items_made i made (received p))
+            ∙ ap (λ xs. (items (steps_over i made.over) ++ items_by i made.last.run.acts) ++ xs)
+            (map-append item_of (cut_step i p.end) (steps_on tapes i (next ∷ later))
+            ∙ ap (λ xs. xs ++ items (steps_on tapes i (next ∷ later))) (items_cut i p.end)
+            ∙ ap (λ xs. items_at i p.end ++ xs) rest.its_items)
+            ∙ append_assoc (items (steps_over i made.over)) (items_by i made.last.run.acts) (items_at i p.end ++ items_in i rest.ended rest.now)
+            ∙ sym so.its_items;
+        its_values =
+            so.its_values
+            ∙ sym (append_assoc (values_over made.over) (values_in made.last.run) (values_of rest.ended rest.now))
+            ∙ ap (λ xs. values_made made ++ xs) rest.its_values;
+      }
+
+  pub career_from : ComparisonLeaves tapes → (p : NodeProcess tapes) (later : List (NodeProcess tapes)) (left : List ℕ) → AreOnFolder tapes n i left (p ∷ later) → AreCareer (bytes_read tapes p) (p ∷ later)
+  career_from compares p [] left are = last_career compares p are.0
+  career_from compares p (next ∷ later) left are = more_career compares p next later left are (career_from compares next later p.left are.3)
+
+  -- they hear only their own messages
+  own_before : (later : List (NodeProcess tapes)) (end : End) → AreOwn [] (cut_before tapes i later end)
+  unfolding AreOwn
+  own_before [] end = tt
+  own_before (next ∷ later) end = own_cut i end
+
+  pub own_on : RunsAreOwn → (processes : List (NodeProcess tapes)) → AreOwn [] (steps_on tapes i processes)
+  unfolding steps_on AreOwn
+  own_on together [] = tt
+  own_on together (p ∷ later) =
+      together [] (steps_made i (made_by tapes p)) (cut_before tapes i later p.end ++ steps_on tapes i later) (own_made together i (made_by tapes p) (received p))
+      (together [] (cut_before tapes i later p.end) (steps_on tapes i later) (own_before later p.end) (own_on together later))

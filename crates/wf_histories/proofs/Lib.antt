@@ -1,0 +1,10 @@
+mod Acts
+mod Left
+mod Turns
+mod Careers
+mod Folders
+mod Relay
+mod Farms
+mod Agreement
+mod Replicas
+mod Advance

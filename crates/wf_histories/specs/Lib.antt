@@ -1,0 +1,5 @@
+pub mod Runs
+pub mod Nodes
+pub mod Theorems
+pub mod Replicas
+pub mod Advance
