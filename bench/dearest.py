@@ -1,26 +1,24 @@
 #!/usr/bin/env python3
-"""Looks for the dearest requests: maps as full as their limits allow, asked for as often as LAYERS allows, at the largest size.
+"""Looks for the dearest requests: maps as full as their limits allow, asked for as often as LAYERS allows, at
+the largest size.
 
-Usage: bench/dearest.py [--program PROGRAM] [--only WORD] [--print-map NAME]
-
-Each map is published to a farm of one node in memory, whose capabilities and picture are then asked for once: 1,024 by 1,024 pixels,
-its layer named 1 and 64 times. Printed are the milliseconds and bytes of each answer, the most bytes that were resident in the program
-by then, and last the dearest of each kind. A publish is timed until the answer to a /status right after it, since the nodes agree before
-the next connection. Canonical texts are bounded by 65,536 bytes and mapfiles by 131,072, which bounds the points: one of two digits
-takes four bytes. It takes half a minute, with nothing else on the machine.
+Each map is published to a farm of one node in memory, whose capabilities and picture are then asked for once:
+1,024 by 1,024 pixels, its layer named 1 and 64 times. Printed are the milliseconds and bytes of each answer,
+the most bytes that were resident in the program by then, and last the dearest of each kind. A publish is
+timed until the answer to a /status right after it, since the nodes agree before the next connection.
+Canonical texts are bounded by 65,536 bytes and mapfiles by 131,072, which bounds the points: one of two
+digits takes four bytes. It takes half a minute, with nothing else on the machine.
 """
 
-import argparse
 import pathlib
 import random
 import re
 import sys
 
-HERE = pathlib.Path(__file__).resolve().parent
-sys.path.insert(0, str(HERE))
-sys.path.insert(0, str(HERE.parent / "tools"))
-from tiles import ask  # noqa: E402
-from farm import CAPABILITIES, Farm  # noqa: E402
+from farmkit.command import program_parser
+from farmkit.processes import Farm
+from farmkit.web import CAPABILITIES
+from tiles import ask
 
 SIDE = 1_024
 MOST_CANONICAL = 65_300
@@ -54,41 +52,21 @@ def zigzag(k):
     return (k * 5 % 10, 9 * (k % 2))
 
 
-def scattered(_):
-    """Up and down over the whole height, each end anywhere."""
-    scattered.side = 9 - scattered.side
-    return (scattered.draw.randrange(10), scattered.side)
-
-
-scattered.side = 0
-scattered.draw = random.Random(1)
-
-
-def distinct(_):
-    """Up and down over the whole height, each end at one of 90 positions: hardly any two edges are equal."""
-    distinct.side = 9 - distinct.side
-    return (distinct.draw.randrange(90) / 10, distinct.side)
-
-
-distinct.side = 0
-distinct.draw = random.Random(2)
+def up_and_down(seed, count, step=1, first=0):
+    """Up and down over the whole height, each end at one of so many positions from the first one on."""
+    draw = random.Random(seed)
+    return lambda k: (first + draw.randrange(count) / step, 9 * (k % 2))
 
 
 def grouped(group):
-    """Up and down over the whole height, each end at one of six positions next to each other: between groups columns stay free."""
-    ends = [(group + grouped.draw.randrange(6) / 10, 9 * (k % 2)) for k in range(10_480 // 9)]
+    """Ends at six positions next to each other: between groups columns stay free."""
+    ends = map(up_and_down(4 + group, 6, 10, group), range(10_480 // 9))
     return f"POINTS {' '.join(f'{x} {y}' for x, y in ends)} END\n"
 
 
-grouped.draw = random.Random(4)
-
-
-def oblique(k):
+def oblique(draw):
     """To and fro over the whole width, just flatter than 1 to 1, each end at one of 10 positions."""
-    return (9 * (k % 2), oblique.draw.randrange(10) / 10 + 8 * (k % 2))
-
-
-oblique.draw = random.Random(3)
+    return lambda k: (9 * (k % 2), draw.randrange(10) / 10 + 8 * (k % 2))
 
 
 def cases():
@@ -96,14 +74,15 @@ def cases():
     falling = "".join(style(f"COLOR {{color}} OUTLINECOLOR {{color}} WIDTH {16 - k}", k) for k in range(8))
     yield "one polygon of full-height edges, 8 outlines of falling width", mapfile("POLYGON", falling, comb)
     yield "one polygon of edges with ends anywhere, 8 outlines of falling width", mapfile(
-        "POLYGON", falling, [feature(fitting(scattered, 4))])
+        "POLYGON", falling, [feature(fitting(up_and_down(1, 10), 4))])
     yield "one polygon of distinct edges with ends anywhere, 8 outlines of falling width", mapfile(
-        "POLYGON", falling, [feature(fitting(distinct, 6))])
-    yield "the same edges, one fill", mapfile("POLYGON", styles("COLOR {color}", 1), [feature(fitting(distinct, 6))])
-    yield "one polygon of edges in nine groups with free columns between, 8 outlines of falling width", mapfile(
-        "POLYGON", falling, [f"FEATURE\n{''.join(grouped(k) for k in range(9))}END\n"])
+        "POLYGON", falling, [feature(fitting(up_and_down(2, 90, 10), 6))])
+    yield "the same edges, one fill", mapfile("POLYGON", styles("COLOR {color}", 1),
+                                              [feature(fitting(up_and_down(2, 90, 10), 6))])
+    name = "one polygon of edges in nine groups with free columns between, 8 outlines of falling width"
+    yield name, mapfile("POLYGON", falling, [f"FEATURE\n{''.join(grouped(k) for k in range(9))}END\n"])
     yield "one polygon of oblique edges, 8 outlines of falling width", mapfile(
-        "POLYGON", falling, [feature(fitting(oblique, 6))])
+        "POLYGON", falling, [feature(fitting(oblique(random.Random(3)), 6))])
     yield "one polygon of slanted edges, 8 outlines of falling width", mapfile(
         "POLYGON", falling, [feature(fitting(lambda k: (9 * (k % 2), 7 * (k % 2)), 4))])
     yield "one polygon of full-height edges, 8 fills and outlines of 16 pixels", mapfile(
@@ -116,34 +95,37 @@ def cases():
     big = fitting(lambda k: feature([(0, 0), (9, 0), (9, 9 - k % 2), (0, 9)]), 56)
     yield "polygons over nearly the whole picture", mapfile("POLYGON", styles("COLOR {color}"), big)
     thin = fitting(lambda k: feature([(0, k % 9), (9, k % 9 + 1), (9, k % 9)]), 52)
-    yield "thin triangles over the whole width", mapfile("POLYGON", styles("COLOR {color} OUTLINECOLOR {color} WIDTH 2"), thin)
+    yield "thin triangles over the whole width", mapfile(
+        "POLYGON", styles("COLOR {color} OUTLINECOLOR {color} WIDTH 2"), thin)
     spots = [feature([(k % 10, k // 10 % 10) for k in range(15_000)])]
     yield "points of 64 pixels", mapfile("POINT", styles("COLOR {color} SIZE 64"), spots)
     names = fitting(lambda k: feature([(k % 9, k % 7)], f'TEXT "{"N" * 40}"\n'), 84)
     label = "LABEL SIZE GIANT FORCE {} END\n"
     yield "labels of 40 letters, forced", mapfile("POINT", "", names, label.format("TRUE"))
     short = fitting(lambda k: feature([(k % 10, k // 10 % 10)], 'TEXT "N"\n'), 45)
-    yield "many labels of one letter", mapfile("POINT", "", short, label.format("FALSE").replace("GIANT", "TINY"))
+    yield "many labels of one letter", mapfile("POINT", "", short,
+                                               label.format("FALSE").replace("GIANT", "TINY"))
     yield "64 layers whose names and titles are quotes alone, each six bytes in a document", quotes()
 
 
 def quotes():
-    """A map whose texts are nearly all quotes: the map's title is written twice in its capabilities, its address three times."""
+    """A map whose texts are nearly all quotes; its capabilities have its title twice, its address thrice."""
     quote = "'"
-    head = "".join(f'"{key}" "{quote * 1_000}"\n' for key in ("wms_title", "wms_abstract", "wms_onlineresource"))
-    layers = "".join(f'LAYER NAME "{quote * 435}{k}" TYPE POINT METADATA wms_title "{quote * 435}" END END\n' for k in range(63))
-    return (f'MAP NAME "dearest" EXTENT 0 0 9 9 PROJECTION "init=epsg:3857" END\nWEB METADATA\n{head}END END\n'
-            f"LAYER NAME a TYPE POINT END\n{layers}END\n")
+    head = "".join(f'"{key}" "{quote * 1_000}"\n'
+                   for key in ("wms_title", "wms_abstract", "wms_onlineresource"))
+    layers = "".join(f'LAYER NAME "{quote * 435}{k}" TYPE POINT METADATA wms_title "{quote * 435}" END END\n'
+                     for k in range(63))
+    return (f'MAP NAME "dearest" EXTENT 0 0 9 9 PROJECTION "init=epsg:3857" END\nWEB METADATA\n{head}END '
+            f'END\n' f"LAYER NAME a TYPE POINT END\n{layers}END\n")
 
 
 def most_resident(process):
-    """The most bytes that were resident in a process so far."""
     status = pathlib.Path(f"/proc/{process.pid}/status").read_text()
     return 1_024 * int(re.search(r"VmHWM:\s+(\d+) kB", status)[1])
 
 
 def costs(program, text):
-    """Of each kind of request: its milliseconds, the bytes of its answer, and the most bytes resident after it."""
+    """Of each kind of request: milliseconds, bytes of the answer, most bytes resident after it."""
     farm = Farm(program, 6, None, nodes=1)
     query = ("/wms?VERSION=1.3.0&REQUEST=GetMap&LAYERS={}&STYLES=&CRS=EPSG:3857&BBOX=-0.1,-0.1,9.1,9.1"
              f"&WIDTH={SIDE}&HEIGHT={SIDE}&FORMAT=image/x-portable-pixmap")
@@ -162,11 +144,11 @@ def costs(program, text):
 
 
 def main():
-    parser = argparse.ArgumentParser(description=__doc__, formatter_class=argparse.RawDescriptionHelpFormatter)
-    parser.add_argument("--program", default=HERE.parent / "crates" / "wfarm" / "out" / "wfarm")
-    parser.add_argument("--only", default="")
-    parser.add_argument("--print-map", metavar="WORD")
-    given = parser.parse_args()
+    words = program_parser(__doc__)
+    words.add_argument("--only", default="", metavar="WORD", help="maps whose names hold this")
+    words.add_argument("--print-map", metavar="NAME",
+                       help="prints the map whose name holds this, and measures nothing")
+    given = words.parse_args()
     chosen = [(name, text) for name, text in cases() if given.only in name]
     if given.print_map:
         print(next(text for name, text in chosen if given.print_map in name), end="")
@@ -174,8 +156,9 @@ def main():
     dearest = {}
     for name, text in chosen:
         print(f"{name} ({len(text)} bytes)")
-        for kind, taken, count, resident in costs(str(given.program), text):
-            print(f"  {taken:8.1f} ms  {count:9,} bytes  {resident / 1e6:6.1f} MB resident  {kind}", flush=True)
+        for kind, taken, count, resident in costs(given.program, text):
+            print(f"  {taken:8.1f} ms  {count:9,} bytes  {resident / 1e6:6.1f} MB resident  {kind}",
+                  flush=True)
             dearest[kind] = max(dearest.get(kind, (0, "")), (taken, name))
     for kind, (taken, name) in dearest.items():
         print(f"the dearest {kind}: {taken:.1f} ms, {name}")

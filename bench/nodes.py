@@ -1,26 +1,27 @@
 #!/usr/bin/env python3
-"""Measures nodes in processes of their own, `wfarm node` with folders on a disk, beside etcd and nginx: all in one run, on loopback.
-
-    bench/nodes.py [--program PROGRAM] [--folder FOLDER] [--count N] [--seconds S] [PART ..]
+"""Measures nodes in processes of their own, `wfarm node` with folders on a disk, beside etcd and nginx: all
+in one run, on loopback.
 
 Parts, all of them where none is named; about two minutes:
-  publish  a map of 32 KB to the node that leads, until each of three nodes tells it as published, all of them asked at once, over
-           connections that stand already; in turn with a put of as many bytes into three members of etcd in the same folder, at their
-           leader, through its HTTP/JSON gateway on a kept connection. A get that needs no agreement shows what the gateway takes of it
+  publish  a map of 32 KB to the node that leads, until each of three nodes tells it as published, all of them
+           asked at once, over connections that stand already; in turn with a put of as many bytes into three
+           members of etcd in the same folder, at their leader, through its HTTP/JSON gateway on a kept
+           connection. A get that needs no agreement shows what the gateway takes of it
   syncs    the syncs of such a publish at each node, counted by strace: of records with a map, and of others
-  tiles    one kept tile of 256 by 256 for 32 clients of wrk, a connection per request, beside nginx (one worker, the same bytes as a
-           file, no connection kept), with sendfile, which copies no byte in the process, and without; in turns, none with a log of
-           requests; and the processor time per 1,000 tiles of four nodes in four processes, with eight clients each, beside one's
+  tiles    one kept tile of 256 by 256 for 32 clients of wrk, a connection per request, beside nginx (one
+           worker, the same bytes as a file, no connection kept), with sendfile, which copies no byte in the
+           process, and without; in turns, none with a log of requests; and the processor time per 1,000 tiles
+           of four nodes in four processes, with eight clients each, beside one's
   idle     the median of an answer with 200 connections open that send nothing, beside none; in turns
   rest     the processor time of each of three nodes that nobody asks
   missed   1,000 maps of 2 KB that a node gets from the others, from its start
 
-Each number stands beside what is wanted of it, and what it missed is said; status 1 where one missed. Other programs on the machine
-change what is measured: its load is printed, and what is compared was measured in turns. etcd, nginx, wrk and strace are Debian's
-packages etcd-server, nginx-light, wrk and strace; a part whose program isn't there is left out.
+Each number stands beside what is wanted of it, and what it missed is said; status 1 where one missed. Other
+programs on the machine change what is measured: its load is printed, and what is compared was measured in
+turns. etcd, nginx, wrk and strace are Debian's packages etcd-server, nginx-light, wrk and strace; a part
+whose program isn't there is left out.
 """
 
-import argparse
 import concurrent.futures
 import contextlib
 import json
@@ -29,25 +30,32 @@ import pathlib
 import re
 import shutil
 import signal
-import socket
 import statistics
 import subprocess
 import sys
 import tempfile
 import time
 
-HERE = pathlib.Path(__file__).resolve().parent
-sys.path.insert(0, str(HERE.parent / "tools"))
-from farm import PROGRAM, nodes_in  # noqa: E402
-from publish import Etcd, call, disk_of, in_base64, texts_of  # noqa: E402
-from tiles import Map, nginx  # noqa: E402
+from farmkit.command import add_cases, program_parser
+from farmkit.etcd import Etcd, call, in_base64
+from farmkit.mapfiles import canonical
+from farmkit.measure import disk_of, load, percentile, timed
+from farmkit.processes import nodes_in
+from farmkit.repository import MAPS
+from farmkit.wanted import seconds_until
+from farmkit.web import connect, read_answer, request
+from tiles import Map, nginx
 
-LARGE = HERE / "maps" / "large-3857.map"
+LARGE = MAPS / "large-3857.map"
 PATIENCE = 60
+TITLE = b'"wms_title" "'
 
 
-def percentile(times, part):
-    return sorted(times)[min(len(times) - 1, int(part * len(times)))]
+def texts_of(program, mapfile, count):
+    """The canonical text of a map under n titles of one length."""
+    before, _, rest = canonical(program, pathlib.Path(mapfile).read_bytes()).partition(TITLE)
+    behind = rest.partition(b'"')[2]
+    return [before + TITLE + b'map %04d"' % number + behind for number in range(1, count + 1)]
 
 
 class Table:
@@ -60,7 +68,6 @@ class Table:
         print(f"  {what:<58} {value}", flush=True)
 
     def judge(self, what, value, most, unit=""):
-        """A number that should be at most so high."""
         self.conclude(what, f"{value:.2f}{unit}", value <= most, f"at most {most:g}{unit}")
 
     def conclude(self, what, value, is_met, wanted):
@@ -71,42 +78,8 @@ class Table:
 
 # ---- nodes
 
-def request(address, path, body=None):
-    head = f"{'GET' if body is None else 'POST'} {path} HTTP/1.1\r\nHost: {address.split(':')[0]}\r\n"
-    if body is not None:
-        head += f"Content-Length: {len(body)}\r\n"
-    return head.encode() + b"\r\n" + (body or b"")
-
-
-def connect(address):
-    host, port = address.split(":")
-    return socket.create_connection((host, int(port)), timeout=PATIENCE)
-
-
-def read_answer(client):
-    """The status and the body of an answer; the connection ends with it."""
-    pieces = []
-    with client:
-        while piece := client.recv(1 << 18):
-            pieces.append(piece)
-    head, _, body = b"".join(pieces).partition(b"\r\n\r\n")
-    return int(head.split(b" ", 2)[1]) if b" " in head else 0, body
-
-
-def ask(address, path, body=None):
-    """The status and the body of an answer, over a connection of its own."""
-    client = connect(address)
-    client.sendall(request(address, path, body))
-    return read_answer(client)
-
-
-def published(node):
-    """The last sequence that a node tells as published."""
-    return sequence_in(ask(node.clients, "/status"))
-
-
 def sequence_in(answer):
-    return int(answer[1].split()[3])
+    return int(answer.body.split()[3])
 
 
 @contextlib.contextmanager
@@ -120,44 +93,33 @@ def farm(options, name, count=3, logs=True):
         for node in nodes:
             wait_for(lambda: node.published() is not None)
         if count > 1:
-            wait_for(lambda: all(peers_of(node) == count - 1 for node in nodes))
+            wait_for(lambda: all(node.metrics().get("wfarm_peers_connected") == count - 1 for node in nodes))
         yield nodes
     finally:
         for node in nodes:
             node.kill()
 
 
-def peers_of(node):
-    """How many peers a node has connections to."""
-    found = re.search(rb"^wfarm_peers_connected (\d+)$", ask(node.operator, "/metrics")[1], re.M)
-    return int(found[1]) if found else 0
-
-
 def wait_for(is_so):
-    until = time.monotonic() + PATIENCE
-    while not is_so():
-        if time.monotonic() > until:
-            sys.exit("a node did not start")
-        time.sleep(0.02)
+    if seconds_until(is_so, PATIENCE, 0.02) is None:
+        sys.exit("a node did not start")
 
 
 def connections(nodes):
-    """A connection to the first node to publish over, and one to each to ask over. Where a time is taken they stand before it begins, as
-    the connection to etcd does."""
+    """Connections to publish over and to ask over, which stand before a time is taken, as etcd's does."""
     return connect(nodes[0].clients), [connect(node.clients) for node in nodes]
 
 
 def ask_all(nodes, clients):
-    """What each node tells as published, all of them asked at once."""
     for node, client in zip(nodes, clients):
-        client.sendall(request(node.clients, "/status"))
+        client.sendall(request("/status"))
     return [sequence_in(read_answer(client)) for client in clients]
 
 
 def publish(nodes, text, sequence, standing=None):
     """Publishes a map at the first node, and asks until each node tells it."""
     first, clients = standing or connections(nodes)
-    first.sendall(request(nodes[0].clients, "/publish", text))
+    first.sendall(request("/publish", text))
     status, body = read_answer(first)
     if status != 202:
         sys.exit(f"publish: {status} {body!r}")
@@ -169,10 +131,8 @@ def publish(nodes, text, sequence, standing=None):
 
 # ---- parts
 
-def timed(call_it, *words):
-    begun = time.perf_counter()
-    call_it(*words)
-    return 1000 * (time.perf_counter() - begun)
+def milliseconds(call_it, *words):
+    return timed(call_it, *words)[1]
 
 
 def tell(times):
@@ -185,15 +145,16 @@ def measure_publish(options, table):
         return table.note("publish", "left out: no etcd")
     key, whole, alone, put, got = in_base64(b"map"), [], [], [], []
     local = json.dumps({"key": key, "serializable": True})
-    with farm(options, "publish") as nodes, Etcd(pathlib.Path(options.room)) as etcd, contextlib.closing(etcd.connect()) as leader:
+    with (farm(options, "publish") as nodes, Etcd(pathlib.Path(options.room)) as etcd,
+          contextlib.closing(etcd.connect()) as leader):
         for sequence, text in enumerate(texts, 1):
             body = json.dumps({"key": key, "value": in_base64(text)})
             standing = connections(nodes)
-            whole.append(timed(publish, nodes, text, sequence, standing))
-            put.append(timed(call, leader, "/v3/kv/put", body))
+            whole.append(milliseconds(publish, nodes, text, sequence, standing))
+            put.append(milliseconds(call, leader, "/v3/kv/put", body))
             asking = [connect(node.clients) for node in nodes]
-            alone.append(timed(ask_all, nodes, asking))
-            got.append(timed(call, leader, "/v3/kv/range", local))
+            alone.append(milliseconds(ask_all, nodes, asking))
+            got.append(milliseconds(call, leader, "/v3/kv/range", local))
     # (the first makes a leader)
     table.note("publish of 32 KB until three nodes tell it", tell(whole[1:]))
     table.note("  of it, /status of three nodes, asked at once", tell(alone[1:]))
@@ -212,9 +173,10 @@ def measure_syncs(options, table):
         publish(nodes, texts[0], 1)
         time.sleep(2.5)
         room = pathlib.Path(options.room)
-        tracing = ["strace", "-f", "-y", "-s", "1", "-e", "trace=write,fsync,fdatasync,sync_file_range,syncfs"]
-        traces = [subprocess.Popen([*tracing, "-o", str(room / f"syncs-{node.number}"), "-p", str(node.process.pid)], stderr=subprocess.DEVNULL)
-                  for node in nodes]
+        tracing = ["strace", "-f", "-y", "-s", "1", "-e",
+                   "trace=write,fsync,fdatasync,sync_file_range,syncfs"]
+        traces = [subprocess.Popen([*tracing, "-o", str(room / f"syncs-{node.number}"), "-p",
+                                    str(node.process.pid)], stderr=subprocess.DEVNULL) for node in nodes]
         time.sleep(1)
         for sequence, text in enumerate(texts[1:], 2):
             publish(nodes, text, sequence)
@@ -225,11 +187,12 @@ def measure_syncs(options, table):
     for node, syncs in zip(nodes, counted):
         who = f"node {node.number}" + (", which leads" if node.number == 0 else "")
         table.judge(f"syncs of votes and publications per publish, {who}", syncs["maps"] / count, 2.0)
-        table.note("  of promises, one window in four sequences; of what it heard", f"{syncs['promises'] / count:.2f}; {syncs['heard'] / count:.2f}")
+        table.note("  of promises, one window in four sequences; of what it heard",
+                   f"{syncs['promises'] / count:.2f}; {syncs['heard'] / count:.2f}")
 
 
 def syncs_in(trace):
-    """How often a node synced its tape after a record that has a map, and after one that has none; and another file."""
+    """How often a node synced its tape after a record with a map, and without one; and another file."""
     syncs, last = {"maps": 0, "promises": 0, "heard": 0}, 0
     for line in trace.splitlines():
         if written := re.search(r" write\(\d+<[^>]*\.tape>.* = (\d+)$", line):
@@ -243,10 +206,12 @@ def syncs_in(trace):
 
 def rate(address, path, seconds, clients):
     """The requests a second by wrk, and what it says of errors."""
-    words = ["wrk", "-t2", f"-c{clients}", f"-d{seconds}s", "-H", "Connection: close", f"http://{address}{path}"]
+    words = ["wrk", "-t2", f"-c{clients}", f"-d{seconds}s", "-H", "Connection: close",
+             f"http://{address}{path}"]
     said = subprocess.run(words, capture_output=True, text=True).stdout
     errors = re.search(r"Socket errors: (.*)|Non-2xx.*: (.*)", said)
-    return float(re.search(r"Requests/sec:\s+([\d.]+)", said)[1]), int(re.search(r"(\d+) requests in", said)[1]), errors and errors[0]
+    return float(re.search(r"Requests/sec:\s+([\d.]+)",
+                           said)[1]), int(re.search(r"(\d+) requests in", said)[1]), errors and errors[0]
 
 
 def measure_tiles(options, table):
@@ -258,8 +223,8 @@ def measure_tiles(options, table):
     with nodes[0] as (one,), nodes[1] as four, contextlib.ExitStack() as stack:
         publish([one], it.text, 1)
         publish(four, it.text, 1)
-        body = ask(one.clients, target)[1]
-        if any(ask(node.clients, target)[1] != body for node in four):
+        body = one.ask(target).body
+        if any(node.ask(target).body != body for node in four):
             sys.exit("tiles differ")
         peers = {}
         for sendfile in ("on", "off"):
@@ -272,8 +237,8 @@ def measure_tiles(options, table):
 
 
 def measure_rates(options, table, own, peers):
-    """Requests a second of the node and of nginx, in turns."""
-    asked = {"kept tiles a second, 32 clients": own, "nginx, the same bytes as a file": peers["on"], "nginx without sendfile": peers["off"]}
+    asked = {"kept tiles a second, 32 clients": own, "nginx, the same bytes as a file": peers["on"],
+             "nginx without sendfile": peers["off"]}
     rates, errors = {name: [] for name in asked}, set()
     for _ in range(options.rounds):
         for name, (address, path) in asked.items():
@@ -290,13 +255,13 @@ def measure_rates(options, table, own, peers):
 
 
 def measure_processors(options, table, one, four, target):
-    """Processor time per 1,000 tiles for 32 clients, of one process and of four at once, in turns."""
     spent = {"one": [], "four": []}
     for _ in range(options.rounds):
         for name, nodes in (("one", [one]), ("four", four)):
             before = sum(node.processor_seconds() for node in nodes)
             with concurrent.futures.ThreadPoolExecutor(len(nodes)) as asking:
-                counts = asking.map(lambda node: rate(node.clients, target, options.seconds, 32 // len(nodes))[1], nodes)
+                counts = asking.map(lambda node: rate(node.clients, target, options.seconds,
+                                                      32 // len(nodes))[1], nodes)
                 count = sum(counts)
             spent[name].append(1000 * (sum(node.processor_seconds() for node in nodes) - before) / count)
     ours, theirs = (statistics.median(spent[name]) for name in ("four", "one"))
@@ -309,10 +274,10 @@ def measure_idle(options, table):
     with farm(options, "idle", 3) as nodes:
         alone, beside = [], []
         for _ in range(2 * options.rounds):
-            alone += [timed(ask, nodes[0].clients, "/status") for _ in range(200)]
-            idle = [socket.create_connection(tuple(nodes[0].clients.split(":"))) for _ in range(200)]
+            alone += [milliseconds(nodes[0].ask, "/status") for _ in range(200)]
+            idle = [connect(nodes[0].clients) for _ in range(200)]
             time.sleep(0.2)
-            beside += [timed(ask, nodes[0].clients, "/status") for _ in range(200)]
+            beside += [milliseconds(nodes[0].ask, "/status") for _ in range(200)]
             for client in idle:
                 client.close()
             time.sleep(0.2)
@@ -333,49 +298,42 @@ def measure_rest(options, table):
 
 def measure_missed(options, table):
     more = "".join(f"FEATURE POINTS {10 + it % 80} {10 + it % 70} END END\n" for it in range(65))
-    form = ('MAP NAME "missed {:04}" EXTENT 0 0 100 100 PROJECTION "init=epsg:4326" END\nLAYER NAME "points" TYPE POINT\n'
-            "CLASS STYLE COLOR 200 30 30 SIZE 5 END END\n" + more + "END END\n")
-    size = len(subprocess.run([options.program, "canon"], input=form.format(1).encode(), capture_output=True, check=True).stdout)
+    form = ('MAP NAME "missed {:04}" EXTENT 0 0 100 100 PROJECTION "init=epsg:4326" END\nLAYER NAME "points" '
+            'TYPE POINT\n' "CLASS STYLE COLOR 200 30 30 SIZE 5 END END\n" + more + "END END\n")
+    size = len(canonical(options.program, form.format(1).encode()))
     with farm(options, "missed") as nodes:
         nodes[2].kill()
         for sequence in range(1, 1001):
             publish(nodes[:2], form.format(sequence).encode(), sequence)
         begun = time.monotonic()
         nodes[2].start()
-        while (nodes[2].published() or 0) < 1000 and time.monotonic() < begun + PATIENCE:
-            time.sleep(0.01)
+        seconds_until(lambda: nodes[2].published() == 1000, PATIENCE)
         took = time.monotonic() - begun
     table.judge(f"1,000 missed maps of {size:,} bytes, from the node's start", took, 3, " s")
 
 
-PARTS = {"publish": measure_publish, "syncs": measure_syncs, "tiles": measure_tiles, "idle": measure_idle, "rest": measure_rest,
-         "missed": measure_missed}
+PARTS = {"publish": measure_publish, "syncs": measure_syncs, "tiles": measure_tiles, "idle": measure_idle,
+         "rest": measure_rest, "missed": measure_missed}
 
 
 def words():
-    asked = argparse.ArgumentParser(description=__doc__, formatter_class=argparse.RawDescriptionHelpFormatter)
-    asked.add_argument("--program", default=str(PROGRAM))
+    asked = program_parser(__doc__)
     asked.add_argument("--folder", help="where the nodes' folders are made; it has to be on a disk")
-    asked.add_argument("--count", type=int, default=200, help="publishes")
-    asked.add_argument("--seconds", type=int, default=4, help="of each run of wrk")
-    asked.add_argument("--rounds", type=int, default=3, help="turns of what is compared")
-    asked.add_argument("parts", nargs="*", metavar="PART", help=", ".join(PARTS))
+    asked.add_argument("--count", type=int, default=200, metavar="N", help="publishes (200)")
+    asked.add_argument("--seconds", type=int, default=4, metavar="S", help="of each run of wrk (4)")
+    asked.add_argument("--rounds", type=int, default=3, metavar="N", help="turns of what is compared (3)")
+    add_cases(asked, PARTS, "PART")
     return asked.parse_args()
-
-
-def load():
-    return ", ".join(pathlib.Path("/proc/loadavg").read_text().split()[:2])
 
 
 def main():
     options, table = words(), Table()
-    options.program = os.path.abspath(options.program)
     with tempfile.TemporaryDirectory(prefix="nodes-", dir=options.folder) as options.room:
         os.chmod(options.room, 0o755)
-        print(f"{os.cpu_count()} processors, load {load()}; {disk_of(options.room)}")
-        for name in options.parts or PARTS:
+        print(f"{load()}; {disk_of(options.room)}")
+        for name in options.cases or PARTS:
             PARTS[name](options, table)
-        print(f"load {load()}; {len(table.missed)} missed" + "".join(f"\n  {what}" for what in table.missed))
+        print(f"{load()}; {len(table.missed)} missed" + "".join(f"\n  {what}" for what in table.missed))
     return int(bool(table.missed))
 
 

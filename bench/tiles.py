@@ -1,60 +1,50 @@
 #!/usr/bin/env python3
-"""Times pictures of the built program beside MapServer and nginx, all in one run, on loopback, one connection a request.
-
-Usage: bench/tiles.py [--program PROGRAM] [--map MAP ..] [--seconds S] [--alone]
+"""Times pictures of the built program beside MapServer and nginx, all in one run, on loopback, one connection
+a request.
 
 Asked of the farm (one node) and of MapServer (FastCGI behind lighttpd, one process), as uncompressed pixmaps:
   kept      one tile of 256 by 256 on the grid, again and again; nginx serves the same bytes as a file
-  cold      the sixteen tiles of one metatile, each once; another background each round, so that nothing is kept
+  cold      the sixteen tiles of one metatile, each once; another background each round, so that nothing is
+            kept
   off grid  256 by 256, another box each time
   large     1,024 by 1,024, another box each time
-Times are milliseconds of an answer, from connect to the last byte: the median, and the mean in brackets. Rates of the kept tile are
-wrk's, where it is installed, with one client. MapServer, lighttpd, spawn-fcgi, nginx and wrk are Debian's packages cgi-mapserver,
-lighttpd, spawn-fcgi, nginx-light and wrk; --alone leaves them out.
+Times are milliseconds of an answer, from connect to the last byte: the median, and the mean in brackets.
+Rates of the kept tile are wrk's, where it is installed, with one client. MapServer, lighttpd, spawn-fcgi,
+nginx and wrk are Debian's packages cgi-mapserver, lighttpd, spawn-fcgi, nginx-light and wrk; --alone leaves
+them out.
 """
 
-import argparse
 import contextlib
 import os
 import pathlib
 import re
 import shutil
-import socket
 import statistics
 import subprocess
 import sys
 import tempfile
-import time
 
-HERE = pathlib.Path(__file__).resolve().parent
-sys.path.insert(0, str(HERE.parent / "tools"))
-from farm import Farm  # noqa: E402
+from farmkit.command import program_parser
+from farmkit.mapfiles import PIXMAP
+from farmkit.measure import tell, timed
+from farmkit.nginx import Nginx, whole
+from farmkit.processes import Farm, free_ports, listens
+from farmkit.repository import MAPS
+from farmkit.wanted import seconds_until
+from farmkit.web import exchange, loopback
 
-PIXMAP = "image/x-portable-pixmap"
 SPARE = 1_000_000
 
 
 def ask(port, target, body=None):
-    """The body of one answer, over a connection of its own, and the milliseconds that it took."""
-    head = f"{'GET' if body is None else 'POST'} {target} HTTP/1.1\r\nHost: localhost\r\nConnection: close\r\n"
-    if body is not None:
-        head += f"Content-Length: {len(body)}\r\n"
-    begun = time.perf_counter()
-    with socket.create_connection(("127.0.0.1", port), timeout=120) as peer:
-        peer.sendall(head.encode() + b"\r\n" + (body or b""))
-        pieces = []
-        while piece := peer.recv(1 << 18):
-            pieces.append(piece)
-    took = 1000 * (time.perf_counter() - begun)
-    head, _, body = b"".join(pieces).partition(b"\r\n\r\n")
-    if not re.match(rb"HTTP/1\.[01] 20[02] ", head):
-        sys.exit(f"{target[:200]}: {head[:200]!r} {body[:300]!r}")
-    return body, took
+    """The body of one answer, which has to be a good one, and the milliseconds that it took."""
+    (status, answer), took = timed(exchange, loopback(port), target, body, 120)
+    if status not in (200, 202):
+        sys.exit(f"{target[:200]}: {status} {answer[:300]!r}")
+    return answer, took
 
 
 class Map:
-    """A mapfile, its layers and its square extent."""
-
     def __init__(self, path):
         self.path = pathlib.Path(path).resolve()
         self.name = self.path.stem
@@ -62,12 +52,13 @@ class Map:
         words = self.text.decode()
         layers = re.findall(r'^\s*LAYER\b.*?\bNAME\s+"?([\w-]+)"?', words, re.M | re.S | re.I)
         self.layers = ",".join(layers)
-        self.extent = [float(it) for it in re.search(r"\bEXTENT" + r"\s+(-?[\d.]+)" * 4, words, re.I).groups()]
+        self.extent = [float(it)
+                       for it in re.search(r"\bEXTENT" + r"\s+(-?[\d.]+)" * 4, words, re.I).groups()]
 
     def query(self, box, size, background="0xFFFFFF"):
         corners = ",".join(f"{it:.6f}".rstrip("0").rstrip(".") for it in box)
-        return (f"SERVICE=WMS&VERSION=1.3.0&REQUEST=GetMap&LAYERS={self.layers}&STYLES=&CRS=EPSG:3857&BBOX={corners}"
-                f"&WIDTH={size}&HEIGHT={size}&FORMAT={PIXMAP}&BGCOLOR={background}")
+        return (f"SERVICE=WMS&VERSION=1.3.0&REQUEST=GetMap&LAYERS={self.layers}&STYLES=&CRS=EPSG:3857"
+                f"&BBOX={corners}&WIDTH={size}&HEIGHT={size}&FORMAT={PIXMAP}&BGCOLOR={background}")
 
     def tile(self, z, col, row, background="0xFFFFFF"):
         side = (self.extent[2] - self.extent[0]) / 2**z
@@ -81,10 +72,6 @@ class Map:
         left = self.extent[0] + room * ((number * 37 % 101) + 0.37) / 103
         low = self.extent[1] + room * ((number * 61 % 101) + 0.61) / 103
         return self.query((left, low, left + side, low + side), size)
-
-
-def tell(times):
-    return f"{statistics.median(times):9.2f} ({statistics.mean(times):.2f})"
 
 
 def measure(port, path, it, rounds):
@@ -106,47 +93,34 @@ def rate(port, target, seconds):
     """Requests a second by wrk, one client, one connection a request; None without wrk."""
     if not shutil.which("wrk"):
         return None
-    words = ["wrk", "-t1", "-c1", f"-d{seconds}s", "-H", "Connection: close", f"http://127.0.0.1:{port}{target}"]
+    words = ["wrk", "-t1", "-c1", f"-d{seconds}s", "-H", "Connection: close",
+             f"http://127.0.0.1:{port}{target}"]
     said = subprocess.run(words, capture_output=True, text=True).stdout
     found = re.search(r"Requests/sec:\s+([\d.]+)", said)
     return float(found[1]) if found else None
 
 
-def free_port():
-    with socket.socket() as it:
-        it.bind(("127.0.0.1", 0))
-        return it.getsockname()[1]
-
-
 def wait_until(is_there):
-    for _ in range(100):
-        if is_there():
-            return
-        time.sleep(0.05)
-    sys.exit("a server did not start")
-
-
-def listens(port):
-    with contextlib.suppress(OSError), socket.create_connection(("127.0.0.1", port), timeout=1):
-        return True
-    return False
-
-
-def wait_for(port):
-    wait_until(lambda: listens(port))
+    """Waits for a server, which has to be there soon."""
+    if seconds_until(is_there, 10) is None:
+        sys.exit("a server did not start")
 
 
 @contextlib.contextmanager
 def mapserver(it, room):
     """MapServer as FastCGI behind lighttpd, one process; gives its port and path."""
-    output = f'  OUTPUTFORMAT NAME "ppm" DRIVER "GDAL/PNM" MIMETYPE "{PIXMAP}" IMAGEMODE RGB EXTENSION "ppm" END\n'
+    output = (f'  OUTPUTFORMAT NAME "ppm" DRIVER "GDAL/PNM" MIMETYPE "{PIXMAP}" IMAGEMODE RGB EXTENSION '
+              f'"ppm" ' "END\n")
     text = re.sub(r"^MAP$", "MAP\n" + output, it.text.decode(), count=1, flags=re.M)
-    text = re.sub(r'("wms_onlineresource".*)$', r'\1 "wms_getmap_formatlist" "' + PIXMAP + '"', text, count=1, flags=re.M)
+    text = re.sub(r'("wms_onlineresource".*)$', r'\1 "wms_getmap_formatlist" "' + PIXMAP + '"', text, count=1,
+                  flags=re.M)
     (room / "served.map").write_text(text)
-    (room / "ms.conf").write_text(f'CONFIG\n ENV\n  MS_MAP_PATTERN "."\n END\n MAPS\n  "served" "{room}/served.map"\n END\nEND\n')
-    port, program = free_port(), shutil.which("mapserv") or "/usr/lib/cgi-bin/mapserv"
+    (room / "ms.conf").write_text(f'CONFIG\n ENV\n  MS_MAP_PATTERN "."\n END\n MAPS\n  "served" '
+                                  f'"{room}/served.map"\n END\nEND\n')
+    (port,), program = free_ports(1), shutil.which("mapserv") or "/usr/lib/cgi-bin/mapserv"
     (room / "lighttpd.conf").write_text(
-        f'server.modules = ("mod_fastcgi")\nserver.document-root = "{room}"\nserver.bind = "127.0.0.1"\nserver.port = {port}\n'
+        f'server.modules = ("mod_fastcgi")\nserver.document-root = "{room}"\nserver.bind = '
+        f'"127.0.0.1"\nserver.port = {port}\n'
         f'fastcgi.server = ("/wms" => (("socket" => "{room}/socket", "check-local" => "disable")))\n')
     environment = {**os.environ, "MAPSERVER_CONFIG_FILE": f"{room}/ms.conf"}
     words = ["spawn-fcgi", "-n", "-s", f"{room}/socket", "-F", "1", "--", program]
@@ -156,7 +130,7 @@ def mapserver(it, room):
         # lighttpd answers 503 for a while where MapServer doesn't listen at its first request.
         wait_until((room / "socket").exists)
         running.append(subprocess.Popen(["lighttpd", "-D", "-f", f"{room}/lighttpd.conf"], **quiet))
-        wait_for(port)
+        wait_until(lambda: listens(port))
         yield port, "/wms?map=served&"
     finally:
         for process in running:
@@ -166,21 +140,15 @@ def mapserver(it, room):
 
 @contextlib.contextmanager
 def nginx(body, room, sendfile="on"):
-    """nginx with one worker, serving the bytes as a file, with the kernel's sendfile or by reads and writes; gives its port and path."""
-    port = free_port()
+    """nginx with one worker, serving the bytes as a file, with sendfile or without; its port and path."""
     (room / "tile").write_bytes(body)
-    (room / "nginx.conf").write_text(
-        f"daemon off;\nworker_processes 1;\npid {room}/nginx.pid;\nerror_log /dev/null;\nuser root;\nevents {{}}\n"
-        f"http {{ access_log off; keepalive_timeout 0; sendfile {sendfile}; client_body_temp_path {room}; proxy_temp_path {room};\n"
-        f"fastcgi_temp_path {room}; uwsgi_temp_path {room}; scgi_temp_path {room};\n"
-        f"server {{ listen 127.0.0.1:{port}; root {room}; default_type {PIXMAP}; }} }}\n")
-    process = subprocess.Popen([shutil.which("nginx") or "/usr/sbin/nginx", "-c", f"{room}/nginx.conf"])
+    server = Nginx(room, "http")
+    server.start(whole(room, f"keepalive_timeout 0; sendfile {sendfile};\nserver {{ listen 127.0.0.1:"
+                             f"{server.port}; root {room}; default_type {PIXMAP}; }}"))
     try:
-        wait_for(port)
-        yield port, "/tile"
+        yield server.port, "/tile"
     finally:
-        process.terminate()
-        process.wait()
+        server.end()
 
 
 def compare(program, it, seconds, alone):
@@ -202,24 +170,27 @@ def compare(program, it, seconds, alone):
                 rates["nginx"] = rate(port, path, seconds)
         print(f"\n{it.name}: {len(it.text)} bytes")
         for kind, times in ours.items():
-            peer = f"  MapServer {tell(theirs[kind])}  {statistics.median(theirs[kind]) / statistics.median(times):6.2f} times its rate" if theirs else ""
-            print(f"  {kind:9} wfarm {tell(times)}{peer}")
-        print("  kept, requests a second: " + ", ".join(f"{name} {got:,.0f}" for name, got in rates.items() if got))
+            beside = ""
+            if theirs:
+                share = statistics.median(theirs[kind]) / statistics.median(times)
+                beside = f"  MapServer {tell(theirs[kind])}  {share:6.2f} times its rate"
+            print(f"  {kind:9} wfarm {tell(times)}{beside}")
+        print("  kept, requests a second: " + ", ".join(f"{name} {got:,.0f}" for name, got in rates.items()
+                                                        if got))
     finally:
-        farm.process.kill()
-        farm.process.wait()
+        farm.kill()
 
 
 def main():
-    parser = argparse.ArgumentParser(description=__doc__, formatter_class=argparse.RawDescriptionHelpFormatter)
-    parser.add_argument("--program", default=HERE.parent / "crates" / "wfarm" / "out" / "wfarm")
-    parser.add_argument("--map", nargs="*", default=sorted((HERE / "maps").glob("*.map")))
-    parser.add_argument("--seconds", type=int, default=3)
-    parser.add_argument("--alone", action="store_true")
-    given = parser.parse_args()
+    words = program_parser(__doc__)
+    words.add_argument("--map", nargs="*", default=sorted(MAPS.glob("*.map")),
+                       help="mapfiles (those of bench/maps)")
+    words.add_argument("--seconds", type=int, default=3, help="of each run of wrk (3)")
+    words.add_argument("--alone", action="store_true", help="leaves the other servers out")
+    given = words.parse_args()
     print(f"milliseconds of an answer: median (mean); {os.cpu_count()} processors")
     for path in given.map:
-        compare(str(given.program), Map(path), given.seconds, given.alone)
+        compare(given.program, Map(path), given.seconds, given.alone)
 
 
 if __name__ == "__main__":

@@ -3,36 +3,40 @@
 
     python3 tools/check_changed.py BASE        BASE is a commit that passed CI, as origin/main
 
-In a clean clone of the last commit it proves each crate that differs from BASE and each crate above one that does, proves
-and runs their tests, runs their programs as both compilers build them, and tries their mutants right in must-fail/. All
-that is the code of `rt ci` itself, which this calls. What it leaves out: the proofs, tests, programs and mutants of crates
-that don't differ and depend on nothing that does. The libraries of those are taken from a checkout on this machine that
-proved exactly the same files (the stamps are compared); one that no checkout has is proved here.
+In a clean clone of the last commit it proves each crate that differs from BASE and each crate above one that
+does, proves and runs their tests, runs their programs as both compilers build them, and tries their mutants
+right in must-fail/. All that is the code of `rt ci` itself, which this calls. What it leaves out: the proofs,
+tests, programs and mutants of crates that don't differ and depend on nothing that does. The libraries of
+those are taken from a checkout on this machine that proved exactly the same files (the stamps are compared);
+one that no checkout has is proved here.
 
-The last line is `N passed, M failed`, the status 0 where nothing failed; libraries that were taken count as passed. Uncommitted
-changes aren't seen.
+The last line is `N passed, M failed`, the status 0 where nothing failed; libraries that were taken count as
+passed. Uncommitted changes aren't seen.
 """
 
-import argparse
 import os
 import pathlib
 import subprocess
 import sys
 import tempfile
 
-from kit import TOP, changed_files, dependencies, git, load_rt, remember_stamps, take_library
+from farmkit.command import parser
+from farmkit.repository import TOP, changed_files, dependencies, git
+from kit import load_rt
 
 # What a verdict on a crate reads: its code, its proofs, its mutants, and what its program is run on.
 PARTS = ("src", "specs", "proofs", "must-fail", "stdin", "stdout", "args", "status", "data")
 
 
 def is_read(path):
-    """Whether CI reads the file: of must-fail/ only the mutants right there, and a removed one needs no check."""
+    """Whether CI reads the file: of must-fail/ only the mutants right there, and a removed one needs no
+    check."""
     return "/must-fail/" not in path or path.endswith(".edit") and (TOP / path).exists()
 
 
 def differing(base):
-    """The crates that differ from the commit, with those above them; all of them where what holds for all changed."""
+    """The crates that differ from the commit, with those above them; all of them where what holds for all
+    changed."""
     every = dependencies()
     lines = git("diff", "--name-only", "--no-renames", base, "HEAD").splitlines()
     if "HANDLES" in lines:
@@ -49,9 +53,10 @@ def differing(base):
         found |= above
 
 
-def leave_out_kept(rt, chosen):
-    """The same for a kit whose CI keeps what it proved: has it take the library of each crate that isn't chosen."""
-    give = rt.Kept.give
+def leave_out(rt, chosen):
+    """Has CI's code take the library of each crate that isn't chosen from a checkout that proved the same,
+    and try none of its mutants."""
+    edits_of, give, made = rt.edits_of, rt.Kept.give, rt.Kept.__init__
 
     def give_or_take(kept, crate, tests, key):
         if crate.name in chosen:
@@ -62,42 +67,22 @@ def leave_out_kept(rt, chosen):
         made(kept, crates, anew)
         kept.is_full = True
 
-    # (CI keeps only what it proved over libraries of its own)
-    made, rt.Kept.__init__, rt.Kept.tell = rt.Kept.__init__, nothing_kept, lambda kept: None
-    rt.Kept.give = give_or_take
-
-
-def leave_out(rt, chosen):
-    """Has CI's code take the library of each crate that isn't chosen from a checkout that proved the same, and try none of its mutants."""
-    edits_of, prove = rt.edits_of, rt.Crate.ci
     rt.edits_of = lambda crate: edits_of(crate) if crate.name in chosen else ([], [])
-    if hasattr(rt, "Kept"):
-        leave_out_kept(rt, chosen)
-        return
-
-    def take_or_prove(crate, flags, tests):
-        if crate.name not in chosen and (tests or crate.is_program or take_library(crate)):
-            return 0
-        return prove(crate, flags, tests)
-
-    rt.Crate.ci = take_or_prove
+    # (CI keeps only what it proved over libraries of its own)
+    rt.Kept.__init__, rt.Kept.tell, rt.Kept.give = nothing_kept, lambda kept: None, give_or_take
 
 
 def check(rt, clone, chosen):
     """Runs CI's own code over the chosen crates of the clone, and returns its status."""
     os.chdir(clone)
-    with tempfile.TemporaryDirectory(prefix="check-aside-") as aside:
-        if not hasattr(rt, "Kept"):
-            remember_stamps(rt)
-            return rt.ci_from_nothing(aside)
-        with rt.ending():
-            return rt.ci_over(aside, False, sorted(chosen))
+    with tempfile.TemporaryDirectory(prefix="check-aside-") as aside, rt.ending():
+        return rt.ci_over(aside, False, sorted(chosen))
 
 
-def main():
-    parser = argparse.ArgumentParser(description=__doc__, formatter_class=argparse.RawDescriptionHelpFormatter)
-    parser.add_argument("base")
-    given = parser.parse_args()
+def main() -> int:
+    words = parser(__doc__)
+    words.add_argument("base", metavar="BASE")
+    given = words.parse_args()
     chosen = differing(given.base)
     print(f"to check: {' '.join(sorted(chosen)) or 'no crate differs'}", flush=True)
     if not chosen:

@@ -1,11 +1,10 @@
 #!/usr/bin/env python3
-"""Tries nodes on hosts whose links are silent for a while: no connection is reset, no carrier is lost, no address is resolved.
+"""Tries nodes on hosts whose links are silent for a while: no connection is reset, no carrier is lost, no
+address is resolved.
 
-    python3 tools/cut_links.py [--program PROGRAM] [--nodes N[,N ..]] [--seconds S[,S ..]] [--at-once N] [--network N] [CASE ..]
-
-Hosts are network namespaces on a bridge (`tools/hosts.py`), which loses what goes from one to another; this program reaches all of them all
-the while. Cases, all of them where none is named, each on new nodes, with 3 and 5 nodes or as --nodes says, for 10, 60 and 300 seconds or as
---seconds says:
+Hosts are network namespaces on a bridge (`farmkit.hosts`), which loses what goes from one to another; this
+program reaches all of them all the while. Cases, all of them where none is named, each on new nodes, with 3
+and 5 nodes or as --nodes says, for 10, 60 and 300 seconds or as --seconds says:
 
     both    nothing goes anywhere
     mute    what one node sends is lost
@@ -13,22 +12,24 @@ the while. Cases, all of them where none is named, each on new nodes, with 3 and
     each    nothing goes anywhere, and a publish waits at each node
     away    a minority is cut off, both ways, and the others publish: `wfarmctl publish` goes to them
     ring    each link between two nodes is silent one way, so that no reply arrives
-    last    nothing goes anywhere, and the publish that waits is for the last sequence, 4,096; once it is published, so that nobody asks for another,
-            no connection is dialed anew, and the links are silent once more, for ten seconds
+    last    nothing goes anywhere, and the publish that waits is for the last sequence, 4,096; once it is
+            published, so that nobody asks for another, no connection is dialed anew, and the links are silent
+            once more, for ten seconds
 
-Asked of each: within six seconds of the cut, and as long as the links are silent, `/votez`, `wfarm_peers_connected` and
-`wfarm_majority_connected` of every node say whom it hears (within seven in mute, deaf and ring: a peer's last word may come a second after the
-cut); `wfarmctl status` says `no majority` of the nodes that hear none; a publish that waits at node 0 is published within five seconds of the
-healing, or overtaken where another was published; by then all nodes have it, and hear one another; and no node ends by itself. Then each node
-publishes once more.
+Asked of each: within six seconds of the cut, and as long as the links are silent, `/votez`,
+`wfarm_peers_connected` and `wfarm_majority_connected` of every node say whom it hears (within seven in mute,
+deaf and ring: a peer's last word may come a second after the cut); `wfarmctl status` says `no majority` of
+the nodes that hear none; a publish that waits at node 0 is published within five seconds of the healing, or
+overtaken where another was published; by then all nodes have it, and hear one another; and no node ends by
+itself. Then each node publishes once more.
 
-A line for each, and a table at the end, in seconds: from the cut until the last node said whom it hears (fell), and from the healing until what
-waited was published, all had it, and all heard one another. Status 1 where one didn't go as it should. Three farms at a time, or as --at-once says:
-35 minutes. The seconds are the nodes' own where they get a processor at once; on a machine with other work --slack is added to each limit. Wants
-root, iproute2, nftables.
+A line for each, and a table at the end, in seconds: from the cut until the last node said whom it hears
+(fell), and from the healing until what waited was published, all had it, and all heard one another. Status 1
+where one didn't go as it should. Three farms at a time, or as --at-once says: 35 minutes. The seconds are the
+nodes' own where they get a processor at once; on a machine with other work --slack is added to each limit.
+Wants root, iproute2, nftables.
 """
 
-import argparse
 import concurrent.futures
 import pathlib
 import queue
@@ -38,15 +39,17 @@ import sys
 import tempfile
 import time
 
-import hosts
-from farm import PROGRAM, Wrong, want
-from kill_nodes import map_of
-from rehearse import CLIENTS, OPERATOR, PEERS, Process, ask
-from try_replicas import MOST_MAPS, tape_of
+from farmkit import hosts, processes
+from farmkit.command import add_cases, numbers, program_parser, tell_missing
+from farmkit.hosts import CLIENTS, OPERATOR, PEERS, addresses
+from farmkit.mapfiles import map_of
+from farmkit.nodes import NO_MAJORITY, VOTES
+from farmkit.tapes import MOST_MAPS, tape_of
+from farmkit.wanted import Wrong, seconds_until, want
 
 HERE = pathlib.Path(__file__).resolve().parent
-# seconds: for a waiting publish after the healing; until a node knows that it isn't heard, and more of that where peers hear it; without a
-# connection that is dialed anew
+# seconds: for a waiting publish after the healing; until a node knows that it isn't heard, and more of that
+# where peers hear it; without a connection that is dialed anew
 HEALED, NOTICED, ONE_WAY, QUIET = 5, 6, 1, 12
 PATIENCE = 30
 AGAIN = 10
@@ -54,83 +57,58 @@ TABLE = "{:<6} {:>5} {:>7} {:>8} {:>9} {:>7} {:>7}  {}"
 
 
 def until(is_so, seconds=PATIENCE):
-    """The seconds until it is so; None where it isn't in that time."""
-    begun = time.monotonic()
-    while not is_so():
-        if time.monotonic() > begun + seconds:
-            return None
-        time.sleep(0.1)
-    return round(time.monotonic() - begun, 2)
+    return seconds_until(is_so, seconds, 0.1)
 
 
-class Node(Process):
-    """A node on a host of its own."""
-
+class Node(processes.Node):
     def __init__(self, host, above, program, peers, tape):
-        super().__init__(host, above, program)
-        self.peers, self.state = peers, self.above / "state"
-        words = [program, "init", "--state", self.state, "--farm", "silent", "--id", str(host.number), "--nodes", str(len(peers.split(",")))]
-        self.state.mkdir()
-        subprocess.run(words, check=True, capture_output=True)
+        self.host = host
+        super().__init__(program, host.number, above / host.name / "state", peers, host.at(CLIENTS),
+                         host.at(OPERATOR), before=host.before)
+        self.init("silent")
         if tape is not None:
-            shutil.copy(tape, self.state / f"node-{host.number}.tape")
-
-    def start(self):
-        self.start_words("node", "--state", str(self.state), "--peers", self.peers)
+            shutil.copy(tape, self.tape)
 
     def publish(self, number):
-        """Gives it a map: the status and the words of its answer."""
-        status, body = ask(self.host.address, "/publish", map_of(number, 0)) or (0, b"")
+        status, body = self.ask("/publish", map_of(number), 5)
         return status, body.decode().strip()
 
     def proposal(self):
-        """The state of its proposal, as `running` or `published`."""
-        status, body = ask(self.host.address, "/status") or (0, b"")
+        status, body = self.ask("/status", seconds=5)
         return body.decode().split()[5] if status == 200 else None
-
-    def votes(self):
-        """The status and the text of whether it could publish."""
-        status, body = ask(self.host.address, "/votez", port=OPERATOR) or (0, b"")
-        return status, body.decode().strip()
-
-    def metrics(self, *names):
-        """These metrics, in this order."""
-        _, body = ask(self.host.address, "/metrics", port=OPERATOR) or (0, b"")
-        values = dict(line.rsplit(" ", 1) for line in body.decode().splitlines() if not line.startswith("#"))
-        return tuple(float(values[name]) if name in values else None for name in names)
 
     def hears(self):
         """What it says of whom it hears: `/votez`, its connected peers, and whether they are a majority."""
-        return (*self.votes(), *self.metrics("wfarm_peers_connected", "wfarm_majority_connected"))
+        (status, body), told = self.ask_operator("/votez", 5), self.metrics()
+        counts = (told.get(name) for name in ("wfarm_peers_connected", "wfarm_majority_connected"))
+        return status, body.decode().strip(), *counts
 
     def connections(self):
-        """The lines of its log about connections to its peers."""
-        return [line for line in (self.above / "log").read_text().splitlines() if " connected " in line or " lost " in line]
+        return [line for line in self.log_lines() if " connected " in line or " lost " in line]
 
 
 class Farm:
-    """Nodes that run, and the network between them."""
-
     def __init__(self, options, count, network, folder, tape):
         self.options, self.folder, self.number = options, folder, 0
         self.network = hosts.Network(network, count)
-        peers = ",".join(f"{host.address}:{PEERS}" for host in self.network.hosts)
-        self.nodes = [Node(host, folder, str(options.program), peers, tape) for host in self.network.hosts]
+        peers = addresses(self.network.hosts, PEERS)
+        self.nodes = [Node(host, folder, options.program, peers, tape) for host in self.network.hosts]
         self.file = folder / "nodes"
-        self.file.write_text("".join(f"{host.address}:{CLIENTS} {host.address}:{OPERATOR}\n" for host in self.network.hosts))
+        self.file.write_text("".join(f"{node.clients} {node.operator}\n" for node in self.nodes))
 
     def start(self, published):
         for node in self.nodes:
             node.start()
-        want("the nodes don't begin", until(lambda: all(node.published() == published for node in self.nodes), 4 * PATIENCE) is not None)
+        want("the nodes don't begin", until(lambda: all(node.published() == published for node in self.nodes),
+                                            4 * PATIENCE) is not None)
         want("they don't hear one another", until(lambda: self.unlike([]) == []) is not None)
         if not published:
             self.publish(self.nodes[0])
 
     def publish(self, node):
-        """Publishes a map at a node, until all have it."""
         before, answer = self.top(), node.publish(self.next())
-        want(f"no publish: {answer}", answer[0] == 202 and until(lambda: (node.published() or 0) > before) is not None)
+        want(f"no publish: {answer}", answer[0] == 202
+             and until(lambda: (node.published() or 0) > before) is not None)
         want("not level", until(self.is_level) is not None)
 
     def next(self):
@@ -141,23 +119,24 @@ class Farm:
         return max(node.published() or 0 for node in self.nodes)
 
     def is_level(self):
-        """Whether all nodes stand at one sequence."""
         told = {node.published() for node in self.nodes}
         return len(told) == 1 and None not in told
 
     def hears(self, node, silenced):
-        """What a node has to say of whom it hears, while these links are silent: no reply comes on one that is silent one way."""
-        heard = sum((node, other) not in silenced and (other, node) not in silenced for other in self.nodes if other is not node)
+        """What a node has to say of whom it hears: no reply comes on a link that is silent one way."""
+        heard = sum((node, other) not in silenced and (other, node) not in silenced for other in self.nodes
+                    if other is not node)
         is_majority = 2 * (heard + 1) > len(self.nodes)
-        return (*((200, "votes") if is_majority else (503, "no majority")), heard, int(is_majority))
+        return (*(VOTES if is_majority else NO_MAJORITY), heard, int(is_majority))
 
     def unlike(self, silenced):
         """What nodes say of whom they hear that isn't so while these links are silent."""
         told = [(node, node.hears()) for node in self.nodes]
-        return [f"node {node.host.number}: {said}" for node, said in told if said != self.hears(node, silenced)]
+        return [f"node {node.host.number}: {said}" for node, said in told
+                if said != self.hears(node, silenced)]
 
     def fell(self, silenced, most):
-        """The seconds until the last node says whom it hears while these links are silent; None where one doesn't in that time."""
+        """The seconds until the last node says whom it hears meanwhile; None for too long."""
         begun, left, took = time.monotonic(), list(self.nodes), 0
         while left and time.monotonic() < begun + most:
             left = [node for node in left if node.hears() != self.hears(node, silenced)]
@@ -166,14 +145,13 @@ class Farm:
         return None if left else took
 
     def control(self, *words):
-        """What `wfarmctl` does: its status, what it writes, and what it writes on standard error."""
-        ended = subprocess.run([sys.executable, str(HERE / "wfarmctl"), "--farm", str(self.file), *words], capture_output=True, text=True)
+        ended = subprocess.run([sys.executable, str(HERE / "wfarmctl"), "--farm", str(self.file), *words],
+                               capture_output=True, text=True)
         return ended.returncode, ended.stdout, ended.stderr
 
     def stop(self):
         for node in self.nodes:
             node.kill()
-            node.log.close()
         self.network.stop()
 
 
@@ -202,7 +180,8 @@ def away(nodes):
 
 def ring(nodes):
     count = len(nodes)
-    return [(node, nodes[(at + step) % count]) for at, node in enumerate(nodes) for step in range(1, count // 2 + 1)]
+    return [(node, nodes[(at + step) % count]) for at, node in enumerate(nodes)
+            for step in range(1, count // 2 + 1)]
 
 
 CASES = {"both": both, "mute": mute, "deaf": deaf, "each": both, "away": away, "ring": ring, "last": both}
@@ -211,7 +190,7 @@ CASES = {"both": both, "mute": mute, "deaf": deaf, "each": both, "away": away, "
 # ---- what is asked of each case
 
 def silence(farm, silenced, seconds, meanwhile=lambda: None):
-    """Silences links for so long, and does something meanwhile; the seconds until all nodes knew. The links are healed."""
+    """Silences links for so long, and does something meanwhile; the seconds until all nodes knew."""
     farm.network.silence([(one.host, other.host) for one, other in silenced])
     begun = time.monotonic()
     is_both_ways = all((other, one) in silenced for one, other in silenced)
@@ -221,7 +200,8 @@ def silence(farm, silenced, seconds, meanwhile=lambda: None):
     without = [node.host.number for node in farm.nodes if farm.hears(node, silenced)[0] == 503]
     code, told, _ = farm.control("status")
     rows = told.splitlines()[1:]
-    want(f"status: {code} {rows}", code == 1 and [at for at, row in enumerate(rows) if row.endswith(" no majority")] == without)
+    want(f"status: {code} {rows}", code == 1
+         and [at for at, row in enumerate(rows) if row.endswith(" no majority")] == without)
     meanwhile()
     time.sleep(max(0, begun + seconds - time.monotonic()))
     unlike = farm.unlike(silenced)
@@ -231,17 +211,20 @@ def silence(farm, silenced, seconds, meanwhile=lambda: None):
 
 
 def healed(farm, waiting, ends):
-    """The seconds from now, at the healing, until what waits is published, all nodes are level, and hear one another."""
+    """The seconds from the healing until what waits is published, all are level, and hear one another."""
     begun, seconds = time.monotonic(), {}
-    looks = {"published": lambda: all(node.proposal() in ends for node in waiting), "level": farm.is_level, "heard": lambda: not farm.unlike([])}
+    looks = {"published": lambda: all(node.proposal() in ends for node in waiting), "level": farm.is_level,
+             "heard": lambda: not farm.unlike([])}
     while len(seconds) < len(looks) and time.monotonic() < begun + PATIENCE:
         for name, is_so in looks.items():
             if name not in seconds and (name != "level" or "published" in seconds) and is_so():
                 seconds[name] = round(time.monotonic() - begun, 2)
         time.sleep(0.05)
     told = ", ".join(f"{name} {seconds.get(name, 'never')}" for name in looks)
-    want(f"after the healing at {time.strftime('%H:%M:%S', time.gmtime(time.time() - time.monotonic() + begun))}: {told} ({PATIENCE} s looked), "
-         f"{[node.proposal() for node in waiting]}", len(seconds) == len(looks) and max(seconds.values()) <= HEALED + farm.options.slack)
+    want(f"after the healing at "
+         f"{time.strftime('%H:%M:%S', time.gmtime(time.time() - time.monotonic() + begun))}: {told} "
+         f"({PATIENCE} s looked), {[node.proposal() for node in waiting]}" , len(seconds) == len(looks)
+         and max(seconds.values()) <= HEALED + farm.options.slack)
     return seconds
 
 
@@ -266,7 +249,8 @@ def waits(farm, name, seconds):
         if name == "away":
             published = farm.control("publish", str(map_file(farm)))
             first = (len(farm.nodes) - 1) // 2
-            want(f"wfarmctl publish: {published}", published[:2] == (0, f"published {before + 1} at node {first}\n"))
+            want(f"wfarmctl publish: {published}",
+                 published[:2] == (0, f"published {before + 1} at node {first}\n"))
 
     fell = silence(farm, silenced, seconds, publish)
     seen = {"fell": fell, **healed(farm, waiting, ends)}
@@ -288,12 +272,12 @@ def waits(farm, name, seconds):
 
 def map_file(farm):
     path = farm.folder / "a.map"
-    path.write_bytes(map_of(farm.next(), 0))
+    path.write_bytes(map_of(farm.next()))
     return path
 
 
 def attempt(name, count, seconds, options, networks):
-    """What a case saw; words about what was wrong, and where the nodes' logs are then, are in it under `wrong`."""
+    """What a case saw; under `wrong` what was wrong, and where the nodes' logs are then."""
     folder, network, farm = pathlib.Path(tempfile.mkdtemp(prefix="silent-")), networks.get(), None
     try:
         tape = options.tape if name == "last" else None
@@ -314,36 +298,32 @@ def attempt(name, count, seconds, options, networks):
 
 # ---- the command line
 
-def numbers(text):
-    return [int(word) for word in text.split(",")]
-
-
 def options_of():
-    parser = argparse.ArgumentParser(description=__doc__, formatter_class=argparse.RawDescriptionHelpFormatter)
-    parser.add_argument("--program", type=pathlib.Path, default=PROGRAM)
-    parser.add_argument("--nodes", type=numbers, default=[3, 5], help="how many, with commas between them (3,5)")
-    parser.add_argument("--seconds", type=numbers, default=[10, 60, 300], help="how long links are silent (10,60,300)")
-    parser.add_argument("--at-once", type=int, default=3, help="how many farms at a time (3)")
-    parser.add_argument("--slack", type=float, default=0, help="seconds that are added to each limit (0)")
-    parser.add_argument("--network", type=int, default=1, help="the number of the first network, 0 to 255")
-    parser.add_argument("cases", nargs="*", metavar="CASE", choices=[[], *CASES])
-    return parser.parse_args()
+    asked = program_parser(__doc__)
+    asked.add_argument("--nodes", type=numbers, default=[3, 5],
+                       help="how many, with commas between them (3,5)")
+    asked.add_argument("--seconds", type=numbers, default=[10, 60, 300],
+                       help="how long links are silent (10,60,300)")
+    asked.add_argument("--at-once", type=int, default=3, help="how many farms at a time (3)")
+    asked.add_argument("--slack", type=float, default=0, help="seconds that are added to each limit (0)")
+    asked.add_argument("--network", type=int, default=1, help="the number of the first network, 0 to 255")
+    add_cases(asked, CASES)
+    return asked.parse_args()
 
 
 def main():
     options = options_of()
-    options.program = options.program.resolve()
-    lacks = hosts.missing(options.network)
-    if lacks:
-        print("missing: " + ", ".join(lacks), file=sys.stderr)
-        return 2
+    lacking = hosts.missing(options.network)
+    if lacking:
+        return tell_missing(lacking)
     # the longest begin first
-    rows = [(name, count, seconds) for seconds in sorted(options.seconds, reverse=True) for count in options.nodes
-            for name in CASES if not options.cases or name in options.cases]
+    rows = [(name, count, seconds) for seconds in sorted(options.seconds, reverse=True)
+            for count in options.nodes for name in CASES if not options.cases or name in options.cases]
     networks = queue.SimpleQueue()
     for number in range(options.at_once):
         networks.put(options.network + number)
-    with tempfile.TemporaryDirectory(prefix="silent-tape-") as folder, concurrent.futures.ThreadPoolExecutor(options.at_once) as pool:
+    with (tempfile.TemporaryDirectory(prefix="silent-tape-") as folder,
+          concurrent.futures.ThreadPoolExecutor(options.at_once) as pool):
         options.tape = pathlib.Path(folder) / "tape"
         tape_of(options.program, options.tape, MOST_MAPS - 1, 0)
         attempts = {pool.submit(attempt, *row, options, networks): row for row in rows}

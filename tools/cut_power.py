@@ -1,43 +1,47 @@
 #!/usr/bin/env python3
 """Traces what the built program's `serve` writes to its folder, and cuts its power again and again.
 
-SIGKILL ends a program and not the machine: what it has written and not synced is still there (`tools/kill_nodes.py`). Here it may be
-lost. Three parts:
+SIGKILL ends a program and not the machine: what it has written and not synced is still there
+(`tools/kill_nodes.py`). Here it may be lost. Three parts:
 
-Order. Starts on a new folder, on one with tapes and on one with a torn record, and publishes, are traced (strace). Judged is that
-- what is written to a file is synced before another file is written, and before a byte goes to a client or the standard output;
-- a file is renamed only once it is made or emptied, written and synced, in that order; and the folder is synced before anything else
-  is written or sent;
+Order. Starts on a new folder, on one with tapes and on one with a torn record, and publishes, are traced
+(strace). Judged is that
+- what is written to a file is synced before another file is written, and before a byte goes to a client or
+  the standard output;
+- a file is renamed only once it is made or emptied, written and synced, in that order; and the folder is
+  synced before anything else is written or sent;
 - before a start sends its first byte each tape was synced, and so was each name;
-- what a node reports as published is among the synced records of its tape, and a majority's synced tapes hold a vote for it.
+- what a node reports as published is among the synced records of its tape, and a majority's synced tapes hold
+  a vote for it.
 
-Cuts in a model. The program is killed at the nth call of one kind, while it starts or later. The calls of its trace are done again to a
-model of the folder (`tools/folder.py`), which says what POSIX lets a power cut leave: of unsynced bytes any beginning, of each name that
-was made or renamed since the folder was synced the new or the old. The tapes are compared in five such folders: all and none of the
-unsynced names, with all and none of the unsynced bytes, and one at random, on which the program is started again.
+Cuts in a model. The program is killed at the nth call of one kind, while it starts or later. The calls of its
+trace are done again to a model of the folder (`farmkit.folder`), which says what POSIX lets a power cut
+leave: of unsynced bytes any beginning, of each name that was made or renamed since the folder was synced the
+new or the old. The tapes are compared in five such folders: all and none of the unsynced names, with all and
+none of the unsynced bytes, and one at random, on which the program is started again.
 
-Cuts of a device. The folder is on an ext4, and that on a device (`tools/device.py`) whose power goes off at some write or flush: what
-was written and not flushed is kept, lost, or kept in part. ext4 recovers, and the program is started again. This part is left out where
-mounting isn't permitted. ext4 syncs more than it has to: whatever file is synced, all earlier renames are. So a folder that isn't synced
-behind a rename is found by the other two parts alone.
+Cuts of a device. The folder is on an ext4, and that on a device (`farmkit.device`) whose power goes off at
+some write or flush: what was written and not flushed is kept, lost, or kept in part. ext4 recovers, and the
+program is started again. This part is left out where mounting isn't permitted. ext4 syncs more than it has
+to: whatever file is synced, all earlier renames are. So a folder that isn't synced behind a rename is found
+by the other two parts alone.
 
-In both kinds of cuts a client publishes to three nodes and reads from each, and one run in six is killed without a cut, so that the next
-one finds bytes and names that aren't synced. Compared is all that `tools/kill_nodes.py` compares: no sequence has two maps, two pictures
-or two capabilities; a node's published sequence never goes back; what a node reported as published stays.
+In both kinds of cuts a client publishes to three nodes and reads from each, and one run in six is killed
+without a cut, so that the next one finds bytes and names that aren't synced. Compared is all that
+`tools/kill_nodes.py` compares: no sequence has two maps, two pictures or two capabilities; a node's published
+sequence never goes back; what a node reported as published stays.
 
-Usage: tools/cut_power.py [--program PROGRAM] [--cuts N] [--seed S] [--seconds T] [--folder DIR] [--without own|second|folder]
-200 cuts of each kind in T seconds (default 900) at most; fewer than N in that time is an error. A line for each part, one for each
-violation, and their number at the end; status 1 where there is one. Wants Linux and strace.
-With --without the first two parts count syncs of one kind as not made, to show that a program without them would be found.
+200 cuts of each kind in T seconds (default 900) at most; fewer than N in that time is an error. A line for
+each part, one for each violation, and their number at the end; status 1 where there is one. Wants Linux and
+strace. With --without the first two parts count syncs of one kind as not made, to show that a program without
+them would be found.
 """
 
-import argparse
 import collections
 import os
 import pathlib
 import random
 import re
-import shutil
 import signal
 import subprocess
 import sys
@@ -45,32 +49,31 @@ import tempfile
 import threading
 import time
 
-from calls import Unfollowed, Watcher, follow, traced
-from device import Machine, formatted, is_permitted
-from farm import PROGRAM, serve_words
-from folder import Folder, drawn, everything, extremes, nothing
-from kill_nodes import (CONNECTIONS, NODES, PUBLISHED, STATUS, Ledger, Publisher, Unanswered, check_again, records, tear)
+from farmkit.calls import Unfollowed, Watcher, follow, traced
+from farmkit.command import lacks, program_parser, tell_missing
+from farmkit.device import Machine, formatted, is_permitted
+from farmkit.folder import Folder, drawn, everything, extremes, nothing
+from farmkit.ledger import MOST_VIOLATIONS
+from farmkit.processes import STATUS, serve_words
+from farmkit.tapes import ACCEPTED, PUBLISHED, records
+from farmkit.web import Unanswered
+from kill_nodes import CONNECTIONS, NODES, Ledger, Publisher, check_again, tear
 
-ACCEPTED = 3
 MOST_SEQUENCES = 20
-MOST_VIOLATIONS = 20
 # how long a run may take to reach the call that it is cut at
 RUN_SECONDS = 2.5
 DEVICE_BYTES = 16 << 20
 
 
 def tape_of(node):
-    """The name of a node's tape."""
     return f"node-{node}.tape"
 
 
 def contents(path):
-    """The bytes under each name of a folder."""
     return {file.name: file.read_bytes() for file in pathlib.Path(path).iterdir()}
 
 
 def put(path, files):
-    """Makes a folder hold these files and no others."""
     for file in pathlib.Path(path).iterdir():
         file.unlink()
     for name, content in files.items():
@@ -78,7 +81,7 @@ def put(path, files):
 
 
 class Violations(collections.Counter):
-    """The violations of one part, and how often each was seen. The first of each are printed, up to a number."""
+    """The violations of one part, and how often each was seen. The first of each are printed."""
 
     def add(self, words):
         if words not in self and len(self) < MOST_VIOLATIONS:
@@ -90,8 +93,6 @@ class Violations(collections.Counter):
 
 
 class Compared(Ledger):
-    """What a farm has answered so far."""
-
     def violation(self, words):
         self.violations.add(words if len(words) < 160 else words[:160] + " ..")
 
@@ -152,14 +153,14 @@ class Judge(Watcher):
             self.reported(int(line[1]), int(line[2]))
 
     def reported(self, node, sequence):
-        """A node reports a sequence as published."""
         self.counts["reports"] += 1
-        tapes = [records(self.folder.synced[tape_of(it)].synced)[0] if tape_of(it) in self.folder.synced else [] for it in range(NODES)]
+        tapes = [records(self.folder.synced[tape_of(it)].synced)[0] if tape_of(it) in self.folder.synced
+                 else [] for it in range(NODES)]
         own = {int.from_bytes(body[:2], "big") for kind, body in tapes[node] if kind == PUBLISHED}
         if not own.issuperset(range(1, sequence + 1)):
             self.violations.add(f"node {node} reports what its synced tape doesn't hold")
-        holders = sum(any(kind in (ACCEPTED, PUBLISHED) and int.from_bytes(body[:2], "big") == sequence for kind, body in tape)
-                      for tape in tapes)
+        holders = sum(any(kind in (ACCEPTED, PUBLISHED) and int.from_bytes(body[:2], "big") == sequence
+                          for kind, body in tape) for tape in tapes)
         if sequence and 2 * holders <= NODES:
             self.violations.add(f"node {node} reports what no majority's synced tapes hold")
 
@@ -171,7 +172,7 @@ class Client(Publisher):
 
 
 class Run:
-    """One run of the program, from its start to its kill, so many seconds after the start at the latest. `begun` is given its process."""
+    """One run of the program, from its start to its kill; `begun` is given its process."""
 
     def __init__(self, words, seconds, begun=None):
         self.process = subprocess.Popen(words, stdout=subprocess.PIPE, stderr=subprocess.DEVNULL, text=True)
@@ -183,7 +184,6 @@ class Run:
         self.timer.start()
 
     def end(self):
-        """Kills the program if it still runs. Whether a kill ended it."""
         self.timer.cancel()
         self.process.kill()
         self.process.stdout.close()
@@ -218,7 +218,7 @@ def judge_run(program, path, given, ledger, counts, draw, numbers):
 
 
 def judge_calls(program, given, draw, numbers):
-    """Traces three starts, with publishes: on a new folder, on one with tapes, on one with a torn record. How many violations."""
+    """Traces three starts: on a new folder, on one with tapes, on one with a torn record."""
     violations, counts = Violations(), collections.Counter()
     ledger = Compared(violations)
     with tempfile.TemporaryDirectory(dir=given.folder) as above:
@@ -228,8 +228,12 @@ def judge_calls(program, given, draw, numbers):
             if begins == 2:
                 tear(path, draw)
             seen += judge_run(program, path, given, ledger, counts, draw, numbers)
-    print(f"order: {seen} calls of 3 starts and {ledger.counts['sent']} publishes: {counts['appended']} appends to tapes, {counts['synced']} "
-          f"syncs of new bytes, {counts['renamed']} renames, {counts['folders']} syncs of the folder, {counts['sent']} times bytes sent, "
+    if not counts["reports"]:
+        violations.add("no answer is in the traces: the program sends them by a call that isn't followed")
+    print(f"order: {seen} calls of 3 starts and {ledger.counts['sent']} publishes: {counts['appended']} "
+          f"appends to tapes, {counts['synced']} "
+          f"syncs of new bytes, {counts['renamed']} renames, {counts['folders']} syncs of the folder, "
+          f"{counts['sent']} times bytes sent, "
           f"{counts['reports']} statuses; {violations.total()} violations", flush=True)
     return violations.total()
 
@@ -247,19 +251,22 @@ class Modelled:
     def drawn_cut(self, draw):
         """At which call a run is cut: one of three while the program starts, mostly."""
         if draw.random() < 1 / 3:
-            return draw.choice((("fsync", draw.randint(1, 12)), ("fsync", draw.randint(1, 12)), ("rename", draw.randint(1, 3))))
-        return draw.choice((("fsync", draw.randint(13, 80)), ("fsync", draw.randint(13, 80)), ("sendto", draw.randint(1, 75))))
+            return draw.choice((("fsync", draw.randint(1, 12)), ("fsync", draw.randint(1, 12)),
+                                ("rename", draw.randint(1, 3))))
+        return draw.choice((("fsync", draw.randint(13, 80)), ("fsync", draw.randint(13, 80)),
+                            ("sendto,sendmsg", draw.randint(1, 75))))
 
     def start(self, program, draw, _):
-        return Run(traced(serve_words(program, CONNECTIONS, self.path), self.trace, self.drawn_cut(draw)), RUN_SECONDS)
+        return Run(traced(serve_words(program, CONNECTIONS, self.path), self.trace, self.drawn_cut(draw)),
+                   RUN_SECONDS)
 
     def ended(self):
-        """Does to the model what the program did."""
         self.done["calls"] += follow(self.trace, self.path, self.folder, Watcher(), self.without)
 
     def cut(self, ledger, draw):
         """Compares the tapes as power cuts may leave them, and makes the folder one of these."""
-        self.done["unsynced"] += self.folder.changes != [] or any(file.changes for file in self.folder.names.values())
+        self.done["unsynced"] += self.folder.changes != [] or any(file.changes
+                                                                  for file in self.folder.names.values())
         left = drawn(self.folder, draw)
         for files in (*extremes(self.folder), left):
             put(self.path, files)
@@ -367,15 +374,18 @@ def cut_often(kind, program, given, draw, numbers):
     if done["cuts"] < given.cuts and not violations:
         violations.add("too few cuts")
     counts = sum((ledger.counts for ledger in ledgers), collections.Counter())
-    print(f"{kind.name}: {done['cuts']} (of {given.cuts}) and {done['kills']} kills alone, {done['starting']} of them while starting, "
-          f"{done['unsynced']} cuts with something unsynced; {done['folders']} folders compared; {counts['sent']} maps sent, "
-          f"{counts['accepted']} answered 202, {counts['published']} reported as published by their node, {sum(len(it.texts) for it in ledgers)} "
-          f"sequences; {counts['answers']} answers and texts compared; {violations.total()} violations", flush=True)
+    print(f"{kind.name}: {done['cuts']} (of {given.cuts}) and {done['kills']} kills alone, "
+          f"{done['starting']} of them while starting, "
+          f"{done['unsynced']} cuts with something unsynced; {done['folders']} folders compared; "
+          f"{counts['sent']} maps sent, "
+          f"{counts['accepted']} answered 202, {counts['published']} reported as published by their node, "
+          f"{sum(len(it.texts) for it in ledgers)} "
+          f"sequences; {counts['answers']} answers and texts compared; {violations.total()} violations",
+          flush=True)
     return violations.total()
 
 
 def cut_model(*given):
-    """Cuts in a model."""
     return cut_often(Modelled, *given)
 
 
@@ -385,28 +395,30 @@ def cut_device(program, given, *more):
         return 0
     with tempfile.TemporaryDirectory(dir=given.folder) as above:
         if not is_permitted(above):
-            print("cuts of a device: skipped, they want root, /dev/fuse, a loop device, losetup and mkfs.ext4")
+            print("cuts of a device: skipped, they want root, /dev/fuse, a loop device, losetup and "
+                  "mkfs.ext4")
             return 0
     return cut_often(OnDevice, program, given, *more)
 
 
 def words():
-    asked = argparse.ArgumentParser(description=__doc__, formatter_class=argparse.RawDescriptionHelpFormatter)
-    asked.add_argument("--program", default=PROGRAM)
-    asked.add_argument("--cuts", type=int, default=200)
-    asked.add_argument("--seed", type=int, default=1)
-    asked.add_argument("--seconds", type=int, default=900)
-    asked.add_argument("--without", choices=("own", "second", "folder"), help="counts these syncs as left out: of a tape, of its second "
-                       "file before a rename, of the folder behind one; each has to be found")
-    asked.add_argument("--folder", default=None, help="where the tapes are (default: the system's folder of temporary files)")
+    asked = program_parser(__doc__)
+    asked.add_argument("--cuts", type=int, default=200, metavar="N", help="of each kind (200)")
+    asked.add_argument("--seed", type=int, default=1, metavar="S")
+    asked.add_argument("--seconds", type=int, default=900, metavar="T", help="for each part, at most (900)")
+    asked.add_argument("--without", choices=("own", "second", "folder"),
+                       help="counts these syncs as left out: of a tape, of its second file before a rename, "
+                       "of the folder behind one; each has to be found")
+    asked.add_argument("--folder", metavar="DIR",
+                       help="where the tapes are (default: that of temporary files)")
     return asked.parse_args()
 
 
 def main():
     given = words()
-    if shutil.which("strace") is None:
-        sys.exit("tools/cut_power.py wants strace")
-    program = os.path.abspath(given.program)
+    if lacks("strace"):
+        return tell_missing(["strace"])
+    program = given.program
     draw = random.Random(given.seed)
     numbers = iter(range(1, 1 << 24))
     violations = 0

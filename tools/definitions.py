@@ -1,32 +1,42 @@
 #!/usr/bin/env python3
-"""Writes docs/DEFINITIONS.md, an index of crates/*/specs/, from the comments that stand there: each definition is said once.
+"""Writes docs/DEFINITIONS.md, an index of crates/*/specs/, from the comments that stand there: each
+definition is said once.
 
     python3 tools/definitions.py              writes the index
-    python3 tools/definitions.py --check      says whether the index is what the comments say, which words of public clauses no comment explains, and which
-                                              names in docs/PROVED.md, ARCHITECTURE.md and CHANGES.md aren't there (tools/document_names.py)
-    python3 tools/definitions.py --all [WORD] prints each definition with its comment, or those whose name holds WORD
+    python3 tools/definitions.py --check      says whether the index is what the comments say, which words of
+    public
+                                              clauses no comment explains, and which names in docs/PROVED.md,
+                                              ARCHITECTURE.md and CHANGES.md aren't there
+    python3 tools/definitions.py --all [WORD] prints each definition with its comment, or those whose name
+    holds WORD
 
-A comment line `-- ..` above a definition says what it is; the comment at the top of a file says what the file is about.
+A comment line `-- ..` above a definition says what it is; the comment at the top of a file says what the file
+is about.
 """
 
-import argparse
 import re
 import sys
 
-from document_names import missing
-from kit import TOP, dependencies
+from farmkit.command import parser
+from farmkit.names import missing
+from farmkit.repository import TOP, dependencies
 
 DOCUMENT = TOP / "docs" / "DEFINITIONS.md"
 HEAD = """# Definitions
 
-An index of the words that contracts cite, crate by crate, lowest crate first: each file of `crates/*/specs/`, what it is about, and the words that it defines. What each word means stands above it in its file; `python3 tools/definitions.py --all` prints all of them. This page is made by that tool: change the comment, not the page. Definitions share nothing with the code's loops, except that a block of a mapfile is defined by a table of its keywords, which has the shape of the reader's step ([DECISIONS.md](DECISIONS.md)). They are meant to be read beside the standard (OGC 06-042, the MapServer mapfile reference, Netpbm's P6) or a textbook on Paxos. What files named `..Theorems` state is proved.
+An index of the words that contracts cite, crate by crate, lowest crate first: each file of \
+`crates/*/specs/`, what it is about, and the words that it defines. What each word means stands above it \
+in its file; `python3 tools/definitions.py --all` prints all of them. This page is made by that tool: \
+change the comment, not the page. Definitions share nothing with the code's loops, except that a block of \
+a mapfile is defined by a table of its keywords, which has the shape of the reader's step \
+([DECISIONS.md](DECISIONS.md)). They are meant to be read beside the standard (OGC 06-042, the MapServer \
+mapfile reference, Netpbm's P6) or a textbook on Paxos. What files named `..Theorems` state is proved.
 """
 DEFINED = re.compile(r"(?:(?:unfoldable|abbrev|opaque) )?pub (?!use )(?:(?:record|data) )?(\S+)")
 
 IMPORT = re.compile(r"ghost use Rattle\.(wf\w*)\.specs\.((?:\w+\.)*\w+)\.\{([^}]*)\}")
 FUNCTION = re.compile(r"^[ ]*(pub (?:const )?fn|fn) (\w+)")
 CLAUSE = re.compile(r"^\s+(requires|ensures)\b")
-BODY = re.compile(r"^\s*(\{|[^/]*\{$|.*;$)")
 
 
 def imported(text):
@@ -42,7 +52,7 @@ def imported(text):
 
 
 def clauses(text):
-    """Each public function with the text of its clauses; a function of an impl of a trait counts as public."""
+    """Each public function, and each of an impl of a trait, with the text of its clauses."""
     inside_trait_impl, name, said = False, None, []
     for line in text.split("\n"):
         if re.match(r"^impl\b", line):
@@ -61,7 +71,6 @@ def clauses(text):
 
 
 def about(lines):
-    """The comment at the top of a file."""
     text = []
     for line in lines:
         if not line.startswith("--"):
@@ -71,7 +80,7 @@ def about(lines):
 
 
 def words_of(lines):
-    """The public definitions of a file, each with its comment: the last one above it, since a comment may be of several."""
+    """The public definitions of a file, each with the last comment above it."""
     found, said, is_open = [], [], False
     for line in lines:
         if line.startswith("--"):
@@ -92,7 +101,6 @@ def files_of(crate):
 
 
 def section(crate):
-    """A crate's part of the index."""
     lines = []
     for file, text in files_of(crate):
         top, words = about(text), ", ".join(f"`{word}`" for word, _ in words_of(text))
@@ -102,7 +110,6 @@ def section(crate):
 
 
 def print_all(part):
-    """Prints each definition whose name holds the text, with its comment."""
     for crate in in_order():
         for file, text in files_of(crate):
             for word, said in words_of(text):
@@ -141,11 +148,11 @@ def unexplained():
     return found
 
 
-def main():
-    parser = argparse.ArgumentParser(description=__doc__, formatter_class=argparse.RawDescriptionHelpFormatter)
-    parser.add_argument("--check", action="store_true")
-    parser.add_argument("--all", nargs="?", const="", metavar="WORD")
-    given = parser.parse_args()
+def main() -> int:
+    words = parser(__doc__)
+    words.add_argument("--check", action="store_true", help="writes nothing")
+    words.add_argument("--all", nargs="?", const="", metavar="WORD", help="prints the definitions")
+    given = words.parse_args()
     if given.all is not None:
         print_all(given.all)
         return 0
@@ -153,7 +160,8 @@ def main():
     if not given.check:
         DOCUMENT.write_text(text, encoding="utf-8")
     is_same = DOCUMENT.read_text(encoding="utf-8") == text
-    print(f"docs/DEFINITIONS.md is {'what the comments say' if is_same else 'out of date: run tools/definitions.py'}")
+    state = "what the comments say" if is_same else "out of date: run tools/definitions.py"
+    print(f"docs/DEFINITIONS.md is {state}")
     bare = unexplained()
     for (file, word), cited in sorted(bare.items()):
         print(f"crates/{file}: no comment explains {word}, which {cited} cites")

@@ -1,34 +1,37 @@
 #!/usr/bin/env python3
 """Makes each allocation of the built programs of cases, and of the tests, fail in turn.
 
-    python3 tools/fail_allocations.py                           the programs of cases below, and wf_test_failures
-    python3 tools/fail_allocations.py wf_test_map wf_test_failures     these alone
-    python3 tools/fail_allocations.py wf_test_map --case 503   the cases whose names hold this text
+    python3 tools/fail_allocations.py                           the programs of cases below, and
+    wf_test_failures python3 tools/fail_allocations.py wf_test_map wf_test_failures     these alone python3
+    tools/fail_allocations.py wf_test_map --case 503   the cases whose names hold this text
 
-Run it after `rt ci`, or after `rt run < stdin` in each program of cases and `rt test` in wf_test_failures. Wants cc, and a C
-library that is linked dynamically.
+Run it after `rt ci`, or after `rt run < stdin` in each program of cases and `rt test` in wf_test_failures.
+Wants cc, and a C library that is linked dynamically.
 
-A program of cases gets each case of its `stdin`, and each line `for` of one, as a table of its own. At each allocation
-it forks: in the child the allocation fails, and the child goes on to its end. What the child prints has to be one of
-these:
+A program of cases gets each case of its `stdin`, and each line `for` of one, as a table of its own. At each
+allocation it forks: in the child the allocation fails, and the child goes on to its end. What the child
+prints has to be one of these:
 
     ended         nothing, with status 1: the allocation failure was returned, and so the run ended
     unread        an error of the table, where the allocation is one by which the table is read
-    as always     each answer is the expected one: something was lost that may be, such as a picture to be kept
-    503           a request is answered with 503 and no message, and each later one as if that request had never come
-    cut           a prefix of a response is written, since the writer failed; the messages and all later responses
-                  are the expected ones
-    named         the answer is the expected one but for the allocation failure, which it counts or names, or where it ends
+    as always     each answer is the expected one: something was lost that may be, such as a picture to be
+                  kept
+    503           a request is answered with 503 and no message, and each later one as if that request had
+                  never come
+    cut           a prefix of a response is written, since the writer failed; the messages and all later
+                  responses are the expected ones
+    named         the answer is the expected one but for the allocation failure, which it counts or names, or
+                  where it ends
 
-A test is run once for each of its allocations, each time in an empty folder. Tests repeat a call after an allocation
-failure, so each passes whichever allocation fails, if the failed call changed nothing. Those of tapes in files, of
-journals over tapes that fail, and two that read what a server left, make each call once: they are run and not judged.
+A test is run once for each of its allocations, each time in an empty folder. Tests repeat a call after an
+allocation failure, so each passes whichever allocation fails, if the failed call changed nothing. Those of
+tapes in files, of journals over tapes that fail, and two that read what a server left, make each call once:
+they are run and not judged.
 
-Cases with more allocations than --most are tried at the first half of that number, and then at evenly spaced ones. The
-status is 1 where anything else was printed.
+Cases with more allocations than --most are tried at the first half of that number, and then at evenly spaced
+ones. The status is 1 where anything else was printed.
 """
 
-import argparse
 import collections
 import os
 import pathlib
@@ -38,7 +41,8 @@ import sys
 import tempfile
 from concurrent.futures import ThreadPoolExecutor
 
-from kit import TOP
+from farmkit.command import parser as parser_of
+from farmkit.repository import TOP
 
 CRATES = ["wf_test_map", "wf_test_farm", "wf_test_paint", "wf_test_failures"]
 # tests that make each call once, and so fail where an allocation does
@@ -51,9 +55,8 @@ EDGE = ("hear", "serve", "refuse", "serve_alone", "serve_published", "serve_cach
 # their input begins with a mapfile
 PUBLISHED = ("serve_published", "serve_cached")
 UNAVAILABLE = (
-    b"sent 503, 104 bytes\nHTTP/1.1 503 Service Unavailable\r\nContent-Type: text/plain\r\nContent-Length: 4\r\n"
-    b"Connection: close\r\n\r\n503\n"
-)
+    b"sent 503, 104 bytes\nHTTP/1.1 503 Service Unavailable\r\nContent-Type: text/plain\r\nContent-Length: "
+    b"4\r\nConnection: close\r\n\r\n503\n")
 OUTCOME = re.compile(rb"^(?:(?:sent|cut) \d+, \d+ bytes|read failed|no request|heard [^\n]*)\n", re.MULTILINE)
 # messages behind a response: a line each, and behind it the canonical text of its map, if it has one
 MESSAGES = rb"(?:send [^\n]*\n(?:MAP\n.*?\nEND\n(?=send |\Z))?)*"
@@ -64,7 +67,6 @@ MEANT = {b"n": b"\n", b"r": b"\r", b"t": b"\t", b"s": b" ", b"\\": b"\\"}
 
 
 def unescaped(text):
-    """The bytes that a table's text spells."""
     return ESCAPE.sub(lambda it: bytes.fromhex(it[1].decode()) if it[1] else MEANT[it[2]], text)
 
 
@@ -117,7 +119,6 @@ class Table:
         return found
 
     def alone(self, lines):
-        """The table of this case alone."""
         return "\n".join([*self.needed(lines), *lines, ""]).encode()
 
     def input_of(self, lines):
@@ -156,7 +157,7 @@ def is_part(block, whole):
     cut = re.match(rb"cut (\d+), (\d+) bytes\n", block)
     if not whole or not cut or cut[1] != whole[1]:
         return False
-    part = whole[2][: int(cut[2])]
+    part = whole[2][:int(cut[2])]
     end = b"" if not part or part.endswith(b"\n") else b"\n"
     return block == cut[0] + part + end + whole[3]
 
@@ -169,7 +170,8 @@ class Case:
         self.dropped = {}
 
     def run(self, lines, **environment):
-        return subprocess.run([self.program], input=self.table.alone(lines), env={**os.environ, **environment}, capture_output=True)
+        return subprocess.run([self.program], input=self.table.alone(lines),
+                              env={**os.environ, **environment}, capture_output=True)
 
     def blocks_without(self, index):
         """What the edge tells where the request of this index never comes."""
@@ -178,7 +180,7 @@ class Case:
         if index not in self.dropped:
             pieces = self.table.input_of(self.lines).split(b"\0")
             first = 1 if self.question in PUBLISHED else 0
-            left = pieces[: first + index] + pieces[first + index + 1 :]
+            left = pieces[:first + index] + pieces[first + index + 1:]
             answer = b""
             if len(left) > first:
                 ran = self.run(["case without it", self.ask, "<. " + escaped(b"\0".join(left)), ">. x"])
@@ -192,11 +194,12 @@ class Case:
         has_room = expected[index].startswith(b"sent")
         if given[index] != block and (has_room or not is_part(given[index], block)):
             return False
-        return given[:index] + given[index + 1 :] == self.blocks_without(index)
+        return given[:index] + given[index + 1:] == self.blocks_without(index)
 
     def verdict_of_edge(self, expected, given):
         # (how often it was written depends on where the response ends)
-        expected, given = (blocks_of(re.sub(rb"^\d+ writes\n", b"", it, flags=re.MULTILINE)) for it in (expected, given))
+        expected, given = (blocks_of(re.sub(rb"^\d+ writes\n", b"", it, flags=re.MULTILINE))
+                           for it in (expected, given))
         if len(expected) != len(given):
             return "wrong"
         index = next((it for it in range(len(given)) if given[it] != expected[it]), None)
@@ -204,7 +207,8 @@ class Case:
             return "as always"
         if self.is_unavailable(index, expected, given):
             return "503"
-        is_cut = given[:index] + given[index + 1 :] == expected[:index] + expected[index + 1 :] and is_part(given[index], expected[index])
+        others = [it[:index] + it[index + 1:] for it in (expected, given)]
+        is_cut = others[0] == others[1] and is_part(given[index], expected[index])
         return "cut" if is_cut else "wrong"
 
     def verdict_of_answer(self, expected, given):
@@ -213,13 +217,14 @@ class Case:
             return self.verdict_of_edge(expected, given)
         if self.question == "beginnings":
             read, refused, _ = map(int, re.findall(rb"\d+", expected))
-            wanted = [b"%d read, %d refused, 1 for memory\n" % it for it in ((read - 1, refused), (read, refused - 1))]
+            wanted = [b"%d read, %d refused, 1 for memory\n" % it
+                      for it in ((read - 1, refused), (read, refused - 1))]
             return "named" if given in wanted else "wrong"
         if self.question in ("each_byte", "gaps"):
             expected, given = lines_of_runs(expected), lines_of_runs(given)
             others = [pair for pair in zip(expected, given) if pair[0] != pair[1]]
-            is_cut = len(expected) == len(given) and len(others) == 1 and others[0][0].startswith(others[0][1])
-            return "named" if is_cut else "wrong"
+            is_one = len(expected) == len(given) and len(others) == 1
+            return "named" if is_one and others[0][0].startswith(others[0][1]) else "wrong"
         if self.question == "canonical":
             # (the other reader reads what the quick one leaves)
             return "named" if given == expected + b"the quick reader leaves it\n" else "wrong"
@@ -229,7 +234,7 @@ class Case:
         return "wrong"
 
     def verdict(self, status, output, usual, is_reading):
-        """What a child is, by its wait status and its output, and whether the allocation may be one of the table's."""
+        """What a child is, by its wait status and output, and whether the allocation may be the table's."""
         if status == 0:
             return "as always" if output == usual else "wrong"
         if os.waitstatus_to_exitcode(status) != 1:
@@ -245,7 +250,6 @@ class Case:
         return self.verdict_of_answer(*map(unescaped, differences[0]))
 
     def try_each(self, library, most):
-        """How many allocations the case makes, what the children are, and those of them that are wrong."""
         counting = {"LD_PRELOAD": library, "COUNT_ALLOCATIONS": "1"}
         counted = self.run(self.lines, **counting)
         count, usual = int(counted.stderr.split()[-1]), counted.stdout
@@ -269,7 +273,7 @@ class Case:
             start = end + 1
             # -1: as the one before
             if length >= 0 or what == "unread":
-                output = data[start : start + length] if length >= 0 else output
+                output = data[start:start + length] if length >= 0 else output
                 start += max(length, 0)
                 what = self.verdict(status, output, usual, number <= reading)
             found[what] += 1
@@ -294,20 +298,20 @@ def try_cases(crate, library, options):
                 print(f"  {case.name}: {count} allocations, {dict(verdicts)}", flush=True)
             for number, output in wrong[:3]:
                 print(f"  {case.name}: allocation {number}: {output[:2000]!r}", flush=True)
-    told = ", ".join(f"{found[it]} {it}" for it in ("ended", "unread", "as always", "503", "cut", "named", "wrong"))
-    print(f"{crate.name}: {len(cases)} cases, {allocations} allocations ({partly} cases tried in part), {found.total()} failures: {told}", flush=True)
+    told = ", ".join(f"{found[it]} {it}"
+                     for it in ("ended", "unread", "as always", "503", "cut", "named", "wrong"))
+    print(f"{crate.name}: {len(cases)} cases, {allocations} allocations ({partly} cases tried in part), "
+          f"{found.total()} failures: {told}", flush=True)
     return not found["wrong"]
 
 
 def run_test(tests, name, library, **environment):
-    """A run of the test in an empty folder."""
     environment = {**os.environ, "LD_PRELOAD": library, **environment}
     with tempfile.TemporaryDirectory() as folder:
         return subprocess.run([tests, name], cwd=folder, env=environment, capture_output=True, text=True)
 
 
 def try_tests(crate, library, options):
-    """Tries each test; whether all passed."""
     tests = str(crate / "out" / f"{crate.name}_tests")
     listed = subprocess.run([tests, "--list"], capture_output=True, text=True, check=True).stdout
     names = [line.rsplit(": test", 1)[0] for line in listed.splitlines() if line.endswith(": test")]
@@ -318,27 +322,32 @@ def try_tests(crate, library, options):
         first, every = tried_of(count, options.most)
         numbers = [n for n in range(1, count + 1) if n <= first or n % every == 0]
         with ThreadPoolExecutor(options.jobs) as pool:
-            runs = pool.map(lambda n: run_test(tests, name, library, FAIL_ALLOCATION=str(n)).returncode, numbers)
+            runs = pool.map(lambda n: run_test(tests, name, library, FAIL_ALLOCATION=str(n)).returncode,
+                            numbers)
             failed = [n for n, status in zip(numbers, runs) if status]
         is_judged = not name.startswith(ONCE)
         if (failed and is_judged) or options.each:
-            print(f"  {name}: {count} allocations, {len(failed)} failed tests {failed[:5] or ''}".rstrip(), flush=True)
+            print(f"  {name}: {count} allocations, {len(failed)} failed tests {failed[:5] or ''}".rstrip(),
+                  flush=True)
         allocations += count
         total += len(numbers)
         bad += len(failed) * is_judged
         unjudged += len(numbers) * (not is_judged)
-    told = f"{bad} failed tests; {unjudged} of the failures in tests that make each call once, which aren't judged"
-    print(f"{crate.name}: {len(names)} tests, {allocations} allocations, {total} failures: {told}", flush=True)
+    told = (f"{bad} failed tests; {unjudged} of the failures in tests that make each call once, which aren't "
+            "judged")
+    print(f"{crate.name}: {len(names)} tests, {allocations} allocations, {total} failures: {told}",
+          flush=True)
     return not bad
 
 
 def main():
-    parser = argparse.ArgumentParser(description=__doc__, formatter_class=argparse.RawDescriptionHelpFormatter)
+    parser = parser_of(__doc__)
     parser.add_argument("crates", nargs="*", default=CRATES)
     parser.add_argument("--case", default="", help="only cases and tests whose name holds this text")
     parser.add_argument("--each", action="store_true", help="a line for each case and test")
     parser.add_argument("--jobs", type=int, default=os.cpu_count(), help="how many run side by side")
-    parser.add_argument("--most", type=int, default=10_000, help="how many failures of one case are tried at most")
+    parser.add_argument("--most", type=int, default=10_000,
+                        help="how many failures of one case are tried at most")
     options = parser.parse_args()
     with tempfile.TemporaryDirectory() as folder:
         library = f"{folder}/fail_allocation.so"

@@ -3,11 +3,12 @@
 
     python3 tools/gate_cost.py [LOG]
 
-Everything that CI prints goes to LOG (`gate.log` beside the repository if left out). Printed is the whole first: the
-date, the commit, CI's last line, minutes on the clock, processors, processor minutes; then a table of processor minutes,
-a line per crate: its proof, its tests and its mutants, the longest first. In docs/CI.md they replace what stands between
-the two marks. The figures are read from the processes as they run, twice a second, so a line can miss a second here and
-there; the whole is the system's own count. Run it on a clean clone, with nothing beside it.
+Everything that CI prints goes to LOG (`gate.log` beside the repository if left out). Printed is the whole
+first: the date, the commit, CI's last line, minutes on the clock, processors, processor minutes; then a table
+of processor minutes, a line per crate: its proof, its tests and its mutants, the longest first. In docs/CI.md
+they replace what stands between the two marks. The figures are read from the processes as they run, twice a
+second, so a line can miss a second here and there; the whole is the system's own count. Run it on a clean
+clone, with nothing beside it.
 """
 
 import collections
@@ -19,7 +20,8 @@ import subprocess
 import sys
 import time
 
-from kit import TOP, git, load_rt, stamp_libraries
+from farmkit.command import parser
+from farmkit.repository import TOP, git
 
 TICKS = os.sysconf("SC_CLK_TCK")
 PARTS = ("proof", "tests", "edits")
@@ -59,7 +61,7 @@ def processes():
 
 
 def descendants(running, gate):
-    """The processes that CI began, and those that they began: nothing else that runs on the machine counts."""
+    """The processes that CI began, and those that they began."""
     children = collections.defaultdict(list)
     for number, stat in running.items():
         children[int(stat[1])].append(number)
@@ -83,7 +85,7 @@ def look(seen, gate):
 
 
 def table(seen):
-    """The lines of the table: processor minutes per crate, of those that take at least LEAST, and of all others together."""
+    """The table: processor minutes per crate, of those that take at least LEAST, and of all others."""
     cost = collections.defaultdict(lambda: dict.fromkeys(PARTS, 0.0))
     for (crate, part), minutes in seen.values():
         cost[crate][part] += minutes
@@ -99,7 +101,6 @@ def table(seen):
 
 
 def record(costs):
-    """Writes the costs into the document, in place of those of the last run."""
     begin, end = MARKS
     before, mark, rest = COSTS.read_text(encoding="utf-8").partition(begin)
     old, other, after = rest.partition(end)
@@ -108,29 +109,25 @@ def record(costs):
     COSTS.write_text(before + begin + costs + end + after, encoding="utf-8")
 
 
-def main():
-    log = pathlib.Path(sys.argv[1]) if len(sys.argv) > 1 else TOP.parent / "gate.log"
-    # (the CI of later kits keeps what it proved on a machine, unless it is told not to)
-    anew = ["--anew"] if hasattr(load_rt(), "Kept") else []
+def main() -> int:
+    words = parser(__doc__, "Exit status: that of `rt ci`.")
+    words.add_argument("log", nargs="?", type=pathlib.Path, default=TOP.parent / "gate.log", metavar="LOG")
+    log = words.parse_args().log
     seen = {}
     began = time.time()
     with open(log, "w", encoding="utf-8") as out:
-        gate = subprocess.Popen(["rt", "ci", *anew], cwd=TOP, stdout=out, stderr=subprocess.STDOUT)
+        gate = subprocess.Popen(["rt", "ci", "--anew"], cwd=TOP, stdout=out, stderr=subprocess.STDOUT)
         while gate.poll() is None:
             look(seen, gate.pid)
             time.sleep(0.5)
     used = resource.getrusage(resource.RUSAGE_CHILDREN)
-    whole = (
-        f"{datetime.date.today()}, commit {git('rev-parse', '--short', 'HEAD').strip()}:"
-        f" `{log.read_text(encoding='utf-8').rstrip().splitlines()[-1]}`,"
-        f" {(time.time() - began) / 60:.0f} minutes on {os.cpu_count()} processors,"
-        f" {(used.ru_utime + used.ru_stime) / 60:.0f} processor minutes."
-    )
+    whole = (f"{datetime.date.today()}, commit {git('rev-parse', '--short', 'HEAD').strip()}:"
+             f" `{log.read_text(encoding='utf-8').rstrip().splitlines()[-1]}`,"
+             f" {(time.time() - began) / 60:.0f} minutes on {os.cpu_count()} processors,"
+             f" {(used.ru_utime + used.ru_stime) / 60:.0f} processor minutes.")
     costs = f"{whole}\n\n{table(seen)}"
     print(costs, end="")
     if gate.returncode == 0:
-        # (so that tools/check_changed.py can take what this run proved)
-        stamp_libraries(load_rt(), TOP)
         record(costs)
     return gate.returncode
 

@@ -1,22 +1,24 @@
 #!/usr/bin/env python3
-"""Shows what input that means harm does to the built program: to `serve` over sockets, to `canon` and `draw` as mapfiles and queries.
+"""Shows what input that means harm does to the built program: to `serve` over sockets, to `canon` and `draw`
+as mapfiles and queries.
 
-Sockets: 1,000 connections, eight at a time, to a farm of three nodes on tapes in files: silent ones, heads that are cut, sent a byte at
-a time, too large, with more after them, of random bytes, publishes that are no map or shorter than they say, connections that are
-reset, and clients that stay after their answer. A client that behaves asks for /status and for one tile all the while: printed is the
-longest that it waited. Afterwards the farm has to be as before: sequence, capabilities, tile and tapes, byte for byte. The program
-serves one connection at a time and gives a client ten seconds, so a client waits for those that came before it.
+Sockets: 1,000 connections, eight at a time, to a farm of three nodes on tapes in files: silent ones, heads
+that are cut, sent a byte at a time, too large, with more after them, of random bytes, publishes that are no
+map or shorter than they say, connections that are reset, and clients that stay after their answer. A client
+that behaves asks for /status and for one tile all the while: printed is the longest that it waited.
+Afterwards the farm has to be as before: sequence, capabilities, tile and tapes, byte for byte. The program
+serves one connection at a time and gives a client ten seconds, so a client waits for those that came before
+it.
 
-Mutations: N mapfiles through `wfarm canon`, and a fifth as many queries, each with such a mapfile, through `wfarm draw`. A failure is a
-signal, a status other than 0 and 1, a second of processor time, an answer together with an error, no answer, an error line of another
-form, an allocation failure within 64 MB of address space, or a canonical text that isn't its own.
+Mutations: N mapfiles through `wfarm canon`, and a fifth as many queries, each with such a mapfile, through
+`wfarm draw`. A failure is a signal, a status other than 0 and 1, a second of processor time, an answer
+together with an error, no answer, an error line of another form, an allocation failure within 64 MB of
+address space, or a canonical text that isn't its own.
 
-Usage: tools/hostile.py [--program PROGRAM] [--sockets N] [--count N] [--seed S] [--jobs J]
 1,000 sockets take about five minutes, most of them waiting; 100,000 mapfiles and 20,000 queries about seven.
 Either is left out with 0. Status 1 where anything fails.
 """
 
-import argparse
 import collections
 import concurrent.futures
 import os
@@ -32,13 +34,16 @@ import tempfile
 import threading
 import time
 
-from farm import CAPABILITIES, PROGRAM, Farm
-from mutation import Maps, Queries
+from farmkit.command import program_parser
+from farmkit.mapfiles import GET_MAP
+from farmkit.mutation import Maps, Queries
+from farmkit.processes import Farm
+from farmkit.web import CAPABILITIES, ask, connect
 
 MAP = b"""MAP NAME "it" EXTENT 0 0 4 4 PROJECTION "init=epsg:3857" END
-LAYER NAME it TYPE POLYGON CLASS STYLE COLOR 9 99 199 END END FEATURE POINTS 1 1 3 1 3 3 1 3 END END END END"""
-TILE = ("/wms?VERSION=1.3.0&REQUEST=GetMap&LAYERS=it&STYLES=&CRS=EPSG:3857&BBOX=0,0,4,4&WIDTH=256&HEIGHT=256"
-        "&FORMAT=image/x-portable-pixmap")
+LAYER NAME it TYPE POLYGON CLASS STYLE COLOR 9 99 199 END END
+FEATURE POINTS 1 1 3 1 3 3 1 3 END END END END"""
+TILE = GET_MAP.format(256).removesuffix("&MAPSEQ=%d")
 NODES = 3
 AT_ONCE = 8
 PATIENCE = 120
@@ -50,7 +55,6 @@ GOOD = b"GET /status HTTP/1.1\r\n\r\n"
 # Sockets.
 
 def drain(peer, seconds=15):
-    """Reads until the farm closes."""
     peer.settimeout(seconds)
     while peer.recv(1 << 16):
         pass
@@ -70,12 +74,13 @@ def trickling(peer, _):
 
 def staying(peer, draw):
     """Its answer is read, and the connection stays open."""
-    peer.sendall(draw.choice((b"GET /x HTTP/1.1\r\n\r\n", b"POST /publish HTTP/1.1\r\nContent-Length: 200000\r\n\r\n", b"\x16\x03\x01\r\n\r\n")))
+    peer.sendall(draw.choice((b"GET /x HTTP/1.1\r\n\r\n",
+                              b"POST /publish HTTP/1.1\r\nContent-Length: 200000\r\n\r\n",
+                              b"\x16\x03\x01\r\n\r\n")))
     drain(peer)
 
 
 def cut(peer, draw):
-    """A request that ends too early."""
     whole = draw.choice((GOOD, b"POST /publish HTTP/1.1\r\nContent-Length: 200\r\n\r\n" + MAP))
     peer.sendall(whole[:draw.randrange(1, len(whole))])
     peer.shutdown(socket.SHUT_WR)
@@ -83,7 +88,6 @@ def cut(peer, draw):
 
 
 def oversized(peer, draw):
-    """A head or a body over its limit."""
     peer.sendall(draw.choice((
         b"GET /" + b"x" * draw.choice((8_193, 1 << 20)) + b" HTTP/1.1\r\n\r\n",
         b"GET /status HTTP/1.1\r\n" + b"a: b\r\n" * draw.choice((33, 2_000)) + b"\r\n",
@@ -95,7 +99,6 @@ def oversized(peer, draw):
 
 
 def pipelined(peer, draw):
-    """Requests after the first one."""
     peer.sendall(GOOD * draw.choice((2, 100, 10_000)))
     peer.shutdown(socket.SHUT_WR)
     drain(peer)
@@ -110,7 +113,8 @@ def resetting(peer, draw):
 def binary(peer, draw):
     """Random bytes, or a request with some in it."""
     noise = draw.randbytes(draw.choice((1, 100, 5_000, 200_000)))
-    peer.sendall(draw.choice((noise, GOOD[:4] + noise[:3_000] + GOOD[4:], b"POST /publish HTTP/1.1\r\nContent-Length: %d\r\n\r\n" % len(noise) + noise)))
+    peer.sendall(draw.choice((noise, GOOD[:4] + noise[:3_000] + GOOD[4:],
+                              b"POST /publish HTTP/1.1\r\nContent-Length: %d\r\n\r\n" % len(noise) + noise)))
     peer.shutdown(socket.SHUT_WR)
     drain(peer)
 
@@ -134,19 +138,17 @@ def kinds(count, draw):
     return chosen
 
 
-def attack(port, kind, seed):
-    """One hostile connection, from its beginning to its end. Its kind, and whether it came to an end by itself."""
+def attack(address, kind, seed):
     try:
-        with socket.create_connection(("127.0.0.1", port), timeout=PATIENCE) as peer:
-            peer.settimeout(PATIENCE)
+        with connect(address, PATIENCE) as peer:
             kind(peer, random.Random(seed))
     except OSError:
-        return kind.__name__, False
-    return kind.__name__, True
+        pass
+    return kind.__name__
 
 
 class Behaving(threading.Thread):
-    """A client that asks for /status and the tile in turn, twenty times a second at most, and knows how long each took."""
+    """A client that asks for /status and the tile in turn, and knows how long each took."""
 
     def __init__(self, farm, tile):
         super().__init__()
@@ -167,19 +169,7 @@ class Behaving(threading.Thread):
 
 
 def asked(farm, path, body=None):
-    """The status and the body of an answer, over a connection of its own, however long it takes."""
-    head = b"%s %s HTTP/1.1\r\nContent-Length: %d\r\n\r\n" % (b"GET" if body is None else b"POST", path.encode(), len(body or b""))
-    pieces = []
-    try:
-        with socket.create_connection(("127.0.0.1", farm.port), timeout=PATIENCE) as peer:
-            peer.settimeout(PATIENCE)
-            peer.sendall(head + (body or b""))
-            while piece := peer.recv(1 << 16):
-                pieces.append(piece)
-    except OSError as broken:
-        return None, repr(broken).encode()
-    before, _, after = b"".join(pieces).partition(b"\r\n\r\n")
-    return int(before[9:12] or 0), after
+    return ask(farm.address, path, body, PATIENCE)
 
 
 def state(farm, folder):
@@ -190,7 +180,7 @@ def state(farm, folder):
 
 
 def sockets(program, count, draw):
-    """Whether the farm is what it was after all connections, and the client that behaves was answered rightly."""
+    """Whether the farm is what it was after all connections, and the client that behaves was served."""
     with tempfile.TemporaryDirectory() as folder:
         farm = Farm(program, 1_000_000, folder)
         try:
@@ -200,8 +190,8 @@ def sockets(program, count, draw):
             begun = time.monotonic()
             client.start()
             with concurrent.futures.ThreadPoolExecutor(AT_ONCE) as pool:
-                work = [pool.submit(attack, farm.port, kind, draw.random()) for kind in kinds(count, draw)]
-                ended = collections.Counter(it.result()[0] for it in work)
+                work = [pool.submit(attack, farm.address, kind, draw.random()) for kind in kinds(count, draw)]
+                ended = collections.Counter(it.result() for it in work)
             client.over.set()
             client.join()
             took = time.monotonic() - begun
@@ -209,10 +199,13 @@ def sockets(program, count, draw):
             lives = farm.process.poll() is None
         finally:
             farm.kill()
-    print(f"{count} hostile connections in {took:.0f} s, {AT_ONCE} at a time ({', '.join(f'{n} {kind}' for kind, n in sorted(ended.items()))})")
-    print(f"a client that behaves: {len(client.waits)} answers, the longest after {max(client.waits):.2f} s, the median after "
-          f"{1000 * statistics.median(client.waits):.1f} ms, {len(client.wrong)} wrong {client.wrong[:3] or ''}".rstrip())
-    print(f"the farm {'is what it was' if same and lives else 'IS NOT WHAT IT WAS'}: sequence, capabilities, tile and tapes")
+    print(f"{count} hostile connections in {took:.0f} s, {AT_ONCE} at a time "
+          f"({', '.join(f'{n} {kind}' for kind, n in sorted(ended.items()))})")
+    print(f"a client that behaves: {len(client.waits)} answers, the longest after {max(client.waits):.2f} s, "
+          f"the median after " f"{1000 * statistics.median(client.waits):.1f} ms, {len(client.wrong)} wrong "
+          f"{client.wrong[:3] or ''}".rstrip())
+    print(f"the farm {'is what it was' if same and lives else 'IS NOT WHAT IT WAS'}: sequence, capabilities, "
+          f"tile and tapes")
     return same and lives and not client.wrong
 
 
@@ -229,10 +222,11 @@ class Runner:
 
     def __init__(self, program, folder):
         self.program = str(program)
-        self.files = [os.open(f"{folder}/{name}-{threading.get_ident()}", os.O_RDWR | os.O_CREAT) for name in ("in", "out", "err")]
+        self.files = [os.open(f"{folder}/{name}-{threading.get_ident()}", os.O_RDWR | os.O_CREAT)
+                      for name in ("in", "out", "err")]
 
     def run(self, words, text):
-        """Its status (negative for a signal), what it wrote, its error lines, and its seconds of processor."""
+        """Its status (negative: a signal), what it wrote, its error lines, and its processor seconds."""
         for file in self.files:
             os.ftruncate(file, 0)
             os.lseek(file, 0, os.SEEK_SET)
@@ -245,7 +239,6 @@ class Runner:
 
 
 def wrong(ran):
-    """What is wrong with a run; None for nothing."""
     status, out, err, seconds = ran
     if status not in (0, 1):
         return f"status {status}"
@@ -308,7 +301,8 @@ class Mutations:
     def keep(self, name, number, failed, text, query):
         path = pathlib.Path(tempfile.gettempdir()) / f"hostile-{self.seed}-{name}-{number}"
         path.write_bytes(text)
-        print(f"failure: {name} {number}: {failed}; its mapfile is kept at {path} {query[:300]!r}", flush=True)
+        print(f"failure: {name} {number}: {failed}; its mapfile is kept at {path} {query[:300]!r}",
+              flush=True)
 
 
 def mutations(program, given):
@@ -317,28 +311,30 @@ def mutations(program, given):
         begun = time.monotonic()
         runs.go(runs.canon, given.count, given.jobs)
         runs.go(runs.draw, given.count // 5, given.jobs)
-    counted = ", ".join(f"{count} of {name} with status {status}" for (name, status), count in sorted(runs.statuses.items()))
-    print(f"{sum(runs.statuses.values())} runs on mutated input in {time.monotonic() - begun:.0f} s: {counted}; at most {1000 * runs.dearest:.0f} ms "
+    counted = ", ".join(f"{count} of {name} with status {status}" for (name, status),
+                        count in sorted(runs.statuses.items()))
+    print(f"{sum(runs.statuses.values())} runs on mutated input in {time.monotonic() - begun:.0f} s: "
+          f"{counted}; at most {1000 * runs.dearest:.0f} ms "
           f"of processor time, within {MOST_MEMORY >> 10} MB of address space; {len(runs.failures)} failures")
     return not runs.failures
 
 
 def words():
-    asked_for = argparse.ArgumentParser(description=__doc__, formatter_class=argparse.RawDescriptionHelpFormatter)
-    asked_for.add_argument("--program", default=PROGRAM)
-    asked_for.add_argument("--sockets", type=int, default=1_000)
-    asked_for.add_argument("--count", type=int, default=100_000)
-    asked_for.add_argument("--seed", type=int, default=1)
-    asked_for.add_argument("--jobs", type=int, default=2)
+    asked_for = program_parser(__doc__)
+    asked_for.add_argument("--sockets", type=int, default=1_000, metavar="N",
+                           help="hostile connections (1,000)")
+    asked_for.add_argument("--count", type=int, default=100_000, metavar="N",
+                           help="mutated mapfiles (100,000)")
+    asked_for.add_argument("--seed", type=int, default=1, metavar="S")
+    asked_for.add_argument("--jobs", type=int, default=2, metavar="J", help="how many run at a time (2)")
     return asked_for.parse_args()
 
 
 def main():
     given = words()
-    program = os.path.abspath(given.program)
-    good = not given.count or mutations(program, given)
+    good = not given.count or mutations(given.program, given)
     if given.sockets:
-        good = sockets(program, given.sockets, random.Random(given.seed)) and good
+        good = sockets(given.program, given.sockets, random.Random(given.seed)) and good
     return 0 if good else 1
 
 

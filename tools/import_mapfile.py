@@ -3,16 +3,17 @@
 
     python3 tools/import_mapfile.py --crs 3857 --fit --ascii agency.map > own.map
 
-MapServer's own library reads the mapfile and its data: INCLUDE, shapefiles, tile indexes, OGR with SQL, UNION, FILTER,
-EXPRESSION of every kind, ENCODING, projections. Each layer comes out as it is drawn at one scale (--scale, else that of
-the whole extent on 1,024 pixels). A class that draws something becomes a class here, chosen by an attribute `class` that
-the importer makes; a layer with more than 16 becomes several. The map is written in its own system if that is EPSG:4326
-or EPSG:3857, else in that of --crs.
+MapServer's own library reads the mapfile and its data: INCLUDE, shapefiles, tile indexes, OGR with SQL,
+UNION, FILTER, EXPRESSION of every kind, ENCODING, projections. Each layer comes out as it is drawn at one
+scale (--scale, else that of the whole extent on 1,024 pixels). A class that draws something becomes a class
+here, chosen by an attribute `class` that the importer makes; a layer with more than 16 becomes several. The
+map is written in its own system if that is EPSG:4326 or EPSG:3857, else in that of --crs.
 
-Symbols, hatches, fonts, halos, dashes, opacity, joins and raster layers are lost. Every keyword that is changed or left
-out is a line on standard error, and in the file of --report, with its layer and its place; the last line counts keywords
-and shapes. With --strict a change ends the tool with status 1, and no map is written. --fit finds the least
-simplification at which the map is within the limits of wfarm. Borders that shapes share stay shared.
+Symbols, hatches, fonts, halos, dashes, opacity, joins and raster layers are lost. Every keyword that is
+changed or left out is a line on standard error, and in the file of --report, with its layer and its place;
+the last line counts keywords and shapes. With --strict a change ends the tool with status 1, and no map is
+written. --fit finds the least simplification at which the map is within the limits of wfarm. Borders that
+shapes share stay shared.
 
 It needs Debian's python3-mapscript and python3-shapely.
 """
@@ -45,17 +46,28 @@ READ_BY_LIBRARY = ("ITEMS=", "NATIVE_FILTER=", "CLOSE_CONNECTION=")  # of PROCES
 
 
 def arguments():
-    parser = argparse.ArgumentParser(description="Makes a self-contained mapfile for wfarm from a MapServer mapfile with its data outside.")
+    raw = argparse.RawDescriptionHelpFormatter
+    parser = argparse.ArgumentParser(description=__doc__, formatter_class=raw)
     parser.add_argument("mapfile", help="the mapfile, beside which its data are")
-    parser.add_argument("--crs", choices=OWN, help="degrees (4326), or metres of the Mercator projection (3857)")
+    parser.add_argument("--crs", choices=OWN,
+                        help="degrees (4326), or metres of the Mercator projection (3857)")
     parser.add_argument("--source", metavar="EPSG:N", help="the system of a map or layer that names none")
-    parser.add_argument("--scale", type=options.whole(1, 999_999_999), metavar="N", help="draw it as at 1:N (the whole extent on 1,024 pixels)")
-    parser.add_argument("--extent", type=options.extent, metavar="MINX,MINY,MAXX,MAXY", help="in the units of --crs (that of the map); a negative one as --extent=-3,51,-2,52")
-    parser.add_argument("--layers", type=lambda text: text.split(","), metavar="NAME,..", help="these layers alone")
-    parser.add_argument("--keep", type=lambda text: text.split(","), default=[], metavar="ITEM,..", help="attributes to keep (none)")
-    parser.add_argument("--address", metavar="URL", help="the address that clients will use (the map's wms_onlineresource, with a warning)")
-    parser.add_argument("--report", type=Path, metavar="FILE", help="where to write, too, what was changed and left out")
-    parser.add_argument("--strict", action="store_true", help="status 1, and no map, if anything was changed or left out")
+    parser.add_argument("--scale", type=options.whole(1, 999_999_999), metavar="N",
+                        help="draw it as at 1:N (the whole extent on 1,024 pixels)")
+    parser.add_argument("--extent", type=options.extent, metavar="MINX,MINY,MAXX,MAXY",
+                        help="in the units of --crs (that of the map); a negative one as "
+                             "--extent=-3,51,-2,52")
+    parser.add_argument("--layers", type=lambda text: text.split(","), metavar="NAME,..",
+                        help="these layers alone")
+    parser.add_argument("--keep", type=lambda text: text.split(","), default=[], metavar="ITEM,..",
+                        help="attributes to keep (none)")
+    parser.add_argument("--address", metavar="URL",
+                        help="the address that clients will use (the map's wms_onlineresource, with a "
+                             "warning)")
+    parser.add_argument("--report", type=Path, metavar="FILE",
+                        help="where to write, too, what was changed and left out")
+    parser.add_argument("--strict", action="store_true",
+                        help="status 1, and no map, if anything was changed or left out")
     options.add_common(parser)
     return parser.parse_args()
 
@@ -66,7 +78,8 @@ class Importer:
     def __init__(self, asked, notes):
         self.asked, self.notes = asked, notes
         self.script = library("mapscript", "python3-mapscript")
-        self.errors = (OSError, EOFError, TypeError, MemoryError, self.script.MapServerError, self.script.MapServerChildError)
+        self.errors = (OSError, EOFError, TypeError, MemoryError, self.script.MapServerError,
+                       self.script.MapServerChildError)
         self.map = self.opened(asked.mapfile)
         self.written = mapfile.written(asked.mapfile)
         self.teller = Teller(notes, "map")
@@ -94,13 +107,15 @@ class Importer:
         for crs in OWN:
             if self.own.lower().lstrip("+") == OWN[crs]:
                 return crs
-        raise MapError(f"{self.asked.mapfile}: its system is {self.own or 'not named'}: write --crs 3857 or --crs 4326")
+        raise MapError(f"{self.asked.mapfile}: its system is {self.own or 'not named'}: write --crs 3857 or "
+                       f"--crs 4326")
 
     def system(self, text, what):
         """The system of a map or layer, that of --source if it names none."""
         text = text or (f"init={self.asked.source.lower()}" if self.asked.source else "")
         if not text:
-            raise MapError(f"{what}: it has no PROJECTION, and the map has none: write --source EPSG: and its number")
+            raise MapError(f"{what}: it has no PROJECTION, and the map has none: write --source EPSG: and "
+                           f"its number")
         try:
             return self.script.projectionObj(text)
         except self.errors as error:
@@ -119,7 +134,8 @@ class Importer:
         box = self.script.rectObj(box.minx, box.miny, box.maxx, box.maxy)
         if not self.is_target(self.own):
             self.reproject(box, self.system(self.own, self.asked.mapfile), self.target)
-        checked([(box.minx, box.miny), (box.maxx, box.maxy)], self.crs, "POINT", f"{self.asked.mapfile}: EXTENT")
+        checked([(box.minx, box.miny), (box.maxx, box.maxy)], self.crs, "POINT",
+                f"{self.asked.mapfile}: EXTENT")
         return box.minx, box.miny, box.maxx, box.maxy
 
     def box_in(self, system, is_target):
@@ -133,16 +149,17 @@ class Importer:
         try:
             box.project(source, target)
         except self.errors as error:
-            raise MapError(f"{self.asked.mapfile}: its extent can't be reprojected: {error}: write --extent") from error
+            raise MapError(f"{self.asked.mapfile}: its extent can't be reprojected: {error}: write "
+                           f"--extent") from error
 
     def width_and_scale(self):
-        """The width of the extent in the map's own units, and the scale: --scale, or that of the whole extent on a
-        picture as large as there is."""
+        """The width of the extent in the map's own units, and the scale: --scale, or that of the whole."""
         system = self.system(self.own, self.asked.mapfile)
         box = self.box_in(system, self.is_target(self.own))
         width, height = box.maxx - box.minx, box.maxy - box.miny
         self.map.units = system.getUnits()
-        self.map.setSize(*(max(2, round(MOST_PIXELS * side / max(width, height))) for side in (width, height)))
+        self.map.setSize(*(max(2, round(MOST_PIXELS * side / max(width, height)))
+                           for side in (width, height)))
         self.map.setExtent(box.minx, box.miny, box.maxx, box.maxy)
         return width, self.asked.scale or self.map.scaledenom
 
@@ -160,28 +177,31 @@ class Importer:
             if not any(item in items for items in self.kept.values()):
                 raise MapError(f"{self.asked.mapfile}: no layer has the attribute {item!r} of --keep")
         own_texts = [texts.plain(text, self.teller, "the map's texts") for text in self.map_texts()]
-        whole = Map(*own_texts, self.crs, self.digits, whole_extent(self.extent, self.digits), with_own_names(layers, self.notes))
+        whole = Map(*own_texts, self.crs, self.digits, whole_extent(self.extent, self.digits),
+                    with_own_names(layers, self.notes))
         return self.cut(whole) if self.asked.extent else whole
 
     def cut(self, whole):
-        """The map, cut at --extent."""
         result = cut(whole, self.teller)
-        self.shapes_drawn -= sum(len(layer.features) for layer in whole.layers) - sum(len(layer.features) for layer in result.layers)
+        self.shapes_drawn -= sum(len(layer.features) for layer in whole.layers) - sum(
+            len(layer.features) for layer in result.layers)
         return result
 
     def map_texts(self):
-        """Name, title, abstract and address."""
         metadata = self.map.web.metadata
         name = self.map.name or "map"
         title = first_of(metadata, TITLES) or name
-        return name, title, first_of(metadata, ABSTRACTS), self.asked.address or first_of(metadata, ADDRESSES) or "http://localhost/wms?"
+        address = self.asked.address or first_of(metadata, ADDRESSES) or "http://localhost/wms?"
+        return name, title, first_of(metadata, ABSTRACTS), address
 
     def chosen_layers(self):
         """(name, layer, its block) of the layers that are asked for; the others aren't counted."""
         layers, blocks = [self.map.getLayer(i) for i in range(self.map.numlayers)], self.written.all("LAYER")
-        same = len(layers) == len(blocks) and all(layer.numclasses == len(block.all("CLASS")) for layer, block in zip(layers, blocks))
+        same = len(layers) == len(blocks) and all(layer.numclasses == len(block.all("CLASS")) for layer,
+                                                  block in zip(layers, blocks))
         if not same:
-            raise MapError(f"{self.asked.mapfile}: its LAYER and CLASS blocks aren't those that MapServer reads")
+            raise MapError(f"{self.asked.mapfile}: its LAYER and CLASS blocks aren't those that MapServer "
+                           f"reads")
         names = [layer.name or f"layer{place}" for place, layer in enumerate(layers, 1)]
         wanted = names if self.asked.layers is None else self.asked.layers
         for name in wanted:
@@ -199,8 +219,10 @@ class Importer:
         if (color.red, color.green, color.blue) not in ((255, 255, 255), (-1, -1, -1)):
             self.teller.drop(self.written.keyword("IMAGECOLOR"), ": the background is white")
         if not self.is_target(self.own):
-            self.teller.change(self.written.keyword("PROJECTION"), f": a farm answers in {' and '.join(sorted(OFFERED[self.crs]))}")
-        metadata = {keyword.name.lower(): keyword for web in self.written.all("WEB") for block in web.all("METADATA") for keyword in block.keywords}
+            self.teller.change(self.written.keyword("PROJECTION"),
+                               f": a farm answers in {' and '.join(sorted(OFFERED[self.crs]))}")
+        metadata = {keyword.name.lower(): keyword for web in self.written.all("WEB")
+                    for block in web.all("METADATA") for keyword in block.keywords}
         self.tell_of_address(metadata)
         self.tell_of_systems(metadata)
         account.tell(self.written, self.teller, self.scale)
@@ -210,7 +232,8 @@ class Importer:
         if keyword is not None and self.asked.address:
             self.notes.add(f"map: {keyword} became {self.asked.address}, by --address", keyword.place)
         elif keyword is not None:
-            self.notes.add(f"map: warning: clients are sent to {keyword.words[0]}, the address of the mapfile: write --address", keyword.place)
+            self.notes.add(f"map: warning: clients are sent to {keyword.words[0]}, the address of the "
+                           f"mapfile: write --address", keyword.place)
         elif not self.asked.address:
             self.notes.add("map: warning: clients are sent to http://localhost/wms?: write --address")
 
@@ -222,7 +245,8 @@ class Importer:
             self.teller.told.add((keyword, None))
 
     def kind_of(self, layer):
-        kinds = {self.script.MS_LAYER_POINT: "POINT", self.script.MS_LAYER_LINE: "LINE", self.script.MS_LAYER_POLYGON: "POLYGON"}
+        kinds = {self.script.MS_LAYER_POINT: "POINT", self.script.MS_LAYER_LINE: "LINE",
+                 self.script.MS_LAYER_POLYGON: "POLYGON"}
         return kinds.get(layer.type)
 
     def why_not_drawn(self, layer):
@@ -270,7 +294,8 @@ class Importer:
             teller.drop(block.keyword("STYLEITEM"))
         projection = block.keyword("PROJECTION")
         if projection is not None and [word.upper() for word in projection.words] == ["AUTO"]:
-            teller.change(projection, ": its datum is left out, since MapServer takes none; name the system to be exact")
+            teller.change(projection,
+                          ": its datum is left out, since MapServer takes none; name the system to be exact")
         if layer.status == self.script.MS_DEFAULT:
             teller.change(block.keyword("STATUS"), ": it is drawn where a request lists it")
         for keyword in block.keywords:
@@ -286,7 +311,7 @@ class Importer:
         account.tell(block, teller, self.scale)
 
     def chosen_classes(self, layer, block, teller):
-        """The blocks of the layer's classes, without those of another CLASSGROUP, which getClassIndex doesn't look at."""
+        """The blocks of the layer's classes, without those of another CLASSGROUP."""
         classes = block.all("CLASS")
         for i in reversed(range(layer.numclasses)):
             if layer.classgroup and layer.getClass(i).group != layer.classgroup:
@@ -306,7 +331,8 @@ class Importer:
         if count is not None and count > self.shapes_read - read:
             teller.lost("shapes outside of the extent", count=count - (self.shapes_read - read))
             self.shapes_read = read + count
-        symbology = Symbology(layer, self.kind_of(layer), self.scale, classes, items or item_names(layer), teller)
+        symbology = Symbology(layer, self.kind_of(layer), self.scale, classes, items or item_names(layer),
+                              teller)
         self.kept[name] = [item for item in self.asked.keep if item in symbology.items]
         lines = self.lines_of(shapes, None if is_target else system)
         result = []
@@ -331,7 +357,8 @@ class Importer:
             if index < 0:
                 teller.lost("shapes in no CLASS, which MapServer doesn't draw", where)
             elif layer.getClass(index).status == self.script.MS_OFF:
-                teller.lost(f"shapes of CLASS {layer.getClass(index).name or index}, whose STATUS is OFF", where)
+                teller.lost(f"shapes of CLASS {layer.getClass(index).name or index}, whose STATUS is OFF",
+                            where)
             elif 0 <= layer.maxfeatures <= drawn:
                 teller.lost("shapes beyond MAXFEATURES", where)
             else:
@@ -339,14 +366,15 @@ class Importer:
                 yield where, index, shape
 
     def count_all(self, layer, block, name, box):
-        """How many shapes the layer has, None where all lie in the extent. Only data that reach beyond it are read for it,
-        before they are read for the map."""
+        """How many shapes the layer has, None where all lie in the extent."""
         if layer.cluster.region:
             return None
         if layer.connectiontype == self.script.MS_INLINE:
-            return sum(feature.keyword("POINTS") is not None or feature.keyword("WKT") is not None for feature in block.all("FEATURE"))
+            return sum(feature.keyword("POINTS") is not None or feature.keyword("WKT") is not None
+                       for feature in block.all("FEATURE"))
         whole = self.reach(layer)
-        if box.minx <= whole.minx and box.miny <= whole.miny and whole.maxx <= box.maxx and whole.maxy <= box.maxy:
+        is_within = box.minx <= whole.minx and box.miny <= whole.miny
+        if is_within and whole.maxx <= box.maxx and whole.maxy <= box.maxy:
             return None
         count = sum(1 for _ in self.shapes(layer, name, whole))
         layer.close()
@@ -366,14 +394,16 @@ class Importer:
         try:
             layer.open()
         except self.errors as error:
-            raise MapError(f"layer {name}: MapServer can't open its data: {error}: look at DATA and CONNECTION, or choose --layers") from error
+            raise MapError(f"layer {name}: MapServer can't open its data: {error}: look at DATA and "
+                           f"CONNECTION, or choose --layers") from error
 
     def class_of(self, layer, shape, place):
         """The index of the shape's class, negative if it has none."""
         try:
             return layer.getClassIndex(self.map, shape, None, 0)
         except self.errors as error:
-            raise MapError(f"{place}: MapServer can't choose its class: {error}: repair the EXPRESSION") from error
+            raise MapError(f"{place}: MapServer can't choose its class: {error}: repair the "
+                           f"EXPRESSION") from error
 
     def shapes(self, layer, name, box):
         try:
@@ -383,10 +413,11 @@ class Importer:
                 yield shape
                 shape = layer.nextShape()
         except self.errors as error:
-            raise MapError(f"layer {name}: MapServer can't read its data: {error}: repair them, or choose --layers") from error
+            raise MapError(f"layer {name}: MapServer can't read its data: {error}: repair them, or choose "
+                           f"--layers") from error
 
     def lines_of(self, shapes, system):
-        """The lines of each shape in the map's system. All are reprojected in one call, since each call is slow."""
+        """The lines of each shape in the map's system. All are reprojected in one call, which is slow."""
         lines = [[shape.get(i) for i in range(shape.numlines)] for _, _, shape in shapes]
         if system is None:
             return [[points_of(line) for line in some] for some in lines]
@@ -395,7 +426,8 @@ class Importer:
             together.add(line)
         count = together.numlines
         if count and (together.project(system, self.target) != 0 or together.numlines != count):
-            raise MapError(f"{self.misplaced(shapes, system)}: it can't be reprojected to EPSG:{self.crs}: leave it out by FILTER, or write another --crs")
+            raise MapError(f"{self.misplaced(shapes, system)}: it can't be reprojected to EPSG:{self.crs}: "
+                           f"leave it out by FILTER, or write another --crs")
         places = iter(range(count))
         return [[points_of(together.get(next(places))) for _ in some] for some in lines]
 
@@ -413,7 +445,8 @@ class Importer:
         parts = [checked(part, self.crs, kind, place) for part in parts if part]
         grid = on_grid(parts, kind, self.digits)
         if len(grid) < len(parts) or not parts:
-            symbology.teller.lost("parts without a place, or smaller than the last digit", place, max(1, len(parts) - len(grid)))
+            symbology.teller.lost("parts without a place, or smaller than the last digit", place,
+                                  max(1, len(parts) - len(grid)))
         if not grid:
             return None
         values = [texts.value(symbology.value(shape, item), symbology.teller, place) for item in kept]
@@ -427,8 +460,10 @@ class Importer:
             if how not in classes:
                 classes.append(how)
         if len(classes) > MOST_CLASSES:
-            teller.add(f"its {len(classes)} classes became layers of {MOST_CLASSES} each ({name}, {name}_2, ..)")
-        items = [texts.plain(item, teller, "an attribute's name").replace(",", "_") for item in self.kept[name]]
+            teller.add(f"its {len(classes)} classes became layers of {MOST_CLASSES} each ({name}, {name}_2, "
+                       f"..)")
+        items = [texts.plain(item, teller, "an attribute's name").replace(",", "_")
+                 for item in self.kept[name]]
         for start in range(0, len(classes), MOST_CLASSES):
             some = classes[start : start + MOST_CLASSES]
             own = name if start == 0 else f"{name}_{start // MOST_CLASSES + 1}"
@@ -437,9 +472,9 @@ class Importer:
                 if how in some:
                     feature.group = some.index(how)
                     features.append(feature)
-            named = [replace(how, name=texts.plain(how.name, teller, f"layer {name}: the name of a class")) for how in some]
+            named = [replace(how, name=texts.plain(how.name, teller, f"layer {name}: the name of a class"))
+                     for how in some]
             yield Layer(own, title, kind, named, features, items)
-
 
     def preview(self, the_map, written):
         painter = Painter(self.asked.program, self.asked.side)
@@ -505,7 +540,8 @@ def made(asked, notes):
         with asked.report.open("w", encoding="utf-8", errors="backslashreplace") as report:
             tell(written, importer, notes, report)
     if asked.strict and notes.changes:
-        raise MapError(f"{asked.mapfile}: something is changed or left out, as the notes say: no map is written, by --strict")
+        raise MapError(f"{asked.mapfile}: something is changed or left out, as the notes say: no map is "
+                       f"written, by --strict")
     return written.text
 
 
@@ -516,7 +552,8 @@ def tell(written, importer, notes, stream):
         print(f"note: without effect on a farm's answers: {idle}", file=stream)
     fitting.tell(written, notes, stream)
     left_out = importer.shapes_read - importer.shapes_drawn + len(written.lost_features)
-    shapes = f"of {importer.shapes_read:,} shapes {importer.shapes_read - left_out:,} were carried, {left_out:,} left out"
+    shapes = (f"of {importer.shapes_read:,} shapes {importer.shapes_read - left_out:,} were carried, "
+              f"{left_out:,} left out")
     print(f"note: {account.counted(importer.written)}; {shapes}", file=stream)
 
 

@@ -1,18 +1,19 @@
 #!/usr/bin/env python3
-"""Makes a Debian package of the built program, wfarm_VERSION_amd64.deb, and beside it the file of its SHA-256, for `sha256sum --check`.
+"""Makes a Debian package of the built program, wfarm_VERSION_amd64.deb, and beside it the file of its
+SHA-256, for `sha256sum --check`.
 
-In it: the program and `wfarmctl` in /usr/bin, each with a page for `man` made from its help; the page, the examples and the tools that make
-maps in /usr/share/wfarm; the documents in /usr/share/doc/wfarm, with the file BUILD, which says of which revision the program is; the
-units of systemd; and the user `wfarm` with /var/lib/wfarm, which are made at the installation. An upgrade starts anew what runs, a removal
-stops it. Removing the package leaves folders of nodes as they are; purging it does too, since a vote that is thrown away is the one thing
-that a farm can't forgive.
+In it: the program and `wfarmctl` in /usr/bin, each with a page for `man` made from its help; the page, the
+examples and the tools that make maps in /usr/share/wfarm; the documents in /usr/share/doc/wfarm, with the
+file BUILD, which says of which revision the program is; the units of systemd; and the user `wfarm` with
+/var/lib/wfarm, which are made at the installation. An upgrade starts anew what runs, a removal stops it.
+Removing the package leaves folders of nodes as they are; purging it does too, since a vote that is thrown
+away is the one thing that a farm can't forgive.
 
-Usage: tools/make_deb.py [--program PROGRAM] [--version VERSION] [--maintainer NAME] [--to DIR]
-The program is the proved one that `rt ci` leaves, unless another is given. The version is 0.1.0 and the date of the newest commit, as
-0.1.0+20261126. Wants dpkg-deb (package dpkg). Prints the files' paths.
+The program is the proved one that `rt ci` leaves, unless another is given; the revision is written into it
+(`tools/stamp.py`). The version is 0.1.0 and the date of the newest commit, as 0.1.0+20261126. Wants dpkg-deb
+(package dpkg). Prints the files' paths.
 """
 
-import argparse
 import email.utils
 import gzip
 import hashlib
@@ -24,15 +25,18 @@ import subprocess
 import sys
 import tempfile
 
-TOP = pathlib.Path(__file__).resolve().parent.parent
-PROGRAM = TOP / "crates" / "wfarm" / "out" / "wfarm"
-UNITS = ("examples/wfarm.service", "examples/wfarm@.service", "examples/three/wfarm-node@.service", "examples/three/wfarm-failed@.service",
-         "examples/three/wfarm-replica@.service")
+import stamp
+from farmkit.command import lacks, program_parser, tell_missing
+from farmkit.repository import PROGRAM, TOP
+
+UNITS = ("examples/wfarm.service", "examples/wfarm@.service", "examples/three/wfarm-node@.service",
+         "examples/three/wfarm-failed@.service", "examples/three/wfarm-replica@.service")
 
 # the documents that operators read, and what these name
 DOCUMENTS = ("README.md", "CHANGELOG.md", "CONTRIBUTING.md", "docs", "bench/README.md")
 MAP_TOOLS = ("make_map.py", "import_mapfile.py", "pixmap_to_png.py", "maps", "geojson")
-COMMANDS = ("init", "node", "clear", "replica", "serve", "draw", "caps", "check", "canon", "tape", "run", "wire")
+COMMANDS = ("init", "node", "clear", "replica", "serve", "draw", "caps", "check", "canon", "tape", "run",
+            "wire")
 
 CONTROL = """\
 Package: wfarm
@@ -96,7 +100,7 @@ the package is allowed.
 
 # what lintian is told
 OVERRIDES = """\
-# The program is the bytes that were built: BUILD has their SHA-256.
+# The program is the bytes that were built, but for its revision: BUILD has the SHA-256 of both.
 wfarm: unstripped-binary-or-object [usr/bin/wfarm]
 # No licence has been chosen yet.
 wfarm: copyright-without-copyright-notice
@@ -115,13 +119,13 @@ wfarm ({version}) unstable; urgency=medium
 BUILD = """\
 version   {version}
 revision  {revision}
-program   SHA-256 {digest}
+program   SHA-256 {installed}
+built as  SHA-256 {built}, before the revision was written into it
 proved    {proved}
 """
 
 
 def installed(unit):
-    """A unit for the program in /usr/bin."""
     return (TOP / unit).read_text().replace("/usr/local/bin/wfarm", "/usr/bin/wfarm")
 
 
@@ -131,13 +135,12 @@ def place(text, path, mode):
     path.chmod(mode)
 
 
-def git(*words):
-    """What git says of the repository; an empty text where there is none."""
-    return subprocess.run(["git", "-C", str(TOP), *words], capture_output=True, text=True).stdout.strip()
+def sum_of(path):
+    return hashlib.sha256(path.read_bytes()).hexdigest()
 
 
 def depends(program):
-    """The packages that the program and `wfarmctl` need: the C library at the version of the newest symbol that the program names."""
+    """The packages that are needed: the C library at the version of the program's newest symbol."""
     symbols = [tuple(map(int, found)) for found in re.findall(rb"GLIBC_(\d+)\.(\d+)", program.read_bytes())]
     library = ["libc6 (>= %d.%d)" % max(symbols)] if symbols else []
     return ", ".join([*library, "python3", "adduser"])
@@ -146,20 +149,21 @@ def depends(program):
 def put_binaries(root, program):
     binaries = root / "usr/bin"
     binaries.mkdir(parents=True)
-    for source, name in ((program, "wfarm"), (TOP / "tools" / "wfarmctl", "wfarmctl")):
-        shutil.copy(source, binaries / name)
-        (binaries / name).chmod(0o755)
+    stamp.write_stamped(program, stamp.revision_now(), binaries / "wfarm")
+    shutil.copy(TOP / "tools" / "wfarmctl", binaries / "wfarmctl")
+    (binaries / "wfarmctl").chmod(0o755)
 
 
 def help_of(*words):
-    """What a command writes for --help or help."""
-    return subprocess.run(words, check=True, capture_output=True, text=True, env={**os.environ, "COLUMNS": "120"}).stdout
+    return subprocess.run(words, check=True, capture_output=True, text=True,
+                          env={**os.environ, "COLUMNS": "120"}).stdout
 
 
 def manual(name, purpose, day, texts):
     """A page for `man`: each text as it is, under its heading."""
     def shown(text):
-        return "\n".join("\\&" + line.replace("\\", "\\e").replace("-", "\\-") for line in text.strip("\n").split("\n"))
+        return "\n".join("\\&" + line.replace("\\", "\\e").replace("-", "\\-")
+                         for line in text.strip("\n").split("\n"))
     parts = [f".SH {heading}\n.nf\n{shown(text)}\n.fi" for heading, text in texts]
     return "\n".join([f'.TH {name.upper()} 1 "{day}"', ".SH NAME", f"{name} \\- {purpose}", *parts, ""])
 
@@ -167,9 +171,11 @@ def manual(name, purpose, day, texts):
 def put_manuals(root, day):
     """The pages for `man`, made from each command's help."""
     program, tool = str(root / "usr/bin/wfarm"), str(root / "usr/bin/wfarmctl")
-    texts = [("SYNOPSIS", help_of(program, "help")), *((f"WFARM {command.upper()}", help_of(program, "help", command)) for command in COMMANDS)]
+    texts = [("SYNOPSIS", help_of(program, "help")),
+             *((f"WFARM {command.upper()}", help_of(program, "help", command)) for command in COMMANDS)]
     pages = (("wfarm", manual("wfarm", "farm of Web Map Service servers", day, texts)),
-             ("wfarmctl", manual("wfarmctl", "runs a farm of wfarm nodes", day, [("SYNOPSIS", help_of(sys.executable, tool, "--help"))])))
+             ("wfarmctl", manual("wfarmctl", "runs a farm of wfarm nodes", day,
+                                 [("SYNOPSIS", help_of(sys.executable, tool, "--help"))])))
     for name, text in pages:
         put_zipped(text, root / f"usr/share/man/man1/{name}.1.gz")
 
@@ -182,13 +188,13 @@ def put_zipped(text, path):
 
 def copy_tracked(names, target):
     """Copies files and folders of the repository, but nothing that it doesn't track."""
-    for name in git("ls-files", "--", *names).split("\n"):
+    for name in stamp.git("ls-files", "--", *names).split("\n"):
         (target / name).parent.mkdir(parents=True, exist_ok=True)
         shutil.copy(TOP / name, target / name)
 
 
 def put_shared(root):
-    """The page, the examples, the tools that make maps, and the documents, which lie to one another as in the repository."""
+    """The page, the examples, the tools that make maps, and the documents, placed as in the repository."""
     share, documents = root / "usr/share/wfarm", root / "usr/share/doc/wfarm"
     copy_tracked(["examples", *(f"tools/{name}" for name in MAP_TOOLS)], share)
     (share / "examples/viewer").rename(share / "viewer")
@@ -206,15 +212,18 @@ def put_shared(root):
 def put_build(root, program, version, maintainer):
     """What Debian wants of each package, and what the program was built of."""
     documents = root / "usr/share/doc/wfarm"
-    day = git("log", "-1", "--format=%cs")
+    day = stamp.git("log", "-1", "--format=%cs")
     place(COPYRIGHT, documents / "copyright", 0o644)
     place(OVERRIDES, root / "usr/share/lintian/overrides/wfarm", 0o644)
-    date = git("log", "-1", "--format=%cD") or email.utils.formatdate(0)
-    put_zipped(CHANGES.format(version=version, day=day, date=date, maintainer=maintainer), documents / "changelog.gz")
-    changes = ", with changes that aren't committed" if git("status", "--porcelain", "--untracked-files=no") else ""
-    proved = "yes: `rt ci` leaves it where all proofs passed" if program == PROGRAM else "not known: it was given by --program"
-    place(BUILD.format(version=version, revision=git("rev-parse", "HEAD") + changes, digest=hashlib.sha256(program.read_bytes()).hexdigest(),
-                       proved=proved), documents / "BUILD", 0o644)
+    date = stamp.git("log", "-1", "--format=%cD") or email.utils.formatdate(0)
+    put_zipped(CHANGES.format(version=version, day=day, date=date, maintainer=maintainer),
+               documents / "changelog.gz")
+    is_ours = program == PROGRAM
+    proved = "yes: `rt ci` leaves it where all proofs passed" if is_ours else "not known: it was given by --program"
+    revision = stamp.revision_now()
+    known = revision if revision != stamp.UNKNOWN else "not known: there are changes that aren't committed"
+    place(BUILD.format(version=version, revision=known, installed=sum_of(root / "usr/bin/wfarm"),
+                       built=sum_of(program), proved=proved), documents / "BUILD", 0o644)
     put_manuals(root, day)
 
 
@@ -225,8 +234,10 @@ def fill(root, program, version, maintainer):
         place(installed(unit), root / "lib/systemd/system" / pathlib.Path(unit).name, 0o644)
     put_shared(root)
     put_build(root, program, version, maintainer)
-    place(CONTROL.format(version=version, maintainer=maintainer, depends=depends(program)), root / "DEBIAN/control", 0o644)
-    for name, text in (("postinst", AFTER_INSTALLATION), ("prerm", BEFORE_REMOVAL), ("postrm", AFTER_REMOVAL)):
+    place(CONTROL.format(version=version, maintainer=maintainer, depends=depends(program)),
+          root / "DEBIAN/control", 0o644)
+    for name, text in (("postinst", AFTER_INSTALLATION), ("prerm", BEFORE_REMOVAL),
+                       ("postrm", AFTER_REMOVAL)):
         place(text, root / "DEBIAN" / name, 0o755)
     for folder in root.rglob("*"):
         if folder.is_dir() and not folder.is_symlink():
@@ -234,31 +245,36 @@ def fill(root, program, version, maintainer):
 
 
 def version_now():
-    date = git("log", "-1", "--format=%cs")
+    date = stamp.git("log", "-1", "--format=%cs")
     return "0.1.0+" + date.replace("-", "") if date else "0.1.0"
 
 
 def main():
-    parser = argparse.ArgumentParser(description=__doc__.splitlines()[0])
-    parser.add_argument("--program", type=pathlib.Path, default=PROGRAM)
-    parser.add_argument("--version", default=version_now())
-    parser.add_argument("--maintainer", default=git("log", "-1", "--format=%an <%ae>") or "nobody <nobody@localhost>")
-    parser.add_argument("--to", type=pathlib.Path, default=pathlib.Path("."))
-    options = parser.parse_args()
-    if shutil.which("dpkg-deb") is None:
-        print("missing: dpkg-deb", file=sys.stderr)
-        return 2
-    if not options.program.exists():
-        print(f"missing: {options.program}; `rt ci` makes it", file=sys.stderr)
-        return 2
+    words = program_parser(__doc__)
+    words.add_argument("--version", default=version_now(), help="the package's version (%(default)s)")
+    words.add_argument("--maintainer", default=stamp.git("log", "-1", "--format=%an <%ae>")
+                       or "nobody <nobody@localhost>", metavar="NAME")
+    words.add_argument("--to", type=pathlib.Path, default=pathlib.Path("."), metavar="DIR",
+                       help="where the package is put (here)")
+    options = words.parse_args()
+    program = pathlib.Path(options.program)
+    if lacks("dpkg-deb"):
+        return tell_missing(["dpkg-deb"])
+    if not program.exists():
+        return tell_missing([f"{program}; `rt ci` makes it"])
     package = options.to / f"wfarm_{options.version}_amd64.deb"
     with tempfile.TemporaryDirectory() as folder:
         root = pathlib.Path(folder) / "root"
         root.mkdir(mode=0o755)
-        fill(root, options.program, options.version, options.maintainer)
-        subprocess.run(["dpkg-deb", "--build", "--root-owner-group", str(root), str(package)], check=True, capture_output=True)
+        try:
+            fill(root, program, options.version, options.maintainer)
+        except stamp.NoPlace as error:
+            print(f"{program}: {error}", file=sys.stderr)
+            return 1
+        subprocess.run(["dpkg-deb", "--build", "--root-owner-group", str(root), str(package)], check=True,
+                       capture_output=True)
     sums = package.with_name(package.name + ".sha256")
-    sums.write_text(f"{hashlib.sha256(package.read_bytes()).hexdigest()}  {package.name}\n")
+    sums.write_text(f"{sum_of(package)}  {package.name}\n")
     print(package)
     print(sums)
     return 0

@@ -1,24 +1,27 @@
 #!/usr/bin/env python3
-"""Makes a self-contained mapfile for wfarm from data that GDAL reads: GeoJSON, GeoPackage, shapefile, a table with points.
+"""Makes a self-contained mapfile for wfarm from data that GDAL reads: GeoJSON, GeoPackage, shapefile, a table
+with points.
 
     python3 tools/make_map.py --name county --title "The county" --fit \\
-        --layer communes.gpkg --table communes --class-by use --palette soft --outline 90,90,90 --label name \\
-        --layer roads.shp --where "class IN ('A', 'B')" --color 90,130,220 --width 3 > county.map
+        --layer communes.gpkg --table communes --class-by use --palette soft --outline 90,90,90 \\
+        --label name --layer roads.shp --where "class IN ('A', 'B')" --color 90,130,220 --width 3 > county.map
 
-Each --layer begins a layer; the options after it, up to the next --layer, are that layer's. Layers are drawn in the
-order in which a request lists them. Data with more than one kind of geometry become a layer for each kind
-(`roads_line`, `roads_point`). The data are reprojected from their own system, or from that of --source, to longitude
-and latitude in degrees, or by --crs 3857 to metres of the Mercator projection.
+Each --layer begins a layer; the options after it, up to the next --layer, are that layer's. Layers are drawn
+in the order in which a request lists them. Data with more than one kind of geometry become a layer for each
+kind (`roads_line`, `roads_point`). The data are reprojected from their own system, or from that of --source,
+to longitude and latitude in degrees, or by --crs 3857 to metres of the Mercator projection.
 
-Features have no attributes on the map but those of --items; labels and classes don't need them. Colours by an attribute:
---class-by alone gives each value a colour of the palette, --class VALUE=COLOR colours some values, and --ranges cuts
-numbers into classes.
+Features have no attributes on the map but those of --items; labels and classes don't need them. Colours by an
+attribute: --class-by alone gives each value a colour of the palette, --class VALUE=COLOR colours some values,
+and --ranges cuts numbers into classes.
 
-A feature that can't be drawn ends the tool with a line that names it; --skip leaves such features out and counts them.
-What is changed, simplified or left out is told on standard error. A map over a limit of wfarm isn't written: --fit finds
-the least simplification at which it is within them. Borders that shapes share stay shared.
+A feature that can't be drawn ends the tool with a line that names it; --skip leaves such features out and
+counts them. What is changed, simplified or left out is told on standard error. A map over a limit of wfarm
+isn't written: --fit finds the least simplification at which it is within them. Borders that shapes share stay
+shared.
 
-It needs Debian's python3-gdal and, for filled polygons and to simplify, python3-shapely.
+The status is 0 where the map is written, 1 after an error, 2 on a bad command line. It needs Debian's
+python3-gdal and, for filled polygons and to simplify, python3-shapely.
 """
 
 import argparse
@@ -34,7 +37,8 @@ from maps.cutting import cut
 from maps.errors import MapError, Notes, library
 from maps.geometry import DIGITS, checked, on_grid, whole_extent
 from maps.merging import bounds
-from maps.model import LABEL_SIZES, LEAST_POINTS, MOST_CLASSES, POSITIONS, Class, Feature, Label, Layer, Map, Style
+from maps.model import (LABEL_SIZES, LEAST_POINTS, MOST_CLASSES, POSITIONS, Class, Feature, Label, Layer, Map,
+                        Style)
 from maps.preview import Painter
 from maps.preview import write as write_preview
 from maps.query import picture_query
@@ -42,9 +46,11 @@ from maps.query import picture_query
 KINDS = ("POINT", "LINE", "POLYGON")
 MEMBERS = {"MULTIPOINT", "MULTILINESTRING", "MULTIPOLYGON"}
 PALETTES = {
-    "soft": ["#8dd3c7", "#ffffb3", "#bebada", "#fb8072", "#80b1d3", "#fdb462", "#b3de69", "#fccde5", "#d9d9d9", "#bc80bd", "#ccebc5", "#ffed6f"]
+    "soft": ["#8dd3c7", "#ffffb3", "#bebada", "#fb8072", "#80b1d3", "#fdb462", "#b3de69", "#fccde5",
+             "#d9d9d9", "#bc80bd", "#ccebc5", "#ffed6f"]
     + ["#a6cee3", "#e5c494", "#cab2d6"],
-    "bright": ["#e41a1c", "#377eb8", "#4daf4a", "#984ea3", "#ff7f00", "#ffd92f", "#a65628", "#f781bf", "#1b9e77", "#666666", "#66c2a5", "#1f78b4"]
+    "bright": ["#e41a1c", "#377eb8", "#4daf4a", "#984ea3", "#ff7f00", "#ffd92f", "#a65628", "#f781bf",
+               "#1b9e77", "#666666", "#66c2a5", "#1f78b4"]
     + ["#b2df8a", "#fb9a99", "#6a3d9a"],
     "greens": ["#f7fcf5", "#00441b"],
     "blues": ["#f7fbff", "#08306b"],
@@ -111,7 +117,6 @@ def class_of(text):
 
 
 def ranges_of(text):
-    """The numbers that classes begin at, ascending."""
     try:
         breaks = [float(piece) for piece in text.split(",")]
     except ValueError:
@@ -122,40 +127,56 @@ def ranges_of(text):
 
 
 def arguments():
-    parser = argparse.ArgumentParser(
-        description="Makes a self-contained mapfile for wfarm from data that GDAL reads.",
-        epilog="The options after --layer, up to the next one, are that layer's.",
-    )
+    raw = argparse.RawDescriptionHelpFormatter
+    parser = argparse.ArgumentParser(description=__doc__, formatter_class=raw)
     parser.add_argument("--name", required=True, help="the map's name")
     parser.add_argument("--title", help="its title (the name)")
     parser.add_argument("--abstract", default="", help="what it shows")
-    parser.add_argument("--address", default="http://localhost/wms?", help="the address that clients will use")
-    parser.add_argument("--crs", choices=["4326", "3857"], default="4326", help="degrees, or metres of the Mercator projection")
-    parser.add_argument("--extent", type=options.extent, metavar="MINX,MINY,MAXX,MAXY", help="in the map's units (that of the data); a negative one as --extent=-3,51,-2,52")
-    parser.add_argument("--skip", action="store_true", help="leave out features that can't be drawn, and count them")
+    parser.add_argument("--address", default="http://localhost/wms?",
+                        help="the address that clients will use")
+    parser.add_argument("--crs", choices=["4326", "3857"], default="4326",
+                        help="degrees, or metres of the Mercator projection")
+    parser.add_argument("--extent", type=options.extent, metavar="MINX,MINY,MAXX,MAXY",
+                        help="in the map's units (that of the data); a negative one as --extent=-3,51,-2,52")
+    parser.add_argument("--skip", action="store_true",
+                        help="leave out features that can't be drawn, and count them")
     options.add_common(parser)
-    parser.add_argument("--layer", action=BeginLayer, dest="layers", metavar="FILE", required=True, help="data that GDAL reads")
+    parser.add_argument("--layer", action=BeginLayer, dest="layers", metavar="FILE", required=True,
+                        help="data that GDAL reads")
     layer = parser.add_argument_group("options of a layer")
-    layer.add_argument("--table", action=OfLayer, metavar="NAME", help="the table of the file, where it has several")
-    layer.add_argument("--where", action=OfLayer, metavar="CONDITION", help="which features, as in SQL: \"use = 'forest'\"")
-    layer.add_argument("--source", action=OfLayer, metavar="EPSG:N", help="the data's system (that which the data name)")
-    layer.add_argument("--encoding", action=OfLayer, metavar="NAME", help="of a shapefile's texts, as ISO-8859-1 or CP1252")
-    layer.add_argument("--layer-name", action=OfLayer, metavar="NAME", help="its name (the table's, or the file's)")
+    layer.add_argument("--table", action=OfLayer, metavar="NAME",
+                       help="the table of the file, where it has several")
+    layer.add_argument("--where", action=OfLayer, metavar="CONDITION",
+                       help="which features, as in SQL: \"use = 'forest'\"")
+    layer.add_argument("--source", action=OfLayer, metavar="EPSG:N",
+                       help="the data's system (that which the data name)")
+    layer.add_argument("--encoding", action=OfLayer, metavar="NAME",
+                       help="of a shapefile's texts, as ISO-8859-1 or CP1252")
+    layer.add_argument("--layer-name", action=OfLayer, metavar="NAME",
+                       help="its name (the table's, or the file's)")
     layer.add_argument("--layer-title", action=OfLayer, metavar="TEXT", help="its title (its name)")
-    layer.add_argument("--items", action=OfLayer, type=lambda text: text.split(","), metavar="NAME,..", help="the attributes to keep (none)")
-    layer.add_argument("--label", action=OfLayer, metavar="NAME", help="the attribute that is written beside a feature")
+    layer.add_argument("--items", action=OfLayer, type=lambda text: text.split(","), metavar="NAME,..",
+                       help="the attributes to keep (none)")
+    layer.add_argument("--label", action=OfLayer, metavar="NAME",
+                       help="the attribute that is written beside a feature")
     layer.add_argument("--label-size", action=OfLayer, choices=LABEL_SIZES, help="(MEDIUM)")
     layer.add_argument("--label-position", action=OfLayer, choices=POSITIONS, help="(CC)")
-    layer.add_argument("--label-priority", action=OfLayer, type=options.whole(1, 10), help="which label stays where two meet: the higher (1)")
+    layer.add_argument("--label-priority", action=OfLayer, type=options.whole(1, 10),
+                       help="which label stays where two meet: the higher (1)")
     layer.add_argument("--label-color", action=OfLayer, type=options.color, metavar="COLOR", help="(black)")
     layer.add_argument("--color", action=OfLayer, type=options.color, help="R,G,B or #rrggbb")
     layer.add_argument("--outline", action=OfLayer, type=options.color, metavar="COLOR", help="of polygons")
-    layer.add_argument("--width", action=OfLayer, type=options.whole(1, 16), help="of lines and outlines, in pixels (1)")
+    layer.add_argument("--width", action=OfLayer, type=options.whole(1, 16),
+                       help="of lines and outlines, in pixels (1)")
     layer.add_argument("--size", action=OfLayer, type=options.whole(1, 64), help="of points, in pixels (5)")
-    layer.add_argument("--class-by", action=OfLayer, metavar="NAME", help="the attribute that chooses a feature's color")
-    layer.add_argument("--class", action=OfLayer, dest="classes", type=class_of, metavar="VALUE=COLOR", help="may be repeated; others have --color")
-    layer.add_argument("--ranges", action=OfLayer, type=ranges_of, metavar="N,..", help="numbers that classes of --class-by begin at")
-    layer.add_argument("--palette", action=OfLayer, choices=PALETTES, help="of --class-by (soft, and heat with --ranges)")
+    layer.add_argument("--class-by", action=OfLayer, metavar="NAME",
+                       help="the attribute that chooses a feature's color")
+    layer.add_argument("--class", action=OfLayer, dest="classes", type=class_of, metavar="VALUE=COLOR",
+                       help="may be repeated; others have --color")
+    layer.add_argument("--ranges", action=OfLayer, type=ranges_of, metavar="N,..",
+                       help="numbers that classes of --class-by begin at")
+    layer.add_argument("--palette", action=OfLayer, choices=PALETTES,
+                       help="of --class-by (soft, and heat with --ranges)")
     return parser.parse_args()
 
 
@@ -164,7 +185,7 @@ def arguments():
 
 @dataclass
 class Record:
-    """A feature of the data: where it comes from, its parts by kind, and the texts of its attributes by name."""
+    """A feature of the data: where it comes from, its parts by kind, its attributes' texts by name."""
 
     place: str
     parts: dict
@@ -201,7 +222,8 @@ class Source:
         names = [definition.GetFieldDefn(i).GetName() for i in range(definition.GetFieldCount())]
         for wanted in self.wanted():
             if wanted not in names:
-                raise MapError(f"{self.path}: it has no attribute {wanted!r}: it has {', '.join(names) or 'none'}")
+                raise MapError(f"{self.path}: it has no attribute {wanted!r}: it has "
+                               f"{', '.join(names) or 'none'}")
         return names
 
     def wanted(self):
@@ -219,7 +241,8 @@ class Source:
             try:
                 source.SetFromUserInput(self.asked.source)
             except RuntimeError as error:
-                raise MapError(f"{self.path}: {self.asked.source} is no system: write --source EPSG: and a number") from error
+                raise MapError(f"{self.path}: {self.asked.source} is no system: write --source EPSG: and a "
+                               f"number") from error
         if source is None:
             raise MapError(f"{self.path}: the data name no system: write --source EPSG: and its number")
         for system in (source, target):
@@ -227,7 +250,6 @@ class Source:
         return None if source.IsSame(target) else osr.CoordinateTransformation(source, target)
 
     def records(self, crs, skip):
-        """The features, in the map's system."""
         change = self.transformation(crs)
         for place, feature in enumerate(self.features(), 1):
             name = f"{self.path}: feature {place}"
@@ -245,14 +267,18 @@ class Source:
         where = self.asked.where
         try:
             self.table.SetAttributeFilter(where)
-            rows = [feature for feature in self.table]  # no list(): it asks for a length, which OpenStreetMap's has none of
+            rows = [feature
+                    for feature
+                    in self.table]  # no list(): it asks for a length, which OpenStreetMap's has none of
         except RuntimeError as error:
             if where and self.is_readable():
-                raise MapError(f"{self.path}: --where {where!r} isn't understood: {error}: it has {', '.join(self.fields) or 'no attributes'}") from error
+                raise MapError(f"{self.path}: --where {where!r} isn't understood: {error}: it has "
+                               f"{', '.join(self.fields) or 'no attributes'}") from error
             raise MapError(f"{self.path}: {unread(self.gdal, self.path, error)}") from error
         if not rows:
             table = f"{self.path}: table {self.table.GetName()}"
-            raise MapError(f"{table}: no feature meets --where {where!r}" if where else f"{table}: it has no feature to draw: look at --table")
+            raise MapError(f"{table}: no feature meets --where {where!r}" if where
+                           else f"{table}: it has no feature to draw: look at --table")
         return rows
 
     def is_readable(self):
@@ -282,7 +308,8 @@ class Source:
         return parts
 
     def values_of(self, feature, place):
-        return {name: texts.plain(self.text_of(feature, name, place), self.notes, place) for name in self.wanted()}
+        return {name: texts.plain(self.text_of(feature, name, place), self.notes, place)
+                for name in self.wanted()}
 
     def text_of(self, feature, name, place):
         """The attribute as a text, empty where it is missing."""
@@ -295,13 +322,15 @@ class Source:
             raise MapError(f"{place}: attribute {name} is binary: keep another")
         if definition.GetSubType() == ogr.OFSTBoolean:
             return "true" if feature.GetFieldAsInteger(index) else "false"
-        if definition.GetType() in (ogr.OFTStringList, ogr.OFTIntegerList, ogr.OFTInteger64List, ogr.OFTRealList):
+        if definition.GetType() in (ogr.OFTStringList, ogr.OFTIntegerList, ogr.OFTInteger64List,
+                                    ogr.OFTRealList):
             return ",".join(map(str, feature.GetField(index)))
         try:
             text = feature.GetFieldAsString(index)
             text.encode()
         except (UnicodeError, AttributeError) as error:
-            raise MapError(f"{place}: attribute {name} isn't UTF-8: write its --encoding, as ISO-8859-1") from error
+            raise MapError(f"{place}: attribute {name} isn't UTF-8: write its --encoding, as "
+                           f"ISO-8859-1") from error
         return text
 
 
@@ -341,22 +370,24 @@ def raw_parts(geometry, place):
         kind = "POINT" if name == "POINT" else "LINE"
         yield kind, long_enough(kind, geometry.GetPoints(), place)
     else:
-        raise MapError(f"{place}: it is a {name}: split it into points, lines and polygons (ogr2ogr -explodecollections -unsetFid)")
+        raise MapError(f"{place}: it is a {name}: split it into points, lines and polygons (ogr2ogr "
+                       f"-explodecollections -unsetFid)")
 
 
 def long_enough(kind, points, place):
     least = max(1, LEAST_POINTS[kind] - (kind == "POLYGON"))
     if len(points or ()) < least:
-        raise MapError(f"{place}: a {kind.lower()} with {len(points or ())} points, and it needs {least}: repair it")
+        raise MapError(f"{place}: a {kind.lower()} with {len(points or ())} points, and it needs {least}: "
+                       f"repair it")
     return points
 
 
 def changed(change, points, place):
-    """The points in the map's system."""
     try:
         return change.TransformPoints([point[:2] for point in points])
     except RuntimeError as error:
-        raise MapError(f"{place}: it can't be reprojected: {error}: give the data's own system (--source)") from error
+        raise MapError(f"{place}: it can't be reprojected: {error}: give the data's own system "
+                       f"(--source)") from error
 
 
 # ---- classes
@@ -400,7 +431,8 @@ class Classes:
         self.names, self.colors, self.index = [], [], {}
         if asked.class_by is None:
             if asked.classes or asked.ranges or asked.palette:
-                raise MapError(f"{asked.path}: --class, --ranges and --palette need --class-by and an attribute")
+                raise MapError(f"{asked.path}: --class, --ranges and --palette need --class-by and an "
+                               f"attribute")
         elif asked.ranges:
             self.take(range_names(asked.ranges), shades(asked.palette or "heat", len(asked.ranges) + 1))
         elif asked.classes:
@@ -411,13 +443,14 @@ class Classes:
             values = sorted({record.values[asked.class_by] for record in records} - {""})
             if len(values) >= MOST_CLASSES:
                 raise MapError(
-                    f"{asked.path}: attribute {asked.class_by} has {len(values)} values, and a layer at most {MOST_CLASSES - 1} classes "
-                    "by value: name the most important by --class, or cut numbers by --ranges"
-                )
+                    f"{asked.path}: attribute {asked.class_by} has {len(values)} values, and a layer at most "
+                    f"{MOST_CLASSES - 1} classes "
+                    "by value: name the most important by --class, or cut numbers by --ranges")
             self.take(values, shades(asked.palette or "soft", len(values)))
         self.others = [record for record in records if self.of(record) is None]
         if asked.class_by is not None and self.others:
-            notes.add(f"{asked.path}: features in no class of {asked.class_by} have --color", self.others[0].place, len(self.others))
+            notes.add(f"{asked.path}: features in no class of {asked.class_by} have --color",
+                      self.others[0].place, len(self.others))
 
     def take(self, names, colors):
         self.names, self.colors = names, colors
@@ -437,10 +470,11 @@ class Classes:
         return range_of(text, self.asked.ranges) if self.asked.ranges else self.index.get(text)
 
     def drawn(self, kind, layer_name):
-        """The classes as they are drawn; the one for all others only where there are others."""
-        shaded = [Class(name, [style_of(kind, self.asked, shade)], label_of(self.asked)) for name, shade in zip(self.names, self.colors)]
+        shaded = [Class(name, [style_of(kind, self.asked, shade)], label_of(self.asked)) for name,
+                  shade in zip(self.names, self.colors)]
         if self.others or not shaded:
-            shaded.append(Class(OTHER if shaded else layer_name, [style_of(kind, self.asked, None)], label_of(self.asked)))
+            shaded.append(Class(OTHER if shaded else layer_name, [style_of(kind, self.asked, None)],
+                                label_of(self.asked)))
         return shaded
 
     def group(self, record):
@@ -483,7 +517,8 @@ def layers_of(gdal, asked, common, notes):
         own = name if len(kinds) == 1 else f"{name}_{kind.lower()}"
         title = texts.plain(asked.layer_title or own, notes, "a layer's title")
         items = [texts.plain(item, notes, "an attribute's name").replace(",", "_") for item in asked.items]
-        yield Layer(own, title, kind, classes.drawn(kind, own), features_of(kind, records, classes, common, notes), items)
+        yield Layer(own, title, kind, classes.drawn(kind, own),
+                    features_of(kind, records, classes, common, notes), items)
 
 
 def features_of(kind, records, classes, common, notes):
@@ -495,10 +530,12 @@ def features_of(kind, records, classes, common, notes):
             continue
         grid = on_grid(parts, kind, common.last_digit)
         if len(grid) < len(parts):
-            notes.add("a part is smaller than the last digit and was left out", record.place, len(parts) - len(grid))
+            notes.add("a part is smaller than the last digit and was left out", record.place,
+                      len(parts) - len(grid))
         if grid:
             told = notes if is_near(grid, common) else Notes()
-            text = texts.label(record.values[asked.label], common.ascii, told, record.place) if asked.label else ""
+            text = texts.label(record.values[asked.label], common.ascii, told,
+                               record.place) if asked.label else ""
             values = [texts.value(record.values[item], told, record.place) for item in asked.items]
             features.append(Feature(grid, classes.group(record), values, text))
     return features
@@ -518,7 +555,8 @@ def sides_of(layers, common):
     """The sides of the map's extent, in its units."""
     if common.extent:
         return common.extent
-    points = [point for layer in layers for feature in layer.features for part in feature.parts for point in part]
+    points = [point for layer in layers for feature in layer.features for part in feature.parts
+              for point in part]
     if not points:
         raise MapError("nothing is left to draw: write more --digits, or look at --where")
     xs, ys = zip(*points)
@@ -533,8 +571,8 @@ def the_map(common, notes):
     common.last_digit = DIGITS[common.crs] if common.digits is None else common.digits
     layers = [layer for asked in common.layers for layer in layers_of(gdal, asked, common, notes)]
     name, title, abstract, address = (
-        texts.plain(text, notes, "the map's texts") for text in (common.name, common.title or common.name, common.abstract, common.address)
-    )
+        texts.plain(text, notes, "the map's texts")
+        for text in (common.name, common.title or common.name, common.abstract, common.address))
     extent = whole_extent(sides_of(layers, common), common.last_digit)
     made = Map(name, title, abstract, address, common.crs, common.last_digit, extent, layers)
     return cut(made, notes) if common.extent else made

@@ -3,33 +3,39 @@
 
     curl -s 'http://127.0.0.1:8080/wms?...' | python3 tools/pixmap_to_png.py > map.png
 
-Netpbm's `pnmtopng` and ImageMagick's `convert` do the same.
+Netpbm's `pnmtopng` and ImageMagick's `convert` do the same. The status is 1 where standard input is no such
+picture. The package has this tool, so it stands alone.
 """
 
+import argparse
 import re
 import struct
 import sys
 import zlib
 
 
-def chunk(kind, data):
+def chunk(kind: bytes, data: bytes) -> bytes:
     return struct.pack(">I", len(data)) + kind + data + struct.pack(">I", zlib.crc32(kind + data))
 
 
-def png(pixmap):
+def png(pixmap: bytes) -> bytes | None:
+    """The PNG of a pixmap; None where it isn't a whole one."""
     head = re.match(rb"P6\n(\d+) (\d+)\n255\n", pixmap)
     if head is None:
         return None
     width, height = int(head[1]), int(head[2])
-    rows = pixmap[head.end() :]
+    rows = pixmap[head.end():]
     if len(rows) != 3 * width * height:
         return None
-    lines = b"".join(b"\0" + rows[3 * width * row : 3 * width * (row + 1)] for row in range(height))
+    lines = b"".join(b"\0" + rows[3 * width * row:3 * width * (row + 1)] for row in range(height))
     header = struct.pack(">IIBBBBB", width, height, 8, 2, 0, 0, 0)
-    return b"\x89PNG\r\n\x1a\n" + chunk(b"IHDR", header) + chunk(b"IDAT", zlib.compress(lines, 9)) + chunk(b"IEND", b"")
+    return b"\x89PNG\r\n\x1a\n" + chunk(b"IHDR", header) + chunk(b"IDAT", zlib.compress(lines, 9)) + chunk(
+        b"IEND", b"")
 
 
-def main():
+def main() -> int:
+    raw = argparse.RawDescriptionHelpFormatter
+    argparse.ArgumentParser(description=__doc__, formatter_class=raw).parse_args()
     picture = png(sys.stdin.buffer.read())
     if picture is None:
         print("error: standard input is no whole P6 pixmap of 8 bits a colour", file=sys.stderr)

@@ -3,19 +3,18 @@
 
     python3 tools/try_edits.py wf_ballot                    every mutant of the crate
     python3 tools/try_edits.py wf_ballot half_is_a_majority one mutant, or several by their names
-    python3 tools/try_edits.py --changed origin/main        every mutant of each crate whose code or specs differ from a commit
-    python3 tools/try_edits.py --applies                    only whether each mutant of every crate still applies
+    python3 tools/try_edits.py --changed origin/main        every mutant of each crate whose code or specs
+    differ from a commit python3 tools/try_edits.py --applies                    only whether each mutant of
+    every crate still applies
 
-CI tries a mutant in `must-fail/NAME.edit`; those of the table `must-fail/by-hand.edits.md` are tried only here. Each is
-applied to a copy of the crate, and the prover has to reject the copy: the test is CI's own. In the table a mutant is a
-line `mutant: NAME` and then the lines of an edit, and an empty line comes before the next. A crate that was checked before
-(`rt check`) lends its kept work, so a mutant costs what it changes. Run it over a crate whenever a clause or a definition
-of that crate changes. The last line counts; the status is 0 where every mutant was rejected.
-
-Options: --lanes N (how many side by side; 2 if left out), --by-hand (leave out those that CI tries).
+CI tries a mutant in `must-fail/NAME.edit`; those of the table `must-fail/by-hand.edits.md` are tried only
+here. Each is applied to a copy of the crate, and the prover has to reject the copy: the test is CI's own. In
+the table a mutant is a line `mutant: NAME` and then the lines of an edit, and an empty line comes before the
+next. A crate that was checked before (`rt check`) lends its kept work, so a mutant costs what it changes. Run
+it over a crate whenever a clause or a definition of that crate changes. The last line counts; the status is 0
+where every mutant was rejected.
 """
 
-import argparse
 import os
 import pathlib
 import queue
@@ -26,7 +25,9 @@ import tempfile
 from concurrent.futures import ThreadPoolExecutor
 from dataclasses import dataclass
 
-from kit import TOP, changed_files, load_rt, remember_stamps, take_library, was_rejected
+from farmkit.command import parser as parser_of
+from farmkit.repository import TOP, changed_files
+from kit import load_rt, remember_stamps
 
 
 @dataclass(frozen=True)
@@ -49,19 +50,21 @@ def mutants_of(folder, only_by_hand=False):
     table = folder / "must-fail" / "by-hand.edits.md"
     blocks = table.read_text().strip().split("\n\n") if table.exists() else []
     rest = [block.removeprefix("mutant: ").partition("\n") for block in blocks]
-    return [*(Mutant(it.stem, it.read_text()) for it in by_ci), *(Mutant(name, text + "\n") for name, _, text in rest)]
+    return [*(Mutant(it.stem, it.read_text()) for it in by_ci),
+            *(Mutant(name, text + "\n") for name, _, text in rest)]
 
 
 def fault_of(rt, mutant, folder, room):
-    """Why a mutant can't be applied to the code as it is, or None. CI reads lines alone and skips what it can't read."""
-    unread = [it for it in mutant.text.splitlines() if it.strip() and not re.match(r"file: |old: |new:|#|--|//", it)]
+    """Why a mutant can't be applied to the code as it is, or None."""
+    unread = [it for it in mutant.text.splitlines() if it.strip()
+              and not re.match(r"file: |old: |new:|#|--|//", it)]
     if unread:
-        return f"it can't be applied, since a text of it has several lines, and only the first of them is read: {unread[0].strip()[:60]}"
+        return ("it can't be applied, since a text of it has several lines, and only the first of them is "
+                "read: " + unread[0].strip()[:60])
     return rt.read_edit(mutant.written(room), str(folder))[1]
 
 
 def look(rt):
-    """Prints which mutants can't be applied to the code as it is."""
     count = bad = 0
     with tempfile.TemporaryDirectory(prefix="try-edits-") as room:
         for folder in sorted((TOP / "crates").iterdir()):
@@ -95,7 +98,7 @@ def try_all(rt, crate, mutants, lanes):
             lane = rooms.get()
             try:
                 verdict, text = rt.must_fail(crate, mutant.written(room), ["--jobs", "1"], lane)
-                return was_rejected(rt, verdict), text
+                return verdict in (rt.REFUSED, rt.AT_LIMIT), text
             finally:
                 rooms.put(lane)
 
@@ -107,30 +110,25 @@ def try_all(rt, crate, mutants, lanes):
     return refused
 
 
-def has_library(crate):
-    """Whether the library of a crate is there, from this checkout, from another one of the same files, or proved now."""
-    return crate.is_built() or take_library(crate) or not crate.build_rlib(["--jobs", "1"], anew=False)
-
-
 def try_crate(rt, name, given):
     """Tries a crate's mutants, and returns how many were not rejected."""
     crate = next(it for it in rt.rtlib.crates_below(str(TOP)) if it.name == name)
     mutants = mutants_of(TOP / "crates" / name, given.by_hand)
     mutants = [it for it in mutants if not given.names or it.name in given.names]
-    if not all(has_library(below) for below in crate.below()):
+    if not all(low.is_built() or not low.build_rlib(["--jobs", "1"], anew=False) for low in crate.below()):
         print(f"{name}: a library below it failed")
         return 1
     refused = try_all(rt, crate, mutants, given.lanes)
     return len(mutants) - refused
 
 
-def main():
-    parser = argparse.ArgumentParser(description=__doc__, formatter_class=argparse.RawDescriptionHelpFormatter)
+def main() -> int:
+    parser = parser_of(__doc__)
     parser.add_argument("crate", nargs="?")
     parser.add_argument("names", nargs="*")
     parser.add_argument("--changed", metavar="BASE")
-    parser.add_argument("--lanes", type=int, default=2)
-    parser.add_argument("--by-hand", action="store_true")
+    parser.add_argument("--lanes", type=int, default=2, metavar="N", help="how many side by side (2)")
+    parser.add_argument("--by-hand", action="store_true", help="leaves out those that CI tries")
     parser.add_argument("--applies", action="store_true")
     given = parser.parse_args()
     rt = load_rt()
@@ -138,15 +136,15 @@ def main():
     os.chdir(TOP)
     if given.applies:
         return 1 if look(rt) else 0
-    # (kept work that another checkout here made of the same files serves, where the kit can share it)
-    if hasattr(rt, "share_work"):
-        rt.share_work(False)
+    # (what another checkout here made of the same files serves)
+    rt.share_work(False)
     rt.rtlib.guarded()
     every = [it.name for it in rt.rtlib.crates_below(str(TOP))]
     chosen = sorted(changed_files(given.changed, ("src", "specs"), None)) if given.changed else [given.crate]
     if not all(it in every for it in chosen):
         parser.error("crates.txt lists no such crate")
-    lost = {*given.names} - {it.name for name in chosen for it in mutants_of(TOP / "crates" / name, given.by_hand)}
+    lost = {*given.names} - {it.name for name in chosen
+                             for it in mutants_of(TOP / "crates" / name, given.by_hand)}
     if lost:
         parser.error(f"no mutant is named {', '.join(sorted(lost))}")
     return 1 if sum(try_crate(rt, it, given) for it in chosen) else 0

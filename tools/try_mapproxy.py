@@ -1,25 +1,24 @@
 #!/usr/bin/python3
-"""Tries MapProxy with `examples/three/mapproxy.yaml` before nginx and three nodes: PNG with the farm's own pixels, WMS 1.1.1, another system
-by reprojection, and tiles as Leaflet asks for them.
+"""Tries MapProxy with `examples/three/mapproxy.yaml` before nginx and three nodes: PNG with the farm's own
+pixels, WMS 1.1.1, another system by reprojection, and tiles as Leaflet asks for them.
 
-Usage: /usr/bin/python3 tools/try_mapproxy.py [--program PROGRAM] [--picture FILE.png]
-A line for each thing that was seen; status 1 where one is not as it should be. FILE gets the farm's own picture beside the reprojected one.
-Half a minute. Wants Debian's mapproxy (and with it python3-pil and python3-pyproj), nginx and openssl.
+A line for each thing that was seen; status 1 where one is not as it should be. FILE gets the farm's own
+picture beside the reprojected one. Half a minute. Wants Debian's mapproxy (and with it python3-pil and
+python3-pyproj), nginx and openssl.
 """
 
-import argparse
 import io
 import pathlib
-import shutil
 import subprocess
 import sys
 import tempfile
-import time
-import urllib.error
-import urllib.request
 
-from farm import PROGRAM, free_ports
-from nginx import EXAMPLES, changed
+from farmkit.command import lacks, program_parser, tell_missing
+from farmkit.nginx import changed
+from farmkit.processes import free_ports
+from farmkit.repository import EXAMPLES
+from farmkit.wanted import seconds_until
+from farmkit.web import ask, loopback
 from try_nginx import RED, Trial
 
 BOX = (-3.25, 51.5, -2.75, 52)
@@ -29,8 +28,6 @@ PATIENCE = 60
 
 
 class MapProxy:
-    """MapProxy with the example, asked for pictures."""
-
     def __init__(self, folder, nginx):
         self.port, = free_ports(1)
         conf = folder / "mapproxy.yaml"
@@ -42,29 +39,19 @@ class MapProxy:
         self.process = subprocess.Popen(words, stdout=log, stderr=log, start_new_session=True)
 
     def ask(self, path):
-        """The status and the body of an answer; 0 where none came."""
-        try:
-            with urllib.request.urlopen(f"http://127.0.0.1:{self.port}/{path}", timeout=PATIENCE) as answer:
-                return answer.status, answer.read()
-        except urllib.error.HTTPError as error:
-            return error.code, error.read()
-        except OSError as broken:
-            return 0, repr(broken).encode()
+        return ask(loopback(self.port), f"/{path}", None, PATIENCE)
 
     def wait(self):
-        until = time.monotonic() + PATIENCE
-        while self.ask("")[0] == 0 and time.monotonic() < until:
-            time.sleep(0.2)
+        seconds_until(lambda: self.ask("").status, PATIENCE, 0.2)
 
     def picture(self, version, system, box):
         """A picture, as an image; None where it isn't one."""
         key = "CRS" if version == "1.3.0" else "SRS"
-        query = (f"service?SERVICE=WMS&VERSION={version}&REQUEST=GetMap&LAYERS=map&STYLES=&{key}={system}&BBOX={','.join(map(str, box))}"
-                 f"&WIDTH={SIDE}&HEIGHT={SIDE}&FORMAT=image/png")
+        query = (f"service?SERVICE=WMS&VERSION={version}&REQUEST=GetMap&LAYERS=map&STYLES=&{key}={system}"
+                 f"&BBOX={','.join(map(str, box))}&WIDTH={SIDE}&HEIGHT={SIDE}&FORMAT=image/png")
         return image_of(self.ask(query)[1])
 
     def end(self):
-        """Ends it, and what it started."""
         subprocess.run(["kill", "--", f"-{self.process.pid}"], check=False)
         self.process.wait()
 
@@ -83,9 +70,9 @@ def colours(image):
 
 
 def attempt(trial, proxy, picture):
-    """The farm's own picture, and MapProxy's."""
-    own = image_of(trial.nginx.ask(f"wms?VERSION=1.3.0&REQUEST=GetMap&LAYERS=roads&STYLES=&CRS=CRS:84&BBOX={','.join(map(str, BOX))}"
-                                   f"&WIDTH={SIDE}&HEIGHT={SIDE}&FORMAT=image/x-portable-pixmap")[2])
+    own = image_of(trial.nginx.ask(
+        f"wms?VERSION=1.3.0&REQUEST=GetMap&LAYERS=roads&STYLES=&CRS=CRS:84&BBOX={','.join(map(str, BOX))}"
+        f"&WIDTH={SIDE}&HEIGHT={SIDE}&FORMAT=image/x-portable-pixmap")[2])
     proxy.wait()
     newer, older = proxy.picture("1.3.0", "CRS:84", BOX), proxy.picture("1.1.1", "EPSG:4326", BOX)
     trial.see("PNG has the farm's own pixels", newer is not None and newer.tobytes() == own.tobytes(), newer)
@@ -95,9 +82,11 @@ def attempt(trial, proxy, picture):
     box = to_metres.transform_bounds(*BOX)
     other = proxy.picture("1.1.1", SYSTEM, box)
     common = [colour for colour, count in colours(own).items() if count > SIDE]
-    trial.see(f"{SYSTEM}: a picture with the farm's colours", other is not None and all(colours(other).get(colour) for colour in common), common)
+    trial.see(f"{SYSTEM}: a picture with the farm's colours", other is not None
+              and all(colours(other).get(colour) for colour in common), common)
     tile = image_of(proxy.ask("tiles/1.0.0/map_tiles/mercator/9/251/170.png?origin=nw")[1])
-    trial.see("a tile of Mercator with something on it", tile is not None and tile.size == (256, 256) and len(colours(tile)) > 1, tile)
+    trial.see("a tile of Mercator with something on it", tile is not None and tile.size == (256, 256)
+              and len(colours(tile)) > 1, tile)
     if picture and other is not None:
         from PIL import Image
         both = Image.new("RGB", (2 * SIDE + 8, SIDE), (190, 190, 190))
@@ -107,18 +96,17 @@ def attempt(trial, proxy, picture):
 
 
 def main():
-    parser = argparse.ArgumentParser(description=__doc__.splitlines()[0])
-    parser.add_argument("--program", type=pathlib.Path, default=PROGRAM)
-    parser.add_argument("--picture", type=pathlib.Path)
-    options = parser.parse_args()
-    lacks = [name for name in ("mapproxy-util", "nginx", "openssl") if shutil.which(name) is None]
-    if lacks:
-        print("missing: " + ", ".join(lacks), file=sys.stderr)
-        return 2
+    words = program_parser(__doc__)
+    words.add_argument("--picture", type=pathlib.Path, metavar="FILE.png",
+                       help="gets the farm's picture beside the reprojected one")
+    options = words.parse_args()
+    lacking = lacks("mapproxy-util", "nginx", "openssl")
+    if lacking:
+        return tell_missing(lacking)
     with tempfile.TemporaryDirectory(prefix="wfarm-mapproxy-") as name:
         folder = pathlib.Path(name)
         folder.chmod(0o777)
-        trial, proxy = Trial(options.program.resolve(), folder), None
+        trial, proxy = Trial(options.program, folder), None
         try:
             trial.begin(RED)
             trial.publish_text((EXAMPLES / "roads.map").read_bytes(), 2)
@@ -130,8 +118,7 @@ def main():
                 proxy.end()
             trial.nginx.end()
             trial.end_nodes()
-    print(f"{trial.wrong} wrong")
-    return int(bool(trial.wrong))
+    return trial.conclude()
 
 
 if __name__ == "__main__":

@@ -1,76 +1,58 @@
 #!/usr/bin/env python3
 """Tries replicas of a farm of three voters, over the built program.
 
-    python3 tools/try_replicas.py [--program PROGRAM] [--publishes N] [--replicas N] [--seconds S] [--seed S] [CASE ..]
-
 Cases, all of them where none is named:
-    kills   publishes at the voters (1,000; in 300 seconds at most, or as --seconds says) while replicas (10) and voters are killed at
-            random, folders of replicas removed, and one replica pointed at another farm of the same name: no two answers of any processes
-            differ for one sequence, none goes back but a replica whose folder was removed, the misled one ends, the others are level
-            within ten seconds after the last publish
-    lag     from a voter's publication until each replica has learned it, by their logs, in a quiet farm: p99 below 100 ms
+    kills   publishes at the voters (1,000; in 300 seconds at most, or as --seconds says) while replicas (10)
+            and voters are killed at random, folders of replicas removed, and one replica pointed at another
+            farm of the same name: no two answers of any processes differ for one sequence, none goes back but
+            a replica whose folder was removed, the misled one ends, the others are level within ten seconds
+            after the last publish
+    lag     from a voter's publication until each replica has learned it, by their logs, in a quiet farm: p99
+            below 100 ms
     fill    a replica learns 4,096 maps of 2 KB from nothing, within ten seconds
     rest    what replicas at rest cost a voter: below two percent of a core
-    tape    a replica begins with what its tape has, also with a torn, missing or damaged one, and goes on where it can't be written
+    tape    a replica begins with what its tape has, also with a torn, missing or damaged one, and goes on
+            where it can't be written
     chain   replicas that ask one another: one that is four away from a voter is asked, one that is five isn't
-    misled  a replica that is pointed at another farm of the same name ends with status 1 and one line, whichever has published more
-    twice   a source that sends each reply twice, among three and alone: no map is published under two sequences, and the replica learns on
-    foreign one source among three is of another farm, or of another history with fewer or more maps: it is skipped with a warning
+    misled  a replica that is pointed at another farm of the same name ends with status 1 and one line,
+            whichever has published more
+    twice   a source that sends each reply twice, among three and alone: no map is published under two
+            sequences, and the replica learns on
+    foreign one source among three is of another farm, or of another history with fewer or more maps: it is
+            skipped with a warning
 
 A line says what each saw; the status is 0 where all went as they should. A run takes four minutes.
 """
 
-import argparse
 import collections
 import contextlib
 import os
-import pathlib
 import random
 import re
-import resource
 import selectors
 import shutil
-import signal
 import socket
 import subprocess
 import sys
-import tempfile
 import threading
 import time
-import urllib.error
-import urllib.request
 
-from farm import CAPABILITIES, PROGRAM, Replica, Wrong, free_ports, nodes_in, want
-from kill_nodes import PIXEL, map_of, picture_of
+from farmkit.command import add_cases, program_parser
+from farmkit.ledger import Ledger
+from farmkit.mapfiles import PIXEL, map_of, picture_of
+from farmkit.measure import percentile
+from farmkit.processes import UNSIGNALLED, Replica, free_ports, limited, nodes_in
+from farmkit.tapes import MOST_MAPS, tape_of
+from farmkit.trial import chosen, go_through
+from farmkit.wanted import seconds_until, want, want_none
+from farmkit.web import CAPABILITIES, connect
 
 VOTERS = 3
-MOST_MAPS = 4_096
 PATIENCE = 60
 
 
 def until(is_so, seconds=PATIENCE):
-    """The seconds until it is so; None where it isn't in that time."""
-    begun = time.monotonic()
-    while not is_so():
-        if time.monotonic() > begun + seconds:
-            return None
-        time.sleep(0.01)
-    return time.monotonic() - begun
-
-
-def ask(process, path, body=None, seconds=5):
-    """The status and the body of an answer; 0 where none came."""
-    try:
-        with urllib.request.urlopen(f"http://{process.clients}{path}", data=body, timeout=seconds) as answer:
-            return answer.status, answer.read()
-    except urllib.error.HTTPError as error:
-        return error.code, error.read()
-    except OSError:
-        return 0, b""
-
-
-def percentile(values, part):
-    return sorted(values)[min(len(values) - 1, int(len(values) * part))]
+    return seconds_until(is_so, seconds)
 
 
 class Farm:
@@ -87,25 +69,29 @@ class Farm:
         for voter in self.voters:
             voter.start()
         for voter in self.voters:
-            want("a voter doesn't begin: " + voter.log.read_text()[-300:], until(lambda: voter.published() is not None))
+            self.await_answer(voter)
         return self
 
     def __exit__(self, *_):
         for process in self.voters + self.replicas:
             process.kill()
 
-    def replica(self, name, sources=None, **settings):
-        """A new replica, which runs."""
+    @staticmethod
+    def await_answer(process):
+        """Waits until a process answers."""
+        is_there = until(lambda: process.published() is not None)
+        want(f"{process.folder.name} doesn't begin: {process.log.read_text()[-300:]}", is_there is not None)
+
+    def replica(self, name, sources=None):
         made = Replica(self.options.program, self.folder / name, "tried", sources or self.readers)
-        made.start(**settings)
+        made.start()
         self.replicas.append(made)
         return made
 
     def some(self, count):
-        """So many replicas, once they answer."""
         made = [self.replica(f"replica-{number}") for number in range(count)]
         for replica in made:
-            want("a replica doesn't begin: " + replica.log.read_text()[-300:], until(lambda: replica.published() is not None))
+            self.await_answer(replica)
         return made
 
     def top(self):
@@ -115,28 +101,9 @@ class Farm:
     def publish(self, text, voter, seconds=5):
         """Publishes a map at a voter; whether it has published another sequence since."""
         before = voter.published()
-        if before is None or ask(voter, "/publish", text)[0] != 202:
+        if before is None or voter.ask("/publish", text, 5).status != 202:
             return False
         return until(lambda: (voter.published() or 0) > before, seconds) is not None
-
-
-class Ledger:
-    """All that was told, and what contradicts it."""
-
-    def __init__(self):
-        self.lock, self.violations, self.counts = threading.Lock(), [], collections.Counter()
-        self.kept, self.told, self.sent = {}, collections.Counter(), set()
-
-    def take(self, name, sequence, kind, body):
-        with self.lock:
-            self.counts["answers"] += 1
-            if self.kept.setdefault((kind, sequence), body) != body:
-                self.violations.append(f"{name}: another {kind} at sequence {sequence}")
-            if kind == "capabilities" and sequence < self.told[name]:
-                self.violations.append(f"{name} went back from {self.told[name]} to {sequence}")
-            if kind == "picture" and body not in self.sent:
-                self.violations.append(f"{name}: the picture at sequence {sequence} is of no map that was sent")
-            self.told[name] = max(sequence, self.told[name])
 
 
 # ---- kills
@@ -154,23 +121,21 @@ class Trial:
         return f"{process.folder.name} of folder {self.lives[process]}"
 
     def read(self, process):
-        """Asks a process until the trial is over."""
         draw = random.Random(process.folder.name)
         while not self.over.wait(0.05):
             name = self.name(process)
-            status, body = ask(process, CAPABILITIES)
+            status, body = process.ask(CAPABILITIES, seconds=5)
             if status != 200 or name != self.name(process):
                 continue
-            sequence = int(body.partition(b'updateSequence="')[2].partition(b'"')[0])
-            self.ledger.take(name, sequence, "capabilities", body)
+            sequence = self.ledger.document(body)
+            self.ledger.published(name, sequence)
             if sequence:
                 at = draw.choice((sequence, draw.randint(1, sequence)))
-                status, body = ask(process, PIXEL % at)
-                if status == 200:
-                    self.ledger.take(name, at, "picture", body)
+                answer = process.ask(PIXEL % at, seconds=5)
+                if answer.status == 200:
+                    self.ledger.picture(at, answer)
 
     def kill(self):
-        """Kills at random, until the trial is over."""
         counts = self.ledger.counts
         while not self.over.wait(self.draw.uniform(0.05, 0.5)):
             if self.draw.random() < 0.25:
@@ -196,16 +161,18 @@ class Trial:
         while top < count and time.monotonic() < end:
             self.number += 1
             self.ledger.sent.add(picture_of(self.number))
-            self.farm.publish(map_of(self.number, self.draw.choice((0, 0, 2_000))), self.draw.choice(self.farm.voters))
+            self.farm.publish(map_of(self.number, self.draw.choice((0, 0, 2_000))),
+                              self.draw.choice(self.farm.voters))
             top = self.farm.top()
         return top
 
 
 def kills(options, top):
     with Farm(options, top, "kills") as farm, Farm(options, top, "other") as other:
-        other.publish(map_of(1 << 20, 0), other.voters[0])
+        other.publish(map_of(1 << 20), other.voters[0])
         trial = Trial(farm, options)
-        threads = [threading.Thread(target=trial.read, args=(process,)) for process in farm.voters + trial.replicas]
+        threads = [threading.Thread(target=trial.read, args=(process,))
+                   for process in farm.voters + trial.replicas]
         killer, begun = threading.Thread(target=trial.kill), time.monotonic()
         for thread in [*threads, killer]:
             thread.start()
@@ -223,31 +190,30 @@ def kills(options, top):
     print(f"kills: {done} sequences in {took:.0f} s, "
           + ", ".join(f"{count:,} {what}" for what, count in sorted(ledger.counts.items()))
           + f"; level after {late and round(late, 1)} s; the misled one: {ended}")
-    want("; ".join(ledger.violations[:5]), not ledger.violations)
+    want_none(ledger.violations[:5])
     want("the misled replica went on", ended[0] == 1)
     want("not level", late is not None)
     want("fewer publishes than wanted", done >= options.publishes)
 
 
 def mislead(farm, other):
-    """How a replica ends that is pointed at another farm of the same name: its status and its last line."""
     replica = farm.replica("misled")
     want("the replica doesn't begin", until(lambda: (replica.published() or 0) >= 1))
     replica.kill()
     replica.words[replica.words.index("--peers") + 1] = other.readers
     replica.start()
-    until(lambda: replica.process.poll() is not None, 20)
-    return replica.process.poll(), replica.log.read_text().splitlines()[-1]
+    until(lambda: replica.ended() is not None, 20)
+    return replica.ended(), replica.last_line()
 
 
 def misled(options, top):
     with Farm(options, top, "ours") as ours, Farm(options, top, "theirs") as theirs:
         for number in range(3):
-            ours.publish(map_of(number, 0), ours.voters[0])
-        theirs.publish(map_of(100, 0), theirs.voters[0])
+            ours.publish(map_of(number), ours.voters[0])
+        theirs.publish(map_of(100), theirs.voters[0])
         fewer = mislead(ours, theirs)
         for number in range(4):
-            theirs.publish(map_of(100 + number, 0), theirs.voters[0])
+            theirs.publish(map_of(100 + number), theirs.voters[0])
         ours.replicas.pop().kill()
         shutil.rmtree(ours.folder / "misled")
         more = mislead(ours, theirs)
@@ -260,7 +226,7 @@ def misled(options, top):
 QUESTION_BYTES = 76
 
 
-def received(connection, count):
+def pieces_of(connection, count):
     """So many bytes of a connection; fewer where it ends."""
     came = b""
     while len(came) < count and (piece := connection.recv(count - len(came))):
@@ -290,12 +256,11 @@ class Repeater:
                 threading.Thread(target=self.serve, args=(connection,), daemon=True).start()
 
     def serve(self, asker):
-        host, port = self.voter.split(":")
-        with contextlib.suppress(OSError), asker, socket.create_connection((host, int(port)), timeout=PATIENCE) as voter:
-            while len(question := received(asker, QUESTION_BYTES)) == QUESTION_BYTES:
+        with contextlib.suppress(OSError), asker, connect(self.voter, PATIENCE) as voter:
+            while len(question := pieces_of(asker, QUESTION_BYTES)) == QUESTION_BYTES:
                 voter.sendall(question)
-                head = received(voter, 4)
-                reply = head + received(voter, int.from_bytes(head, "big"))
+                head = pieces_of(voter, 4)
+                reply = head + pieces_of(voter, int.from_bytes(head, "big"))
                 asker.sendall(reply)
                 # not in one piece with it: that would be no reply at all
                 time.sleep(0.01)
@@ -305,25 +270,24 @@ class Repeater:
 
 
 def differences(farm, replica):
-    """What a replica has that no voter has: it has ended, has published more, or another picture. Asked for first, its sequence is no later."""
-    if replica.process.poll() is not None:
-        return [f"it has ended: {replica.log.read_text().splitlines()[-1]}"]
+    """What a replica has that no voter has. Asked for first, its sequence is no later."""
+    if replica.ended() is not None:
+        return [f"it has ended: {replica.last_line()}"]
     published, top = replica.published() or 0, farm.top()
     if published > top:
         return [f"it says published {published}, and the voters have {top}"]
     voter = max(farm.voters, key=lambda voter: voter.published() or 0)
     return [f"another picture at {sequence}" for sequence in range(1, published + 1)
-            if ask(replica, PIXEL % sequence) != ask(voter, PIXEL % sequence)]
+            if replica.ask(PIXEL % sequence) != voter.ask(PIXEL % sequence)]
 
 
 def follows(farm, replica, numbers, pause, is_enough=lambda: False):
-    """Publishes maps of these numbers with pauses until it is enough; what was wrong with a replica meanwhile, and whether it has all of them
-    in the end."""
+    """Publishes these maps until it is enough: what was wrong with a replica, and whether it has all."""
     wrong = set(differences(farm, replica))
     for number in numbers:
         if wrong or is_enough():
             break
-        want("no publish", farm.publish(map_of(number, 0), farm.voters[0]))
+        want("no publish", farm.publish(map_of(number), farm.voters[0]))
         time.sleep(pause)
         wrong.update(differences(farm, replica))
     top = farm.top()
@@ -336,7 +300,7 @@ def follows(farm, replica, numbers, pause, is_enough=lambda: False):
 def twice(options, top):
     found = []
     with Farm(options, top, "twice") as farm:
-        want("no publish", farm.publish(map_of(0, 0), farm.voters[0]))
+        want("no publish", farm.publish(map_of(0), farm.voters[0]))
         readers = farm.readers.split(",")
         for name, others in (("alone", []), ("among three", readers[1:])):
             with Repeater(readers[0]) as source:
@@ -348,29 +312,31 @@ def twice(options, top):
                 want("the source that repeats was never asked for maps", source.brought)
                 found += [f"{name}: {what}" for what in wrong]
                 replica.kill()
-    want("; ".join(found), not found)
+    want_none(found)
     print("twice: a source that sends each reply twice, alone and among three: followed")
 
 
 def foreign(options, top):
     found = []
-    theirs, others = Farm(options, top, "theirs", voters=1), Farm(options, top, "others", farm="others", voters=1)
+    theirs, others = Farm(options, top, "theirs", voters=1), Farm(options, top, "others", farm="others",
+                                                                  voters=1)
     with Farm(options, top, "ours") as ours, theirs, others:
         for number in range(3):
-            want("no publish", ours.publish(map_of(number, 0), ours.voters[0]))
-            want("no publish", others.publish(map_of(number, 0), others.voters[0]))
-        want("no publish", theirs.publish(map_of(100, 0), theirs.voters[0]))
+            want("no publish", ours.publish(map_of(number), ours.voters[0]))
+            want("no publish", others.publish(map_of(number), others.voters[0]))
+        want("no publish", theirs.publish(map_of(100), theirs.voters[0]))
         for name, farm in (("of another farm", others), ("of fewer maps", theirs), ("of more maps", theirs)):
             if name == "of more maps":
                 for number in range(101, 131):
-                    theirs.publish(map_of(number, 0), theirs.voters[0])
+                    theirs.publish(map_of(number), theirs.voters[0])
             found += [f"{name}: {what}" for what in beside(ours, farm, f"beside one {name}")]
-    want("; ".join(found), not found)
-    print("foreign: one source among three of another farm, and of another history with fewer and more maps: skipped with a warning")
+    want_none(found)
+    print("foreign: one source among three of another farm, and of another history with fewer and more maps: "
+          "skipped with a warning")
 
 
 def beside(ours, foreign_farm, name):
-    """What is wrong with a replica of a farm that has one source of another among three. It is asked once the others bring nothing."""
+    """What is wrong with a replica that has one source of another farm among three."""
     replica = ours.replica(name)
     want("it doesn't begin", until(lambda: replica.published() == ours.top(), 20) is not None)
     replica.kill()
@@ -379,7 +345,7 @@ def beside(ours, foreign_farm, name):
     replica.words[place] = ",".join([own[0], source, own[1]])
     replica.log.write_bytes(b"")
     replica.start()
-    until(lambda: replica.process.poll() is not None, 5)
+    until(lambda: replica.ended() is not None, 5)
     top = ours.top()
     wrong = follows(ours, replica, range(top, top + 2), 1)
     if ' warn lost source=1 why="refused by it: ' not in replica.log.read_text():
@@ -393,15 +359,16 @@ def beside(ours, foreign_farm, name):
 def tape(options, top):
     with Farm(options, top, "tape") as farm:
         for number in range(1, 4):
-            want("no publish", farm.publish(map_of(number, 0), farm.voters[0]))
+            want("no publish", farm.publish(map_of(number), farm.voters[0]))
         replica = farm.replica("replica")
         want("three maps didn't come", until(lambda: replica.published() == 3, 20))
         file = replica.folder / "replica.tape"
         whole = file.read_bytes()
         replica.kill()
         changed = whole[:40] + bytes([whole[40] ^ 1]) + whole[41:]
-        for name, content, left, told in (("whole", whole, 3, "opened published=3"), ("torn", whole[:-5], 2, "opened published=2"),
-                                          ("missing", None, 0, "tape-missing"), ("damaged", changed, 0, "tape-damaged")):
+        cases = (("whole", whole, 3, "opened published=3"), ("torn", whole[:-5], 2, "opened published=2"),
+                 ("missing", None, 0, "tape-missing"), ("damaged", changed, 0, "tape-damaged"))
+        for name, content, left, told in cases:
             begin_with(farm, replica, content, left, told)
             want(f"{name}: the tape isn't whole again", file.read_bytes() == whole)
         metric = write_no_more(farm, replica, len(whole) + 100)
@@ -428,21 +395,15 @@ def begin_with(farm, replica, content, left, told):
 
 def write_no_more(farm, replica, most):
     """What a replica tells whose files may have so many bytes: it learns on."""
-    def limit():
-        signal.signal(signal.SIGXFSZ, signal.SIG_IGN)
-        resource.setrlimit(resource.RLIMIT_FSIZE, (most, most))
-
     # (its log would be a file too, so it goes to a pipe)
-    replica.start(preexec_fn=limit, stderr=subprocess.PIPE)
+    replica.start(before=UNSIGNALLED, preexec_fn=limited(most), stderr=subprocess.PIPE)
     try:
         want("it doesn't begin", until(lambda: replica.published() == 3, 20))
         for number in range(4, 6):
-            want("no publish", farm.publish(map_of(number, 0), farm.voters[0]))
+            want("no publish", farm.publish(map_of(number), farm.voters[0]))
         want("it doesn't learn on", until(lambda: replica.published() == 5, 20))
-        want("a replica took a publish", ask(replica, "/publish", map_of(9, 0))[0] == 404)
-        with urllib.request.urlopen(f"http://{replica.operator}/metrics", timeout=20) as answer:
-            metrics = answer.read().decode()
-        want("not told at the operator's port", "\nwfarm_tape_failed 1\n" in metrics)
+        want("a replica took a publish", replica.ask("/publish", map_of(9)).status == 404)
+        want("not told at the operator's port", replica.metrics().get("wfarm_tape_failed") == 1)
     finally:
         replica.kill()
     return "wfarm_tape_failed 1"
@@ -456,10 +417,11 @@ def chain(options, top):
             sources = links[-1].readers
             until(lambda: links[-1].published() is not None)
             time.sleep(0.5)
-        want("no publish", farm.publish(map_of(1, 0), farm.voters[0]))
+        want("no publish", farm.publish(map_of(1), farm.voters[0]))
         learned = [until(lambda: link.published() == 1, 5) is not None for link in links]
         is_told = "too far" in links[-1].log.read_text()
-    print(f"chain: of six replicas in a row learned {learned.count(True)}, the last says that it is too far: {is_told}")
+    print(f"chain: of six replicas in a row learned {learned.count(True)}, the last says that it is too far: "
+          f"{is_told}")
     want(f"learned: {learned}", learned == 5 * [True] + [False] and is_told)
 
 
@@ -511,8 +473,8 @@ def lag(options, top):
             time.sleep(draw.uniform(0, 0.06))
         time.sleep(1)
     lags = lags_in(lines.seen)
-    print(f"lag: {count} maps at {len(replicas)} replicas: median {percentile(lags, 0.5):.0f} ms, p99 {percentile(lags, 0.99):.0f} ms, "
-          f"most {max(lags):.0f} ms")
+    print(f"lag: {count} maps at {len(replicas)} replicas: median {percentile(lags, 0.5):.0f} ms, p99 "
+          f"{percentile(lags, 0.99):.0f} ms, most {max(lags):.0f} ms")
     want("a map didn't come", len(lags) == count * len(replicas))
     want("p99 isn't below 100 ms", percentile(lags, 0.99) < 100)
 
@@ -521,7 +483,8 @@ def lags_in(seen):
     """Milliseconds from the first voter's line about a sequence to each replica's."""
     first, lags, last = {}, [], collections.Counter()
     for now, process, line in seen:
-        published, learned = re.search(r" published sequence=(\d+)", line), re.search(r" learned published=(\d+)", line)
+        published, learned = re.search(r" published sequence=(\d+)",
+                                       line), re.search(r" learned published=(\d+)", line)
         if published:
             first.setdefault(int(published[1]), now)
         if learned:
@@ -529,16 +492,6 @@ def lags_in(seen):
             lags += [1000 * max(0, now - first.get(sequence, now)) for sequence in came]
             last[process] = int(learned[1])
     return lags
-
-
-def tape_of(program, path, count, length=2_000):
-    """Writes a tape on which so many maps are published that take about so many bytes; their size."""
-    text = subprocess.run([str(program), "canon"], input=map_of(1, length), stdout=subprocess.PIPE, check=True).stdout
-    with open(path, "wb") as out:
-        for number in range(1, count + 1):
-            canon = text.replace(b'"map 1"', b'"map %d"' % number)
-            out.write(bytes([2, 4]) + (len(canon) + 2).to_bytes(4, "big") + number.to_bytes(2, "big") + canon)
-    return len(text)
 
 
 def fill(options, top):
@@ -553,7 +506,8 @@ def fill(options, top):
         replica.start()
         until(lambda: replica.published() == MOST_MAPS)
         again = time.monotonic() - begun
-    print(f"fill: {MOST_MAPS:,} maps of {size:,} bytes in {spent:.1f} s from nothing, in {again:.1f} s from its tape")
+    print(f"fill: {MOST_MAPS:,} maps of {size:,} bytes in {spent:.1f} s from nothing, in {again:.1f} s from "
+          f"its tape")
     want("not within ten seconds", spent < 10)
 
 
@@ -561,7 +515,8 @@ def spent_by(processes, seconds):
     """What processes cost, in percent of a core."""
     before = [process.processor_seconds() for process in processes]
     time.sleep(seconds)
-    return [100 * (process.processor_seconds() - begun) / seconds for process, begun in zip(processes, before)]
+    return [100 * (process.processor_seconds() - begun) / seconds for process,
+            begun in zip(processes, before)]
 
 
 def rest(options, top):
@@ -574,37 +529,28 @@ def rest(options, top):
         time.sleep(2)
         both = spent_by(farm.voters + replicas, 10)
     beside, own = both[:VOTERS], both[VOTERS:]
-    print(f"rest: a voter costs {max(alone):.2f} % of a core alone, {max(beside):.2f} % with {len(replicas)} replicas; "
-          f"a replica {max(own):.2f} %")
-    want("replicas at rest cost two percent or more", max(after - before for after, before in zip(beside, alone)) < 2)
+    print(f"rest: a voter costs {max(alone):.2f} % of a core alone, {max(beside):.2f} % with {len(replicas)} "
+          f"replicas; a replica {max(own):.2f} %")
+    want("replicas at rest cost two percent or more",
+         max(after - before for after, before in zip(beside, alone)) < 2)
 
 
 CASES = [kills, lag, fill, rest, tape, chain, misled, twice, foreign]
 
 
 def words():
-    parser = argparse.ArgumentParser(description=__doc__, formatter_class=argparse.RawDescriptionHelpFormatter)
-    parser.add_argument("--program", type=pathlib.Path, default=PROGRAM)
-    parser.add_argument("--publishes", type=int, default=1000)
-    parser.add_argument("--replicas", type=int, default=10)
-    parser.add_argument("--seconds", type=float, default=300)
-    parser.add_argument("--seed", type=int, default=1)
-    parser.add_argument("cases", nargs="*", metavar="CASE", choices=[[], *(case.__name__ for case in CASES)])
-    return parser.parse_args()
+    asked = program_parser(__doc__)
+    asked.add_argument("--publishes", type=int, default=1000, metavar="N")
+    asked.add_argument("--replicas", type=int, default=10, metavar="N")
+    asked.add_argument("--seconds", type=float, default=300, metavar="S")
+    asked.add_argument("--seed", type=int, default=1, metavar="S")
+    add_cases(asked, (case.__name__ for case in CASES))
+    return asked.parse_args()
 
 
 def main():
-    options, failed = words(), 0
-    chosen = [case for case in CASES if not options.cases or case.__name__ in options.cases]
-    for case in chosen:
-        with tempfile.TemporaryDirectory(prefix="try-replicas-") as top:
-            try:
-                case(options, pathlib.Path(top))
-            except Wrong as wrong:
-                failed += 1
-                print(f"{case.__name__}: FAILED: {wrong}", flush=True)
-    print(f"{len(chosen) - failed} of {len(chosen)} cases went as they should")
-    return 1 if failed else 0
+    options = words()
+    return go_through(chosen(CASES, options.cases), lambda case, folder: case(options, folder))
 
 
 if __name__ == "__main__":

@@ -1,14 +1,14 @@
 #!/usr/bin/env python3
-"""Tries the units of systemd under a systemd of their own: the package (`tools/make_deb.py`) in a Debian that `systemd-nspawn` boots, with
-three nodes, a replica and both kinds of `wfarm serve` as services; what becomes of each, of one that is stopped and of one that failed at an
-upgrade, a removal, an installation anew and a purge.
+"""Tries the units of systemd under a systemd of their own: the package (`tools/make_deb.py`) in a Debian that
+`systemd-nspawn` boots, with three nodes, a replica and both kinds of `wfarm serve` as services; what becomes
+of each, of one that is stopped and of one that failed at an upgrade, a removal, an installation anew and a
+purge.
 
-Usage: tools/try_units.py [--program PROGRAM] [--root DIR]
-DIR is a Debian made before (debootstrap with the packages of INCLUDED), copied from; else one is made. A line for each thing that was
-seen; status 1 where one is not as it should be. Wants root, debootstrap, systemd-container, and a program with `wfarm replica`.
+DIR is a Debian made before (debootstrap with the packages of INCLUDED), copied from; else one is made. A line
+for each thing that was seen; status 1 where one is not as it should be. Wants root, debootstrap,
+systemd-container, and a program with `wfarm replica`.
 """
 
-import argparse
 import pathlib
 import shutil
 import subprocess
@@ -17,55 +17,52 @@ import tempfile
 import time
 
 import make_deb
-from farm import PROGRAM
-from try_deb import package
+from farmkit.command import lacks, tell_missing
+from farmkit.processes import children, end
+from farmkit.trial import Trial
+from try_deb import debian, package, words
 
 INCLUDED = "systemd,systemd-sysv,dbus,python3,python3-minimal,adduser,procps"
 NODES = 3
-PATIENCE = 90
-NODE_CONF = "PEERS={peers}\nHTTP=127.0.0.1:{http}\nADMIN=127.0.0.1:{admin}\nMORE=--readers 127.0.0.1:{readers}\n"
+PATIENCE = 180
+NODE_CONF = ("PEERS={peers}\nHTTP=127.0.0.1:{http}\nADMIN=127.0.0.1:{admin}\n"
+             "MORE=--readers 127.0.0.1:{readers}\n")
 SERVE_CONF = "PORT=8391\nNODES=3\n"
 REPLICA_CONF = "FARM=county\nPEERS={readers}\nHTTP=127.0.0.1:8090\nADMIN=127.0.0.1:9190\n"
 
 
-class Container:
+class Container(Trial):
     """A Debian that is booted in a folder, and what was seen in it."""
 
     def __init__(self, path):
-        self.path, self.wrong, self.process, self.leader = path, 0, None, None
+        super().__init__()
+        self.path, self.process, self.leader = path, None, None
 
-    def see(self, what, seen, told=""):
-        print(f"{'ok   ' if seen else 'wrong'} {what}" + ("" if seen or not told else f": {told}"), flush=True)
-        self.wrong += not seen
-
-    def wait(self, what, holds):
-        """Waits until it holds, and says after how long."""
-        begun = time.monotonic()
-        while not holds() and time.monotonic() < begun + PATIENCE:
-            time.sleep(0.2)
-        took = time.monotonic() - begun
-        self.see(f"{what} ({took:.1f} s)", took < PATIENCE)
+    def wait(self, what, is_so, seconds=PATIENCE):
+        super().wait(what, is_so, seconds)
 
     def before_boot(self, *words):
         return subprocess.run(["chroot", str(self.path), *words], capture_output=True, text=True)
 
-    def boot(self):
-        """Boots it, with a network of its own; whether its systemd answers."""
-        words = ["systemd-nspawn", "--quiet", "--boot", "--register=no", "--keep-unit", "--private-network", "--directory", str(self.path)]
+    def boot(self, *network):
+        """Boots it, by default with a network of its own; whether its systemd answers."""
+        words = ["systemd-nspawn", "--quiet", "--boot", "--register=no", "--keep-unit",
+                 *(network or ("--private-network",)), "--directory", str(self.path)]
         console = (self.path.parent / "console").open("wb")
         self.process = subprocess.Popen(words, stdin=subprocess.DEVNULL, stdout=console, stderr=console)
         until = time.monotonic() + PATIENCE
         while time.monotonic() < until and self.process.poll() is None:
-            children = pathlib.Path(f"/proc/{self.process.pid}/task/{self.process.pid}/children").read_text().split()
-            self.leader = children[0] if children else None
-            if self.leader and self.inside("systemctl", "is-system-running").stdout.strip() in ("running", "degraded"):
+            started = children(self.process.pid)
+            self.leader = str(started[0]) if started else None
+            if self.leader and self.inside("systemctl", "is-system-running").stdout.strip() in ("running",
+                                                                                                "degraded"):
                 return True
             time.sleep(0.5)
         return False
 
     def inside(self, *words):
-        """What a command in the container does."""
-        entering = ["nsenter", "--target", self.leader, "--mount", "--uts", "--ipc", "--net", "--pid", "--root", "--wd=/"]
+        entering = ["nsenter", "--target", self.leader, "--mount", "--uts", "--ipc", "--net", "--pid",
+                    "--root", "--wd=/"]
         return subprocess.run([*entering, *words], capture_output=True, text=True)
 
     def property(self, unit, name):
@@ -79,12 +76,12 @@ class Container:
 
     def stop(self):
         if self.process is not None:
-            self.inside("systemctl", "poweroff")
+            if self.leader:
+                self.inside("systemctl", "poweroff")
             try:
                 self.process.wait(30)
             except subprocess.TimeoutExpired:
-                self.process.kill()
-                self.process.wait()
+                end(self.process)
 
 
 def prepare(container, program, folder):
@@ -99,7 +96,8 @@ def prepare(container, program, folder):
     for number in range(NODES):
         state, user = f"/var/lib/wfarm/node-{number}", ["chroot", "--userspec=wfarm:wfarm", "/"]
         container.before_boot("install", "-d", "-o", "wfarm", "-g", "wfarm", state)
-        made = container.before_boot(*user, "wfarm", "init", "--state", state, "--farm", "county", "--id", str(number), "--nodes", str(NODES))
+        made = container.before_boot(*user, "wfarm", "init", "--state", state, "--farm", "county", "--id",
+                                     str(number), "--nodes", str(NODES))
         container.see(f"init of node {number}", made.returncode == 0, made.stderr)
         peers = ",".join(f"127.0.0.1:{7000 + each}" for each in range(NODES))
         conf = NODE_CONF.format(peers=peers, http=8080 + number, admin=9090 + number, readers=7010 + number)
@@ -111,31 +109,16 @@ def prepare(container, program, folder):
     (settings / "nodes").write_text("".join(lines) + "replica 127.0.0.1:8090 127.0.0.1:9190\n")
 
 
-def second_farm(container):
-    """A node of another farm on the same machine, whose unit has a word before its number."""
-    state, unit = "/var/lib/wfarm/node-roads-0", "wfarm-node@roads-0"
-    settings = container.path / "etc/wfarm"
-    container.inside("install", "-d", "-o", "wfarm", "-g", "wfarm", state)
-    container.inside("runuser", "-u", "wfarm", "--", "wfarm", "init", "--state", state, "--farm", "roads", "--id", "0", "--nodes", "1")
-    (settings / "node-roads-0.conf").write_text(NODE_CONF.format(peers="127.0.0.1:7400", http=8480, admin=9490, readers=7410))
-    (settings / "roads").write_text("127.0.0.1:8480 127.0.0.1:9490\n")
-    container.inside("systemctl", "start", unit)
-    container.wait("a node of a second farm is well", lambda: container.inside("wfarmctl", "--farm", "/etc/wfarm/roads", "status").returncode == 0)
-    container.inside("systemctl", "stop", unit)
-
-
 def kill(container, unit):
     """Ends a unit's program by SIGKILL: systemd starts it again."""
     number = container.property(unit, "MainPID")
     container.inside("kill", "-9", number)
-    container.wait(f"{unit} is started again after kill -9",
-                   lambda: container.is_active(unit) and container.property(unit, "MainPID") not in ("0", number))
+    container.wait(f"{unit} is started again after kill -9", lambda: container.is_active(unit)
+                   and container.property(unit, "MainPID") not in ("0", number))
     container.see(f"{unit} counts one restart", container.property(unit, "NRestarts") == "1")
 
 
 def attempt(container, program, folder):
-    """Starts, kills, wears out, upgrades and stops."""
-    second_farm(container)
     units = [f"wfarm-node@{number}" for number in range(NODES)] + ["wfarm-replica@0", "wfarm@county"]
     started = container.inside("systemctl", "start", *units)
     container.see("the units are started", started.returncode == 0, started.stderr)
@@ -150,7 +133,8 @@ def attempt(container, program, folder):
     wear_out(container, units[2])
     newer = upgrade(container, program, folder, units)
     stopped = container.inside("systemctl", "stop", *units)
-    container.see("the units are stopped", stopped.returncode == 0 and not any(container.is_active(unit) for unit in units))
+    container.see("the units are stopped", stopped.returncode == 0
+                  and not any(container.is_active(unit) for unit in units))
     container.see("no program is left", container.inside("pgrep", "-x", "wfarm").returncode == 1)
     serve(container)
     remove(container, newer, units)
@@ -165,13 +149,16 @@ def remove(container, package_name, units):
     container.see("the package is removed", removed.returncode == 0, removed.stderr)
     container.see("each unit was stopped", not any(container.is_active(unit) for unit in units))
     container.see("no program is left", container.inside("pgrep", "-x", "wfarm").returncode == 1)
-    container.see("it is installed again", container.inside("dpkg", "--install", "/root/" + package_name).returncode == 0)
+    container.see("it is installed again",
+                  container.inside("dpkg", "--install", "/root/" + package_name).returncode == 0)
     container.see("units that were enabled are still, and aren't started",
-                  container.property("wfarm-node@0", "UnitFileState") == "enabled" and not container.is_active("wfarm-node@0"))
+                  container.property("wfarm-node@0", "UnitFileState") == "enabled"
+                  and not container.is_active("wfarm-node@0"))
     container.inside("systemctl", "start", *units[:NODES], "wfarm-replica@0")
     container.wait("the nodes go on", container.is_well)
     purged = container.inside("dpkg", "--purge", "wfarm")
-    container.see("it is purged", purged.returncode == 0 and not any(container.is_active(unit) for unit in units), purged.stderr)
+    container.see("it is purged", purged.returncode == 0
+                  and not any(container.is_active(unit) for unit in units), purged.stderr)
     left = [link.name for link in wants.glob("wfarm*")] if wants.exists() else []
     container.see("no unit is enabled any more", not left, left)
     container.see("the nodes' folders stay", (container.path / "var/lib/wfarm/node-0/farm").exists())
@@ -180,7 +167,8 @@ def remove(container, package_name, units):
 def serve(container):
     """All nodes of a farm in one process."""
     container.inside("systemctl", "start", "wfarm")
-    ask = ["python3", "-c", "import urllib.request; print(urllib.request.urlopen('http://127.0.0.1:8080/status').read().decode())"]
+    ask = ["python3", "-c", "import urllib.request; "
+           "print(urllib.request.urlopen('http://127.0.0.1:8080/status').read().decode())"]
     container.wait("wfarm.service answers", lambda: container.inside(*ask).stdout.startswith("node "))
     kill(container, "wfarm")
     container.wait("it answers again", lambda: container.inside(*ask).stdout.startswith("node "))
@@ -193,12 +181,16 @@ def wear_out(container, unit):
     farm = container.path / "var/lib/wfarm/node-2/farm"
     farm.rename(farm.with_name("away"))
     container.inside("kill", "-9", container.property(unit, "MainPID"))
-    container.wait(f"{unit} stays ended after its starts failed", lambda: container.property(unit, "ActiveState") == "failed")
+    container.wait(f"{unit} stays ended after its starts failed",
+                   lambda: container.property(unit, "ActiveState") == "failed")
     starts = container.property(unit, "NRestarts")
     container.see(f"it was to be started again {starts} times, five at most were", starts in ("5", "6"))
-    container.wait("it is reported", lambda: "stays ended" in container.inside("journalctl", "--identifier", "wfarm", "--output", "cat").stdout)
+    container.wait("it is reported",
+                   lambda: "stays ended" in container.inside("journalctl", "--identifier", "wfarm",
+                                                             "--output", "cat").stdout)
     told = container.inside("journalctl", "--unit", unit, "--output", "cat").stdout
-    container.see("the journal has its last line", "bad folder: not a node's folder: wfarm init makes one" in told, told[-300:])
+    container.see("the journal has its last line",
+                  "bad folder: not a node's folder: wfarm init makes one" in told, told[-300:])
     farm.with_name("away").rename(farm)
     container.inside("systemctl", "reset-failed", unit)
     container.inside("systemctl", "start", unit)
@@ -206,39 +198,32 @@ def wear_out(container, unit):
 
 
 def upgrade(container, program, folder, units):
-    """A newer package starts the running services anew: its file's name."""
     new = package(program, make_deb.version_now(), folder)
     shutil.copy(new, container.path / "root")
     (container.path / "etc/wfarm/node-8.conf").write_text("PEERS=\nHTTP=\nADMIN=\nMORE=\n")
     container.inside("systemctl", "start", "wfarm-node@8")
-    container.wait("a unit that can't run has failed", lambda: container.property("wfarm-node@8", "ActiveState") == "failed")
+    container.wait("a unit that can't run has failed",
+                   lambda: container.property("wfarm-node@8", "ActiveState") == "failed")
     before = [container.property(unit, "MainPID") for unit in units]
     ran = container.inside("dpkg", "--install", "/root/" + new.name)
     container.see("the package is upgraded", ran.returncode == 0, ran.stderr)
     after = [container.property(unit, "MainPID") for unit in units]
     container.see("each service runs the new program", not set(before) & set(after))
     container.see("one that failed stays so, and one that was stopped too",
-                  container.property("wfarm-node@8", "ActiveState") == "failed" and not container.is_active("wfarm"))
+                  container.property("wfarm-node@8", "ActiveState") == "failed"
+                  and not container.is_active("wfarm"))
     container.wait("all are well", container.is_well)
     return new.name
 
 
 def main():
-    parser = argparse.ArgumentParser(description=__doc__.splitlines()[0])
-    parser.add_argument("--program", type=pathlib.Path, default=PROGRAM)
-    parser.add_argument("--root", type=pathlib.Path, help="a Debian that is there, copied from; else one is made")
-    options = parser.parse_args()
-    lacks = [name for name in ("systemd-nspawn", "nsenter", "dpkg-deb") if shutil.which(name) is None]
-    if lacks:
-        print("missing: " + ", ".join(lacks), file=sys.stderr)
-        return 2
+    options = words(__doc__).parse_args()
+    lacking = lacks("systemd-nspawn", "nsenter", "dpkg-deb")
+    if lacking:
+        return tell_missing(lacking)
     with tempfile.TemporaryDirectory() as folder:
         path = pathlib.Path(folder) / "root"
-        if options.root:
-            subprocess.run(["cp", "-a", str(options.root), str(path)], check=True)
-        else:
-            words = ["debootstrap", "--variant=minbase", f"--include={INCLUDED}", "bookworm", str(path)]
-            subprocess.run(words, check=True, stdout=subprocess.DEVNULL)
+        debian(options.root, path, INCLUDED)
         container = Container(path)
         prepare(container, options.program, folder)
         try:
@@ -246,11 +231,11 @@ def main():
                 container.see("systemd runs in a container", True)
                 attempt(container, options.program, folder)
             else:
-                container.see("systemd runs in a container", False, (path.parent / "console").read_text(errors="replace")[-500:])
+                container.see("systemd runs in a container", False,
+                              (path.parent / "console").read_text(errors="replace")[-500:])
         finally:
             container.stop()
-    print(f"{container.wrong} wrong")
-    return int(bool(container.wrong))
+    return container.conclude()
 
 
 if __name__ == "__main__":

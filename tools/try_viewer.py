@@ -1,19 +1,18 @@
 #!/usr/bin/python3
 """Tries the page of examples/viewer in a real browser, over the built program: not in CI.
 
-Usage: tools/try_viewer.py [PROGRAM] [--nodes] [--shots FOLDER] [--wms ADDRESS]    (default crates/wfarm/out/wfarm)
-
-It serves the page by nginx with examples/nginx.conf (its port, certificate, publishers and folder changed), opens it in headless
-Chromium, and looks at what it shows: each tile's pixels beside the farm's own bytes, labels across borders, which node drew each
-tile, publishes, older sequences, errors, keyboard and window. Between nginx and the farm stands a relay that counts connections, so
-that the tool knows for itself which node answered. Then it looks at three nodes in processes of their own, of which one is ended and
-started again, through examples/viewer/local.conf (`--nodes`: at these alone). With --wms it also looks at another WMS 1.3.0 through the page, such as MapServer
-(an address up to the query, `http://127.0.0.1:8090/wms?map=county`). Screenshots go to the folder.
+It serves the page by nginx with examples/nginx.conf (its port, certificate, publishers and folder changed),
+opens it in headless Chromium, and looks at what it shows: each tile's pixels beside the farm's own bytes,
+labels across borders, which node drew each tile, publishes, older sequences, errors, keyboard and window.
+Between nginx and the farm stands a relay that counts connections, so that the tool knows for itself which
+node answered. Then it looks at three nodes in processes of their own, of which one is ended and started
+again, through examples/viewer/local.conf (`--nodes`: at these alone). With --wms it also looks at another WMS
+1.3.0 through the page, such as MapServer (an address up to the query,
+`http://127.0.0.1:8090/wms?map=county`). Screenshots go to the folder.
 
 It needs Debian's nginx-light, libjs-leaflet, chromium, chromium-driver, python3-selenium and openssl.
 """
 
-import argparse
 import base64
 import json
 import pathlib
@@ -23,7 +22,6 @@ import sys
 import tempfile
 import threading
 import time
-import urllib.error
 import urllib.parse
 import urllib.request
 
@@ -31,10 +29,13 @@ from selenium import webdriver
 from selenium.webdriver.common.by import By
 from selenium.webdriver.common.keys import Keys
 
-HERE = pathlib.Path(__file__).resolve().parent
-sys.path.insert(0, str(HERE))
-from farm import Farm, nodes_in  # noqa: E402
-from nginx import EXAMPLES, Nginx, certificate, changed, whole  # noqa: E402
+from farmkit.command import program_parser
+from farmkit.nginx import Nginx, certificate, changed, whole
+from farmkit.processes import Farm, nodes_in
+from farmkit.repository import EXAMPLES
+from farmkit.trial import Trial
+from farmkit.wanted import seconds_until
+from farmkit.web import ask, loopback, received
 
 NODES = 3
 LABEL = bytes((1, 2, 3))  # the colour of labels in ACROSS
@@ -81,8 +82,9 @@ class Relay:
                     self.asked.append((node, asked.split(b"\r\n")[0].decode("latin-1")))
                 with farm:
                     farm.sendall(asked)
-                    came = b"".join(iter(lambda: farm.recv(1 << 16), b""))
-                if self.behind is not None and came.startswith(b"HTTP/1.1 200") and b"\r\n\r\nnode %d " % self.behind in came:
+                    came = received(farm)
+                is_good = came.startswith(b"HTTP/1.1 200")
+                if self.behind is not None and is_good and b"\r\n\r\nnode %d " % self.behind in came:
                     came = re.sub(rb"published \d", b"published 0", came, count=1)
                 client.sendall(came)
             except OSError:
@@ -103,12 +105,7 @@ class Relay:
         return head + b"\r\n\r\n" + body
 
     def ask(self, path, body=None):
-        """The status and the body of an answer."""
-        try:
-            with urllib.request.urlopen(f"http://127.0.0.1:{self.port}/{path}", data=body, timeout=60) as it:
-                return it.status, it.read()
-        except urllib.error.HTTPError as it:
-            return it.code, it.read()
+        return ask(loopback(self.port), f"/{path}", body, 60)
 
     def drew(self, path):
         """The node that was asked last for this path."""
@@ -123,50 +120,53 @@ class PageNginx(Nginx):
         super().__init__(folder)
         cert, key = certificate(folder)
         site = changed("nginx.conf", (
-            ("listen 443 ssl", f"listen 127.0.0.1:{self.port} ssl"), ("server_name maps.county.example", "server_name _"),
+            ("listen 443 ssl", f"listen 127.0.0.1:{self.port} ssl"),
+            ("server_name maps.county.example", "server_name _"),
             ("/etc/ssl/maps.county.example.pem", cert), ("/etc/ssl/maps.county.example.key", key),
-            ("https://maps\\.county\\.example", f"https://127\\.0\\.0\\.1:{self.port}"), ("allow 10.0.0.0/8", "allow 127.0.0.0/8"),
-            ("/usr/share/wfarm/viewer", str(EXAMPLES / "viewer")), ("http://127.0.0.1:8080", f"http://127.0.0.1:{relay.port}")))
+            ("https://maps\\.county\\.example", f"https://127\\.0\\.0\\.1:{self.port}"),
+            ("allow 10.0.0.0/8", "allow 127.0.0.0/8"),
+            ("/usr/share/wfarm/viewer", str(EXAMPLES / "viewer")),
+            ("http://127.0.0.1:8080", f"http://127.0.0.1:{relay.port}")))
         if wms:
-            site = site.replace("location / {", "location = /other { proxy_pass %s; }\n    location / {" % wms.partition("?")[0])
+            site = site.replace("location / {",
+                                "location = /other { proxy_pass %s; }\n    location / {"
+                                % wms.partition("?")[0])
         self.start(whole(folder, site))
 
     def publish_from(self, origin):
-        """The status of a publish by a page of that origin."""
         return self.ask("publish", b"MAP", Origin=origin)[0]
 
 
 class LocalNginx(Nginx):
     """nginx with examples/viewer/local.conf, its ports changed, and a log of what was asked."""
 
-    def __init__(self, folder, base):
+    def __init__(self, folder, nodes):
         super().__init__(folder, "http")
         self.start(changed("viewer/local.conf", (
-            (":8081", f":{self.port}"), ("/tmp/wfarm-viewer", f"{folder}/local"), *((f"127.0.0.1:741{number}", f"127.0.0.1:{base + number}") for number in range(NODES)),
-            ("root .;", f"root {EXAMPLES / 'viewer'};"), ("access_log off;", f"log_format asked $request_uri; access_log {folder}/asked asked;"))))
+            (":8081", f":{self.port}"), ("/tmp/wfarm-viewer", f"{folder}/local"),
+            *((f"127.0.0.1:741{node.number}", node.clients) for node in nodes),
+            ("root .;", f"root {EXAMPLES / 'viewer'};"),
+            ("access_log off;", f"log_format asked $request_uri; access_log {folder}/asked asked;"))))
 
     def drew(self, path):
         """The node that was asked last for this path."""
         asked = (self.folder / "asked").read_text().splitlines()
-        return [int(it.split("/")[2]) for it in asked if it.startswith("/node/") and it.partition("/node/")[2][2:] == path][-1]
+        return [int(it.split("/")[2]) for it in asked if it.startswith("/node/")
+                and it.partition("/node/")[2][2:] == path][-1]
 
 
-class Look:
-    """Counts what was seen as it should be."""
-
+class Look(Trial):
     def __init__(self):
-        self.good = self.bad = 0
+        super().__init__()
+        self.good = 0
 
     def __call__(self, what, holds):
-        print(("ok   " if holds else "BAD  ") + what, flush=True)
-        self.good, self.bad = self.good + bool(holds), self.bad + (not holds)
+        self.see(what, holds)
+        self.good += bool(holds)
 
     def within(self, seconds, what, test):
-        """Waits until the test holds."""
-        begun = time.time()
-        while not (held := test()) and time.time() < begun + seconds:
-            time.sleep(0.2)
-        self(f"{what} ({time.time() - begun:.1f} s)" if held else what, held)
+        took = seconds_until(test, seconds, 0.2)
+        self(what if took is None else f"{what} ({took:.1f} s)", took is not None)
 
 
 # the tiles of a map on the page: position, path, pixels, and the words of the tint
@@ -195,8 +195,6 @@ return tiles.length > 0 && tiles.every((tile) => tile.loaded && tile.current) &&
 
 
 class Page:
-    """The page in the browser."""
-
     def __init__(self, browser, shots):
         self.browser, self.shots = browser, shots
 
@@ -207,8 +205,8 @@ class Page:
         return self.browser.execute_script(script, *words)
 
     def set_to(self, name, value):
-        self.run("const it = document.getElementById(arguments[0]); it.value = arguments[1]; it.dispatchEvent(new Event('input'));"
-                 "it.dispatchEvent(new Event('change'))", name, value)
+        self.run("const it = document.getElementById(arguments[0]); it.value = arguments[1]; "
+                 "it.dispatchEvent(new Event('input'));it.dispatchEvent(new Event('change'))" , name, value)
 
     def click(self, name):
         self.browser.find_element(By.ID, name).click()
@@ -232,8 +230,9 @@ class Page:
             self.browser.save_screenshot(str(self.shots / f"{name}.png"))
 
     def errors(self):
-        """What the console says, but for the browser's own line on each answer that isn't 200 or doesn't come."""
-        return [it["message"] for it in self.browser.get_log("browser") if "Failed to load resource" not in it["message"]]
+        """What the console says, but for its own line on each answer that isn't 200 or doesn't come."""
+        return [it["message"] for it in self.browser.get_log("browser")
+                if "Failed to load resource" not in it["message"]]
 
 
 def pixels_of(ppm):
@@ -258,9 +257,11 @@ def together(tiles, side):
 
 
 def try_first_maps(page, relay, look):
-    look.within(15, "nothing is published yet, and the page says so", lambda: page.text("message") == "Nothing is published yet.")
+    look.within(15, "nothing is published yet, and the page says so",
+                lambda: page.text("message") == "Nothing is published yet.")
     relay.ask("publish", (ACROSS % (1, "200 220 190")).encode())
-    look.within(8, "a publish is seen", lambda: page.text("shown") == "1 of 1" and page.text("title") == "Across 1")
+    look.within(8, "a publish is seen", lambda: page.text("shown") == "1 of 1"
+                and page.text("title") == "Across 1")
     look.within(30, "every tile is there", page.loaded)
     page.zoom(2)
     look.within(30, "and at level 2", page.loaded)
@@ -269,18 +270,20 @@ def try_first_maps(page, relay, look):
     look(f"the sixteen tiles of the extent are there, of {len(tiles)}", len(inside) == 16)
     good, bad = alike(tiles, relay.ask)
     look(f"the pixels of {good} tiles are the farm's own, of {bad} they aren't", good >= 16 and not bad)
-    whole = pixels_of(relay.ask("wms?VERSION=1.3.0&REQUEST=GetMap&LAYERS=ground,names&STYLES=&CRS=EPSG:3857&BBOX=0,0,1024,1024&WIDTH=1024"
-                                "&HEIGHT=1024&FORMAT=image/x-portable-pixmap")[1])
+    whole = pixels_of(relay.ask("wms?VERSION=1.3.0&REQUEST=GetMap&LAYERS=ground,names&STYLES=&CRS=EPSG:3857"
+                                "&BBOX=0,0,1024,1024&WIDTH=1024&HEIGHT=1024&FORMAT=image/x-portable-pixmap")[1])
     look("the sixteen together are the picture of the whole extent", together(inside, 4) == whole)
     borders = [sum(whole[3 * (1024 * y + x):][:3] == LABEL for y in range(1024)) for x in (511, 512)]
-    look(f"a label crosses the border between them ({borders[0]} and {borders[1]} of its pixels beside it)", min(borders) > 0)
+    look(f"a label crosses the border between them ({borders[0]} and {borders[1]} of its pixels beside it)",
+         min(borders) > 0)
     page.shoot("level-2")
-    look.within(8, "three nodes stand at 1", lambda: [it.split()[:4] for it in page.text("nodes").splitlines()]
+    look.within(8, "three nodes stand at 1",
+                lambda: [it.split()[:4] for it in page.text("nodes").splitlines()]
                 == [["node", str(k), "published", "1"] for k in range(NODES)])
 
 
 def judged(tiles, relay):
-    """Of tinted tiles: those whose node the relay knows to be the one that is said, those of which it isn't, and those without a node."""
+    """Of tinted tiles: how many name the node that the relay knows, another one, and none."""
     said = [(re.fullmatch(r"node (\d+)", it["by"] or ""), relay.drew(it["path"])) for it in tiles]
     true = sum(bool(it and int(it[1]) == drew) for it, drew in said)
     unknown = sum(it is None for it, _ in said)
@@ -291,16 +294,18 @@ def try_renderers(page, relay, look):
     with relay.lock:
         relay.asked.clear()
     page.click("tint")
-    look.within(60, "tiles are tinted by the node that drew them", lambda: page.loaded() and all(it["by"] for it in page.tiles()))
+    look.within(60, "tiles are tinted by the node that drew them", lambda: page.loaded()
+                and all(it["by"] for it in page.tiles()))
     tiles = page.tiles()
     true, wrong, unknown = judged(tiles, relay)
-    look(f"of {len(tiles)} tiles the node is right of {true}, wrong of {wrong}, unknown of {unknown}, by {len(relay.asked)} connections",
-         true == len(tiles) and not wrong)
+    look(f"of {len(tiles)} tiles the node is right of {true}, wrong of {wrong}, unknown of {unknown}, by "
+         f"{len(relay.asked)} connections", true == len(tiles) and not wrong)
     by = {(it["x"], it["y"]): it["by"] for it in tiles}
     look("all three nodes drew some, and neighbours are of different ones", len(set(by.values())) == NODES
          and all(by[x, y] != by.get((x + 1, y)) and by[x, y] != by.get((x, y + 1)) for x, y in by))
     inside = [it for it in tiles if it["z"] == 2 and 0 <= it["x"] < 4 and 0 <= it["y"] < 4]
-    whole = pixels_of(relay.ask(inside[0]["path"].replace(re.search(r"BBOX=[^&]*", inside[0]["path"])[0], "BBOX=0,0,1024,1024").replace("256", "1024"))[1])
+    whole = pixels_of(relay.ask(inside[0]["path"].replace(re.search(r"BBOX=[^&]*", inside[0]["path"])[0],
+                                                          "BBOX=0,0,1024,1024").replace("256", "1024"))[1])
     look("tiles of three nodes together are one picture", together(inside, 4) == whole)
     page.shoot("renderers")
     stop = threading.Event()
@@ -317,7 +322,8 @@ def try_renderers(page, relay, look):
     with relay.lock:
         relay.asked.clear()
     page.click("tint")
-    look.within(120, "with another client that asks a hundred times a second", lambda: page.loaded() and all(it["by"] for it in page.tiles()))
+    look.within(120, "with another client that asks a hundred times a second", lambda: page.loaded()
+                and all(it["by"] for it in page.tiles()))
     true, wrong, unknown = judged(page.tiles(), relay)
     stop.set()
     noise.join()
@@ -332,23 +338,29 @@ def try_history(page, relay, look):
     look.within(30, "and its tiles", lambda: page.loaded() and not alike(page.tiles(), relay.ask)[1])
     slider = page.browser.find_element(By.ID, "sequence")
     slider.send_keys(Keys.ARROW_LEFT)
-    look.within(30, "the slider's left arrow shows the sequence before", lambda: page.text("shown") == "1 of 2" and page.loaded()
+    look.within(30, "the slider's left arrow shows the sequence before",
+                lambda: page.text("shown") == "1 of 2" and page.loaded()
                 and "MAPSEQ=1" in page.tiles()[0]["path"] and not alike(page.tiles(), relay.ask)[1])
     page.set_to("other", 2)
     page.click("compare")
     look.within(30, "two sequences side by side", lambda: page.loaded("right") and page.loaded())
-    look("the right one is the other sequence, pixel by pixel", "MAPSEQ=2" in page.tiles("right")[0]["path"] and not alike(page.tiles("right"), relay.ask)[1])
+    look("the right one is the other sequence, pixel by pixel", "MAPSEQ=2" in page.tiles("right")[0]["path"]
+         and not alike(page.tiles("right"), relay.ask)[1])
     page.run("state.maps.left.map.panBy([120, 40], {animate: false})")
-    look.within(10, "both move together", lambda: page.run("const c = (id) => state.maps[id].map.getCenter(); return c('left').distanceTo(c('right')) < 1"))
+    look.within(10, "both move together",
+                lambda: page.run("const c = (id) => state.maps[id].map.getCenter(); return "
+                                 "c('left').distanceTo(c('right')) < 1"))
     page.shoot("compared")
     page.click("compare")
     page.set_to("sequence", 2)
-    look.within(10, "one map again", lambda: page.run("return document.getElementById('right').hidden") and page.loaded())
+    look.within(10, "one map again", lambda: page.run("return document.getElementById('right').hidden")
+                and page.loaded())
 
 
 def try_publishing(page, relay, look, folder, nginx):
     page.publish(EXAMPLES / "refused-include.map")
-    look.within(8, "an error in a mapfile is said and marked", lambda: page.text("answer").startswith("M5 4: ") and "line 1" in page.text("answer")
+    look.within(8, "an error in a mapfile is said and marked",
+                lambda: page.text("answer").startswith("M5 4: ") and "line 1" in page.text("answer")
                 and page.run("return document.querySelector('#where mark').textContent") == "INCLUDE")
     page.shoot("error")
     (folder / "cut.map").write_text('MAP\n  NAME "é"\n  EXTENT 0 0 4 x4\n', encoding="utf-8")
@@ -361,13 +373,17 @@ def try_publishing(page, relay, look, folder, nginx):
     (folder / "third.map").write_text(ACROSS % (3, "150 150 230"), encoding="utf-8")
     page.publish(folder / "third.map")
     look.within(8, "a map is accepted", lambda: "sequence 3" in page.text("answer"))
-    look.within(8, "and published, as the page says", lambda: page.text("answer") == "Published as sequence 3." and page.text("shown") == "3 of 3")
+    look.within(8, "and published, as the page says",
+                lambda: page.text("answer") == "Published as sequence 3." and page.text("shown") == "3 of 3")
     look("a page of another site can't publish", nginx.publish_from("https://elsewhere.example") == 403)
 
 
 def try_keyboard(page, look):
     held = page.browser.find_element(By.ID, "left")
-    place = lambda: page.run("const it = state.maps.left.map; return [it.getCenter().lng, it.getZoom()]")
+
+    def place():
+        return page.run("const it = state.maps.left.map; return [it.getCenter().lng, it.getZoom()]")
+
     before = place()
     held.send_keys(Keys.ARROW_RIGHT)
     look.within(5, "an arrow key moves the map", lambda: place()[0] > before[0])
@@ -377,7 +393,8 @@ def try_keyboard(page, look):
     look.within(5, "minus zooms back", lambda: place()[1] == before[1])
     box = page.browser.find_element(By.CSS_SELECTOR, "#layers input")
     box.send_keys(Keys.SPACE)
-    look.within(15, "the space bar takes a layer away", lambda: page.loaded() and "ground" not in page.tiles()[0]["path"])
+    look.within(15, "the space bar takes a layer away", lambda: page.loaded()
+                and "ground" not in page.tiles()[0]["path"])
     box = page.browser.find_element(By.CSS_SELECTOR, "#layers input")
     box.send_keys(Keys.SPACE)
     look.within(15, "and back", lambda: page.loaded() and "ground" in page.tiles()[0]["path"])
@@ -390,21 +407,24 @@ def try_systems(page, relay, look):
     for system in ("CRS:84", "EPSG:4326"):
         page.set_to("crs", system)
         page.zoom(2)
-        look.within(30, f"its tiles in {system}", lambda: page.loaded() and ("CRS=" + system.replace(":", "%3A")) in page.tiles()[0]["path"])
+        look.within(30, f"its tiles in {system}", lambda: page.loaded()
+                    and ("CRS=" + system.replace(":", "%3A")) in page.tiles()[0]["path"])
         tiles = page.tiles()
         good, bad = alike(tiles, relay.ask)
         look(f"{good} have the farm's pixels, {bad} don't", good >= 16 and not bad)
         pictures[system] = {(it["x"], it["y"], it["z"]): it["rgb"] for it in tiles}
     look("both systems have the same tiles", pictures["CRS:84"] == pictures["EPSG:4326"])
     page.set_to("sequence", 1)
-    look.within(15, "an exception in place of a picture is a sentence", lambda: page.text("message") == "The server says: CRS is not offered.")
+    look.within(15, "an exception in place of a picture is a sentence",
+                lambda: page.text("message") == "The server says: CRS is not offered.")
     page.set_to("sequence", 4)
     look.within(15, "which goes", lambda: page.text("message") == "" and page.loaded())
 
 
 def try_odd_maps(page, relay, look):
     relay.ask("publish", TALL.encode())
-    look.within(8, "an extent that isn't square is said", lambda: "2.50 times as high as wide" in page.text("note") and page.loaded())
+    look.within(8, "an extent that isn't square is said",
+                lambda: "2.50 times as high as wide" in page.text("note") and page.loaded())
     tiles = page.tiles()
     good, bad = alike(tiles, relay.ask)
     look(f"{good} of its tiles have the farm's pixels, {bad} don't; rows go on above the first square",
@@ -414,12 +434,13 @@ def try_odd_maps(page, relay, look):
     relay.ask("publish", (ACROSS % (7, "200 200 90")).replace("NAME ground", "NAME soil").encode())
     look.within(8, "the next map", lambda: page.text("shown") == "7 of 7" and page.loaded())
     page.set_to("sequence", 5)
-    look.within(15, "an older map with other layers is drawn with its own", lambda: page.loaded() and "LAYERS=ground&" in page.tiles()[0]["path"]
-                and not alike(page.tiles(), relay.ask)[1])
+    look.within(15, "an older map with other layers is drawn with its own", lambda: page.loaded()
+                and "LAYERS=ground&" in page.tiles()[0]["path"] and not alike(page.tiles(), relay.ask)[1])
     page.set_to("sequence", 7)
     relay.behind = 2
     look.within(10, "a node that is behind is marked", lambda: any(
-        it.startswith("node 2 published 0 ") and it.endswith("(behind)") for it in page.text("nodes").splitlines()))
+        it.startswith("node 2 published 0 ") and it.endswith("(behind)")
+        for it in page.text("nodes").splitlines()))
     page.shoot("behind")
     relay.behind = None
     look.within(10, "until it isn't any more", lambda: "behind" not in page.text("nodes"))
@@ -428,7 +449,8 @@ def try_odd_maps(page, relay, look):
 def try_window(page, look):
     page.browser.set_window_size(400, 800)
     look.within(8, "a narrow window has the map above the rest, and nothing beside it", lambda: page.run(
-        "return document.querySelector('main').getBoundingClientRect().bottom <= document.querySelector('aside').getBoundingClientRect().top + 1"
+        "return document.querySelector('main').getBoundingClientRect().bottom <= "
+        "document.querySelector('aside').getBoundingClientRect().top + 1"
         " && document.documentElement.scrollWidth <= innerWidth"))
     look.within(15, "its tiles", page.loaded)
     page.shoot("narrow")
@@ -438,37 +460,25 @@ def try_window(page, look):
 def try_ends(page, farm, relay, look, program):
     farm.process.kill()
     farm.process.wait()
-    look.within(12, "a farm that is gone is said to be", lambda: page.text("message") == "The farm does not answer.")
+    look.within(12, "a farm that is gone is said to be",
+                lambda: page.text("message") == "The farm does not answer.")
     page.run("state.maps.left.map.panBy([600, 0], {animate: false})")
     page.shoot("gone")
     again = Farm(program, 1_000_000, None, nodes=2)
     relay.aim(again.port)
-    look.within(40, "a farm that begins again with nothing is said to", lambda: page.text("message") == "Nothing is published yet.")
-    look.within(15, "with two nodes, of which the third is gone", lambda: page.text("nodes").splitlines()[-1].endswith("(gone)")
+    look.within(40, "a farm that begins again with nothing is said to",
+                lambda: page.text("message") == "Nothing is published yet.")
+    look.within(15, "with two nodes, of which the third is gone",
+                lambda: page.text("nodes").splitlines()[-1].endswith("(gone)")
                 and page.text("nodes").count("published 0") == 2)
     relay.ask("publish", SQUARE_DEGREES.encode())
-    look.within(8, "and its first map is seen", lambda: page.text("shown") == "1 of 1" and page.loaded() and page.text("message") == "")
+    look.within(8, "and its first map is seen", lambda: page.text("shown") == "1 of 1" and page.loaded()
+                and page.text("message") == "")
     return again
 
 
-def free_base():
-    """A port that ends in 0, and with the next two is free."""
-    for base in range(21_010, 60_000, 10):
-        try:
-            for port in range(base, base + 3):
-                socket.create_server(("127.0.0.1", port)).close()
-            return base
-        except OSError:
-            continue
-    raise OSError("no ports are free")
-
-
 def asking(node):
-    """Asks one node by its own address."""
-    def ask(path, body=None):
-        with urllib.request.urlopen(f"http://{node.clients}/{path}", data=body, timeout=60) as it:
-            return it.status, it.read()
-    return ask
+    return lambda path, body=None: node.ask(f"/{path}", body, 60)
 
 
 def lines_of(page):
@@ -477,12 +487,10 @@ def lines_of(page):
 
 def try_nodes(page, look, folder, program):
     """Three nodes in processes of their own, each at an address of its own."""
-    base = free_base()
     nodes = nodes_in(program, folder / "nodes", "viewer")
-    for number, node in enumerate(nodes):
-        node.clients = f"127.0.0.1:{base + number}"
+    for node in nodes:
         node.start()
-    nginx = LocalNginx(folder, base)
+    nginx = LocalNginx(folder, nodes)
     try:
         page.browser.get(f"{nginx.address}?nodes=node/0,node/1,node/2")
         look_at_all(page, look, nginx, nodes)
@@ -496,13 +504,16 @@ def try_nodes(page, look, folder, program):
 
 def look_at_all(page, look, nginx, nodes):
     """All nodes are there: each tile is asked at one that is known."""
-    look.within(30, "three nodes are seen at 0", lambda: [it.split()[:4] for it in lines_of(page)] == [["node", str(k), "published", "0"] for k in range(NODES)])
+    look.within(30, "three nodes are seen at 0",
+                lambda: [it.split()[:4] for it in lines_of(page)] == [["node", str(k), "published", "0"]
+                                                                      for k in range(NODES)])
     asking(nodes[0])("publish", (ACROSS % (1, "200 220 190")).encode())
     look.within(15, "a publish is seen", lambda: page.text("shown") == "1 of 1" and page.loaded())
     page.zoom(2)
     look.within(30, "tiles at level 2", page.loaded)
     page.click("tint")
-    look.within(60, "each is tinted by its node", lambda: page.loaded() and all(it["by"] for it in page.tiles()))
+    look.within(60, "each is tinted by its node", lambda: page.loaded()
+                and all(it["by"] for it in page.tiles()))
     tiles = page.tiles()
     true = sum(it["by"] == f"node {nginx.drew(it['path'])}" for it in tiles)
     look(f"of {len(tiles)} tiles the node is right of {true}", true == len(tiles))
@@ -513,21 +524,25 @@ def look_at_all(page, look, nginx, nodes):
 
 
 def look_at_two(page, look, nginx, nodes, folder):
-    """One node is ended, and started again."""
     nodes[2].kill()
-    look.within(15, "an ended node is shown as gone, with the time", lambda: re.search(r"\(gone since [\d:]+", lines_of(page)[2]) is not None)
+    look.within(15, "an ended node is shown as gone, with the time",
+                lambda: re.search(r"\(gone since [\d:]+", lines_of(page)[2]) is not None)
     page.zoom(3)
-    look.within(60, "its tiles come from the others", lambda: page.loaded() and {it["by"] for it in page.tiles()} == {"node 0", "node 1"})
+    look.within(60, "its tiles come from the others", lambda: page.loaded()
+                and {it["by"] for it in page.tiles()} == {"node 0", "node 1"})
     good, bad = alike(page.tiles(), asking(nodes[1]))
     look(f"{good} have the pixels that node 1 gives, {bad} don't", not bad)
     (folder / "next.map").write_text(ACROSS % (2, "230 150 120"), encoding="utf-8")
     page.publish(folder / "next.map")
-    look.within(20, "two nodes publish", lambda: page.text("answer") == "Published as sequence 2." and page.text("shown") == "2 of 2")
+    look.within(20, "two nodes publish", lambda: page.text("answer") == "Published as sequence 2."
+                and page.text("shown") == "2 of 2")
     page.shoot("gone")
     nodes[2].start()
-    look.within(30, "the node is back, and at 2", lambda: "gone" not in page.text("nodes") and lines_of(page)[2].startswith("node 2 published 2 "))
+    look.within(30, "the node is back, and at 2", lambda: "gone" not in page.text("nodes")
+                and lines_of(page)[2].startswith("node 2 published 2 "))
     page.zoom(2)  # tiles that are shown already aren't asked again
-    look.within(60, "and draws again", lambda: page.loaded() and {it["by"] for it in page.tiles()} == {f"node {k}" for k in range(NODES)})
+    look.within(60, "and draws again", lambda: page.loaded()
+                and {it["by"] for it in page.tiles()} == {f"node {k}" for k in range(NODES)})
 
 
 def look_at_links(page, look):
@@ -535,20 +550,25 @@ def look_at_links(page, look):
     page.click("tint")
     page.set_to("other", 1)
     page.click("compare")
-    look.within(30, "both maps carry their sequence", lambda: page.loaded("right") and (page.text("left-number"), page.text("right-number")) == ("sequence 2", "sequence 1"))
+    look.within(30, "both maps carry their sequence", lambda: page.loaded("right")
+                and (page.text("left-number"), page.text("right-number")) == ("sequence 2", "sequence 1"))
     where = page.run("const it = state.maps.left.map; return [it.getZoom(), it.getCenter().lng.toFixed(3)]")
     page.browser.get(page.run("return document.getElementById('link').href"))
     page.browser.refresh()
-    look.within(40, "the link shows the same", lambda: page.loaded("right") and (page.text("left-number"), page.text("right-number")) == ("sequence 2", "sequence 1")
-                and page.run("const it = state.maps.left.map; return [it.getZoom(), it.getCenter().lng.toFixed(3)]") == where)
+    look.within(40, "the link shows the same", lambda: page.loaded("right")
+                and (page.text("left-number"), page.text("right-number")) == ("sequence 2", "sequence 1")
+                and page.run("const it = state.maps.left.map; return [it.getZoom(), "
+                             "it.getCenter().lng.toFixed(3)]") == where)
 
 
 def try_other(page, nginx, look, wms):
     query = wms.partition("?")[2]
-    page.browser.get(f"{nginx.address}?" + urllib.parse.urlencode({"wms": f"other?{query}&" if query else "other"}))
+    page.browser.get(f"{nginx.address}?"
+                     + urllib.parse.urlencode({"wms": f"other?{query}&" if query else "other"}))
     look.within(20, "another WMS: its tiles are there", page.loaded)
     look("its title is " + page.text("title"), page.text("title") not in ("", "wfarm"))
-    look("what only a farm has isn't shown", not any(page.browser.find_element(By.ID, it).is_displayed() for it in ("history", "farm", "publishing")))
+    look("what only a farm has isn't shown", not any(page.browser.find_element(By.ID, it).is_displayed()
+                                                     for it in ("history", "farm", "publishing")))
     formats = page.run("return [...document.getElementById('format').options].map((it) => it.value)")
     base = wms.partition("?")[0]
 
@@ -558,7 +578,8 @@ def try_other(page, nginx, look, wms):
 
     for media in formats[:2]:
         page.set_to("format", media)
-        look.within(30, f"tiles as {media}", lambda: page.loaded() and ("FORMAT=" + media.replace("/", "%2F")) in page.tiles()[0]["path"])
+        look.within(30, f"tiles as {media}", lambda: page.loaded()
+                    and ("FORMAT=" + media.replace("/", "%2F")) in page.tiles()[0]["path"])
         tiles = page.tiles()
         if "pixmap" in media:
             good, bad = alike(tiles, own)
@@ -569,7 +590,8 @@ def try_other(page, nginx, look, wms):
     page.set_to("format", formats[0])
     for system in page.run("return [...document.getElementById('crs').options].map((it) => it.value)"):
         page.set_to("crs", system)
-        look.within(30, f"its tiles in {system}", lambda: page.loaded() and ("CRS=" + system.replace(":", "%3A")) in page.tiles()[0]["path"])
+        look.within(30, f"its tiles in {system}", lambda: page.loaded()
+                    and ("CRS=" + system.replace(":", "%3A")) in page.tiles()[0]["path"])
         drawn = sum(len(set(base64.b64decode(it["rgb"]))) > 8 for it in page.tiles())
         look(f"something is drawn on {drawn} of them", drawn > 0)
         page.shoot("other-" + re.sub(r"\W", "-", system))
@@ -577,17 +599,18 @@ def try_other(page, nginx, look, wms):
 
 def open_browser():
     options = webdriver.ChromeOptions()
-    for word in ("--headless=new", "--no-sandbox", "--disable-gpu", "--ignore-certificate-errors", "--window-size=1700,1300"):
+    for word in ("--headless=new", "--no-sandbox", "--disable-gpu", "--ignore-certificate-errors",
+                 "--window-size=1700,1300"):
         options.add_argument(word)
     options.set_capability("goog:loggingPrefs", {"browser": "ALL"})
-    browser = webdriver.Chrome(options=options, service=webdriver.chrome.service.Service("/usr/bin/chromedriver"))
+    browser = webdriver.Chrome(options=options,
+                               service=webdriver.chrome.service.Service("/usr/bin/chromedriver"))
     browser.set_script_timeout(120)
     return browser
 
 
 def try_farm(page, look, folder, given):
-    """A farm of one process, behind a proxy."""
-    program, relay = str(given.program), Relay()
+    program, relay = given.program, Relay()
     farm = Farm(program, 1_000_000, None)
     relay.aim(farm.port)
     nginx = PageNginx(folder, relay, given.wms)
@@ -606,17 +629,15 @@ def try_farm(page, look, folder, given):
             try_other(page, nginx, look, given.wms)
     finally:
         nginx.end()
-        farm.process.kill()
-        farm.process.wait()
+        farm.kill()
 
 
 def main():
-    parser = argparse.ArgumentParser(description=__doc__, formatter_class=argparse.RawDescriptionHelpFormatter)
-    parser.add_argument("program", nargs="?", default=HERE.parent / "crates" / "wfarm" / "out" / "wfarm")
-    parser.add_argument("--nodes", action="store_true")
-    parser.add_argument("--shots", type=pathlib.Path)
-    parser.add_argument("--wms")
-    given = parser.parse_args()
+    words = program_parser(__doc__, "program")
+    words.add_argument("--nodes", action="store_true", help="looks at nodes in processes of their own alone")
+    words.add_argument("--shots", type=pathlib.Path, metavar="FOLDER", help="where screenshots go")
+    words.add_argument("--wms", metavar="ADDRESS", help="another WMS")
+    given = words.parse_args()
     if given.shots:
         given.shots.mkdir(parents=True, exist_ok=True)
     look = Look()
@@ -625,13 +646,13 @@ def main():
         try:
             if not given.nodes:
                 try_farm(page, look, pathlib.Path(name), given)
-            try_nodes(page, look, pathlib.Path(name), str(given.program))
+            try_nodes(page, look, pathlib.Path(name), given.program)
             said = page.errors()
             look("nothing in the console: " + "; ".join(said[:3]), not said)
         finally:
             page.browser.quit()
-    print(f"{look.good} as they should be, {look.bad} not")
-    return 1 if look.bad else 0
+    print(f"{look.good} as they should be, {look.wrong} not")
+    return 1 if look.wrong else 0
 
 
 if __name__ == "__main__":

@@ -1,37 +1,36 @@
 #!/usr/bin/env python3
-"""Tries each command of `tools/wfarmctl` over a real farm: three nodes in processes of their own, of which some are killed, stopped,
-given an old copy of their folder, a disk that is full, or a tape that was changed.
+"""Tries each command of `tools/wfarmctl` over a real farm: three nodes in processes of their own, of which
+some are killed, stopped, given an old copy of their folder, a disk that is full, or a tape that was changed.
 
-Usage: tools/try_wfarmctl.py [--program PROGRAM]
 A line for each thing that was seen; status 1 where one is not as it should be. About a minute.
 """
 
-import argparse
 import contextlib
 import json
 import pathlib
 import re
 import resource
 import shutil
-import signal
 import socket
 import subprocess
 import sys
 import tempfile
 import time
 
-from farm import PROGRAM, Replica, free_ports, nodes_in
+from farmkit import trial
+from farmkit.command import program_parser
+from farmkit.mapfiles import canonical
+from farmkit.processes import Replica, free_ports, nodes_in
 
 HERE = pathlib.Path(__file__).resolve().parent
-PATIENCE = 60
-MAP = 'MAP NAME "{}" EXTENT 0 0 4 4 PROJECTION "init=epsg:3857" END WEB METADATA "wms_title" "{}" END END END\n'
+MAP = ('MAP NAME "{}" EXTENT 0 0 4 4 PROJECTION "init=epsg:3857" END '
+       'WEB METADATA "wms_title" "{}" END END END\n')
 
 
-class Trial:
-    """A farm, its file of nodes, and what was seen."""
-
+class Trial(trial.Trial):
     def __init__(self, program, folder):
-        self.program, self.folder, self.wrong = str(program), folder, 0
+        super().__init__()
+        self.program, self.folder = program, folder
         self.nodes, self.file = self.farm("first")
 
     def farm(self, name):
@@ -39,108 +38,116 @@ class Trial:
         self.readers = free_ports(3)
         nodes = nodes_in(self.program, self.folder / name, name, readers=self.readers)
         file = self.folder / f"{name}.nodes"
-        file.write_text("# clients operator\n" + "".join(f"{node.clients} {node.operator}\n" for node in nodes))
+        file.write_text("# clients operator\n" + "".join(f"{node.clients} {node.operator}\n"
+                                                         for node in nodes))
         return nodes, file
 
     def map(self, name, title=""):
-        """A file with a small map."""
         path = self.folder / f"{name}.map"
         path.write_text(MAP.format(name, title or name))
         return path
 
     def call(self, *words, file=None, seconds=30, program=None):
         """What `wfarmctl` does: its status, what it writes, and what it writes on standard error."""
-        options = ["--farm", str(file or self.file), "--program", str(program or self.program), "--seconds", str(seconds)]
-        ended = subprocess.run([sys.executable, str(HERE / "wfarmctl"), *options, *map(str, words)], capture_output=True, text=True)
+        options = ["--farm", str(file or self.file), "--program", str(program or self.program), "--seconds",
+                   str(seconds)]
+        ended = subprocess.run([sys.executable, str(HERE / "wfarmctl"), *options, *map(str, words)],
+                               capture_output=True, text=True)
         return ended.returncode, ended.stdout, ended.stderr
 
-    def see(self, what, holds, told=""):
-        print(f"{'ok   ' if holds else 'WRONG'} {what}" + ("" if holds else f": {told}"), flush=True)
-        self.wrong += not holds
-
-    def wait(self, what, holds):
-        """Waits until it holds."""
-        until = time.monotonic() + PATIENCE
-        while not holds() and time.monotonic() < until:
-            time.sleep(0.1)
-        self.see(what, holds())
+    def tells(self, what, *words, code=0, out=None, has=(), error="", **options):
+        """What a call writes: all of it, parts of it, or a part of what comes on standard error."""
+        status, told, wrong = self.call(*words, **options)
+        holds = status == code and error in wrong and (out is None or told == out)
+        self.see(what, holds and all(part in told for part in ([has] if isinstance(has, str) else has)),
+                 (status, told, wrong))
 
     def all_at(self, sequence, nodes=None):
         return all(node.published() == sequence for node in nodes or self.nodes)
 
     def canonical(self, path):
-        return subprocess.run([self.program, "canon"], input=path.read_bytes(), capture_output=True, check=True).stdout.decode()
+        return canonical(self.program, path.read_bytes()).decode()
 
 
 def try_well(trial):
-    """All commands where all is well."""
     for node in trial.nodes:
         node.start()
     trial.wait("status: a new farm is well", lambda: trial.call("status")[0] == 0)
     code, told, _ = trial.call("status")
-    trial.see("status: a head and a line per node, each ok", len(told.splitlines()) == 4 and told.count(" ok\n") == 3, told)
+    trial.see("status: a head and a line per node, each ok", len(told.splitlines()) == 4
+              and told.count(" ok\n") == 3, told)
     first, second = trial.map("first"), trial.map("second", "another title")
     code, told, error = trial.call("publish", first)
-    trial.see("publish: the sequence, and the node that took the map", (code, told) == (0, "published 1 at node 0\n"), (told, error))
+    trial.see("publish: the sequence, and the node that took the map",
+              (code, told) == (0, "published 1 at node 0\n"), (told, error))
     trial.wait("all nodes have it", lambda: trial.all_at(1))
     code, told, error = trial.call("publish", HERE.parent / "examples" / "refused-include.map")
     trial.see("publish: a map that isn't valid", code == 1 and error.endswith("400 M5 4\n"), error)
-    trial.see("publish: what `wfarm check` finds in it", "line 1, column 5" in error and "Found INCLUDE" in error, error)
-    code, told, error = trial.call("publish", HERE.parent / "examples" / "refused-include.map", program=trial.folder / "nothing")
-    trial.see("publish: not where the program isn't there", (code, error) == (1, "wfarmctl: node 0: 400 M5 4\n"), error)
-    code, told, error = trial.call("publish", trial.folder / "nothing")
-    trial.see("publish: a file that isn't there", code == 1 and "No such file" in error, error)
-    trial.see("publish: another", trial.call("publish", second)[:2] == (0, "published 2 at node 0\n"))
-    trial.see("publish: the published map", trial.call("publish", second)[:2] == (0, "unchanged: it is sequence 2\n"))
-    trial.see("rollback: to the published map", trial.call("rollback", 2)[:2] == (0, "unchanged: it is sequence 2\n"))
+    trial.see("publish: what `wfarm check` finds in it", "line 1, column 5" in error
+              and "Found INCLUDE" in error, error)
+    code, told, error = trial.call("publish", HERE.parent / "examples" / "refused-include.map",
+                                   program=trial.folder / "nothing")
+    trial.see("publish: not where the program isn't there",
+              (code, error) == (1, "wfarmctl: node 0: 400 M5 4\n"), error)
+    trial.tells("publish: a file that isn't there", "publish", trial.folder / "nothing",
+                code=1, error="No such file")
+    trial.tells("publish: another", "publish", second, out="published 2 at node 0\n")
+    trial.tells("publish: the published map", "publish", second, out="unchanged: it is sequence 2\n")
+    trial.tells("rollback: to the published map", "rollback", 2, out="unchanged: it is sequence 2\n")
     trial.see("map: the canonical text", trial.call("map", 1)[:2] == (0, trial.canonical(first)))
-    code, told, error = trial.call("map", 3)
-    trial.see("map: a sequence that isn't published", code == 1 and "sequence 3 isn't published" in error, error)
+    trial.tells("map: a sequence that isn't published", "map", 3, code=1, error="sequence 3 isn't published")
     code, told, error = trial.call("diff", 1, 2)
-    trial.see("diff: what was taken away, and what came", code == 0 and "\n-" in told and "\n+" in told and "another title" in told, told)
-    trial.see("diff: nothing", trial.call("diff", 1, 1)[:2] == (0, ""))
+    trial.see("diff: what was taken away, and what came", code == 0 and "\n-" in told and "\n+" in told
+              and "another title" in told, told)
+    trial.tells("diff: nothing", "diff", 1, 1, out="")
     code, told, error = trial.call("rollback", 1)
-    trial.see("rollback: the map again, under a new sequence", code == 0 and told.startswith("published 3 ") and trial.call("map", 3)[1] == trial.canonical(first), (told, error))
+    trial.see("rollback: the map again, under a new sequence", code == 0 and told.startswith("published 3 ")
+              and trial.call("map", 3)[1] == trial.canonical(first), (told, error))
     trial.wait("all nodes have it", lambda: trial.all_at(3))
     try_history(trial)
     try_file_of_nodes(trial)
 
 
 def try_history(trial):
-    """What is published, as a list, as JSON, and as files."""
     code, told, error = trial.call("history")
     lines = [line.split() for line in told.splitlines()]
-    trial.see("history: a head, a line per map, and what is left", code == 0 and len(lines) == 5 and lines[-1] == "4,093 of 4,096 left".split(), told)
+    trial.see("history: a head, a line per map, and what is left", code == 0 and len(lines) == 5
+              and lines[-1] == "4,093 of 4,096 left".split(), told)
     length = str(len(trial.canonical(trial.folder / "second.map")))
-    trial.see("history: sequence, bytes, name and title", lines[2:3] == [["2", length, "second", "another", "title"]], told)
+    trial.see("history: sequence, bytes, name and title",
+              lines[2:3] == [["2", length, "second", "another", "title"]], told)
     code, told, error = trial.call("status", "-o", "json")
     read = json.loads(told) if code == 0 else {"processes": [{}]}
-    trial.see("status: as JSON", (read.get("well"), read.get("published"), read.get("left"), read.get("differ")) == (True, 3, 4093, None), told)
-    fields = {"name": "node 1", "published": 3, "majority": True, "state": "ok", "peers": 2, "proposal": "none"}
-    trial.see("status: each process, and whether it hears a majority", fields.items() <= dict(read["processes"][-2:][0]).items(), told)
-    trial.see("status: of which version", all("version" in each for each in read["processes"]), told)
+    trial.see("status: as JSON", (read.get("well"), read.get("published"), read.get("left"),
+                                  read.get("differ")) == (True, 3, 4093, None), told)
+    fields = {"name": "node 1", "published": 3, "majority": True, "state": "ok", "peers": 2,
+              "proposal": "none"}
+    trial.see("status: each process, and whether it hears a majority",
+              fields.items() <= dict(read["processes"][-2:][0]).items(), told)
+    trial.see("status: of which version and revision",
+              all(each["version"] and each["revision"] for each in read["processes"]), told)
     try_export(trial)
 
 
 def try_export(trial):
-    """All maps as files, at once and in two goes."""
     folder = trial.folder / "export"
-    code, told, error = trial.call("export", folder)
-    trial.see("export: all maps", (code, told) == (0, f"exported 3 maps to {folder}\n"), (told, error))
+    trial.tells("export: all maps", "export", folder, out=f"exported 3 maps to {folder}\n")
     files = sorted(folder.glob("*.map"))
-    trial.see("export: a file each", code == 0 and [file.read_text() for file in files] == [trial.call("map", at)[1] for at in (1, 2, 3)], files)
-    trial.see("verify: an export", trial.call("verify", folder)[:2] == (0, f"{folder}: whole, published 3\n"))
+    trial.see("export: a file each", [file.read_text() for file in files] == [trial.call("map", at)[1]
+                                                                              for at in (1, 2, 3)], files)
+    trial.tells("verify: an export", "verify", folder, out=f"{folder}: whole, published 3\n")
     (folder / "0003.map").unlink(missing_ok=True)
-    code, told, error = trial.call("verify", folder)
-    trial.see("verify: one that lacks a map", code == 1 and "the map of sequence 3 is missing" in error, error)
-    trial.see("export: it goes on", trial.call("export", folder)[0] == 0 and sorted(folder.glob("*.map")) == files != [])
+    trial.tells("verify: one that lacks a map", "verify", folder,
+                code=1, error="the map of sequence 3 is missing")
+    trial.see("export: it goes on", trial.call("export", folder)[0] == 0
+              and sorted(folder.glob("*.map")) == files != [])
     second = folder / "0002.map"
     second.parent.mkdir(exist_ok=True)
     second.write_text(trial.call("map", 1)[1])
-    code, told, error = trial.call("export", folder)
-    trial.see("export: never beside another farm's maps", code == 1 and "0002.map: not the farm's map of sequence 2" in error, error)
-    code, told, error = trial.call("verify", folder)
-    trial.see("verify: a map that was changed", code == 1 and "the map of sequence 2 isn't the one that was exported" in error, error)
+    trial.tells("export: never beside another farm's maps", "export", folder,
+                code=1, error="0002.map: not the farm's map of sequence 2")
+    trial.tells("verify: a map that was changed", "verify", folder,
+                code=1, error="the map of sequence 2 isn't the one that was exported")
     second.write_text(trial.call("map", 2)[1])
 
 
@@ -150,27 +157,31 @@ def try_file_of_nodes(trial):
     swapped = trial.folder / "swapped.nodes"
     swapped.write_text("".join([lines[0], lines[2], lines[1], lines[3]]))
     code, told, error = trial.call("status", file=swapped)
-    trial.see("status: a node that answers in another's line", code == 1 and "node 1 answers at " in told.splitlines()[1], told)
+    trial.see("status: a node that answers in another's line", code == 1
+              and "node 1 answers at " in told.splitlines()[1], told)
     with contextlib.ExitStack() as held:
-        silent = [held.enter_context(socket.create_server(("127.0.0.1", 0))).getsockname()[1] for _ in range(4)]
+        silent = [held.enter_context(socket.create_server(("127.0.0.1", 0))).getsockname()[1]
+                  for _ in range(4)]
         away = trial.folder / "silent.nodes"
-        away.write_text(trial.file.read_text() + "".join(f"replica 127.0.0.1:{port} 127.0.0.1:{port}\n" for port in silent))
+        away.write_text(trial.file.read_text() + "".join(f"replica 127.0.0.1:{port} 127.0.0.1:{port}\n"
+                                                         for port in silent))
         begun = time.monotonic()
         code, told, error = trial.call("status", file=away)
         took = time.monotonic() - begun
-    trial.see("status: four silent hosts at once, two seconds", told.count(" ok\n") == 3 and told.count("unreachable") == 4 and took < 4, (took, told))
+    trial.see("status: four silent hosts at once, two seconds", told.count(" ok\n") == 3
+              and told.count("unreachable") == 4 and took < 4, (took, told))
 
 
 def try_replica(trial):
-    """A replica in the file of nodes."""
     readers = ",".join(f"127.0.0.1:{port}" for port in trial.readers)
     replica = Replica(trial.program, trial.folder / "first" / "replica", "first", readers)
     file = trial.folder / "replica.nodes"
     file.write_text(trial.file.read_text() + f"replica {replica.clients} {replica.operator}\n")
     replica.start()
-    trial.wait("status: a replica is well once it has all maps", lambda: trial.call("status", file=file)[0] == 0)
-    line = trial.call("status", file=file)[1].splitlines()[-1]
-    trial.see("status: its line", line.startswith("replica ") and line.split()[2:] == ["3", "1", "ok"], line)
+    trial.wait("status: a replica is well once it has all maps",
+               lambda: trial.call("status", file=file)[0] == 0)
+    trial.wait("status: its line", lambda: re.search(r"\nreplica +\S+ +3 +1 ok\n$",
+                                                     trial.call("status", file=file)[1]))
     code, told, error = trial.call("map", 3, file=file)
     trial.see("map: of the same farm", code == 0 and told == trial.call("map", 3)[1], error)
     replica.kill()
@@ -179,43 +190,44 @@ def try_replica(trial):
 
 
 def try_failures(trial):
-    """Nodes that are killed, and too few for a majority."""
     first, second, third = trial.nodes
     third.kill()
     code, told, error = trial.call("status")
-    trial.see("status: a node that was killed", code == 1 and "unreachable" in told.splitlines()[3] and told.count(" ok\n") == 2, told)
-    code, told, error = trial.call("map", 99)
-    trial.see("map: a sequence that isn't published, where the last host doesn't answer", code == 1 and "sequence 99 isn't published" in error, error)
-    code, told, error = trial.call("publish", trial.map("fourth"))
-    trial.see("publish: two of three", (code, told) == (0, "published 4 at node 0\n"), (told, error))
+    trial.see("status: a node that was killed", code == 1 and "unreachable" in told.splitlines()[3]
+              and told.count(" ok\n") == 2, told)
+    trial.tells("map: a sequence that isn't published, where the last host doesn't answer", "map", 99,
+                code=1, error="sequence 99 isn't published")
+    trial.tells("publish: two of three", "publish", trial.map("fourth"), out="published 4 at node 0\n")
     third.start()
     trial.wait("status: well again, once the node was started", lambda: trial.call("status")[0] == 0)
     first.kill()
     code, told, error = trial.call("publish", trial.map("fifth"))
-    trial.see("publish: at the next node where the first one is gone", (code, told) == (0, "published 5 at node 1\n"), (told, error))
-    third.process.send_signal(signal.SIGSTOP)
+    trial.see("publish: at the next node where the first one is gone",
+              (code, told) == (0, "published 5 at node 1\n"), (told, error))
+    third.pause()
     code, told, error = trial.call("publish", trial.map("sixth"), seconds=3)
-    trial.see("publish: one of three: it isn't known what will become of it", code == 1 and "it isn't known" in error, (told, error))
-    trial.see("publish: why there is no majority", re.search(r"no majority \(node 0 is unreachable .*; node 2 is unreachable ", error), error)
-    trial.wait("status: the one that is left hears no majority", lambda: trial.call("status")[1].splitlines()[2].endswith(" no majority"))
+    trial.see("publish: one of three: it isn't known what will become of it", code == 1
+              and "it isn't known" in error, (told, error))
+    trial.see("publish: why there is no majority",
+              re.search(r"no majority \(node 0 is unreachable .*; node 2 is unreachable ", error), error)
+    trial.wait("status: the one that is left hears no majority",
+               lambda: trial.call("status")[1].splitlines()[2].endswith(" no majority"))
     trial.see("status: so the farm isn't well", trial.call("status")[0] == 1)
-    code, told, error = trial.call("publish", trial.map("sixth"), seconds=1)
-    trial.see("publish: why the last node didn't", code == 1 and "node 1 still proposes another map: no majority" in error, (told, error))
-    third.process.send_signal(signal.SIGCONT)
+    trial.tells("publish: why the last node didn't", "publish", trial.map("sixth"), seconds=1,
+                code=1, error="node 1 still proposes another map: no majority")
+    third.go_on()
     trial.wait("the map is published once the majority is back", lambda: trial.all_at(6, trial.nodes[1:]))
     first.start()
     trial.wait("once, and everywhere", lambda: trial.all_at(6))
     for node in trial.nodes:
         node.kill()
-    code, told, error = trial.call("publish", trial.map("seventh"), seconds=2)
-    trial.see("publish: no node", code == 1 and "not published" in error, error)
+    trial.tells("publish: no node", "publish", trial.map("seventh"), seconds=2, code=1, error="not published")
     for node in trial.nodes:
         node.start()
     trial.wait("status: well again", lambda: trial.call("status")[0] == 0)
 
 
 def try_suspended(trial):
-    """A node on an old copy of its folder."""
     node, kept = trial.nodes[2], trial.folder / "kept"
     node.kill()
     shutil.copytree(node.folder, kept)
@@ -230,32 +242,34 @@ def try_suspended(trial):
     trial.see("status: so the farm isn't well", trial.call("status")[0] == 1)
     for each in trial.nodes:
         each.kill()
-        ended = subprocess.run([trial.program, "clear", "--state", str(each.folder)], capture_output=True, text=True)
+        ended = subprocess.run([trial.program, "clear", "--state", str(each.folder)], capture_output=True,
+                               text=True)
         trial.see(f"clear of node {each.number}", ended.returncode == 0, ended.stderr)
         each.start()
     trial.wait("status: once all are cleared it is well", lambda: trial.call("status")[0] == 0)
 
 
 def try_full(trial):
-    """A node whose files can't grow for a while."""
     node = trial.nodes[2]
     node.kill()
     node.start(before=("env", "--ignore-signal=XFSZ"))
     trial.wait("a node is started again", lambda: node.published() == 6)
-    resource.prlimit(node.process.pid, resource.RLIMIT_FSIZE, (100, resource.RLIM_INFINITY))
-    code, told, error = trial.call("publish", trial.map("eighth"))
-    trial.see("publish: two of three", (code, told) == (0, "published 7 at node 0\n"), (told, error))
-    trial.wait("status: the node whose tape can't grow is halted", lambda: trial.call("status")[1].splitlines()[3].endswith(" halted"))
-    resource.prlimit(node.process.pid, resource.RLIMIT_FSIZE, (resource.RLIM_INFINITY, resource.RLIM_INFINITY))
+    resource.prlimit(node.running().pid, resource.RLIMIT_FSIZE, (100, resource.RLIM_INFINITY))
+    trial.tells("publish: two of three", "publish", trial.map("eighth"), out="published 7 at node 0\n")
+    trial.wait("status: the node whose tape can't grow is halted",
+               lambda: trial.call("status")[1].splitlines()[3].endswith(" halted"))
+    resource.prlimit(node.running().pid, resource.RLIMIT_FSIZE,
+                     (resource.RLIM_INFINITY, resource.RLIM_INFINITY))
     trial.wait("status: with more room it is well by itself", lambda: trial.call("status")[0] == 0)
 
 
 def try_copy(trial):
-    """A farm's maps on a new farm: from a node that runs, a stopped node's folder, a tape and an export, whole and in two goes."""
+    """From a node that runs, a stopped node's folder, a tape and an export, whole and in two goes."""
     source, part, export = trial.nodes[1], trial.folder / "part", trial.folder / "export"
     maps = [trial.call("map", sequence)[1] for sequence in range(1, source.published() + 1)]
-    trial.see("export: what came since", trial.call("export", export)[:2] == (0, f"exported {len(maps)} maps to {export}\n"))
-    shutil.copytree(export, part, ignore=lambda _, names: [name for name in names if name == "history" or name > "0002.map"])
+    trial.tells("export: what came since", "export", export, out=f"exported {len(maps)} maps to {export}\n")
+    shutil.copytree(export, part, ignore=lambda _,
+                    names: [name for name in names if name == "history" or name > "0002.map"])
     for node in (trial.nodes[0], trial.nodes[2]):
         node.kill()
     copy_to(trial, "second", source.operator, maps)
@@ -263,62 +277,61 @@ def try_copy(trial):
     copy_to(trial, "third", source.folder, maps)
     copy_to(trial, "fourth", source.folder / "node-1.tape", maps)
     copy_to(trial, "fifth", export, maps, first=part)
-    code, told, error = trial.call("copy", trial.folder / "nothing", trial.file)
-    trial.see("copy: of nothing", code == 1 and "neither a folder, nor a tape, nor an address" in error, error)
+    trial.tells("copy: of nothing", "copy", trial.folder / "nothing", trial.file,
+                code=1, error="neither a folder, nor a tape, nor an address")
 
 
 def copy_to(trial, name, source, maps, first=None):
-    """Copies onto a new farm."""
     nodes, file = trial.farm(name)
     for node in nodes:
         node.start()
     trial.wait(f"a new farm {name}", lambda: trial.call("status", file=file)[0] == 0)
     if first is not None:
-        trial.see("copy: the first maps", trial.call("copy", first, file)[:2] == (0, "copied 2 maps\n"))
+        trial.tells("copy: the first maps", "copy", first, file, out="copied 2 maps\n")
     counted = trial.folder / f"{name}.calls"
     program = trial.folder / "counting"
     program.write_text(f'#!/bin/sh\necho "$1" >> {counted}\nexec {trial.program} "$@"\n')
     program.chmod(0o755)
-    code, told, error = trial.call("copy", source, file, program=program)
-    trial.see("copy: all maps", (code, told) == (0, f"copied {len(maps)} maps\n"), (told, error))
-    trial.see("under their sequences", [trial.call("map", at, file=file)[1] for at in range(1, len(maps) + 1)] == maps)
+    trial.tells("copy: all maps", "copy", source, file, program=program, out=f"copied {len(maps)} maps\n")
+    trial.see("under their sequences",
+              [trial.call("map", at, file=file)[1] for at in range(1, len(maps) + 1)] == maps)
     calls = counted.read_text().split().count("tape") if counted.exists() else 0
     trial.see("a tape is read twice at most", calls <= 2, calls)
-    trial.see("copy: one that is done", trial.call("copy", source, file)[:2] == (0, f"copied {len(maps)} maps\n"))
+    trial.tells("copy: one that is done", "copy", source, file, out=f"copied {len(maps)} maps\n")
     if first is not None:
         code, told, error = trial.call("copy", first, file)
-        trial.see("copy: never onto a farm that has other maps", code == 1 and "has published maps already" in error, error)
+        trial.see("copy: never onto a farm that has other maps", code == 1
+                  and "has published maps already" in error, error)
     for node in nodes:
         node.kill()
 
 
 def try_verify(trial):
-    """Tapes of a backup."""
     folders = [node.folder for node in trial.nodes]
     code, told, error = trial.call("verify", *folders)
-    trial.see("verify: whole tapes of one farm", code == 0 and told.count(": whole, published 7") == 3, (told, error))
-    code, told, error = trial.call("verify", folders[0], trial.folder / "second" / "node-1")
-    trial.see("verify: folders of two farms", code == 1 and "not folders of one farm" in error, error)
+    trial.see("verify: whole tapes of one farm", code == 0 and told.count(": whole, published 7") == 3,
+              (told, error))
+    trial.tells("verify: folders of two farms", "verify", folders[0], trial.folder / "second" / "node-1",
+                code=1, error="not folders of one farm")
     tape = folders[0] / "node-0.tape"
     whole = tape.read_bytes()
     tape.write_bytes(whole[:-3])
-    trial.see("verify: a torn record at the end is what a crash leaves", trial.call("verify", folders[0])[0] == 0)
+    trial.see("verify: a torn record at the end is what a crash leaves",
+              trial.call("verify", folders[0])[0] == 0)
     tape.write_bytes(b"\x63" + whole[1:])
-    code, told, error = trial.call("verify", folders[0])
-    trial.see("verify: a bad record", code == 1 and "not every tape is whole" in error, (told, error))
+    trial.tells("verify: a bad record", "verify", folders[0], code=1, error="not every tape is whole")
     tape.write_bytes(whole)
-    code, told, error = trial.call("verify", trial.folder)
-    trial.see("verify: not a node's folder", code == 1 and "farm" in error, error)
+    trial.tells("verify: not a node's folder", "verify", trial.folder, code=1, error="farm")
 
 
 def try_changed(trial):
-    """A byte that changed on a disk: its node doesn't start. Where its file `farm` doesn't know of the history, as one of version 1, it answers
-    nobody, and the others go on."""
+    """Its node doesn't start, or with a file `farm` of version 1 answers nobody; the others go on."""
     node = trial.nodes[2]
     tape, farm = node.folder / "node-2.tape", node.folder / "farm"
     tape.write_bytes(tape.read_bytes().replace(b"another title", b"Another title"))
     code, told, error = trial.call("verify", *(each.folder for each in trial.nodes))
-    trial.see("verify: histories that differ", code == 1 and f"the histories of {trial.nodes[0].folder / 'node-0.tape'} and {tape} differ from "
+    trial.see("verify: histories that differ", code == 1
+              and f"the histories of {trial.nodes[0].folder / 'node-0.tape'} and {tape} differ from "
               "sequence 2 on" in error, (told, error))
     for each in trial.nodes[:2]:
         each.start()
@@ -327,22 +340,24 @@ def try_changed(trial):
     trial.wait("a node whose tape was changed doesn't start", lambda: node.process.poll() == 1)
     last = node.log.read_text().splitlines()[-1]
     trial.see("its last line", last == "bad folder: the tape has another history up to 7", last)
-    farm.write_text(re.sub("(?m)^known .*\n", "", farm.read_text()).replace("wfarm folder 2", "wfarm folder 1"))
+    farm.write_text(re.sub("(?m)^known .*\n", "", farm.read_text()).replace("wfarm folder 2",
+                                                                            "wfarm folder 1"))
     node.start()
     trial.wait("status: whose history differs from its own, at which address and sequence", lambda: re.search(
-        r" history differs.* node [01]\b.*127\.0\.0\.1:\d+.* sequence 7\b", trial.call("status")[1].splitlines()[3]))
+        r" history differs.* node [01]\b.*127\.0\.0\.1:\d+.* sequence 7\b",
+        trial.call("status")[1].splitlines()[3]))
     code, told, error = trial.call("status")
     trial.see("status: the others are well", code == 1 and told.count(" ok\n") == 2, told)
-    code, told, error = trial.call("publish", trial.map("ninth"))
-    trial.see("publish: by the others", (code, told) == (0, "published 8 at node 0\n"), (told, error))
+    trial.tells("publish: by the others", "publish", trial.map("ninth"), out="published 8 at node 0\n")
     code, told, error = trial.call("publish", trial.folder / "ninth.map", "--again")
-    trial.see("publish: the published map again, if it is asked for", (code, told) == (0, "published 9 at node 0\n"), (told, error))
+    trial.see("publish: the published map again, if it is asked for",
+              (code, told) == (0, "published 9 at node 0\n"), (told, error))
     trial.see("and nobody has ended", [each.process.poll() for each in trial.nodes] == [None] * 3)
 
 
 def try_words(trial):
-    """Bad command lines, and a bad file of nodes."""
-    trial.see("a bad command line", trial.call("map", "x")[0] == trial.call("lend")[0] == trial.call()[0] == 2)
+    trial.see("a bad command line",
+              trial.call("map", "x")[0] == trial.call("lend")[0] == trial.call()[0] == 2)
     code, _, error = trial.call("status", file=trial.folder / "nowhere")
     trial.see("no file of nodes", code == 1 and "No such file" in error, error)
     (trial.folder / "short").write_text("127.0.0.1:1\n")
@@ -350,20 +365,21 @@ def try_words(trial):
     trial.see("a line with one address", code == 1 and "not a line per node" in error, error)
 
 
+TRIALS = (try_well, try_replica, try_failures, try_suspended, try_full, try_copy, try_verify, try_changed,
+          try_words)
+
+
 def main():
-    parser = argparse.ArgumentParser(description=__doc__.splitlines()[0])
-    parser.add_argument("--program", type=pathlib.Path, default=PROGRAM)
-    options = parser.parse_args()
+    options = program_parser(__doc__).parse_args()
     with tempfile.TemporaryDirectory(prefix="wfarmctl-") as folder:
-        trial = Trial(options.program.resolve(), pathlib.Path(folder))
+        seen = Trial(options.program, pathlib.Path(folder))
         try:
-            for attempt in (try_well, try_replica, try_failures, try_suspended, try_full, try_copy, try_verify, try_changed, try_words):
-                attempt(trial)
+            for attempt in TRIALS:
+                attempt(seen)
         finally:
-            for node in trial.nodes:
+            for node in seen.nodes:
                 node.kill()
-    print(f"{trial.wrong} wrong")
-    return int(bool(trial.wrong))
+    return seen.conclude()
 
 
 if __name__ == "__main__":

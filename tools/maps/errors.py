@@ -45,5 +45,4 @@ def library(name, package):
     except ImportError as error:
         raise MapError(
             f"Python's {name} isn't there: apt-get install {package}, and run this tool by Debian's Python, "
-            f"/usr/bin/python3 (this is {sys.executable})"
-        ) from error
+            f"/usr/bin/python3 (this is {sys.executable})") from error

@@ -1,6 +1,8 @@
-"""Cases of `tools/try_nodes.py`: a node whose tape fails is halted, and its tape is opened anew only as the node that it was.
+"""Cases of `tools/try_nodes.py`: a node whose tape fails is halted, and its tape is opened anew only as the
+node that it was.
 
-What a program says is left open where it may choose its words: a line of the log is looked for by its event and the file that it names.
+What a program says is left open where it may choose its words: a line of the log is looked for by its event
+and the file that it names.
 """
 
 import contextlib
@@ -10,14 +12,14 @@ import shutil
 import subprocess
 import time
 
-from farm import CAPABILITIES, want
-from kill_nodes import map_of, records
-from nodes import KEPT, NODES, PICTURE, a_map, is_so_within, until
+from farmkit.mapfiles import PICTURE, a_map, canonical, map_of
+from farmkit.nodes import KEPT, NODES
+from farmkit.tapes import ACCEPTED, PROMISED, PUBLISHED, TRIED, record, records
+from farmkit.wanted import is_so_within, until, want, want_none
+from farmkit.web import CAPABILITIES
 
 # more bytes than the last page of a tape may have left
 LONG_MAP = map_of(1, 9_000)
-# kinds of records
-TRIED, PROMISED, ACCEPTED, PUBLISHED = 1, 2, 3, 4
 # seconds
 WATCHED = 5
 LONG_HALT = 16
@@ -25,7 +27,7 @@ SOON = 8
 
 
 def fail_tape(nodes, i):
-    """Lets a node's files grow no more and gives it a map, so that its tape fails, and not another file of its folder first."""
+    """Gives a node that can't write a map, so that its tape fails before another file of its folder."""
     time.sleep(KEPT)
     nodes.limit(i, 0)
     nodes.publish(i, a_map("unstored"))
@@ -33,8 +35,7 @@ def fail_tape(nodes, i):
 
 
 def changes_while_halted(nodes, i, published, file, seconds=WATCHED):
-    """What shows that a halted node isn't halted any more, or not as it was, or that its log doesn't say why it stays so with the name of
-    this file, a pattern. What the log said before doesn't count."""
+    """What shows that a halted node isn't as it was, or that its log doesn't name this file."""
     found, before, begun = set(), len(nodes.lines(i, "tape-not-reopened")), time.time()
     while time.time() < begun + seconds:
         status, said = nodes.health(i)
@@ -52,7 +53,6 @@ def changes_while_halted(nodes, i, published, file, seconds=WATCHED):
 
 
 def two_maps(nodes, sequence):
-    """What shows that nodes have published different maps under a sequence."""
     names = {i: nodes.name(i, sequence) for i in range(NODES)}
     return [f"maps under {sequence}: {names}"] if len({*names.values()} - {None}) > 1 else []
 
@@ -69,41 +69,39 @@ def compare_answers(nodes):
 # ---- a tape that was removed, or unmounted
 
 def removed(nodes, _):
-    """The tape of a halted node is removed: it stays halted, and serves what it had, until it is restarted and doesn't start."""
-    nodes.kill(2)
-    nodes.kill(1)
+    """It stays halted, and serves what it had, until it is restarted and doesn't start."""
+    nodes.kill(2, 1)
     nodes.start_limitable(1)
     nodes.publish_whole(0, a_map("x"))
     until(lambda: nodes.published(1) == 1)
     nodes.kill(0)
     fail_tape(nodes, 1)
-    nodes.tape(1).unlink()
+    nodes[1].tape.unlink()
     nodes.limit(1, None)
-    nodes.start(2)
-    nodes.wait(2)
+    nodes.start_all([2])
     nodes.publish(2, a_map("y"))
     wrong = changes_while_halted(nodes, 1, 1, r"node-1\.tape", SOON)
-    nodes.start(0)
-    nodes.wait(0)
+    nodes.start_all([0])
     wrong += two_maps(nodes, 1)
-    want("; ".join(wrong), not wrong)
-    want("a tape was made", not nodes.tape(1).exists())
+    want_none(wrong)
+    want("a tape was made", not nodes[1].tape.exists())
     until(lambda: nodes.published(2) >= 1)
     want("another map than x", {nodes.name(i, 1) for i in range(NODES)} == {"x"})
     nodes.publish_whole(2, a_map("z"))
     nodes.kill(1)
     nodes.start(1)
     ended = nodes.ended(1)
-    want(f"a start without a tape: {ended}", ended[0] == 1 and "tape missing" in ended[1] and not nodes.tape(1).exists())
+    want(f"a start without a tape: {ended}", ended[0] == 1 and "tape missing" in ended[1]
+         and not nodes[1].tape.exists())
     return f"halted for {SOON} s, then: {ended[1]}"
 
 
 def may_mount(folder):
-    """Whether a file system may be mounted here."""
     if os.geteuid() != 0:
         return False
     folder.mkdir()
-    is_mounted = subprocess.run(["mount", "-t", "tmpfs", "tmpfs", folder], capture_output=True).returncode == 0
+    is_mounted = subprocess.run(["mount", "-t", "tmpfs", "tmpfs", folder],
+                                capture_output=True).returncode == 0
     if is_mounted:
         subprocess.run(["umount", folder], check=True)
     folder.rmdir()
@@ -117,7 +115,7 @@ class Disk:
     """A disk of a megabyte in memory, with what a node's folder has; it is kept mounted elsewhere too."""
 
     def __init__(self, nodes, i):
-        self.place, self.kept = nodes.place(i), nodes.folder / "disk"
+        self.place, self.kept = nodes[i].folder, nodes.folder / "disk"
         self.kept.mkdir()
         subprocess.run(["mount", "-t", "tmpfs", "-o", "size=1m", "tmpfs", self.kept], check=True)
         shutil.copytree(self.place, self.kept, dirs_exist_ok=True)
@@ -128,7 +126,6 @@ class Disk:
         subprocess.run(["mount", "--bind", self.kept, self.place], check=True)
 
     def unmount(self):
-        """Takes it away from a program that uses it."""
         subprocess.run(["umount", "-l", self.place], check=True)
 
     def fill(self):
@@ -154,15 +151,12 @@ def disk_of(nodes, i):
 
 
 def unmounted(nodes, _):
-    """The disk of a node is full, then unmounted, and mounted again later: until then it is halted, and it is only ever the node that it was.
-    It isn't so either on an exact copy of its folder, which it hasn't locked."""
+    """It is halted, and is ever only the node that it was; not so on a copy that it hasn't locked."""
     if not may_mount(nodes.folder / "tried"):
         return LEFT_OUT
-    nodes.kill(2)
-    nodes.kill(1)
+    nodes.kill(2, 1)
     with disk_of(nodes, 1) as its:
-        nodes.start(1)
-        nodes.wait(1)
+        nodes.start_all([1])
         nodes.publish_whole(0, a_map("x"))
         until(lambda: nodes.published(1) == 1)
         time.sleep(KEPT)
@@ -171,20 +165,19 @@ def unmounted(nodes, _):
         until(lambda: nodes.health(1)[0] == 503)
         nodes.kill(0)
         its.unmount()
-        nodes.start(2)
-        nodes.wait(2)
+        nodes.start_all([2])
         nodes.publish(2, a_map("y"))
-        files = rf"{nodes.place(1)}|\bfarm\b|node-1\.tape"
+        files = rf"{nodes[1].folder}|\bfarm\b|node-1\.tape"
         wrong = changes_while_halted(nodes, 1, 1, files, SOON)
-        nodes.start(0)
-        nodes.wait(0)
+        nodes.start_all([0])
         wrong += two_maps(nodes, 1)
-        want("; ".join(wrong), not wrong)
-        made = [path.name for path in nodes.place(1).iterdir()]
+        want_none(wrong)
+        made = [path.name for path in nodes[1].folder.iterdir()]
         want(f"made where the disk was: {made}", not made)
-        shutil.copytree(its.kept, nodes.place(1), dirs_exist_ok=True, ignore=shutil.ignore_patterns("filling"))
+        shutil.copytree(its.kept, nodes[1].folder, dirs_exist_ok=True,
+                        ignore=shutil.ignore_patterns("filling"))
         wrong = changes_while_halted(nodes, 1, 1, files)
-        want("; ".join(wrong), not wrong)
+        want_none(wrong)
         its.make_room()
         its.mount()
         # (whether it goes on by itself, or an operator starts it, is left open)
@@ -192,24 +185,22 @@ def unmounted(nodes, _):
         want(f"node 1 says published {nodes.published(1)}", nodes.published(1) >= 1)
         if not is_back:
             nodes.kill(1)
-            nodes.start(1)
-            nodes.wait(1)
+            nodes.start_all([1])
         nodes.publish_whole(2, a_map("z"))
         nodes.level()
         compare_answers(nodes)
-        return f"halted for {SOON + WATCHED} s; after it was mounted again it went on {'by itself' if is_back else 'when it was started'}"
+        how = "by itself" if is_back else "when it was started"
+        return f"halted for {SOON + WATCHED} s; after it was mounted again it went on {how}"
 
 
 # ---- a full disk
 
 def disk(nodes, _):
-    """A node whose disk is full goes on with what it had, and with the others once there is room."""
     if not may_mount(nodes.folder / "tried"):
         return LEFT_OUT
     nodes.kill(2)
     with disk_of(nodes, 2) as its:
-        nodes.start(2)
-        nodes.wait(2)
+        nodes.start_all([2])
         its.fill()
         for k in range(3):
             nodes.publish_whole(0, a_map(f"disk{k}", "x" * 900))
@@ -219,18 +210,17 @@ def disk(nodes, _):
         want("a halted node doesn't answer", nodes.get(2, CAPABILITIES)[0] == 200)
         its.make_room()
         again = until(lambda: nodes.health(2)[0] == 200, 90)
-        return f"503 ({cause}) after {halted} s, 200 again {again} s after there was room; level after {nodes.level()} s"
+        return (f"503 ({cause}) after {halted} s, 200 again {again} s after there was room; level after "
+                f"{nodes.level()} s")
 
 
 def room(nodes, _):
-    """A disk was full for long, there is room again, and a publish needs the vote of its node: it is published within seconds, and the node
-    has counted one start more."""
+    """A publish needs the vote of its node: it comes within seconds, with one start more counted."""
     if not may_mount(nodes.folder / "tried"):
         return LEFT_OUT
     nodes.kill(2)
     with disk_of(nodes, 2) as its:
-        nodes.start(2)
-        nodes.wait(2)
+        nodes.start_all([2])
         nodes.publish_whole(0, a_map("first"))
         nodes.level()
         starts = nodes.starts(2)
@@ -247,8 +237,7 @@ def room(nodes, _):
         seconds = until(lambda: nodes.published(0) == nodes.published(2) == 3)
         counted = nodes.starts(2) - starts
         rejected = [line for line in nodes.lines(0, "dropped") + nodes.lines(2, "lost") if "refused" in line]
-        nodes.start(1)
-        nodes.wait(1)
+        nodes.start_all([1])
         nodes.level()
         compare_answers(nodes)
         wrong = [f"{seconds} s from the room to the publication"] if seconds > SOON else []
@@ -260,12 +249,11 @@ def room(nodes, _):
 # ---- other files in a halted node's folder
 
 def check_each(nodes, changes):
-    """Fails the tape of node 1 once for each change, of a file to the bytes that are made of its own (None: it is removed); what went wrong.
-    Before the next one the file is as it was, and the node is started."""
+    """Fails node 1's tape once for each change of a file (None: it is removed); what went wrong."""
     wrong, published = [], nodes.published(1)
     for name, (file, changed) in changes.items():
         fail_tape(nodes, 1)
-        path = nodes.place(1) / file
+        path = nodes[1].folder / file
         sound = path.read_bytes()
         content = changed(sound)
         if content is None:
@@ -281,45 +269,36 @@ def check_each(nodes, changes):
     return wrong
 
 
-def record(kind, body):
-    """The bytes of a tape's record."""
-    return bytes([2, kind]) + len(body).to_bytes(4, "big") + body
-
-
 def has_promised(nodes, i):
-    return any(kind == PROMISED for kind, _ in records(nodes.tape(i).read_bytes())[0])
+    return any(kind == PROMISED for kind, _ in records(nodes[i].tape.read_bytes())[0])
 
 
 def exchanged(nodes, _):
-    """In the place of a halted node's tape is another one: it stays halted."""
     for k in range(9):
         nodes.publish_whole(0, a_map(f"first{k}"))
         nodes.level()
         if has_promised(nodes, 2):
             break
-    older = nodes.tape(1).read_bytes()
-    nodes.kill(2)
-    nodes.kill(0)
-    nodes.start(0)
-    nodes.wait(0)
+    older = nodes[1].tape.read_bytes()
+    nodes.kill(2, 0)
+    nodes.start_all([0])
     # node 2 has no part in node 0's second round, and then equally much
     nodes.publish_whole(0, a_map("second"))
     until(lambda: nodes.published(1) == nodes.published(0))
-    nodes.start(2)
-    nodes.wait(2)
+    nodes.start_all([2])
     nodes.level()
     for i in (1, 2):
         nodes.kill(i)
         (nodes.start_limitable if i == 1 else nodes.start)(i)
         nodes.wait(i)
-    tape, other = nodes.tape(1).read_bytes(), nodes.tape(2).read_bytes()
-    want(f"the tapes of nodes 1 and 2 have {len(tape)} and {len(other)} bytes", len(tape) == len(other) and tape != other)
-    changes = {"an older copy": lambda _: older,
-               "another node's tape of equal length": lambda _: other,
+    tape, other = nodes[1].tape.read_bytes(), nodes[2].tape.read_bytes()
+    want(f"the tapes of nodes 1 and 2 have {len(tape)} and {len(other)} bytes", len(tape) == len(other)
+         and tape != other)
+    changes = {"an older copy": lambda _: older, "another node's tape of equal length": lambda _: other,
                "a tape of equal length with another text": lambda own: own.replace(b'"second"', b'"sec0nd"'),
                "its own with another record behind": lambda own: own + record(TRIED, (99).to_bytes(4, "big"))}
     wrong = check_each(nodes, {name: ("node-1.tape", changed) for name, changed in changes.items()})
-    want("; ".join(wrong), not wrong)
+    want_none(wrong)
     nodes.publish_whole(1, a_map("after"))
     nodes.level()
     compare_answers(nodes)
@@ -327,22 +306,22 @@ def exchanged(nodes, _):
 
 
 def rewritten(nodes, _):
-    """In the place of a halted node's file `farm` is one of another start or folder, or none: it stays halted."""
+    """In the place of a halted node's file `farm` is another one, or none: it stays halted."""
     nodes.publish_whole(0, a_map("first"))
     nodes.level()
     nodes.kill(1)
     nodes.start_limitable(1)
 
     def with_line(word, change):
-        return lambda own: re.sub(rf"(?m)^{word} (\w+)$", lambda line: f"{word} {change(line[1])}", own.decode()).encode()
+        return lambda own: re.sub(rf"(?m)^{word} (\w+)$", lambda line: f"{word} {change(line[1])}",
+                                  own.decode()).encode()
 
     changes = {"a later start": with_line("starts", lambda count: f"{int(count, 16) + 1:08x}"),
                "an older start": with_line("starts", lambda count: f"{int(count, 16) - 1:08x}"),
                "another mark": with_line("mark", lambda mark: mark[::-1]),
-               "another node's": with_line("node", lambda _: "02"),
-               "no file": lambda _: None}
+               "another node's": with_line("node", lambda _: "02"), "no file": lambda _: None}
     wrong = check_each(nodes, {name: ("farm", changed) for name, changed in changes.items()})
-    want("; ".join(wrong), not wrong)
+    want_none(wrong)
     nodes.publish_whole(1, a_map("after"))
     nodes.level()
     compare_answers(nodes)
@@ -350,8 +329,7 @@ def rewritten(nodes, _):
 
 
 def completed(nodes, _):
-    """The record of the step that failed is whole on the tape, as a failed sync may leave it: its node goes on with it, and has counted one
-    start more."""
+    """As a failed sync may leave it: its node goes on with it, and has counted one start more."""
     # a tape that is longer than the other files of the folder, which stay as long as they are
     nodes.publish_whole(0, a_map("first", "x" * 900))
     nodes.level()
@@ -359,24 +337,24 @@ def completed(nodes, _):
     nodes.start_limitable(1)
     nodes.level()
     time.sleep(KEPT)
-    text = subprocess.run([str(nodes.program), "canon"], input=a_map("second"), capture_output=True, check=True).stdout
-    # room for a vote (its frame has six bytes, its sequence two, its ballot five) and a promise, not for the publication
-    nodes.limit(1, nodes.tape(1).stat().st_size + len(text) + 13 + 50)
+    text = canonical(nodes.program, a_map("second"))
+    # room for a vote (its frame has six bytes, its sequence two, its ballot five) and a promise, not for the
+    # publication
+    nodes.limit(1, nodes[1].tape.stat().st_size + len(text) + 13 + 50)
     starts = nodes.starts(1)
     nodes.kill(2)
     nodes.publish_whole(0, a_map("second"))
     until(lambda: nodes.health(1)[0] == 503)
     want("node 1 has published it", nodes.published(1) == 1)
-    stored, _ = records(nodes.tape(1).read_bytes())
+    stored, _ = records(nodes[1].tape.read_bytes())
     want(f"node 1's last record is of kind {stored[-1][0]}", stored[-1][0] == ACCEPTED)
-    failed = records(nodes.tape(0).read_bytes())[0][-1]
+    failed = records(nodes[0].tape.read_bytes())[0][-1]
     want(f"node 0's last record is of kind {failed[0]}", failed[0] == PUBLISHED)
-    nodes.tape(1).write_bytes(b"".join(record(*each) for each in [*stored, failed]))
+    nodes[1].tape.write_bytes(b"".join(record(*each) for each in [*stored, failed]))
     nodes.limit(1, None)
     seconds = until(lambda: nodes.health(1)[0] == 200 and nodes.published(1) == 2)
     counted = nodes.starts(1) - starts
-    nodes.start(2)
-    nodes.wait(2)
+    nodes.start_all([2])
     nodes.publish_whole(1, a_map("third"))
     nodes.level()
     compare_answers(nodes)

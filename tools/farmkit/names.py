@@ -1,18 +1,20 @@
-"""Which names in code marks of the documents are there: `tools/definitions.py --check` prints those that aren't.
+"""Which names in code marks of the documents are defined somewhere: `tools/definitions.py --check` prints
+those that aren't.
 
-In the tables of docs/PROVED.md a call or a theorem has to be reachable: a function or a type stands at its crate's root, a method
-is one of such a type. Elsewhere a name has to be defined in some crate, and a path has to be a file or a folder. PROVED names each
-crate, and each crate of the kit that one uses.
+In the tables of docs/PROVED.md a call or a theorem has to be reachable: a function or a type stands at its
+crate's root, a method is one of such a type. Elsewhere a name has to be defined in some crate, and a path has
+to be a file or a folder. PROVED names each crate, and each crate of the kit that one uses.
 """
 
 import itertools
 import re
+from collections.abc import Iterator
 
-from kit import TOP, dependencies
+from farmkit.documents import MARK
+from farmkit.repository import TOP, dependencies
 
 DOCUMENTS = ("PROVED", "ARCHITECTURE", "CHANGES")
 
-MARK = re.compile(r"`([^`\n]+)`")
 CRATE = re.compile(r"wf_\w+|wfarm")
 NAME = re.compile(r"\w+(?:::\w+)*!?")
 PATH = re.compile(r"[\w./{},-]+\.(?:rt|antt|md|txt|py|conf|script)|[\w./{},*-]+/[\w./{},*-]*")
@@ -20,11 +22,9 @@ EXPORT = re.compile(r"^pub use ((?:\w+::)*)(?:\{([^}]*)\}|(\w+(?: as \w+)?));", 
 OWNER = re.compile(r"^(?:impl\b.*?|pub trait )(\w+)(?:<[^{]*)? (?:where .*)?\{|^impl\b.* for (\w+)")
 METHOD = re.compile(r"^    (?:pub )?fn (\w+)")
 DEFINED = (
-    re.compile(r"(?:fn|struct|enum|trait|type|const|mod|macro_rules!|ensures|requires|ghost|let|record|data|case) (\w+)"),
-    re.compile(r"^\s+(?:pub )?(\w+)(?:[,({:]| \{| :|$)", re.MULTILINE),
-    re.compile(r"^\s*(?:(?:unfoldable|abbrev) )?(?:pub )?(\w+) :", re.MULTILINE),
-    re.compile(r'"(\w+)"'),
-)
+    re.compile(r"(?:fn|struct|enum|trait|type|const|mod|macro_rules!|ensures|requires|ghost|let|record|data"
+               r"|case) (\w+)"), re.compile(r"^\s+(?:pub )?(\w+)(?:[,({:]| \{| :|$)", re.MULTILINE),
+    re.compile(r"^\s*(?:(?:unfoldable|abbrev) )?(?:pub )?(\w+) :", re.MULTILINE), re.compile(r'"(\w+)"'))
 # A word in capitals stands for any of a kind, as in `specs/BLOCK.antt`.
 PLACEHOLDERS = ("BLOCK", "NAME")
 # Words of the command line, of HTTP and of the kit, which no crate here defines.
@@ -34,18 +34,22 @@ OUTER = {"main", "xmllint", "src", "specs", "proofs", "text"}
 class Crate:
     """What a crate defines, and what of it others can name."""
 
-    def __init__(self, name):
+    def __init__(self, name: str) -> None:
         self.name, self.folder = name, TOP / "crates" / name
         library = self.folder / "src" / "lib.rt"
         code = re.sub(r"//[^\n]*", "", library.read_text(encoding="utf-8")) if library.exists() else ""
-        self.roots = {}
+        self.roots: dict[str, str] = {}
         for path, several, one in EXPORT.findall(code):
             for it in (several or one).split(","):
                 if it.strip():
                     self.roots[it.split(" as ")[-1].strip()] = path.partition("::")[0]
-        self.roots |= {it: "" for it in re.findall(r"^pub (?:fn|const|struct|enum|trait|type) (\w+)", code, re.MULTILINE)}
-        self.methods, self.words, self.theorems, self.aliases = {}, set(), set(), {}
-        for file in sorted([*self.folder.glob("src/**/*.rt"), *self.folder.glob("specs/**/*.antt"), *self.folder.glob("proofs/*.antt")]):
+        self.roots |= {it: "" for it in re.findall(r"^pub (?:fn|const|struct|enum|trait|type) (\w+)", code,
+                                                   re.MULTILINE)}
+        self.methods: dict[str, set[str]] = {}
+        self.words, self.theorems = set[str](), set[str]()
+        self.aliases: dict[str, str] = {}
+        for file in sorted([*self.folder.glob("src/**/*.rt"), *self.folder.glob("specs/**/*.antt"),
+                            *self.folder.glob("proofs/*.antt")]):
             text = file.read_text(encoding="utf-8")
             self.words |= set(itertools.chain.from_iterable(it.findall(text) for it in DEFINED))
             if file.suffix == ".rt":
@@ -54,27 +58,28 @@ class Crate:
             elif "specs" in file.parts:
                 self.theorems |= set(re.findall(r"^\s*pub (\w+) :", text, re.MULTILINE))
 
-    def note_methods(self, text):
+    def note_methods(self, text: str) -> None:
         """Notes the methods of each type and trait of a file, by the type's name."""
         owner = None
         for line in re.sub(r"<[^<>\n]*(?:<[^<>\n]*(?:<[^<>\n]*>[^<>\n]*)*>[^<>\n]*)*>", "", text).split("\n"):
             found = OWNER.match(line)
             if found:
                 owner = found[2] or found[1]
-            elif owner and METHOD.match(line):
-                self.methods.setdefault(owner, set()).add(METHOD.match(line)[1])
+            elif owner and (method := METHOD.match(line)):
+                self.methods.setdefault(owner, set()).add(method[1])
 
-    def has_call(self, name, every):
+    def has_call(self, name: str, every: "dict[str, Crate]") -> bool:
         """Whether a call, a theorem or a type of this name can be reached from another crate."""
         owner, _, method = name.rpartition("::")
         types = [owner] if owner else [it for it in self.roots if it[0].isupper()]
         if not owner and (name in self.roots or name in self.theorems):
             return True
-        return any(method in crate.methods.get(crate.aliases.get(it, it), ()) for it in types if it in self.roots
+        return any(method in crate.methods.get(crate.aliases.get(it, it), ()) for it in types
+                   if it in self.roots
                    for crate in (self, *(every[at] for at in every if at == self.roots[it])))
 
 
-def unreachable(line, every):
+def unreachable(line: str, every: dict[str, Crate]) -> Iterator[str]:
     """The names of calls in a row of a table of PROVED that can't be reached."""
     cells = line.split("|")
     crates = [every[it] for it in CRATE.findall(cells[1]) if it in every]
@@ -88,21 +93,23 @@ def unreachable(line, every):
             yield found[1]
 
 
-def expanded(path):
+def expanded(path: str) -> list[str]:
     """The paths that a path with words in braces stands for."""
     several = re.match(r"(.*)\{([^}]*)\}(.*)", path)
-    return [it for word in several[2].split(",") for it in expanded(several[1] + word + several[3])] if several else [path]
+    if several is None:
+        return [path]
+    return [it for word in several[2].split(",") for it in expanded(several[1] + word + several[3])]
 
 
-def is_there(path, crates):
-    """Whether a file or a folder is there: from the top, or in one of the crates that the line names, or in any if it names none."""
+def is_there(path: str, crates: list[str]) -> bool:
+    """Whether a file or a folder is there: from the top, or in one of these crates, or in any if none."""
     places = [TOP, *(TOP / "crates" / it for it in crates or dependencies())]
-    return all(any(any(place.glob(it.strip("/"))) or "/" not in it and any(place.rglob(it)) for place in places)
-               for it in expanded(path))
+    return all(any(any(place.glob(it.strip("/"))) or "/" not in it
+                   and any(place.rglob(it)) for place in places) for it in expanded(path))
 
 
-def undefined(line, crates, words):
-    """The names and paths of a line that nothing defines. Its crates are added to those of the lines above it."""
+def undefined(line: str, crates: list[str], words: set[str]) -> Iterator[str]:
+    """What a line names and nothing defines. Its crates are added to those of the lines above it."""
     marks = MARK.findall(line)
     crates += [it for mark in marks for it in CRATE.findall(mark) if it not in crates]
     for mark in marks:
@@ -115,11 +122,12 @@ def undefined(line, crates, words):
             yield mark
 
 
-def missing():
+def missing() -> Iterator[tuple[str, int, str, str]]:
     """Each name in the documents that isn't there, with the document and the line."""
     every = {it: Crate(it) for it in dependencies()}
     words = OUTER | set(every) | {it for names in dependencies().values() for it in names}
-    words |= {low for line in (TOP / "crates.txt").read_text().splitlines() for low in re.findall(r"\w+", line)}
+    words |= {low for line in (TOP / "crates.txt").read_text().splitlines()
+              for low in re.findall(r"\w+", line)}
     words = words.union(*(it.words for it in every.values()))
     proved = (TOP / "docs" / "PROVED.md").read_text(encoding="utf-8")
     named = set(re.findall(r"\w+", " ".join(MARK.findall(proved))))
@@ -127,8 +135,10 @@ def missing():
         if not name.startswith("wf_test_"):
             yield "PROVED", 0, name, "isn't named there"
     for document in DOCUMENTS:
-        calls, crates, is_code = False, [], False
-        for number, line in enumerate((TOP / "docs" / f"{document}.md").read_text(encoding="utf-8").splitlines(), 1):
+        crates: list[str] = []
+        calls = is_code = False
+        for number, line in enumerate((TOP / "docs"
+                                       / f"{document}.md").read_text(encoding="utf-8").splitlines(), 1):
             is_code ^= line.startswith("```")
             if is_code or line.startswith("#"):
                 crates = []

@@ -1,9 +1,10 @@
-#!/usr/bin/env python3
-"""Stands between a node and its peers: takes the connections that the node opens, and passes on what it writes, late, in part, or changed.
+"""Stands between a node and its peers: takes the connections that the node opens, and passes on what it
+writes, late, in part, or changed.
 
-It runs on the node's own host, where connections to other hosts are redirected to it (`tools/hosts.py`), and opens each of them for the
-node, with a mark that lets its own connections through. Orders come on standard input, a line each; PEER is the address of the other
-end, or `all`:
+It is a program of its own that runs on the node's own host, where connections to other hosts are redirected
+to it (`hosts`), and opens each of them for the node, with a mark that lets its own connections through. Its
+words are the port that it listens at, the mark, and the length of a greeting in bytes. Orders come on
+standard input, a line each; PEER is the address of the other end, or `all`:
 
     stall PEER          passes nothing on
     delay PEER MS       passes each piece on so many milliseconds later
@@ -13,10 +14,8 @@ end, or `all`:
     reorder PEER        passes the next two whole messages on in the other order
     clear               passes everything on again
 
-`cut`, `drop`, `repeat` and `reorder` know where a message begins and ends: a greeting first, then frames. A message is passed on when it
-is whole. What a peer sends back (its greeting) is passed on as it comes.
-
-Usage: tools/relay.py PORT MARK GREETING      (the port that it listens at, the mark, and the length of a greeting in bytes)
+`cut`, `drop`, `repeat` and `reorder` know where a message begins and ends: a greeting first, then frames. A
+message is passed on when it is whole. What a peer sends back (its greeting) is passed on as it comes.
 """
 
 import select
@@ -31,13 +30,13 @@ FRAME_HEAD = 6
 
 
 class Orders:
-    """What is to be done with what goes to each peer."""
-
-    def __init__(self):
+    def __init__(self) -> None:
         self.lock = threading.Lock()
-        self.stalled, self.delays, self.next = set(), {}, {}
+        self.stalled: set[str] = set()
+        self.delays: dict[str, float] = {}
+        self.next: dict[str, str] = {}
 
-    def take(self, line):
+    def take(self, line: str) -> None:
         words = line.split()
         if not words:
             return
@@ -51,15 +50,15 @@ class Orders:
             else:
                 self.next[words[1]] = words[0]
 
-    def is_stalled(self, peer):
+    def is_stalled(self, peer: str) -> bool:
         with self.lock:
             return peer in self.stalled or "all" in self.stalled
 
-    def delay(self, peer):
+    def delay(self, peer: str) -> float:
         with self.lock:
             return self.delays.get(peer, self.delays.get("all", 0))
 
-    def deed(self, peer):
+    def deed(self, peer: str) -> str | None:
         """What to do with the next message, once."""
         with self.lock:
             for key in (peer, "all"):
@@ -68,7 +67,7 @@ class Orders:
         return None
 
 
-def frames(buffer):
+def frames(buffer: bytes) -> tuple[list[bytes], bytes]:
     """The whole frames at the beginning of the buffer, and the rest."""
     found, at = [], 0
     while len(buffer) - at >= FRAME_HEAD:
@@ -80,7 +79,7 @@ def frames(buffer):
     return found, buffer[at:]
 
 
-def original(client):
+def original(client: socket.socket) -> tuple[str, int]:
     """The address that a redirected connection was opened to."""
     found = client.getsockopt(socket.SOL_IP, SO_ORIGINAL_DST, 16)
     port, = struct.unpack_from("!2xH", found)
@@ -90,16 +89,17 @@ def original(client):
 class Connection:
     """One connection of the node to a peer."""
 
-    def __init__(self, client, orders, mark, greeting):
+    def __init__(self, client: socket.socket, orders: Orders, mark: int, greeting: int) -> None:
         self.client, self.orders, self.greeting = client, orders, greeting
         self.address = original(client)
         self.peer = self.address[0]
         self.server = socket.socket()
         self.server.setsockopt(socket.SOL_SOCKET, socket.SO_MARK, mark)
         self.server.settimeout(3)
-        self.buffer, self.held = b"", None
+        self.buffer = b""
+        self.held: bytes | None = None
 
-    def carry(self):
+    def carry(self) -> None:
         """Passes on until one end closes, or an order breaks the connection."""
         try:
             self.server.connect(self.address)
@@ -111,8 +111,7 @@ class Connection:
         for end in (self.client, self.server):
             end.close()
 
-    def turn(self):
-        """One turn; whether the connection goes on."""
+    def turn(self) -> bool:
         if self.orders.is_stalled(self.peer):
             time.sleep(0.02)
             return True
@@ -130,7 +129,7 @@ class Connection:
             return self.forward(piece)
         return True
 
-    def forward(self, piece):
+    def forward(self, piece: bytes) -> bool:
         """Passes a piece on: the greeting as it comes, messages once they are whole."""
         if self.greeting:
             first, piece = piece[:self.greeting], piece[self.greeting:]
@@ -139,7 +138,7 @@ class Connection:
         whole, self.buffer = frames(self.buffer + piece)
         return all(self.message(frame) for frame in whole)
 
-    def message(self, frame):
+    def message(self, frame: bytes) -> bool:
         """Passes a message on as ordered; whether the connection goes on."""
         deed = self.orders.deed(self.peer)
         if deed == "cut":
@@ -157,12 +156,12 @@ class Connection:
         return True
 
 
-def main():
+def main() -> None:
     port, mark, greeting = map(int, sys.argv[1:])
     orders = Orders()
     listener = socket.create_server(("0.0.0.0", port), backlog=64)
 
-    def accept():
+    def accept() -> None:
         while True:
             client, _ = listener.accept()
             client.setsockopt(socket.IPPROTO_TCP, socket.TCP_NODELAY, 1)

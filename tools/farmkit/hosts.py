@@ -1,29 +1,36 @@
-"""Hosts on one machine: network namespaces on a bridge, each with a program, whose links are cut or silent, and whose traffic is redirected.
+"""Hosts on one machine: network namespaces on a bridge, whose links are cut or silent, and whose traffic is
+redirected.
 
 Wants root, iproute2 and nftables.
 """
 
 import os
-import shutil
-import signal
 import subprocess
+from collections.abc import Iterable, Sequence
+from typing import Any
+
+from farmkit.command import lacks
+from farmkit.processes import UNSIGNALLED, end
+
+# where a host's programs listen: for nodes, for readers, for clients, for operators
+PEERS, READERS, CLIENTS, OPERATOR = 7000, 7001, 8080, 9090
 
 
-def run(*words, check=True):
+def run(*words: str, check: bool = True) -> str:
     """Runs a command; what it writes."""
     return subprocess.run(words, check=check, capture_output=True, text=True).stdout
 
 
-def missing(number):
+def missing(number: int) -> list[str]:
     """What isn't there that a network of this number wants: commands, root, or what the kernel refuses."""
-    lacks = [name for name in ("ip", "nft", "nsenter") if shutil.which(name) is None]
+    lacking = lacks("ip", "nft", "nsenter")
     if os.geteuid() != 0:
-        lacks.append("root")
-    if lacks:
-        return lacks
+        lacking.append("root")
+    if lacking:
+        return lacking
     try:
         network = Network(number, 2)
-        network.silence([network.hosts])
+        network.silence([(network.hosts[0], network.hosts[1])])
         network.stop()
     except subprocess.CalledProcessError as refused:
         return [f"what `{' '.join(refused.cmd)}` wants: {refused.stderr.strip()}"]
@@ -31,9 +38,9 @@ def missing(number):
 
 
 class Network:
-    """A bridge, with the address that ends in 254 on this side. Networks of different numbers may be there at a time."""
+    """A bridge; this side has the address that ends in 254. Several may be there, of other numbers."""
 
-    def __init__(self, number, count):
+    def __init__(self, number: int, count: int) -> None:
         self.number, self.bridge = number, f"wfarm{number}"
         self.clear(count)
         run("ip", "link", "add", self.bridge, "type", "bridge")
@@ -41,26 +48,24 @@ class Network:
         run("ip", "link", "set", self.bridge, "up")
         self.hosts = [Host(number, each) for each in range(count)]
 
-    def clear(self, count):
-        """Removes what an earlier run left."""
+    def clear(self, count: int) -> None:
         for each in range(count):
             run("ip", "netns", "delete", f"wfarm{self.number}-{each}", check=False)
             run("ip", "link", "delete", f"wfarm{self.number}-{each}", check=False)
         run("ip", "link", "delete", self.bridge, check=False)
         run("nft", f"delete table bridge {self.bridge}", check=False)
 
-    def silence(self, pairs):
-        """The bridge forwards nothing more from the first to the second host of each pair: nothing is reset, no carrier is lost, and no
-        address is resolved. This side reaches all hosts all the same."""
-        run("nft", f"add table bridge {self.bridge}; add chain bridge {self.bridge} silent {{ type filter hook forward priority 0; }}")
+    def silence(self, pairs: "Iterable[tuple[Host, Host]]") -> None:
+        """The bridge drops what goes from the first to the second host of each pair; nothing is reset."""
+        run("nft", f"add table bridge {self.bridge}; "
+                   f"add chain bridge {self.bridge} silent {{ type filter hook forward priority 0; }}")
         for one, other in pairs:
             run("nft", f"add rule bridge {self.bridge} silent iifname {one.name} oifname {other.name} drop")
 
-    def heal(self):
-        """The bridge forwards everything again."""
+    def heal(self) -> None:
         run("nft", f"flush chain bridge {self.bridge} silent")
 
-    def stop(self):
+    def stop(self) -> None:
         for host in self.hosts:
             host.kill_all()
         self.clear(len(self.hosts))
@@ -69,12 +74,13 @@ class Network:
 class Host:
     """A network namespace with an address of its own, and the processes that run in it."""
 
-    def __init__(self, network, number):
+    def __init__(self, network: int, number: int) -> None:
         self.number, self.name = number, f"wfarm{network}-{number}"
         self.address = f"10.77.{network}.{number + 1}"
-        # (`ip netns exec` would give each program mounts of its own, and a disk that is unmounted here would stay mounted there)
+        # (`ip netns exec` would give each program mounts of its own, and a disk that is unmounted here would
+        # stay mounted there)
         self.entering = ["nsenter", f"--net=/run/netns/{self.name}"]
-        self.processes = []
+        self.processes: list[subprocess.Popen[Any]] = []
         run("ip", "netns", "add", self.name)
         run("ip", "link", "add", self.name, "type", "veth", "peer", "name", "eth0", "netns", self.name)
         run("ip", "link", "set", self.name, "master", f"wfarm{network}", "up")
@@ -82,42 +88,47 @@ class Host:
         self.inside("ip", "link", "set", "eth0", "up")
         self.inside("ip", "link", "set", "lo", "up")
         self.inside("nft", "add table ip cuts; add chain ip cuts out { type filter hook output priority 0; };"
-                           "add table ip relay; add chain ip relay out { type nat hook output priority -100; }")
+                    "add table ip relay; add chain ip relay out { type nat hook output priority -100; }")
 
-    def inside(self, *words):
-        """Runs a command in the host."""
+    def at(self, port: int) -> str:
+        return f"{self.address}:{port}"
+
+    @property
+    def before(self) -> list[str]:
+        """The words before those of a program that runs here, and whose failing writes are no signal."""
+        return [*self.entering, *UNSIGNALLED]
+
+    def inside(self, *words: str) -> str:
         return run(*self.entering, *words)
 
-    def start(self, words, **settings):
-        """Starts a program in the host."""
+    def start(self, words: Sequence[str], **settings: Any) -> "subprocess.Popen[Any]":
         process = subprocess.Popen([*self.entering, *words], start_new_session=True, **settings)
         self.processes.append(process)
         return process
 
-    def kill(self, process):
+    def kill(self, process: "subprocess.Popen[Any]") -> None:
         """Ends a program by SIGKILL. `nsenter` becomes the program, so the number is its own."""
-        if process in self.processes:
-            self.processes.remove(process)
-        try:
-            os.kill(process.pid, signal.SIGKILL)
-        except ProcessLookupError:
-            pass
-        process.wait()
+        self.processes.remove(process)
+        end(process)
 
-    def kill_all(self):
+    def kill_all(self) -> None:
         for process in list(self.processes):
             self.kill(process)
 
-    def redirect(self, ports, relay, mark):
-        """Lets connections to these ports of other hosts go to a port of this host, but for those that carry the mark."""
-        self.inside("nft", "add rule ip relay out tcp dport { %s } ip daddr != %s meta mark != %d redirect to :%d"
+    def redirect(self, ports: Iterable[int], relay: int, mark: int) -> None:
+        """Sends connections to these ports of others to one of this host, unless they have the mark."""
+        self.inside("nft",
+                    "add rule ip relay out tcp dport { %s } ip daddr != %s meta mark != %d redirect to :%d"
                     % (", ".join(map(str, ports)), self.address, mark, relay))
 
-    def cut(self, others):
-        """Loses all that this host sends to the others, from now on."""
+    def cut(self, others: "Iterable[Host]") -> None:
         for other in others:
             self.inside("nft", f"add rule ip cuts out ip daddr {other.address} drop")
 
-    def mend(self):
-        """Loses nothing more."""
+    def mend(self) -> None:
         self.inside("nft", "flush chain ip cuts out")
+
+
+def addresses(hosts: Iterable[Host], port: int) -> str:
+    """The addresses of a port of these hosts, with commas between them."""
+    return ",".join(host.at(port) for host in hosts)

@@ -1,14 +1,20 @@
-"""The system calls of a program by which it changes files and sends bytes, as strace tells them, and what they make of one folder."""
+"""The system calls of a program by which it changes files and sends bytes, as strace tells them, and what
+they make of one folder."""
 
 import os
 import pathlib
 import re
 import time
+from collections.abc import Iterator, Sequence
+
+from farmkit.folder import File, Folder
 
 # those that are followed, and those that would change a file in a way that nothing here follows
-FOLLOWED = "open openat creat close lseek write fsync fdatasync rename renameat renameat2 unlink unlinkat sendto"
-OTHERS = ("pwrite64 writev pwritev pwritev2 truncate ftruncate fallocate link linkat symlink symlinkat mkdir mkdirat rmdir "
-          "sync syncfs sync_file_range sendfile splice copy_file_range io_uring_setup io_submit dup dup2 dup3 chdir fchdir sendmsg")
+FOLLOWED = ("open openat creat close lseek write fsync fdatasync rename renameat renameat2 unlink unlinkat "
+            "sendto sendmsg")
+OTHERS = ("pwrite64 writev pwritev pwritev2 truncate ftruncate fallocate link linkat symlink symlinkat mkdir "
+          "mkdirat rmdir sync syncfs sync_file_range sendfile splice copy_file_range io_uring_setup "
+          "io_submit dup dup2 dup3 chdir fchdir")
 MOST_BYTES = 1 << 24
 LINE = re.compile(r"(\d+) +(\w+)\((.*)\) += (-?\d+|\?)(?: .*)?")
 UNFINISHED = re.compile(r"(\d+) +(\w+)\((.*?),? *<unfinished \.\.\.>")
@@ -20,8 +26,7 @@ class Unfollowed(Exception):
     """The trace doesn't say what became of the folder."""
 
 
-def texts(words):
-    """The texts among the arguments of a call."""
+def texts(words: str) -> list[bytes]:
     found = []
     for spelled, cut in TEXT.findall(words):
         if cut:
@@ -33,23 +38,24 @@ def texts(words):
 class Call:
     """A call: its name, what its arguments are, and its result; None where the program ended in it."""
 
-    def __init__(self, name, words, result):
+    def __init__(self, name: str, words: str, result: int | None) -> None:
         self.name, self.words, self.result = name, words, result
         self.texts = texts(words)
 
-    def handle(self):
+    def handle(self) -> int:
         return int(self.words.split(",", 1)[0])
 
 
-def traced(words, trace, cut=None):
-    """The command line that traces a program into a file; `cut` is a call and how many of them the program reaches before it is killed."""
+def traced(words: Sequence[str], trace: str | pathlib.Path, cut: tuple[str, int] | None = None) -> list[str]:
+    """The command line that traces a program; `cut` is a call, and at which of them it is killed."""
     more = [] if cut is None else ["-e", f"inject={cut[0]}:signal=SIGKILL:when={cut[1]}"]
     # -D: the program is our own child, and strace a child of it
     return ["strace", "-D", "-f", "-q", "-xx", "-s", str(MOST_BYTES), "-e",
-            "trace=" + ",".join("?" + name for name in (FOLLOWED + " " + OTHERS).split()), *more, "-o", str(trace), *words]
+            "trace=" + ",".join("?" + name for name in (FOLLOWED + " " + OTHERS).split()), *more, "-o",
+            str(trace), *words]
 
 
-def calls(trace, seconds=10):
+def calls(trace: str | pathlib.Path, seconds: float = 10) -> Iterator[Call]:
     """The calls of a trace, once the program has ended."""
     until = time.monotonic() + seconds
     while True:
@@ -69,65 +75,74 @@ def calls(trace, seconds=10):
 
 
 class Watcher:
-    """Is told of each call that changes the folder or sends bytes, before it is done. Watches nothing itself."""
+    """Is told of each call that changes the folder or sends bytes, before it is done."""
 
-    def opened(self, name, file):
+    def opened(self, name: str, file: File | None) -> None:
         """A file is opened by its name."""
 
-    def written(self, name, file):
+    def written(self, name: str, file: File) -> None:
         """Bytes are written to a file, or it is truncated."""
 
-    def synced(self, name, file):
+    def synced(self, name: str, file: File | None) -> None:
         """A file is synced; None is the folder."""
 
-    def renamed(self, old, new, file):
+    def renamed(self, old: str, new: str, file: File) -> None:
         """A file is renamed."""
 
-    def sent(self, data):
+    def sent(self, data: bytes) -> None:
         """Bytes are sent to a client or written to the standard output."""
 
 
+class Handle:
+    """What a program has open: a file of the folder or (None) the folder, and where it writes next."""
+
+    def __init__(self, name: str, file: File | None) -> None:
+        self.name, self.file, self.at = name, file, 0
+
+
 class Follower:
-    """Does the calls of one run of a program to a folder, but for the syncs of one kind, `without`: "own" are those of files that were
-    found or have got their name, "second" those of others, "folder" that of the folder behind a rename."""
+    """Does the calls of one run of a program to a folder, but for the syncs of one kind, `without`: "own" are
+    those of files that were found or have got their name, "second" those of others, "folder" that of the
+    folder behind a rename."""
 
-    def __init__(self, path, folder, watcher, without=None):
+    def __init__(self, path: str, folder: Folder, watcher: Watcher, without: str | None = None) -> None:
         self.path, self.folder, self.watcher, self.without = os.fspath(path), folder, watcher, without
-        self.handles = {}
-        self.doubtful = None
-        self.last = None
+        self.handles: dict[int, Handle] = {}
+        self.doubtful: Call | None = None
+        self.last: str | None = None
 
-    def name_of(self, path):
+    def name_of(self, path: bytes) -> str | None:
         """The name in the folder that a path leads to; "" is the folder; None a path that leads elsewhere."""
-        path = os.path.normpath(os.fsdecode(path))
-        if path == self.path:
+        plain = os.path.normpath(os.fsdecode(path))
+        if plain == self.path:
             return ""
-        above, name = os.path.split(path)
+        above, name = os.path.split(plain)
         return name if above == self.path else None
 
-    def follow(self, call):
+    def follow(self, call: Call) -> None:
         if call.name in OTHERS.split():
-            return self.refuse(call)
+            self.refuse(call)
         # what failed changed nothing; whether the call was done that the program ended in, the folder says
-        if call.result is None:
+        elif call.result is None:
             self.doubtful = call
         elif call.result >= 0:
             self.act(call)
 
-    def refuse(self, call):
+    def refuse(self, call: Call) -> None:
         """A call that isn't followed, where it isn't of the folder."""
         handle = call.words.split(",", 1)[0]
-        if (handle.isdigit() and int(handle) in self.handles) or any(self.name_of(path) is not None for path in call.texts):
+        is_open = handle.isdigit() and int(handle) in self.handles
+        if is_open or any(self.name_of(path) is not None for path in call.texts):
             raise Unfollowed(f"a call of {call.name}")
 
-    def act(self, call):
+    def act(self, call: Call) -> None:
         if call.name in ("open", "openat", "creat"):
             self.open(call)
         elif call.name == "close":
             self.handles.pop(call.handle(), None)
         elif call.name == "lseek":
             if call.handle() in self.handles:
-                self.handles[call.handle()][2] = call.result
+                self.handles[call.handle()].at = call.result or 0
         elif call.name == "write":
             self.write(call)
         elif call.name in ("fsync", "fdatasync"):
@@ -137,15 +152,15 @@ class Follower:
         elif call.name in ("unlink", "unlinkat"):
             if (name := self.name_of(call.texts[0])) is not None:
                 self.folder.remove(name)
-        elif call.name == "sendto":
-            self.watcher.sent(call.texts[0][:call.result])
+        elif call.name in ("sendto", "sendmsg"):
+            self.watcher.sent(b"".join(call.texts)[:call.result])
 
-    def open(self, call):
+    def open(self, call: Call) -> None:
         name = self.name_of(call.texts[0])
-        if name is None:
+        if name is None or call.result is None:
             return
         if name == "":
-            self.handles[call.result] = ["", None, 0]
+            self.handles[call.result] = Handle("", None)
             return
         if "O_APPEND" in call.words:
             raise Unfollowed("a file that is opened to append")
@@ -157,62 +172,61 @@ class Follower:
         elif "O_TRUNC" in call.words or call.name == "creat":
             self.watcher.written(name, file)
             file.truncate()
-        self.handles[call.result] = [name, file, 0]
+        self.handles[call.result] = Handle(name, file)
 
-    def write(self, call):
-        handle = call.handle()
-        data = call.texts[0][:call.result]
-        if handle == 1 and handle not in self.handles:
+    def write(self, call: Call) -> None:
+        data, handle = call.texts[0][:call.result], self.handles.get(call.handle())
+        if handle is None and call.handle() == 1:
             self.watcher.sent(data)
-        elif handle in self.handles:
-            name, file, at = self.handles[handle]
-            self.watcher.written(name, file)
-            file.write(at, data)
-            self.handles[handle][2] += len(data)
+        elif handle is not None and handle.file is not None:
+            self.watcher.written(handle.name, handle.file)
+            handle.file.write(handle.at, data)
+            handle.at += len(data)
 
-    def sync(self, call):
-        if call.handle() not in self.handles:
+    def sync(self, call: Call) -> None:
+        handle = self.handles.get(call.handle())
+        if handle is None:
             return
-        name, file, _ = self.handles[call.handle()]
-        if self.kind_of_sync(name) != self.without:
-            self.watcher.synced(name, file)
-            (self.folder if file is None else file).sync()
+        if self.kind_of_sync(handle.name) != self.without:
+            self.watcher.synced(handle.name, handle.file)
+            (handle.file or self.folder).sync()
         self.last = "sync"
 
-    def kind_of_sync(self, name):
+    def kind_of_sync(self, name: str) -> str:
         if name == "":
             return "folder" if self.last == "rename" else "names"
         return "second" if name.endswith(".new") else "own"
 
-    def rename(self, call):
+    def rename(self, call: Call) -> None:
         old, new = map(self.name_of, call.texts[:2])
         if (old is None) != (new is None):
             raise Unfollowed("a file that is renamed into another folder")
-        if old is not None:
+        if old is not None and new is not None:
             self.watcher.renamed(old, new, self.folder.names[old])
             for handle in self.handles.values():
-                if handle[1] is self.folder.names[old]:
-                    handle[0] = new
+                if handle.file is self.folder.names[old]:
+                    handle.name = new
             self.folder.rename(old, new)
             self.last = "rename"
 
-    def end(self):
-        """Compares what was followed with the folder itself; the call that the program ended in was done, or it wasn't."""
+    def end(self) -> None:
+        """Compares the model with the folder; the call that the program ended in was done, or it wasn't."""
         real = {path.name: path.read_bytes() for path in pathlib.Path(self.path).iterdir()}
         if self.folder.contents() != real and self.doubtful is not None:
             self.finish(self.doubtful)
         if self.folder.contents() != real:
-            differ = sorted(name for name in {*real, *self.folder.names} if real.get(name) != self.folder.contents().get(name))
+            ours = self.folder.contents()
+            differ = sorted(name for name in {*real, *ours} if real.get(name) != ours.get(name))
             raise Unfollowed(f"the calls don't lead to what is in the folder: {differ}")
 
-    def finish(self, call):
-        """Does a call that has no result."""
+    def finish(self, call: Call) -> None:
         if call.name in ("write", "rename", "renameat", "renameat2", "open", "openat", "unlink"):
             call.result = len(call.texts[0]) if call.name == "write" else 1 << 20
             self.act(call)
 
 
-def follow(trace, path, folder, watcher, without=None):
+def follow(trace: str | pathlib.Path, path: str, folder: Folder, watcher: Watcher,
+           without: str | None = None) -> int:
     """Does the calls of a trace to a folder, whose files are at the path. How many calls."""
     follower = Follower(path, folder, watcher, without)
     count = 0
@@ -221,4 +235,3 @@ def follow(trace, path, folder, watcher, without=None):
         count += 1
     follower.end()
     return count
-

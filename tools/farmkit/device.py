@@ -1,16 +1,19 @@
-"""A block device that loses, at a power cut, what wasn't flushed: a loop device over a file of a file system of our own (FUSE)."""
+"""A block device that loses, at a power cut, what wasn't flushed: a loop device over a file of a file system
+of our own, by FUSE."""
 
 import ctypes
 import os
 import pathlib
-import shutil
 import struct
 import subprocess
 import threading
+from collections.abc import Callable
+
+from farmkit.command import lacks
 
 # what the kernel asks a file system for, by their numbers in linux/fuse.h, as are all forms below
-LOOKUP, FORGET, GETATTR, SETATTR, OPEN, READ, WRITE, STATFS, RELEASE, FSYNC, FLUSH, INIT, OPENDIR, RELEASEDIR = (
-    1, 2, 3, 4, 14, 15, 16, 17, 18, 20, 25, 26, 27, 29)
+LOOKUP, FORGET, GETATTR, SETATTR, OPEN, READ, WRITE = 1, 2, 3, 4, 14, 15, 16
+STATFS, RELEASE, FSYNC, FLUSH, INIT, OPENDIR, RELEASEDIR = 17, 18, 20, 25, 26, 27, 29
 INTERRUPT, DESTROY, BATCH_FORGET = 36, 38, 42
 UNANSWERED = (FORGET, INTERRUPT, BATCH_FORGET)
 ENOENT, ENOSYS = 2, 38
@@ -26,20 +29,21 @@ ANSWER = struct.Struct("<IiQ")
 class Disk:
     """The bytes of a device: what was flushed, and the writes since then, in their order."""
 
-    def __init__(self, content):
+    def __init__(self, content: bytes) -> None:
         self.content = bytearray(content)
         self.flushed = bytearray(content)
-        self.writes = []
+        self.writes: list[tuple[int, bytes]] = []
         self.is_off = False
-        self.left, self.then = None, None
+        self.left: int | None = None
+        self.then: Callable[[], object] = bool
         self.lock = threading.Lock()
 
-    def cut_at(self, count, then):
+    def cut_at(self, count: int, then: Callable[[], object]) -> None:
         """Cuts the power after so many writes and flushes from now on, and calls `then` just before."""
         with self.lock:
             self.left, self.then = count, then
 
-    def step(self):
+    def step(self) -> None:
         """Counts a write or a flush, and cuts the power where all were made that were left."""
         if self.left == 0 and not self.is_off:
             self.then()
@@ -47,14 +51,14 @@ class Disk:
         if self.left:
             self.left -= 1
 
-    def write(self, at, data):
+    def write(self, at: int, data: bytes) -> None:
         with self.lock:
             self.step()
             self.content[at:at + len(data)] = data
             if not self.is_off:
                 self.writes.append((at, data))
 
-    def flush(self):
+    def flush(self) -> None:
         with self.lock:
             self.step()
             if not self.is_off:
@@ -62,13 +66,13 @@ class Disk:
                     self.flushed[at:at + len(data)] = data
                 self.writes.clear()
 
-    def off(self):
+    def off(self) -> None:
         """The power is off: nothing is written any more."""
         with self.lock:
             self.is_off = True
 
-    def after(self, keeps):
-        """The bytes after a power cut: those of the writes that weren't flushed are kept that `keeps` says."""
+    def after(self, keeps: Callable[[], object]) -> bytearray:
+        """The bytes after a power cut: of the unflushed writes those are kept that `keeps` says."""
         content = bytearray(self.flushed)
         for at, data in self.writes:
             if keeps():
@@ -77,9 +81,7 @@ class Disk:
 
 
 class Mounted:
-    """A file system with one file, the disk."""
-
-    def __init__(self, disk, folder):
+    def __init__(self, disk: Disk, folder: pathlib.Path) -> None:
         self.disk, self.folder = disk, folder
         self.channel = os.open("/dev/fuse", os.O_RDWR | os.O_CLOEXEC)
         settings = f"fd={self.channel},rootmode=40000,user_id=0,group_id=0"
@@ -89,8 +91,7 @@ class Mounted:
         self.thread = threading.Thread(target=self.serve, daemon=True)
         self.thread.start()
 
-    def serve(self):
-        """Answers the kernel until the file system is unmounted."""
+    def serve(self) -> None:
         while True:
             try:
                 asked = os.read(self.channel, MOST_WRITE + 4096)
@@ -107,7 +108,7 @@ class Mounted:
             except OSError:
                 pass
 
-    def answer(self, kind, node, given):
+    def answer(self, kind: int, node: int, given: bytes) -> tuple[int, bytes]:
         """An error's number, or 0, and what is given back."""
         if kind == INIT:
             return 0, struct.pack("<IIIIHHIIHHI28x", 7, 31, MOST_WRITE, 0, 12, 10, MOST_WRITE, 1, 32, 0, 0)
@@ -135,31 +136,31 @@ class Mounted:
             return 0, struct.pack("<QQQQQIIII24x", 1, 0, 0, 1, 0, 4096, 255, 4096, 0)
         return ENOSYS, b""
 
-    def attributes(self, node):
+    def attributes(self, node: int) -> bytes:
         """The attributes of the folder or the disk."""
         size, mode = (0, 0o40755) if node == ROOT else (len(self.disk.content), 0o100600)
-        return struct.pack("<QQQQQQIIIIIIIIII", node, size, size // 512, 0, 0, 0, 0, 0, 0, mode, 1, 0, 0, 0, 4096, 0)
+        return struct.pack("<QQQQQQIIIIIIIIII", node, size, size // 512, 0, 0, 0, 0, 0, 0, mode, 1, 0, 0, 0,
+                           4096, 0)
 
-    def unmount(self):
+    def unmount(self) -> None:
         LIBC.umount2(os.fsencode(self.folder), 2)
         os.close(self.channel)
 
 
-def run(*words):
-    """What a command writes."""
+def run(*words: str) -> str:
     return subprocess.run(words, check=True, capture_output=True, text=True).stdout.strip()
 
 
 class Machine:
-    """A disk with an ext4 file system on it, mounted at a folder of its own. A rename doesn't write out the file (`noauto_da_alloc`)."""
+    """A mounted disk with ext4, where a rename doesn't write out the file (`noauto_da_alloc`)."""
 
-    def __init__(self, above, content):
+    def __init__(self, above: str | pathlib.Path, content: bytes | bytearray) -> None:
         self.below, self.folder = pathlib.Path(above) / "below", pathlib.Path(above) / "above"
         for folder in (self.below, self.folder):
             folder.mkdir(exist_ok=True)
-        self.disk = Disk(content)
+        self.disk = Disk(bytes(content))
         self.mounted = Mounted(self.disk, self.below)
-        self.loop = None
+        self.loop: str | None = None
         try:
             self.loop = run("losetup", "--find", "--show", str(self.below / "disk"))
             run("mount", "-t", "ext4", "-o", "noauto_da_alloc", self.loop, str(self.folder))
@@ -167,7 +168,7 @@ class Machine:
             self.stop()
             raise
 
-    def stop(self):
+    def stop(self) -> None:
         """Takes everything down; what goes to the disk meanwhile is lost, if its power is off."""
         subprocess.run(["umount", str(self.folder)], capture_output=True)
         if self.loop:
@@ -175,8 +176,7 @@ class Machine:
         self.mounted.unmount()
 
 
-def formatted(size, above):
-    """The bytes of a disk with an empty ext4."""
+def formatted(size: int, above: str | pathlib.Path) -> bytes:
     path = pathlib.Path(above) / "empty"
     with path.open("wb") as file:
         file.truncate(size)
@@ -186,9 +186,9 @@ def formatted(size, above):
     return content
 
 
-def is_permitted(above):
+def is_permitted(above: str | pathlib.Path) -> bool:
     """Whether a device may be made here."""
-    if not all(map(shutil.which, ("losetup", "mkfs.ext4"))):
+    if lacks("losetup", "mkfs.ext4"):
         return False
     try:
         Machine(above, formatted(16 << 20, above)).stop()

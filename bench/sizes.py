@@ -1,0 +1,221 @@
+#!/usr/bin/env python3
+"""Measures what grows with its input at three sizes, each twice the one before: the instructions where
+valgrind is there, else the time.
+
+Cases, all of them where none is named:
+    canon     `wfarm canon` of a mapfile of 131,072 bytes, the longest there is
+    features, labels, pixels   `wfarm draw` of 400 squares, 400 labels, 1,000 by 500 pixels
+    script    `wfarm run` of a script of 10,000 lines with 100,000 deliveries on 5 nodes
+    tape      a node opens on a tape of 4,096 published maps, the longest history
+    held      a node opens on a tape of 2,048 maps, before which as many sequences further on get eight
+              promises and a vote each
+    start     `wfarm serve` with one node starts on a tape of 4,096 maps of 2 KB, and shortens it: the time
+
+Of each the cost of the least input is taken off. `tape` and `held` are asked of the built program of the
+farm's cases (wf_test_farm), and what the same tape takes with a bad first byte is taken off.
+"""
+
+import pathlib
+import re
+import subprocess
+import sys
+import tempfile
+import time
+from functools import partial
+
+from farmkit.command import GROWTH, add_cases, add_program, parser
+from farmkit.measure import grows_well, instructions, ran, ratios, shortest
+from farmkit.processes import serve_words
+from farmkit.repository import TOP, built
+from farmkit.tapes import ACCEPTED, PROMISED, PUBLISHED, record, tape_of
+
+RUNS = 7
+TABLE = TOP / "crates" / "wf_test_farm" / "stdin"
+ENDING = b"1 cases, 0 differ, 0 faults"
+LONGEST = 131_072
+HEAD = b'MAP NAME "bench" EXTENT 0 0 4 4 PROJECTION "init=epsg:4326" END LAYER NAME p TYPE LINE\n'
+TAIL = b"END END\n"
+# ten points with every digit that a number may have, so that the canonical text is much shorter than the file
+POINTS = b" ".join(b"%d.25%023d %d.5%024d" % (n, 0, n + 1, 0) for n in range(10))
+FEATURE = b"FEATURE POINTS %s END END\n" % POINTS
+NODES = 5
+# a proposal that each node hears: Prepare, a Promise of each, Accept, an Accepted of each, Chosen; the next
+# three of the same node need no promises
+MESSAGES, LED = 2 * NODES + 3, NODES + 2
+SCRIPT = [f"nodes {NODES}", "map a", 'MAP NAME "a" EXTENT 0 0 4 4 PROJECTION "init=epsg:4326" END END',
+          "endmap"]
+PROMISES = 8
+QUERY = ("VERSION=1.3.0&REQUEST=GetMap&LAYERS=a&STYLES=&CRS=EPSG:3857&BBOX=0,0,100,100&WIDTH={}&HEIGHT={}"
+         "&FORMAT=image/x-portable-pixmap")
+STYLE = "STYLE COLOR 200 220 180 OUTLINECOLOR 90 120 60 WIDTH 2 END"
+
+
+def blocks(pattern):
+    """The blocks of the table of the farm's cases in which a line is as this pattern says."""
+    every = TABLE.read_text(encoding="utf-8").split("\n\n")
+    return [it for it in every if re.search(f"(?m)^({pattern})$", it)]
+
+
+def mapfile(size):
+    room = size - len(HEAD) - len(TAIL)
+    count = room // len(FEATURE)
+    return HEAD + FEATURE * count + b" " * (room - count * len(FEATURE)) + TAIL
+
+
+def cost_of(whole, least=None):
+    """What a run costs more than another one, each given by its words, its input and what it writes: the
+    milliseconds, and the instructions."""
+    runs = [each for each in (whole, least) if each is not None]
+    spent = [shortest(lambda: ran(*each), RUNS) for each in runs]
+    counted = [instructions(*each) for each in runs]
+    return spent[0] - sum(spent[1:]), counted[0] - sum(counted[1:]) if all(counted) else None
+
+
+def canon(options):
+    words = [options.program, "canon"]
+    least = words, mapfile(len(HEAD) + len(TAIL))
+    return [(f"{size} bytes", partial(cost_of, (words, mapfile(size)), least))
+            for size in (LONGEST // 4, LONGEST // 2, LONGEST)]
+
+
+def draw(options, kind, styling, features, width=512, height=512):
+    """What a picture costs more than one of a pixel."""
+    text = (f'MAP NAME "sizes" EXTENT 0 0 100 100 PROJECTION "init=epsg:3857" END LAYER NAME a TYPE {kind}\n'
+            f"CLASS {styling} END\n{''.join(features)}END END\n").encode()
+    words = [[options.program, "draw", QUERY.format(*sides)] for sides in ((width, height), (1, 1))]
+    return cost_of((words[0], text), (words[1], text))
+
+
+def squares(count):
+    """Squares beside one another, of a size that doesn't depend on their number."""
+    places = [(k % 20 * 5, k // 20 * 5) for k in range(count)]
+    return [f"FEATURE POINTS {x} {y} {x + 4} {y} {x + 4} {y + 4} {x} {y + 4} END END\n" for x, y in places]
+
+
+def features(options):
+    return [(f"{count} squares", partial(draw, options, "POLYGON", STYLE, squares(count)))
+            for count in (100, 200, 400)]
+
+
+def labels(options):
+    def names(count):
+        return [f'FEATURE TEXT "N{k:03}" POINTS {k % 10 * 10 + 5} {k // 4 + 0.25} END END\n'
+                for k in range(count)]
+
+    return [(f"{count} labels", partial(draw, options, "POINT", "LABEL SIZE TINY END", names(count)))
+            for count in (100, 200, 400)]
+
+
+def pixels(options):
+    return [(f"{width} by {height}", partial(draw, options, "POLYGON", STYLE, squares(100), width, height))
+            for width, height in ((500, 250), (500, 500), (1000, 500))]
+
+
+def script(options):
+    def of(lines, deliveries):
+        rounds, more = 0, deliveries
+        while more >= (needed := NODES * (LED if rounds % 4 else MESSAGES)):
+            rounds, more = rounds + 1, more - needed
+        text = SCRIPT + ["propose 0 a", "pump", "published", "sent"] * rounds
+        text += ["deliver 0" + f" {MESSAGES - 1}" * more] if more else []
+        text += ["# nothing happens here"] * (lines - 1 - len(text)) + ["published", ""]
+        written = b"published" + b" %d" % rounds * NODES + b"\n"
+        return [options.program, "run"], "\n".join(text).encode(), written
+
+    return [(f"{lines} lines", partial(cost_of, of(lines, 10 * lines))) for lines in (2_500, 5_000, 10_000)]
+
+
+class Tape:
+    """A tape as lines of a table, record by record, with the canonical text `a` as its maps."""
+
+    def __init__(self, maps, held):
+        block = blocks("text a")[0]
+        self.text = block[block.index("text a"):]
+        self.text_length = sum(len(it) - 1 for it in re.findall(r"(?m)^< .*", block))
+        self.lines, self.length = [], 0
+        for slot in range(maps + 1, maps + held + 1):
+            for number in range(1, PROMISES + 1):
+                self.add(PROMISED, slot, number.to_bytes(4, "big") + b"\0", with_text=False)
+            self.add(ACCEPTED, slot, PROMISES.to_bytes(4, "big") + b"\0")
+        for slot in range(1, maps + 1):
+            self.add(PUBLISHED, slot)
+
+    def add(self, kind, slot, fields=b"", with_text=True):
+        text = bytes(with_text * self.text_length)
+        whole = record(kind, slot.to_bytes(2, "big") + fields + text)
+        self.lines.append("<. " + "".join(f"\\x{it:02x}" for it in whole[:len(whole) - len(text)]))
+        self.lines += ["<& a"] if with_text else []
+        self.length += len(whole)
+
+    def asked(self, lines, answer):
+        """The table that asks what a node opens with on these lines, and its program's last words."""
+        case = [self.text, "", "case a node opens", "ask open 0 of 3", *lines, f"> {answer}", ""]
+        return "\n".join(case).encode(), ENDING
+
+
+def tape_cost(options, maps, held):
+    """What opening a node on a tape takes."""
+    its, words = Tape(maps, held), [options.cases_program]
+    unread = its.asked(["<. \\x00", *its.lines], f"P2: a bad record at 0, {1 + its.length} bytes")
+    whole = its.asked(its.lines, f"published {maps}, {its.length} bytes")
+    return cost_of((words, *whole), (words, *unread))
+
+
+def tape(options):
+    return [(f"{maps} maps", partial(tape_cost, options, maps, 0)) for maps in (1024, 2048, 4096)]
+
+
+def held(options):
+    return [(f"{maps} maps", partial(tape_cost, options, maps, maps)) for maps in (512, 1024, 2048)]
+
+
+def started(program, tape):
+    """The milliseconds of a start on a copy of a tape."""
+    with tempfile.TemporaryDirectory() as folder:
+        (pathlib.Path(folder) / "node-0.tape").write_bytes(tape)
+        begun = time.perf_counter()
+        words = serve_words(program, 0, folder, nodes=1)
+        with subprocess.Popen(words, stdout=subprocess.PIPE, stderr=subprocess.DEVNULL) as process:
+            line = process.stdout.readline()
+            took = 1000 * (time.perf_counter() - begun)
+        if not line.startswith(b"listening "):
+            sys.exit("it didn't start")
+        return took
+
+
+def start(options):
+    def cost(maps):
+        with tempfile.NamedTemporaryFile() as file:
+            tape_of(options.program, pathlib.Path(file.name), maps)
+            whole = pathlib.Path(file.name).read_bytes()
+        return min(started(options.program, whole) - started(options.program, b"") for _ in range(RUNS)), None
+
+    return [(f"{maps} maps", partial(cost, maps)) for maps in (1024, 2048, 4096)]
+
+
+CASES = {each.__name__: each for each in (canon, features, labels, pixels, script, tape, held, start)}
+
+
+def measure(name, sizes):
+    """Prints a line a size, and the ratios; whether they are as they should be."""
+    costs = []
+    for size, cost in sizes:
+        spent, count = cost()
+        told = "" if count is None else f"  {count / 1e6:9.3f} million instructions"
+        print(f"{name:8} {size:>12}  {spent:8.3f} ms{told}", flush=True)
+        costs.append(max(count or spent, 0))
+    print("   ratios {:.2f}, {:.2f}".format(*ratios(costs)))
+    return grows_well(costs)
+
+
+def main():
+    words = parser(__doc__, GROWTH)
+    add_program(words)
+    add_program(words, built("wf_test_farm"), "--cases-program")
+    add_cases(words, CASES)
+    options = words.parse_args()
+    return 0 if all([measure(name, CASES[name](options)) for name in options.cases or CASES]) else 1
+
+
+if __name__ == "__main__":
+    sys.exit(main())

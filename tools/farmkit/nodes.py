@@ -1,0 +1,224 @@
+"""The nodes of a farm by their numbers, in processes of their own on loopback addresses of this machine, and
+a watch over what they answer."""
+
+import pathlib
+import re
+import resource
+import shutil
+import subprocess
+import threading
+from collections.abc import Sequence
+from typing import Any
+
+from farmkit.ledger import Ledger
+from farmkit.mapfiles import PICTURE
+from farmkit.processes import UNSIGNALLED, Node, end, free_ports
+from farmkit.wanted import PATIENCE, Wrong, until, want, want_none
+from farmkit.web import CAPABILITIES, Answer, ask, loopback
+
+NODES = 3
+# seconds until what a node has, and what it heard of its peers, is in its folder
+KEPT = 2
+VOTES, NO_MAJORITY = (200, "votes"), (503, "no majority")
+
+
+class Nodes:
+    """The nodes of a farm, each with its folder, ports and log."""
+
+    def __init__(self, program: str | pathlib.Path, folder: pathlib.Path, count: int = NODES) -> None:
+        self.program, self.folder, self.count = program, folder, count
+        ports = free_ports(3 * count)
+        self.peer, self.http, self.admin = ports[:count], ports[count:2 * count], ports[2 * count:]
+        peers = ",".join(map(loopback, self.peer))
+        self.each = [Node(program, i, folder / str(i), peers, loopback(self.http[i]), loopback(self.admin[i]))
+                     for i in range(count)]
+        self.folders = [0] * count
+        self.writers: list[subprocess.Popen[Any]] = []
+
+    def __getitem__(self, i: int) -> Node:
+        return self.each[i]
+
+    def lines(self, i: int, event: str) -> list[str]:
+        """The lines of a node's log about an event."""
+        return [line for line in self[i].log_lines() if f" {event}" in line]
+
+    def farm(self, i: int) -> dict[str, str]:
+        text = (self[i].folder / "farm").read_text()
+        return {word: rest for word, _, rest in (line.partition(" ") for line in text.splitlines())}
+
+    def starts(self, i: int) -> int:
+        """How often a node was started, by its folder."""
+        return int(self.farm(i)["starts"], 16)
+
+    # ---- processes
+
+    def init(self, i: int, *more: str) -> None:
+        self[i].init("tried", *more)
+
+    def run(self, *words: object) -> "subprocess.CompletedProcess[str]":
+        """What a command of the program does."""
+        command = [str(self.program), *map(str, words)]
+        try:
+            return subprocess.run(command, capture_output=True, text=True, timeout=PATIENCE)
+        except subprocess.TimeoutExpired as late:
+            raise Wrong(f"{' '.join(command)}: not in time") from late
+
+    def start(self, i: int, *more: str) -> None:
+        self[i].start(more=more)
+
+    def start_all(self, those: Sequence[int] | None = None) -> None:
+        """Starts all nodes or these, and waits until they answer."""
+        numbers = range(self.count) if those is None else those
+        for i in numbers:
+            self.start(i)
+        for i in numbers:
+            self.wait(i)
+
+    def begin(self) -> None:
+        for i in range(self.count):
+            self.init(i)
+        self.start_all()
+
+    def start_limitable(self, i: int) -> None:
+        """Starts a node whose files may be kept from growing (`limit`), with its log through a pipe."""
+        with self[i].log.open("a") as log:
+            writer = subprocess.Popen(["cat"], stdin=subprocess.PIPE, stdout=log)
+        assert writer.stdin is not None
+        self[i].start(before=UNSIGNALLED, stdout=subprocess.DEVNULL, stderr=writer.stdin)
+        writer.stdin.close()
+        self.writers.append(writer)
+        self.wait(i)
+
+    def limit(self, i: int, most: int | None) -> None:
+        _, greatest = resource.prlimit(self[i].running().pid, resource.RLIMIT_FSIZE)
+        resource.prlimit(self[i].running().pid, resource.RLIMIT_FSIZE,
+                         (greatest if most is None else most, greatest))
+
+    def wait(self, i: int) -> None:
+        """Waits until a node answers: each peer answered it, closed, or was silent for three seconds."""
+        until(lambda: self.published(i) >= 0)
+
+    def pause(self, *those: int) -> None:
+        for i in those:
+            self[i].pause()
+
+    def go_on(self, *those: int) -> None:
+        for i in those:
+            self[i].go_on()
+
+    def kill(self, *those: int) -> None:
+        for i in those:
+            end(self[i].running())
+
+    def kill_all(self) -> None:
+        for node in self.each:
+            node.running().kill()
+        for node in self.each:
+            node.running().wait()
+
+    def ended(self, i: int) -> tuple[int | None, str]:
+        until(lambda: self[i].ended() is not None)
+        return self[i].ended(), self[i].last_line()
+
+    def put(self, i: int, folder: pathlib.Path | None = None) -> None:
+        """Puts a copy of a folder in a node's place, or nothing: from now on it may tell less than before."""
+        shutil.rmtree(self[i].folder, ignore_errors=True)
+        if folder:
+            shutil.copytree(folder, self[i].folder)
+        self.folders[i] += 1
+
+    def end(self) -> None:
+        for node in self.each:
+            node.kill()
+        for writer in self.writers:
+            writer.wait()
+
+    # ---- what they are asked
+
+    def get(self, i: int, path: str, port: int | None = None) -> Answer:
+        """An answer of a node, or of another port; status 0 and no body if there is none."""
+        answer = ask(loopback(port or self.http[i]), path, seconds=PATIENCE)
+        return answer if answer.status else Answer(0, b"")
+
+    def operator(self, i: int, path: str) -> tuple[int, str]:
+        """The status and the text of an answer of a node's operator's port; 0 if it doesn't answer."""
+        status, told = self.get(i, path, self.admin[i])
+        return status, told.decode().strip()
+
+    def health(self, i: int) -> tuple[int, str]:
+        """The status and the text of a node's health; 0 if it doesn't answer."""
+        return self.operator(i, "/healthz")
+
+    def votes(self, i: int) -> tuple[int, str]:
+        """The status and the text of whether a node can publish a map now; 0 if it doesn't answer."""
+        return self.operator(i, "/votez")
+
+    def connected(self, i: int) -> list[float | None]:
+        """How many peers a node hears, and whether that makes a majority, by its metrics."""
+        told = self[i].metrics()
+        return [told.get(name) for name in ("wfarm_peers_connected", "wfarm_majority_connected")]
+
+    def publish(self, i: int, text: bytes, port: int | None = None) -> int:
+        return ask(loopback(port or self.http[i]), "/publish", text, PATIENCE).status
+
+    def publish_whole(self, i: int, text: bytes) -> None:
+        """Publishes a map, and waits until this node has it or another."""
+        before = self.published(i)
+        until(lambda: self.publish(i, text) == 202)
+        until(lambda: before < self.published(i))
+
+    def published(self, i: int) -> int:
+        """A node's published sequence; -1 if it doesn't answer."""
+        told = self[i].published(PATIENCE)
+        return -1 if told is None else told
+
+    def name(self, i: int, sequence: int) -> str | None:
+        """The name of the map that a node has published under a sequence; None if it has none there."""
+        status, text = self.operator(i, f"/map?seq={sequence}")
+        found = re.search(r'NAME "([^"]*)"', text)
+        return found[1] if status == 200 and found else None
+
+    def digest(self) -> bytes:
+        line = self.operator(0, f"/history?from={self.published(0)}")[1]
+        return bytes.fromhex(line.split()[1]) if line else bytes(32)
+
+    def level(self) -> float:
+        """The seconds until all nodes stand at one sequence; their histories are compared."""
+        seconds = until(lambda: len({self.published(i) for i in range(self.count)}) == 1)
+        top = self.published(0)
+        for start in range(1, top + 1, 256):
+            # (more may be published between two answers)
+            told = {"\n".join(self.operator(i, f"/history?from={start}")[1].splitlines()[:top - start + 1])
+                    for i in range(self.count)}
+            want("histories differ", len(told) == 1 and told != {""})
+        return seconds
+
+
+class Watch:
+    """Asks each node again and again, and compares all answers by sequence."""
+
+    def __init__(self, nodes: Nodes) -> None:
+        self.nodes, self.over, self.ledger = nodes, threading.Event(), Ledger()
+        self.threads = [threading.Thread(target=self.ask, args=(i,)) for i in range(nodes.count)]
+        for thread in self.threads:
+            thread.start()
+
+    def ask(self, i: int) -> None:
+        """Asks a node until the watch is over. An answer after its folder was changed isn't the latest."""
+        while not self.over.wait(0.02):
+            life = self.nodes.folders[i]
+            status, body = self.nodes.get(i, CAPABILITIES)
+            if status != 200:
+                continue
+            sequence = self.ledger.document(body)
+            if life == self.nodes.folders[i]:
+                self.ledger.published(f"node {i} of folder {life}", sequence)
+            status, body = self.nodes.get(i, PICTURE % sequence) if sequence else Answer(0, b"")
+            if status == 200:
+                self.ledger.same("the picture at", sequence, body)
+
+    def end(self) -> None:
+        self.over.set()
+        for thread in self.threads:
+            thread.join()
+        want_none(self.ledger.violations[:5])

@@ -1,0 +1,268 @@
+"""The built program on free ports of this machine: `wfarm serve`, or nodes and replicas in processes of their
+own."""
+
+import pathlib
+import random
+import re
+import resource
+import signal
+import socket
+import subprocess
+import time
+from collections.abc import Callable, Sequence
+from typing import Any
+
+from farmkit.wanted import want
+from farmkit.web import Answer, ask, connect, loopback, received, request
+
+# words before a program whose write to a file over its limit is an error and no signal
+UNSIGNALLED = ("env", "--ignore-signal=XFSZ")
+# what a node tells at /status: its number, what it has published, and the state of its proposal with that
+# one's sequence
+STATUS = re.compile(rb"node (\d+) published (\d+) proposal (none|running|(?:published|overtaken) (\d+))\n")
+PUBLISHED = re.compile(rb"(?:node \d+|replica) published (\d+)\b.*\n")
+
+
+def free_ports(count: int) -> list[int]:
+    """Ports that nothing listens at now, below those that the system gives to connections."""
+    ports = set[int]()
+    while len(ports) < count:
+        port = random.randrange(10_000, 32_000)
+        try:
+            socket.create_server(("127.0.0.1", port)).close()
+        except OSError:
+            continue
+        ports.add(port)
+    return list(ports)
+
+
+def end(process: "subprocess.Popen[Any]") -> None:
+    """Ends a process by SIGKILL, also one that is stopped, and waits for it."""
+    process.kill()
+    process.wait()
+
+
+def listens(port: int) -> bool:
+    """Whether something listens at a port of this machine."""
+    try:
+        connect(loopback(port), 5).close()
+    except OSError:
+        return False
+    return True
+
+
+def children(number: int) -> list[int]:
+    """The processes that a process of this number started, and that run; none where it has ended."""
+    found = []
+    for file in pathlib.Path(f"/proc/{number}/task").glob("*/children"):
+        try:
+            found += [int(word) for word in file.read_text().split()]
+        except OSError:
+            continue
+    return found
+
+
+def limited(most: int) -> Callable[[], None]:
+    """What `preexec_fn` may be: no file of the program grows over so many bytes."""
+    return lambda: resource.setrlimit(resource.RLIMIT_FSIZE, (most, most))
+
+
+# ---- wfarm serve
+
+def serve_words(program: str | pathlib.Path, requests: int, folder: str | pathlib.Path | None, nodes: int = 3,
+                port: int = 0, log: bool = False) -> list[str]:
+    """The command line of a farm in one process."""
+    words = [str(program), "serve", "--nodes", str(nodes), "--port", str(port), "--requests", str(requests)]
+    words += ["--log"] if log else []
+    return words if folder is None else words + ["--state", str(folder)]
+
+
+class Farm:
+    """`wfarm serve` in one process, for n connections. `before` are words before the program's."""
+
+    def __init__(self, program: str | pathlib.Path, requests: int, folder: str | pathlib.Path | None,
+                 nodes: int = 3, log: bool = False, before: Sequence[str] = (), **settings: Any) -> None:
+        words = [*before, *serve_words(program, requests, folder, nodes, log=log)]
+        self.process = subprocess.Popen(words, stdout=subprocess.PIPE, text=True, **settings)
+        assert self.process.stdout is not None
+        told = self.process.stdout.readline()
+        port = re.fullmatch(r"listening ([0-9]+)\n", told)
+        assert port, told
+        self.port = int(port[1])
+        self.address = loopback(self.port)
+
+    def ask(self, path: str, body: bytes | None = None) -> Answer:
+        return ask(self.address, path, body, 20)
+
+    def ask_with_more(self, path: str, more: int) -> bytes:
+        """What comes back to a GET with n bytes after its head, up to where the connection breaks."""
+        with connect(self.address, 20) as client:
+            client.sendall(request(path) + b"x" * more)
+            time.sleep(0.2)
+            return received(client)
+
+    def trickle(self, most: float) -> tuple[float, bytes]:
+        """Sends a head byte by byte: after how many seconds an answer comes or the connection is closed."""
+        begun = time.monotonic()
+        came = b""
+        with connect(self.address, 20) as client:
+            client.settimeout(0.5)
+            while time.monotonic() - begun < most and not came:
+                try:
+                    client.sendall(b"G")
+                    came = client.recv(1 << 16)
+                    if not came:
+                        break
+                except TimeoutError:
+                    continue
+                except OSError:
+                    break
+        return time.monotonic() - begun, came
+
+    def wait_for_continue(self, body: bytes) -> bytes:
+        """Sends the head of a publish that expects 100 Continue, and waits for it: what comes."""
+        head = b"POST /publish HTTP/1.1\r\nContent-Length: %d\r\nExpect: 100-continue\r\n\r\n" % len(body)
+        with connect(self.address, 20) as client:
+            client.sendall(head)
+            return received(client)
+
+    def keep_open(self, sent: bytes) -> socket.socket:
+        """A client that sends a request, reads nothing and doesn't close."""
+        client = connect(self.address, 20)
+        client.sendall(sent)
+        return client
+
+    def end(self) -> None:
+        assert self.process.wait(timeout=20) == 0
+
+    def kill(self) -> None:
+        end(self.process)
+        assert self.process.stdout is not None
+        self.process.stdout.close()
+
+
+# ---- wfarm node, wfarm replica
+
+class Process:
+    """A node or a replica in a process of its own. `before` are words that enter a host, say."""
+
+    def __init__(self, program: str | pathlib.Path, folder: str | pathlib.Path, clients: str, operator: str,
+                 words: list[str], before: Sequence[str] = ()) -> None:
+        self.program, self.folder = str(program), pathlib.Path(folder)
+        self.words, self.before = words, list(before)
+        self.clients, self.operator = clients, operator
+        self.process: subprocess.Popen[Any] | None = None
+        # the file of its standard error, and when it was started, and answered last
+        self.log = self.folder.parent / f"log-{self.folder.name}"
+        self.started = self.answered = 0.0
+
+    def log_lines(self) -> list[str]:
+        return self.log.read_text(errors="replace").splitlines()
+
+    def last_line(self) -> str:
+        return (self.log_lines() or [""])[-1]
+
+    def command(self) -> list[str]:
+        return [self.program, *self.words, "--state", str(self.folder), "--http", self.clients, "--admin",
+                self.operator]
+
+    def start(self, before: Sequence[str] = (), logs: bool = True, more: Sequence[str] = (),
+              **settings: Any) -> None:
+        """Starts it, with words before the program's and more behind; `settings` are those of Popen."""
+        words = [*self.before, *before, *self.command(), *(["--log"] if logs else []), *more]
+        with self.log.open("ab") as log:
+            usual: dict[str, Any] = {"stdin": subprocess.DEVNULL, "stdout": log, "stderr": log}
+            self.process = subprocess.Popen(words, start_new_session=bool(self.before),
+                                            **{**usual, **settings})
+        self.started = time.monotonic()
+
+    def kill(self) -> None:
+        if self.process is not None:
+            end(self.process)
+            self.process = None
+
+    def running(self) -> "subprocess.Popen[Any]":
+        """Its process, which was started and not killed."""
+        assert self.process is not None
+        return self.process
+
+    def pause(self) -> None:
+        self.running().send_signal(signal.SIGSTOP)
+
+    def go_on(self) -> None:
+        self.running().send_signal(signal.SIGCONT)
+
+    def ended(self) -> int | None:
+        return None if self.process is None else self.process.poll()
+
+    def ask(self, path: str, body: bytes | None = None, seconds: float = 20) -> Answer:
+        return ask(self.clients, path, body, seconds)
+
+    def ask_operator(self, path: str, seconds: float = 20) -> Answer:
+        """An answer of its operator's port; status 0 where none came."""
+        return ask(self.operator, path, None, seconds)
+
+    def published(self, seconds: float = 20) -> int | None:
+        """The last sequence that it has published; None where it doesn't answer."""
+        line = PUBLISHED.fullmatch(self.ask("/status", seconds=seconds).body)
+        if line is None:
+            return None
+        self.answered = time.monotonic()
+        return int(line[1])
+
+    def metrics(self) -> dict[str, float]:
+        lines = self.ask_operator("/metrics").body.decode().splitlines()
+        return {name: float(value) for name, _, value in (line.partition(" ") for line in lines)
+                if name.isidentifier()}
+
+    def processor_seconds(self) -> float:
+        """The processor time of it and its threads, from the scheduler, which counts nanoseconds."""
+        tasks = pathlib.Path(f"/proc/{self.running().pid}/task").iterdir()
+        return sum(int((task / "schedstat").read_text().split()[0]) for task in tasks) / 1e9
+
+
+class Node(Process):
+    """A node with a vote. `peers` are the addresses of all nodes, with commas between them."""
+
+    def __init__(self, program: str | pathlib.Path, number: int, folder: str | pathlib.Path, peers: str,
+                 clients: str, operator: str, readers: str | None = None, before: Sequence[str] = ()) -> None:
+        more = [] if readers is None else ["--readers", readers]
+        super().__init__(program, folder, clients, operator, ["node", "--peers", peers, *more], before)
+        self.number, self.count = number, len(peers.split(","))
+
+    def init(self, farm: str, *more: str) -> "subprocess.CompletedProcess[str]":
+        self.folder.mkdir(parents=True, exist_ok=True)
+        words = ["init", "--state", str(self.folder), "--farm", farm, "--id", str(self.number), "--nodes",
+                 str(self.count), *more]
+        ran = subprocess.run([self.program, *words], capture_output=True, text=True)
+        want(f"init of node {self.number}: status {ran.returncode}, {ran.stderr.strip()}",
+             ran.returncode == 0)
+        return ran
+
+    @property
+    def tape(self) -> pathlib.Path:
+        return self.folder / f"node-{self.number}.tape"
+
+
+class Replica(Process):
+    """A renderer without a vote. It asks at the addresses `readers`; others may ask it at its own."""
+
+    def __init__(self, program: str | pathlib.Path, folder: str | pathlib.Path, farm: str,
+                 readers: str) -> None:
+        clients, operator, self.readers = map(loopback, free_ports(3))
+        words = ["replica", "--farm", farm, "--peers", readers, "--readers", self.readers]
+        super().__init__(program, folder, clients, operator, words)
+        self.folder.mkdir(parents=True)
+
+
+def nodes_in(program: str | pathlib.Path, folder: str | pathlib.Path, farm: str, count: int = 3,
+             readers: Sequence[int] | None = None, tape: pathlib.Path | None = None) -> list[Node]:
+    """New nodes of a farm, not started: with these ports for readers and this tape, where given."""
+    ports = list(map(loopback, free_ports(3 * count)))
+    peers, clients, operators = ports[:count], ports[count:2 * count], ports[2 * count:]
+    nodes = [Node(program, number, pathlib.Path(folder) / f"node-{number}", ",".join(peers), clients[number],
+                  operators[number],
+                  loopback(readers[number]) if readers else None) for number in range(count)]
+    for node in nodes:
+        node.init(farm, *(["--from", str(tape)] if tape else []))
+    return nodes

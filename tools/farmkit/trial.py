@@ -1,0 +1,50 @@
+"""What a trial saw, and how its cases went."""
+
+import pathlib
+import tempfile
+from collections.abc import Callable, Iterable, Sequence
+from typing import Any
+
+from farmkit.wanted import Wrong, seconds_until
+
+
+class Trial:
+    """Counts what was seen that isn't as it should be."""
+
+    def __init__(self) -> None:
+        self.wrong = 0
+
+    def see(self, what: str, holds: object, told: object = "") -> None:
+        """A line of what was seen, and of what was told where it isn't as it should be."""
+        print(f"{'ok   ' if holds else 'WRONG'} {what}" + ("" if holds else f": {told}"), flush=True)
+        self.wrong += not holds
+
+    def wait(self, what: str, is_so: Callable[[], object], seconds: float = 60) -> None:
+        """A line of what is so within this time, with the seconds until then."""
+        took = seconds_until(is_so, seconds, 0.1)
+        self.see(what if took is None else f"{what} ({took:.1f} s)", took is not None)
+
+    def conclude(self) -> int:
+        print(f"{self.wrong} wrong")
+        return int(bool(self.wrong))
+
+
+def chosen(cases: Iterable[Callable[..., Any]], names: Sequence[str]) -> list[Callable[..., Any]]:
+    return [case for case in cases if not names or case.__name__ in names]
+
+
+def go_through(cases: Sequence[Callable[..., Any]],
+               attempt: Callable[[Callable[..., Any], pathlib.Path], str | None]) -> int:
+    """Tries each case in a folder of its own: prints what it saw or what was wrong. The status."""
+    failed = 0
+    for case in cases:
+        with tempfile.TemporaryDirectory(prefix="wfarm-case-") as folder:
+            try:
+                said = attempt(case, pathlib.Path(folder))
+                if said is not None:
+                    print(f"{case.__name__}: {said}", flush=True)
+            except Wrong as wrong:
+                failed += 1
+                print(f"{case.__name__}: FAILED: {wrong}", flush=True)
+    print(f"{len(cases) - failed} of {len(cases)} cases went as they should")
+    return 1 if failed else 0

@@ -1,0 +1,80 @@
+#!/usr/bin/env python3
+"""Writes the program with the revision that it was built from: over the forty zeros that `crates/wf_version`
+has in their place, so that `wfarm --version` and the metrics tell one build from another, and no proof is
+made again for it.
+
+The program is the proved one that `rt ci` leaves, unless another is given. The revision is the newest
+commit's; where files are changed that aren't committed, it isn't known, and the zeros stay. Prints what the
+written program says of itself.
+"""
+
+import argparse
+import pathlib
+import re
+import subprocess
+import sys
+
+from farmkit.command import add_program, parser
+from farmkit.repository import TOP
+
+UNKNOWN = "0" * 40
+# the texts of crates/wf_version in which the revision stands
+PLACES = ("(revision {})", 'revision="{}"')
+
+
+class NoPlace(Exception):
+    """The program has no place for its revision."""
+
+
+def git(*words):
+    return subprocess.run(["git", "-C", str(TOP), *words], capture_output=True, text=True,
+                          check=False).stdout.strip()
+
+
+def revision_now():
+    """The newest commit; forty zeros where the files aren't those of a commit."""
+    changed = git("status", "--porcelain", "--untracked-files=no")
+    return UNKNOWN if changed else git("rev-parse", "HEAD") or UNKNOWN
+
+
+def stamped(program, revision):
+    """The bytes of the program with that revision in each of its places."""
+    for place in PLACES:
+        if place.format(UNKNOWN).encode() not in program:
+            raise NoPlace(f"no {place.format('0..0')} in it")
+        program = program.replace(place.format(UNKNOWN).encode(), place.format(revision).encode())
+    return program
+
+
+def revision_of(word):
+    """A revision as an argument: forty hexadecimal digits."""
+    if not re.fullmatch("[0-9a-f]{40}", word):
+        raise argparse.ArgumentTypeError("not forty hexadecimal digits")
+    return word
+
+
+def write_stamped(program, revision, path):
+    """Writes the program with that revision, as a file that can be run."""
+    path.write_bytes(stamped(program.read_bytes(), revision))
+    path.chmod(0o755)
+
+
+def main():
+    words = parser(__doc__,
+                   "Exit status: that of `FILE --version`, 1 where the program can't be read or has no such "
+                   "place.")
+    add_program(words)
+    words.add_argument("--revision", type=revision_of, default=revision_now(),
+                       help="forty hexadecimal digits")
+    words.add_argument("--to", type=pathlib.Path, required=True, metavar="FILE")
+    options = words.parse_args()
+    try:
+        write_stamped(pathlib.Path(options.program), options.revision, options.to)
+    except (OSError, NoPlace) as error:
+        print(f"{options.program}: {error}", file=sys.stderr)
+        return 1
+    return subprocess.run([options.to.resolve(), "--version"], check=False).returncode
+
+
+if __name__ == "__main__":
+    sys.exit(main())

@@ -1,0 +1,154 @@
+"""Tests of the scripts as they are called: their help, the gate's count, and what wfarmctl has of its own."""
+
+import contextlib
+import hashlib
+import importlib.machinery
+import importlib.util
+import io
+import json
+import pathlib
+import re
+import subprocess
+import sys
+import tempfile
+import types
+import unittest
+
+import check_python
+import ci
+from farmkit import tapes
+from farmkit.processes import PUBLISHED
+
+TOP = pathlib.Path(__file__).resolve().parents[2]
+
+
+def scripts() -> list[pathlib.Path]:
+    """The scripts of tools/ and bench/, and the demo."""
+    every = [*(TOP / "tools").glob("*.py"), *(TOP / "bench").glob("*.py"), TOP / "demo",
+             TOP / "tools" / "wfarmctl"]
+    return sorted(it for it in every if it.name != "kit.py")
+
+
+# run in a process for each folder: what each script of it writes for --help, and on standard error
+HELP = """
+import contextlib, io, json, os, runpy, sys
+for path in sys.argv[1:]:
+    sys.path[0], out, error = os.path.dirname(path), io.StringIO(), io.StringIO()
+    sys.argv, status = [path, "--help"], None
+    with contextlib.redirect_stdout(out), contextlib.redirect_stderr(error):
+        try:
+            runpy.run_path(path, run_name="__main__")
+        except SystemExit as end:
+            status = end.code
+        except ImportError as lacking:
+            error.write(str(lacking))
+    print(json.dumps([path, status, out.getvalue(), error.getvalue()]))
+"""
+
+
+class Help(unittest.TestCase):
+    def test_each_script_says_what_it_is_for(self) -> None:
+        for folder in {path.parent for path in scripts()}:
+            own = [str(path) for path in scripts() if path.parent == folder]
+            ran = subprocess.run([sys.executable, "-B", "-c", HELP, *own], capture_output=True, text=True)
+            self.assertEqual((ran.stderr, ran.stdout.count("\n")), ("", len(own)))
+            for path, status, told, error in map(json.loads, ran.stdout.splitlines()):
+                # (what Debian packages, as git, GDAL or Selenium, need not be here)
+                lacking = re.search(r"No module named '(\w+)'|^missing: |directory: '(git)'", error)
+                if lacking and not list((TOP / "tools").glob(f"{lacking[1]}*")):
+                    continue
+                with self.subTest(path):
+                    self.assertEqual((status, error), (0, ""))
+                    self.assertRegex(told, r"(?m)^[A-Z].*[a-z]")
+
+
+class Gate(unittest.TestCase):
+    def run_with(self, *programs: str) -> tuple[int, str]:
+        """The status and the last line of the gate over programs that these texts are."""
+        with tempfile.TemporaryDirectory() as folder:
+            commands = []
+            for number, text in enumerate(programs):
+                path = pathlib.Path(folder) / f"{number}.py"
+                path.write_text(text)
+                commands.append([sys.executable, str(path)])
+            code = (f"import ci; ci.COMMANDS = {commands!r}; import sys; sys.argv[1:] = []; "
+                    f"sys.exit(ci.main())")
+            ran = subprocess.run([sys.executable, "-B", "-c", code], cwd=TOP / "tools", capture_output=True,
+                                 text=True)
+            return ran.returncode, ran.stdout.splitlines()[-1]
+
+    def test_the_last_line_is_over_both(self) -> None:
+        well = "print('a line'); print('7 passed, 0 failed')"
+        self.assertEqual(self.run_with(well, well), (0, "14 passed, 0 failed"))
+        self.assertEqual(self.run_with(well, "print('5 passed, 2 failed'); exit(1)"),
+                         (1, "12 passed, 2 failed"))
+
+    def test_a_command_that_breaks_has_failed(self) -> None:
+        well = "print('7 passed, 0 failed')"
+        self.assertEqual(self.run_with(well, "exit(0)"), (1, "7 passed, 1 failed"))
+        self.assertEqual(self.run_with(well, "print('5 passed, 0 failed'); exit(3)"),
+                         (1, "12 passed, 1 failed"))
+
+    def test_a_command_that_is_not_there_has_failed(self) -> None:
+        with contextlib.redirect_stdout(io.StringIO()):
+            self.assertEqual(ci.run(["/no/such/command"]), (0, 1))
+
+    def test_ci_runs_what_the_readme_says(self) -> None:
+        words = (TOP / ".ci" / "run").read_text().strip()
+        self.assertIn(words, ("rt ci", "python3 tools/ci.py"))
+        self.assertIn(f"`{words}`", (TOP / "README.md").read_text(encoding="utf-8"))
+
+    def test_a_linter_that_is_not_there(self) -> None:
+        self.assertEqual(check_python.why_not("no-such-linter", "1.0"), "no-such-linter is missing")
+        self.assertRegex(check_python.why_not(sys.executable, "0.1"), "0.1 is wanted, and this is 3")
+
+
+def wfarmctl() -> types.ModuleType:
+    """The tool that is shipped alone, as a module."""
+    path = str(TOP / "tools" / "wfarmctl")
+    loader = importlib.machinery.SourceFileLoader("wfarmctl", path)
+    spec = importlib.util.spec_from_loader("wfarmctl", loader)
+    assert spec is not None
+    module = importlib.util.module_from_spec(spec)
+    sys.modules["wfarmctl"] = module
+    loader.exec_module(module)
+    return module
+
+
+class Wfarmctl(unittest.TestCase):
+    """It may not import farmkit: what both have is the same."""
+
+    def test_it_stands_alone(self) -> None:
+        self.assertNotIn("farmkit", (TOP / "tools" / "wfarmctl").read_text(encoding="utf-8"))
+
+    def test_the_tools_of_the_package_stand_alone(self) -> None:
+        text = (TOP / "tools" / "make_deb.py").read_text(encoding="utf-8")
+        names = re.search(r"(?m)^MAP_TOOLS = \(([^)]*)\)", text)
+        assert names is not None
+        for name in re.findall(r'"([^"]+)"', names[1]):
+            path = TOP / "tools" / name
+            for file in [path] if path.is_file() else path.glob("**/*.py"):
+                self.assertNotIn("farmkit", file.read_text(encoding="utf-8"), str(file))
+
+    def test_the_digest_of_a_history(self) -> None:
+        texts = [b"one", b"two", b"three"]
+        digests = wfarmctl().digests_of(texts)
+        self.assertEqual([bytes.fromhex(it) if isinstance(it, str) else it for it in digests],
+                         [tapes.digest_of(texts[:count + 1]) for count in range(3)])
+        self.assertEqual(tapes.digest_of(texts[:1]), hashlib.sha256(bytes(32) + b"one").digest())
+
+    def test_the_line_of_status(self) -> None:
+        module = wfarmctl()
+        for line in ("node 2 published 41 proposal running\n", "node 0 published 0 proposal none\n",
+                     "node 1 published 4096 proposal published 4096\n"):
+            found = PUBLISHED.fullmatch(line.encode())
+            assert found is not None
+            self.assertEqual(module.STATUS.fullmatch(line)[2], found[1].decode())
+        line = "replica published 7\n"
+        found = PUBLISHED.fullmatch(line.encode())
+        assert found is not None
+        self.assertEqual(module.REPLICA.fullmatch(line)[1], found[1].decode())
+
+
+if __name__ == "__main__":
+    unittest.main()
