@@ -264,8 +264,8 @@ def behind(nodes, _):
         wrong += publication(nodes, [0, 2], "by two of three")
         said += f"; without node 1, and node 0 started again, two serve after {seconds} s"
     mine = nodes.get(2, f"/history?from={LENGTH}", nodes.admin[2])[1].decode().split()[1:2]
-    wrong += [] if mine in ([], [digest_of(x)],
-                            [digest_of(y)]) else ["node 2 has a history that is mixed from both"]
+    own = ([], [digest_of(x).hex()], [digest_of(y).hex()])
+    wrong += [] if mine in own else ["node 2 has a history that is mixed from both"]
     return end(wrong, said, shown(states))
 
 
