@@ -1,5 +1,5 @@
 -- What was heard of each node stays heard.
-use Rattle.std.proofs.Common.{ℕ, ◌<◌, ◌≤◌, List, length, inl, inr, subst, arith}
+use Rattle.std.proofs.Common.{ℕ, ◌<◌, ◌≤◌, List, length, inl, inr, subst, sym, arith}
 use Rattle.std.specs.Prelude.{Option, Some, None}
 use Rattle.std.proofs.lemmas.Bool.{cases_lt}
 use Rattle.std.proofs.lemmas.List.{get_or_past}
@@ -9,7 +9,7 @@ use Rattle.wf_codec.specs.Message.{view}
 use Rattle.wf_folder.specs.Reach.{IsNoLower}
 use Rattle.wf_model.specs.Message.{Message, Prepare, Promise, Accept, Accepted, Nack, Chosen, Ask}
 use Rattle.wf_peer.specs.Sender.{heard_of}
-use Rattle.wf_peer.specs.Told.{HearAll, IsPast, TellsNoMore, TellsNoMoreOf}
+use Rattle.wf_peer.specs.Told.{ArePast, HearAll, IsPast, TellsNoMore, TellsNoMoreOf}
 use Rattle.wf_peer.specs.declared.heard.Heard.{Heard}
 use Rattle.wf_peer.specs.declared.progress.Progress.{Progress}
 
@@ -33,8 +33,12 @@ still_tells_of None b m past told = absurd told
 still_tells_of (Some h) None m past told = absurd past
 still_tells_of (Some h) (Some g) m past told = still_tells h.progress g.progress m past.0 past.1 told
 
-pub hear_all : (earlier later : List (Option Heard)) (count : ℕ) → length earlier ≤ count → ((i : ℕ) → i < count → IsPast (heard_of earlier i) (heard_of later i)) → HearAll earlier later
-hear_all earlier later count whole past = λ i m told. elim (cases_lt i (length earlier)) [
-  | inl less ↦ still_tells_of (heard_of earlier i) (heard_of later i) (view m) (past i (omega (arith, less, whole))) told
-  | inr beyond ↦ absurd (subst (λ (h : Option Heard). TellsNoMoreOf h (view m)) (get_or_past earlier i None beyond) told)
+-- what was compared of each index of the earlier list is true of each node
+pub past_of_all : (earlier later : List (Option Heard)) (count : ℕ) → length earlier ≤ count → ((i : ℕ) → i < count → IsPast (heard_of earlier i) (heard_of later i)) → ArePast earlier later
+past_of_all earlier later count whole past = λ i. elim (cases_lt i (length earlier)) [
+  | inl less ↦ past i (omega (arith, less, whole))
+  | inr beyond ↦ subst (λ (h : Option Heard). IsPast h (heard_of later i)) (sym (get_or_past earlier i None beyond)) tt
 ]
+
+pub hear_past : (earlier later : List (Option Heard)) → ArePast earlier later → HearAll earlier later
+hear_past earlier later past = λ i m told. still_tells_of (heard_of earlier i) (heard_of later i) (view m) (past i) told

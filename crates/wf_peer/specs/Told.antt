@@ -43,3 +43,7 @@ abbrev pub IsPast : Option Heard → Option Heard → Type 0
 IsPast None later = Unit {0}
 IsPast (Some h) None = ⊥
 IsPast (Some h) (Some g) = (h.progress.round ≤ g.progress.round) × IsNoLower h.progress.promise g.progress.promise
+
+-- of each node
+abbrev pub ArePast : (earlier later : List (Option Heard)) → Type 0
+ArePast earlier later = (i : ℕ) → IsPast (heard_of earlier i) (heard_of later i)

@@ -2,7 +2,7 @@
 ghost use Rattle.std.specs.Prelude.{◌↔◌, ◌≡◌, IsTrue};
 ghost use Rattle.wf_codec.specs.Message.{view};
 ghost use Rattle.wf_peer.specs.Sender.{heard_of};
-ghost use Rattle.wf_peer.specs.Told.{HearAll, IsHeardOf, IsPast, TellsNoMore, TellsNoMoreOf};
+ghost use Rattle.wf_peer.specs.Told.{ArePast, HearAll, IsHeardOf, IsPast, TellsNoMore, TellsNoMoreOf};
 
 use crate::heard::Heard;
 use crate::peer_progress::PeerProgress;
@@ -19,9 +19,11 @@ impl PeerProgress {
         tells_no_more_of(&self.heard(node), message)
     }
 
-    /// Whether this has all that was heard earlier, of each node.
+    /// Whether this has all that was heard earlier, of each node: its round and its promise are no lower.
+    #[tactic(auto, using(crate::proofs::HeardLater::hear_past))]
     pub fn has_all_of(&self, earlier: &PeerProgress) -> bool
-        ensures { IsTrue result → HearAll earlier.now self.now }
+        ensures past { IsTrue result ↔ ArePast earlier.now self.now }
+        ensures heard { IsTrue result → HearAll earlier.now self.now }
     {
         have_all_of(&self.nodes, &earlier.nodes)
     }
@@ -29,7 +31,7 @@ impl PeerProgress {
 
 /// Whether of each node no less was heard than earlier.
 fn have_all_of(later: &[Option<Heard>], earlier: &[Option<Heard>]) -> bool
-    ensures { IsTrue result → HearAll earlier.now later.now }
+    ensures { IsTrue result ↔ ArePast earlier.now later.now }
 {
     for index in 0..earlier.len() {
         if !is_past(&earlier[index], &heard_at(later, index)) {
