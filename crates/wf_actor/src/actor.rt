@@ -37,7 +37,7 @@ pub struct Actor<T: Tape> {
 }
 
 impl<T: Tape> Actor<T> {
-    ghost use Rattle.std.specs.Prelude.{◌++◌, ◌<◌, ◌≤◌, ◌≢◌, ℕ, List, IfOk, IfErr};
+    ghost use Rattle.std.specs.Prelude.{◌++◌, ◌<◌, ◌≤◌, ◌≢◌, ℕ, false, List, IfOk, IfErr};
     ghost use Rattle.wf_actor.specs.Life.{all_from, AreOwnAmong, IsOpenedFrom};
     ghost use Rattle.wf_actor.specs.Start.{IsOpened};
     ghost use Rattle.wf_def.specs.Definition.{Definition};
@@ -49,8 +49,10 @@ impl<T: Tape> Actor<T> {
     ghost use Rattle.wf_delivery.specs.Reachability.{outputs_by};
     ghost use Rattle.wf_edge.specs.Request.{TakesRequest};
     ghost use Rattle.wf_journal.specs.Journal.{Follows, ReadsSame, IsWhyFailed};
+    ghost use Rattle.wf_model.specs.VolatileState.{at_start};
     ghost use Rattle.wf_node.specs.Input.{view};
-    ghost use Rattle.wf_node.specs.OpenedNode.{IsWhyBad};
+    ghost use Rattle.wf_node.specs.Node.{stored_of, volatile_of};
+    ghost use Rattle.wf_node.specs.OpenedNode.{IsRead, IsWhyBad};
     ghost use Rattle.wf_tape.specs.Change.{Stays};
     ghost use Rattle.wf_wms.specs.CachedPictures.{AllCached};
 
@@ -85,6 +87,23 @@ impl<T: Tape> Actor<T> {
                 Err(step_rejection)
             }
         }
+    }
+
+    /// A node that was opened elsewhere, and has moved to its tape, as [`Node::move_to`] moves it. Nothing was given to it yet.
+    pub(crate) fn of(node: Node<T>, cache: Cache) -> Actor<T>
+        requires runs { node.halted ≡ false }
+        requires idle { volatile_of node ≡ at_start }
+        requires found { IsRead T.durable (T.content node.tape) (stored_of node) }
+        requires cache { (history : List Definition) → AllCached history cache }
+        ensures opened { IsOpened T.Tape node.tape node.id node.n result.node }
+        ensures node { result.node ≡ node }
+        ensures read_from { result.read_from.items ≡ (node.tape, 0) ∷ [] }
+        ensures began { result.began.items ≡ (result.node, 0) ∷ [] }
+        ensures given { result.given.items ≡ [] }
+        ensures emitted { logged result.emitted.items ≡ [] }
+    {
+        let read_from = Past::new().and(node.tape(), &0);
+        Actor::begin(node, read_from, cache)
     }
 
     /// The life of a node that was just opened, from the tape that the log has.

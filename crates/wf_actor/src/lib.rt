@@ -6,10 +6,10 @@
 //! receivers returned and of the runs that have ended (`specs/Process.antt`).
 //!
 //! **Promises.**
-//! - Whatever was called, the node's acts since it was opened are a run of `wf_career`, from the bytes that were read of its tape,
-//! and end
-//!   at the node as it is now ([`Process::always_lived`], [`a_life_is_part_of_a_farm`]). So a loop over a process needs no invariant to
-//!   say what it did. a durable tape's content are these bytes; of a file that is a premise.
+//! - Whatever was called, the node's acts since it was opened are a run of `wf_career`, from the bytes that were read of its tape, or
+//!   that it wrote to it when it moved there ([`Process::of`]), and end at the node as it is now ([`Process::always_lived`],
+//!   [`a_life_is_part_of_a_farm`]). So a loop over a process needs no invariant to say what it did. A durable tape's content are
+//!   these bytes; of a file that is a premise.
 //! - What was put into any outbox the node returned, and so what waits for the node itself; what is given to the node was returned by
 //!   it before, or by the receiver of the peer that it is said to come from ([`Process::always_received`]).
 //! - An act is the node's step. Each of its messages goes to each node that it is for: into the node's outbox whole, or it is dropped,

@@ -9,7 +9,7 @@ use crate::link::Link;
 use crate::parts::{ProcessParts, make_room, send};
 use crate::reopening::ReopenFault;
 use crate::target::{Target, reply_target};
-use std::alloc::Global;
+use std::alloc::{AllocError, Global};
 use wf_ballot::{NodeId, Seq};
 use wf_canon::Canon;
 use wf_codec::Message;
@@ -282,10 +282,41 @@ impl<T: Tape> Process<T> {
 }
 
 impl<T: Tape + Drop> Process<T> {
-    ghost use Rattle.std.specs.Prelude.{◌++◌, ◌∷◌, [], IfErr, IfOk};
+    ghost use Rattle.std.specs.Prelude.{◌++◌, ◌∷◌, [], false, IfErr, IfOk};
     ghost use Rattle.wf_actor.specs.Start.{IsOpened, IsWhyNotReopened};
     ghost use Rattle.wf_actor.specs.Process.{IsBegun};
+    ghost use Rattle.wf_model.specs.VolatileState.{at_start};
+    ghost use Rattle.wf_node.specs.Node.{stored_of, volatile_of};
+    ghost use Rattle.wf_node.specs.OpenedNode.{IsRead};
     ghost use Rattle.wf_node.specs.Reopening.{HasStoredAs};
+
+    /// The process of a node that was opened elsewhere, and has moved to its tape (`Node::move_to`), with a cache for `pictures`
+    /// pictures. No message waits, and there are no connections. Its life is from the records that the tape has now. Err: there is no
+    /// memory for the process, and the node is dropped.
+    pub fn of(alloc: Global, node: Node<T>, pictures: usize) -> Result<Process<T>, AllocError>
+        requires nodes { node.n ≤ 64 }
+        requires member { node.id < node.n }
+        requires runs { node.halted ≡ false }
+        requires idle { volatile_of node ≡ at_start }
+        requires found { IsRead T.durable (T.content node.tape) (stored_of node) }
+        requires least { 1 ≤ pictures }
+        requires most { pictures ≤ 64 }
+        ensures opened { IfOk result (λ process.
+            IsOpened T.Tape node.tape node.id node.n process.actor.node) }
+        ensures same { IfOk result (λ process. process.actor.node ≡ node) }
+        ensures read_from { IfOk result (λ process.
+            process.actor.read_from.items ≡ (node.tape, 0) ∷ []) }
+        ensures begun { IfOk result (λ process. IsBegun process) }
+        ensures n { IfOk result (λ process. process.n ≡ node.n) }
+        ensures ended { IfOk result (λ process. process.ended.items ≡ []) }
+    {
+        let n = node.n();
+        let Ok((parts, cache)) = make_room(alloc, n, pictures) else {
+            drop(node);
+            return Err(AllocError);
+        };
+        Ok(Process::assemble(Actor::of(node, cache), n, pictures, parts))
+    }
 
     /// The process in its next run, on a tape from which its node is opened, once its own has failed: nothing waits, there are no
     /// connections, and this run is the last of those that have ended. It is the node that it was: it has stored what this node has, or

@@ -11,7 +11,7 @@ use Rattle.wf_tape.specs.Tape.{IsBeginning, IsOnlyImage, IsUnchanged, LeavesNoOt
 use Rattle.wf_journal.specs.Encoding.{Encodes}
 use Rattle.wf_journal.specs.Records.{ReadsAs, AreRecords, AreWritten}
 use Rattle.wf_journal.specs.Front.{HasRead}
-use Rattle.wf_journal.specs.Journal.{IsContent, Holds, HoldsRecords, IsSettled, AllReadAs, Follows, ReadsSame, ReadsOneMore, ReadsSameOrOneMore, IsSameOrRecords, IsSameOrReads, IsWhereBad, IsNotBad, IsWhyFailed}
+use Rattle.wf_journal.specs.Journal.{IsContent, Holds, HoldsRecords, IsSettled, AllReadAs, Follows, ReadsSame, ReadsOneMore, ReadsSameOrOneMore, IsSameOrRecords, IsSameOrReads, IsSameOrWritten, LeavesOldOrWritten, IsWhereBad, IsNotBad, IsWhyFailed}
 use Rattle.wf_journal.proofs.Lists.{one_more, cut_reads, whole_reads, reads_only, one_reading, first_are_records}
 
 -- ---- appending
@@ -222,3 +222,28 @@ unchanged_images records old new no_other image left = (image, no_other image le
 
 pub follows_unchanged : (records : List (Record Definition)) (old new : List ℕ → Type 0) → LeavesNoOther old new → Follows (IsSameOrReads records) old new
 follows_unchanged records old new no_other image left = (image, no_other image left, inl refl)
+
+-- ---- replacing what isn't a journal's
+
+pub settled_held : (content : List ℕ) (records : List (Record Definition)) (images : List ℕ → Type 0) → Holds content images records → IsSettled content images
+settled_held content records images held = (records, record { are_records = held.are_written.are_records; only = held.only })
+
+-- Each image is one from before or exactly the records.
+pub written_images : (bytes : List ℕ) (records : List (Record Definition)) (old new : List ℕ → Type 0) → AreWritten bytes records → LeavesOldOr bytes old new → LeavesOldOrWritten records old new
+written_images bytes records old new are leaves image left =
+    elim (leaves image left) [
+      | inl was ↦ inl was
+      | inr is ↦ inr (subst (λ (t : List ℕ). AreWritten t records) (sym is) are)
+    ]
+
+-- So is the content.
+pub written_content : (old new bytes : List ℕ) (records : List (Record Definition)) → AreWritten bytes records → (new ≡ old) ⊎ (new ≡ bytes) → IsSameOrWritten records old new
+written_content old new bytes records are old_or =
+    elim old_or [
+      | inl same ↦ inl same
+      | inr is ↦ inr (subst (λ (t : List ℕ). AreWritten t records) (sym is) are)
+    ]
+
+-- Nothing changed.
+pub written_unchanged : (records : List (Record Definition)) (old new : List ℕ → Type 0) → LeavesNoOther old new → LeavesOldOrWritten records old new
+written_unchanged records old new no_other image left = inl (no_other image left)

@@ -10,7 +10,8 @@ use Rattle.wf_journal.specs.Records.{Splits, BeginsWithNone, ReadsAs, AreRecords
 use Rattle.wf_journal.specs.Front.{TakesOne, HasRead}
 use Rattle.wf_journal.specs.Journal.{IsBadAt}
 use Rattle.wf_journal.specs.EncodingTheorems.{length_of_encoding, written_encodes}
-use Rattle.wf_journal.proofs.Validated.{spelling_not_empty, none_begins_another}
+pub use Rattle.wf_journal.specs.RecordTheorems.{none_begins_nothing, whole_reads}
+use Rattle.wf_journal.proofs.Validated.{none_begins_another}
 
 -- one record more, split off the rest
 pub splits_push : (bytes : List ℕ) (records : List (Record Definition)) (rest : List ℕ) (r : Record Definition) (spelled after : List ℕ) →
@@ -40,14 +41,6 @@ front_of bytes (r ∷ records) rest splits =
       parts = splits.3 ∙ ap (λ (t : List ℕ). splits.0 ++ t) later.parts ∙ sym (append_assoc splits.0 later.front rest);
       are_records = (splits.0, later.front, splits.2, refl, later.are_records);
     }
-
--- the empty bytes begin with no record
-pub none_begins_nothing : BeginsWithNone []
-none_begins_nothing r spelled after spells e = absurd (omega (arith, spelling_not_empty r spelled spells, ap length e, length-append spelled after))
-
--- whole records read as themselves
-pub whole_reads : (bytes : List ℕ) (records : List (Record Definition)) → AreRecords bytes records → ReadsAs bytes records
-whole_reads bytes records are = ([], record { splits = are; longest = none_begins_nothing })
 
 -- There is exactly one longest list of records: two such lists are compared record by record.
 pub one_reading : OneTextOneMap → (bytes : List ℕ) (xs ys : List (Record Definition)) (rest_x rest_y : List ℕ) → Splits bytes xs rest_x → BeginsWithNone rest_x →

@@ -69,6 +69,14 @@ IsSameOrRecords records old new = (new ≡ old) ⊎ AreRecords new records
 abbrev pub IsSameOrReads : List (Record Definition) → List ℕ → List ℕ → Type 0
 IsSameOrReads records old new = (new ≡ old) ⊎ ReadsAs new records
 
+-- the second bytes are the first, or exactly these records, each as it is written
+abbrev pub IsSameOrWritten : List (Record Definition) → List ℕ → List ℕ → Type 0
+IsSameOrWritten records old new = (new ≡ old) ⊎ AreWritten new records
+
+-- Each image is one from before, or exactly these records, each as it is written.
+abbrev pub LeavesOldOrWritten : List (Record Definition) → (List ℕ → Type 0) → (List ℕ → Type 0) → Type 0
+LeavesOldOrWritten records old new = (image : List ℕ) → new image → old image ⊎ AreWritten image records
+
 -- the new content is the old one followed by the record's bytes, and that is its only image
 pub record IsAdded (r : Record Definition) (old new : List ℕ) (images : List ℕ → Type 0) : Type 0 where
   pub spelled : List ℕ

@@ -7,6 +7,7 @@ pub mod MomentTheorems
 pub mod OpenFault
 pub mod Record
 pub mod Records
+pub mod RecordTheorems
 pub mod Encoding
 pub mod EncodingTheorems
 pub mod Version

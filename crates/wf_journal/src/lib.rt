@@ -11,9 +11,10 @@
 //!
 //! Promises, of a durable tape (wf_tape): a journal opens with the records of the content, and then the only image is their bytes.
 //! After a record is added, the only image is the bytes from before followed by the record's. Whatever a call returns, each image
-//! reads as the records from before, or with the new one. After the records are rewritten, the only image is the bytes of the new
-//! ones; if the tape fails at that, each image is one from before or those bytes. The same holds of a crash at each moment inside
-//! these calls. Of every tape: a failure is returned only if the tape counted one, and never of a tape that won't fail.
+//! reads as the records from before, or with the new one. After the records are rewritten, or a journal begins with records on a
+//! tape, the only image is the bytes of these; if the tape fails at that, each image is one from before or those bytes. The same
+//! holds of a crash at each moment inside these calls. Of every tape: a failure is returned only if the tape counted one, and never
+//! of a tape that won't fail.
 //!
 //! Not here: what the records mean, and which record may follow which.
 #![tactic(auto)]

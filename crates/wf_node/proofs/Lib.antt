@@ -4,6 +4,7 @@ mod Fold
 mod PersistentPart
 mod Opened
 mod Pushed
+mod Moved
 mod Replies
 mod Rewrite
 mod Transitions

@@ -11,4 +11,5 @@ pub mod Step
 pub mod Compaction
 pub mod OpenedNode
 pub mod Growth
+pub mod Relocation
 pub mod Reopening

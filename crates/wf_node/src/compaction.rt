@@ -123,7 +123,10 @@ fn replace<T: Tape>(
 }
 
 /// The records of a shortened tape.
-fn short_records(alloc: Global, persistent: &DurablePart) -> Result<Vec<Record>, AllocError>
+pub(crate) fn short_records(
+    alloc: Global,
+    persistent: &DurablePart,
+) -> Result<Vec<Record>, AllocError>
     ensures { IfOk result (λ records. map view records.items ≡ short_records (stored_in persistent.now)) }
 {
     let mut records = Vec::new(alloc);

@@ -8,8 +8,9 @@
 //! transition of wf_model's step table at this node, and returns exactly its messages. Before it returns them, the transition's
 //! record is on the tape, and every image stands for the new durable state. If the tape fails, no message is returned, and each
 //! image stands for the old durable state or the new one. When its tape is shortened, every image stands for the durable state,
-//! whatever happens. Of every tape: a step is rejected iff the table rejects it, and then changes nothing. Allocation failure
-//! changes nothing. A node whose tape failed is halted, and makes no more steps.
+//! whatever happens. When a node moves to another tape, every image of that one is from before, or stands for the durable state.
+//! Of every tape: a step is rejected iff the table rejects it, and then changes nothing. Allocation failure changes nothing, and a
+//! node that moves keeps its state. A node whose tape failed is halted, and makes no more steps.
 //!
 //! Not here: sending messages, and other nodes. That a file is durable is an assumption.
 #![tactic(auto)]
@@ -23,6 +24,7 @@ mod machine;
 mod node;
 mod open;
 mod proposer_inputs;
+mod relocation;
 mod reply;
 mod step;
 mod stored_part;
