@@ -28,7 +28,6 @@ use Rattle.wf_peer.specs.PeerProgressText.{peer_progress_text}
 use Rattle.wf_peer.specs.Told.{HearAll, IsHeardOf, IsHeardText}
 use Rattle.wf_peer.specs.declared.heard.Heard.{Heard}
 use Rattle.wf_loop.specs.Continuation.{AreHeardFrom, AreRunsFrom, AreRunsHeardFrom, Continues, ContinuesIn, Follows, GoesOn, HasServed, IsEarlier, IsHeardFrom, IsHeardKept, IsLater, IsNextHeard, KeepsEarlier, StaysSuspended, besides_asks, is_ask, is_ask_first}
-use Rattle.wf_loop.specs.declared.clients.Clients.{Clients}
 use Rattle.wf_loop.specs.declared.gate.Gate.TheVariants as gates
 use Rattle.wf_loop.specs.declared.hub.Voter.{Voter}
 
@@ -484,46 +483,43 @@ module _ {T : Type 0} (tapes : Tape T) where
     kept = kept_either known text stood stands voter all is_text put;
   }
 
-  -- ---- a turn: a wait, a decision, what is done, and what is kept
+  -- ---- a turn: a decision, what is done, and what is kept
 
-  process_at : (one two three : Voter T tapes) → two ≡ one → three.process ≡ two.process → three.process ≡ one.process
-  process_at one two three waits decides = decides ∙ ap (λ (v : Voter T tapes). v.process) waits
+  pub turned : (s t : Stand) (one two three four : Voter T tapes) → two.process ≡ one.process → ContinuesIn tapes s two t three → four ≡ three → GoesOn tapes one.process four.process
+  turned s t one two three four decides does keeps =
+      goes_twice one.process two.process four.process
+      (unchanged one.process two.process decides)
+      (goes_twice two.process three.process four.process does.process (unchanged three.process four.process (ap (λ (v : Voter T tapes). v.process) keeps)))
 
-  pub turned : (s t : Stand) (one two three four five : Voter T tapes) → two ≡ one → three.process ≡ two.process → ContinuesIn tapes s three t four → five ≡ four → GoesOn tapes one.process five.process
-  turned s t one two three four five waits decides does keeps =
-      goes_twice one.process three.process five.process
-      (unchanged one.process three.process (process_at one two three waits decides))
-      (goes_twice three.process four.process five.process does.process (unchanged four.process five.process (ap (λ (v : Voter T tapes). v.process) keeps)))
-
-  pub turned_suspended : (s t : Stand) (one two three four five : Voter T tapes) → two ≡ one → three.process ≡ two.process → (two.gate ≡ gates.Suspended → three.gate ≡ gates.Suspended)
-      → ContinuesIn tapes s three t four → five ≡ four → one.gate ≡ gates.Suspended → StaysSuspended one five
-  turned_suspended s t one two three four five waits decides stays does keeps is =
-      let on = does.suspended (stays (ap (λ (v : Voter T tapes). v.gate) waits ∙ is)) in
+  pub turned_suspended : (s t : Stand) (one two three four : Voter T tapes) → two.process ≡ one.process → (one.gate ≡ gates.Suspended → two.gate ≡ gates.Suspended)
+      → ContinuesIn tapes s two t three → four ≡ three → one.gate ≡ gates.Suspended → StaysSuspended one four
+  turned_suspended s t one two three four decides stays does keeps is =
+      let on = does.suspended (stays is) in
       record {
         gate = ap (λ (v : Voter T tapes). v.gate) keeps ∙ on.gate;
-        actor = ap (λ (v : Voter T tapes). v.process.actor) keeps ∙ (on.actor ∙ ap (λ (p : Process T tapes). p.actor) (process_at one two three waits decides));
+        actor = ap (λ (v : Voter T tapes). v.process.actor) keeps ∙ (on.actor ∙ ap (λ (p : Process T tapes). p.actor) decides);
       }
 
-  outvoted_at : (s t : Stand) (three four five : Voter T tapes) → ContinuesIn tapes s three t four → five ≡ four → five.is_outvoted ≡ true → three.is_outvoted ≡ true
-  outvoted_at s t three four five does keeps is = sym does.outvoted ∙ (sym (ap (λ (v : Voter T tapes). v.is_outvoted) keeps) ∙ is)
+  outvoted_at : (s t : Stand) (two three four : Voter T tapes) → ContinuesIn tapes s two t three → four ≡ three → four.is_outvoted ≡ true → two.is_outvoted ≡ true
+  outvoted_at s t two three four does keeps is = sym does.outvoted ∙ (sym (ap (λ (v : Voter T tapes). v.is_outvoted) keeps) ∙ is)
 
-  pub turned_asked : (s t : Stand) (one two three four five : Voter T tapes) → two ≡ one → three.process ≡ two.process → ContinuesIn tapes s three t four → five ≡ four → five.is_outvoted ≡ true
-      → besides_asks five.process.actor.given.items ≡ besides_asks one.process.actor.given.items
-  turned_asked s t one two three four five waits decides does keeps is =
+  pub turned_asked : (s t : Stand) (one two three four : Voter T tapes) → two.process ≡ one.process → ContinuesIn tapes s two t three → four ≡ three → four.is_outvoted ≡ true
+      → besides_asks four.process.actor.given.items ≡ besides_asks one.process.actor.given.items
+  turned_asked s t one two three four decides does keeps is =
       ap (λ (v : Voter T tapes). besides_asks v.process.actor.given.items) keeps
-      ∙ (does.asked (outvoted_at s t three four five does keeps is) ∙ ap (λ (p : Process T tapes). besides_asks p.actor.given.items) (process_at one two three waits decides))
+      ∙ (does.asked (outvoted_at s t two three four does keeps is) ∙ ap (λ (p : Process T tapes). besides_asks p.actor.given.items) decides)
 
-  pub turned_unanswered : (s t : Stand) (three four five : Voter T tapes) (first second : Clients T tapes) (decided : List (Voter T tapes × ℕ)) (fourth fifth : Clients T tapes)
-      → second ≡ first → decided ≡ second.before.items → ContinuesIn tapes s three t four → (three.is_outvoted ≡ true → fourth.before.items ≡ decided)
-      → five ≡ four → fifth ≡ fourth → five.is_outvoted ≡ true → fifth.before.items ≡ first.before.items
-  turned_unanswered s t three four five first second decided fourth fifth waits decides on does keeps keeps' is =
-      ap (λ (c : Clients T tapes). c.before.items) keeps' ∙ (does (outvoted_at s t three four five on keeps is) ∙ (decides ∙ ap (λ (c : Clients T tapes). c.before.items) waits))
+  -- of these clients, first to last, as many were answered
+  pub turned_unanswered : (s t : Stand) (two three four : Voter T tapes) (first second third fourth : List (Voter T tapes × ℕ))
+      → second ≡ first → ContinuesIn tapes s two t three → (two.is_outvoted ≡ true → third ≡ second)
+      → four ≡ three → fourth ≡ third → four.is_outvoted ≡ true → fourth ≡ first
+  turned_unanswered s t two three four first second third fourth decides on does keeps keeps' is =
+      keeps' ∙ (does (outvoted_at s t two three four on keeps is) ∙ decides)
 
-  pub turned_heard : (s t u : Stand) (one two three four five : Voter T tapes) → two ≡ one → three.process ≡ two.process → three.kept ≡ two.kept → ContinuesIn tapes s three t four
-      → five ≡ four → u ≡ t → IsHeardKept s.heard one → IsHeardKept u.heard five
-  turned_heard s t u one two three four five waits decides kept does keeps stands is =
-      let at_three : IsHeardKept s.heard three = kept_as two three kept decides s.heard (subst (λ (v : Voter T tapes). IsHeardKept s.heard v) (sym waits) is) in
-      subst (λ (r : Stand). IsHeardKept r.heard five) (sym stands) (subst (λ (v : Voter T tapes). IsHeardKept t.heard v) (sym keeps) (does.kept at_three))
+  pub turned_heard : (s t u : Stand) (one two three four : Voter T tapes) → two.process ≡ one.process → two.kept ≡ one.kept → ContinuesIn tapes s two t three
+      → four ≡ three → u ≡ t → IsHeardKept s.heard one → IsHeardKept u.heard four
+  turned_heard s t u one two three four decides kept does keeps stands is =
+      subst (λ (r : Stand). IsHeardKept r.heard four) (sym stands) (subst (λ (v : Voter T tapes). IsHeardKept t.heard v) (sym keeps) (does.kept (kept_as one two kept decides s.heard is)))
 
   -- ---- what is earlier stays so
 

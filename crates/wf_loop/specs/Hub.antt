@@ -12,44 +12,49 @@ use Rattle.wf_node.specs.Node.{Node}
 use Rattle.wf_peer.specs.Progress.{reach_of}
 use Rattle.wf_peer.specs.declared.heard.Heard.{Heard}
 use Rattle.wf_peer.specs.declared.progress.Progress.{Progress}
+use Rattle.wf_sockets.specs.declared.connection.Connection.{Ghosts as Connection}
 use Rattle.wf_tape.specs.declared.tape.Tape.{Ghosts as Tape}
 use Rattle.wf_timing.specs.declared.alarm.Alarm.{Alarm}
 use Rattle.wf_visitors.specs.Visitors.{responses_of}
 
 -- the process
-abbrev pub process_of : {T : Type 0} {tapes : Tape T} → Hub T tapes → Process T tapes
+abbrev pub process_of : {T N C L : Type 0} {tapes : Tape T} {connections : Connection C} → Hub T N C L tapes connections → Process T tapes
 process_of hub = hub.voter.process
 
 -- what the voter takes the file `heard` to have
-abbrev pub kept_of : {T : Type 0} {tapes : Tape T} → Hub T tapes → List (Option Heard)
+abbrev pub kept_of : {T N C L : Type 0} {tapes : Tape T} {connections : Connection C} → Hub T N C L tapes connections → List (Option Heard)
 kept_of hub = hub.voter.kept
 
 -- the round and the promise of each message of a peer that the node was given are in the file `heard`, which has these bytes
-abbrev pub IsHeardFirst : {T : Type 0} {tapes : Tape T} → Option (List ℕ) → Hub T tapes → Type 0
+abbrev pub IsHeardFirst : {T N C L : Type 0} {tapes : Tape T} {connections : Connection C} → Option (List ℕ) → Hub T N C L tapes connections → Type 0
 IsHeardFirst heard hub = IsHeardKept heard hub.voter
 
 -- where clients come, and the time of the last turn
-abbrev pub address_of : {T : Type 0} {tapes : Tape T} → Hub T tapes → Option SocketAddr
+abbrev pub address_of : {T N C L : Type 0} {tapes : Tape T} {connections : Connection C} → Hub T N C L tapes connections → Option SocketAddr
 address_of hub = hub.http
 
-abbrev pub time_of : {T : Type 0} {tapes : Tape T} → Hub T tapes → ℕ
+abbrev pub time_of : {T N C L : Type 0} {tapes : Tape T} {connections : Connection C} → Hub T N C L tapes connections → ℕ
 time_of hub = hub.time
 
+-- a turn left something to do
+abbrev pub IsBusy : {T N C L : Type 0} {tapes : Tape T} {connections : Connection C} → Hub T N C L tapes connections → Type 0
+IsBusy hub = hub.is_busy ≡ true
+
 -- a peer remembers more of the node than it has
-abbrev pub IsSuspended : {T : Type 0} {tapes : Tape T} → Hub T tapes → Type 0
+abbrev pub IsSuspended : {T N C L : Type 0} {tapes : Tape T} {connections : Connection C} → Hub T N C L tapes connections → Type 0
 IsSuspended hub = hub.voter.gate ≡ gates.Suspended
 
 -- the history of a peer differs, and those that are heard and agree with this node are no majority
-abbrev pub IsOutvoted : {T : Type 0} {tapes : Tape T} → Hub T tapes → Type 0
+abbrev pub IsOutvoted : {T N C L : Type 0} {tapes : Tape T} {connections : Connection C} → Hub T N C L tapes connections → Type 0
 IsOutvoted hub = hub.voter.is_outvoted ≡ true
 
 -- The node was given no message but those that ask for what is published, and no client was answered.
-pub record OnlyAnswersAsks {T : Type 0} {tapes : Tape T} (before after : Hub T tapes) : Type 0 where
+pub record OnlyAnswersAsks {T N C L : Type 0} {tapes : Tape T} {connections : Connection C} (before after : Hub T N C L tapes connections) : Type 0 where
   pub given : besides_asks after.voter.process.actor.given.items ≡ besides_asks before.voter.process.actor.given.items
   pub answered : after.clients.before.items ≡ before.clients.before.items
 
 -- Each client that was answered was sent the response of a process that had lived, as it was just before, to what had come of the request.
-abbrev pub HasAnswered : {T : Type 0} (tapes : Tape T) → Hub T tapes → Type 0
+abbrev pub HasAnswered : {T N C L : Type 0} (tapes : Tape T) {connections : Connection C} → Hub T N C L tapes connections → Type 0
 HasAnswered tapes hub = ∥ AreAnswered tapes hub.clients.before.items (responses_of hub.clients.visitors) hub.clients.after.items ∥₁
 
 -- What the node says of itself when it greets: this start of its folder, and how far it is now.
@@ -60,7 +65,7 @@ pub record IsGreetedWith {T : Type 0} (start : Progress) (node : Node T) (said :
   pub reach : IsReachOf node (reach_of said)
 
 -- The node greets by this start of its folder, and with digests that begin anew.
-pub record GreetsAsNow {T : Type 0} {tapes : Tape T} (count : ℕ) (hub : Hub T tapes) : Type 0 where
+pub record GreetsAsNow {T N C L : Type 0} {tapes : Tape T} {connections : Connection C} (count : ℕ) (hub : Hub T N C L tapes connections) : Type 0 where
   pub starts : hub.parts.mesh.plan.start.starts ≡ count
   pub digests : AreDigestsOf [] hub.parts.mesh.notes.digests
 
@@ -70,5 +75,5 @@ IsDue None time = ⊥
 IsDue (Some alarm) time = alarm.due ≤ time
 
 -- the node is halted, and it is time to open its tape again
-abbrev pub IsReopeningDue : {T : Type 0} {tapes : Tape T} → Hub T tapes → Type 0
+abbrev pub IsReopeningDue : {T N C L : Type 0} {tapes : Tape T} {connections : Connection C} → Hub T N C L tapes connections → Type 0
 IsReopeningDue hub = (hub.voter.process.actor.node.halted ≡ true) × IsDue hub.pace.reopening hub.time

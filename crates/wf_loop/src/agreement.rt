@@ -6,16 +6,17 @@ use crate::mesh::Mesh;
 use crate::peer_state::{Agreement, Differing, Reached};
 use std::time::Clock;
 use wf_ballot::NodeId;
+use wf_sockets::{Connection, Network};
 use wf_visitors::{Context, Log};
 
 /// The least time between two comparisons with a peer, in milliseconds.
 const COMPARING_MILLIS: u64 = 1_000;
 
-impl Mesh {
+impl<N: Network> Mesh<N> {
     /// Notes that a peer's history differs up to a sequence; the log has it once.
     pub(crate) fn note_difference<R: Clock + Eprint>(
         &mut self,
-        context: &Context<'_, '_, R>,
+        context: &Context<'_, '_, R, N>,
         peer: NodeId,
         sequence: u16,
     ) {
@@ -123,6 +124,6 @@ impl Mesh {
 }
 
 /// Whether a connection has been open for the time between two comparisons.
-fn is_open_since(dial: &Dial, time: u64) -> bool {
+fn is_open_since<C: Connection + Drop>(dial: &Dial<C>, time: u64) -> bool {
     dial.is_open() && COMPARING_MILLIS <= time.saturating_sub(dial.since())
 }

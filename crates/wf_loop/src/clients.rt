@@ -9,25 +9,26 @@ use crate::gate::Gate;
 use crate::hub::Voter;
 use std::time::Clock;
 use wf_past::Past;
+use wf_sockets::Network;
 use wf_tape::Tape;
 use wf_visitors::{Context, Visitors};
 
 /// The clients of a node. A clause sees logs that only proofs read: for each client that was answered, in order, the process before and
 /// after it.
 #[derive(Drop)]
-pub struct Clients<T: Tape> {
-    pub(crate) visitors: Visitors,
+pub struct Clients<T: Tape, N: Network> {
+    pub(crate) visitors: Visitors<N>,
     pub(crate) before: Past<Voter<T>, usize>,
     pub(crate) after: Past<Voter<T>, usize>,
     ghost answered: { ∥ AreAnswered T.Tape before.items (responses_of visitors) after.items ∥₁ },
 }
 
-impl<T: Tape + Drop> Clients<T> {
+impl<T: Tape + Drop, N: Network> Clients<T, N> {
     ghost use Rattle.std.specs.Prelude.{[]};
 
     /// Nobody was answered yet.
     #[tactic(auto, using(crate::proofs::Answered::none_answered))]
-    pub(crate) fn new(visitors: Visitors) -> Self
+    pub(crate) fn new(visitors: Visitors<N>) -> Self
         requires { responses_of visitors ≡ [] }
         ensures { result.before.items ≡ [] }
     {
@@ -46,7 +47,10 @@ impl<T: Tape + Drop> Clients<T> {
     }
 
     /// Accepts clients.
-    pub(crate) fn accept<R: Clock + Eprint + AllocGlobal>(&mut self, context: &Context<'_, '_, R>)
+    pub(crate) fn accept<R: Clock + Eprint + AllocGlobal>(
+        &mut self,
+        context: &Context<'_, '_, R, N>,
+    )
         ensures { self.new.before.items ≡ self.old.before.items }
     {
         self.visitors.accept(context);
@@ -67,7 +71,7 @@ impl<T: Tape + Drop> Clients<T> {
     }
 
     /// What came for the client in a slot, or was taken by it.
-    pub(crate) fn turn<R: AllocGlobal>(&mut self, context: &Context<'_, '_, R>, index: usize)
+    pub(crate) fn turn<R: AllocGlobal>(&mut self, context: &Context<'_, '_, R, N>, index: usize)
         ensures { self.new.before.items ≡ self.old.before.items }
     {
         self.visitors.turn(context, index);
@@ -85,7 +89,7 @@ impl<T: Tape + Drop> Clients<T> {
     #[tactic(auto, using(crate::proofs::Continuation::still))]
     pub(crate) fn answer_next<R: Clock + Eprint + AllocGlobal>(
         &mut self,
-        context: &Context<'_, '_, R>,
+        context: &Context<'_, '_, R, N>,
         voter: &mut Voter<T>,
     ) -> Option<usize>
         ensures on { Continues T.Tape voter.old voter.new }
@@ -106,7 +110,7 @@ impl<T: Tape + Drop> Clients<T> {
     #[tactic(auto, using(crate::proofs::Continuation::responded, crate::proofs::Continuation::stayed))]
     fn answer<R: Clock + Eprint + AllocGlobal>(
         &mut self,
-        context: &Context<'_, '_, R>,
+        context: &Context<'_, '_, R, N>,
         voter: &mut Voter<T>,
         index: usize,
     )

@@ -6,7 +6,7 @@ use std::time::Clock;
 use wf_operator::StartTime;
 use wf_reader::Answerer;
 use wf_readers_port::{PortView, ReadersPort};
-use wf_sockets::SystemListener;
+use wf_sockets::Network;
 use wf_visitors::{Context, Server, Visitors};
 
 /// The most operators at once.
@@ -17,20 +17,20 @@ const READERS: usize = 64;
 
 /// The operators and the readers of a node, who only read, and since when they can come.
 #[derive(Drop)]
-pub(crate) struct Desk {
-    pub(crate) operators: Visitors,
-    pub(crate) readers: ReadersPort,
+pub(crate) struct Desk<N: Network> {
+    pub(crate) operators: Visitors<N>,
+    pub(crate) readers: ReadersPort<N>,
     pub(crate) answerer: Answerer,
     pub(crate) started: StartTime,
 }
 
-impl Desk {
+impl<N: Network> Desk<N> {
     /// Nobody has come yet.
     pub(crate) fn new(
         alloc: Global,
         answerer: Answerer,
-        admin: Option<SystemListener>,
-        readers: Option<SystemListener>,
+        admin: Option<N::Listener>,
+        readers: Option<N::Listener>,
         started: StartTime,
     ) -> Result<Self, AllocError> {
         let operators = Visitors::new(alloc, OPERATORS, admin, ASKER)?;
@@ -44,7 +44,10 @@ impl Desk {
     }
 
     /// Accepts operators and readers, and ends the phases whose time is over.
-    pub(crate) fn tick<R: Clock + Eprint + AllocGlobal>(&mut self, context: &Context<'_, '_, R>) {
+    pub(crate) fn tick<R: Clock + Eprint + AllocGlobal>(
+        &mut self,
+        context: &Context<'_, '_, R, N>,
+    ) {
         self.operators.accept(context);
         self.operators.tick(context.time);
         self.readers.accept(context);
@@ -53,9 +56,9 @@ impl Desk {
 }
 
 /// Answers requests of operators that are whole, a bounded number of them.
-pub(crate) fn serve_operators<R: Clock + Eprint + AllocGlobal, S: Server>(
-    operators: &mut Visitors,
-    context: &Context<'_, '_, R>,
+pub(crate) fn serve_operators<R: Clock + Eprint + AllocGlobal, S: Server, N: Network>(
+    operators: &mut Visitors<N>,
+    context: &Context<'_, '_, R, N>,
     server: &mut S,
 ) {
     for _ in 0..OPERATORS {

@@ -11,7 +11,7 @@ use std::net::{Net, SocketAddr};
 use wf_ballot::NodeId;
 use wf_client::Outgoing;
 use wf_peer::{GREETING_BYTES, GreetingFault, GreetingReply, decode_reply};
-use wf_sockets::{Connection, ConnectionSink, Moved, Network, SystemConnection};
+use wf_sockets::{Connection, ConnectionSink, Moved, Network};
 use wf_stream::Sink;
 use wf_tape::Tape;
 use wf_timing::{Alarm, Backoff, is_silent};
@@ -40,9 +40,9 @@ const MINUTE: u64 = 60_000;
 
 /// The connection to a peer, open, in progress, or to be tried again.
 #[derive(Drop)]
-pub(crate) struct Dial {
+pub(crate) struct Dial<C: Connection> {
     address: SocketAddr,
-    stream: Option<SystemConnection>,
+    stream: Option<C>,
     greeting: Outgoing,
     reply: Vec<u8>,
     // whether bytes of the greeting were taken: the connection is there
@@ -69,7 +69,7 @@ pub(crate) enum DialTurn {
     Ended(PeerEnd),
 }
 
-impl Dial {
+impl<C: Connection + Drop> Dial<C> {
     /// No connection yet.
     pub(crate) fn new(alloc: Global, address: SocketAddr) -> Self {
         Dial {
@@ -137,9 +137,9 @@ impl Dial {
     }
 
     /// Connects, in the place of an older connection.
-    pub(crate) fn connect<R: Net + AllocGlobal>(
+    pub(crate) fn connect<R: Net + AllocGlobal, N: Network<Connection = C>>(
         &mut self,
-        context: &Context<'_, '_, R>,
+        context: &Context<'_, '_, R, N>,
         index: usize,
         greeting: &[u8],
     ) {
@@ -210,7 +210,7 @@ impl Dial {
         &mut self,
         voter: &mut Voter<T>,
         peer: NodeId,
-        stream: &mut SystemConnection,
+        stream: &mut C,
         now: u64,
     ) -> DialTurn
         ensures { Continues T.Tape voter.old voter.new }
@@ -252,7 +252,7 @@ impl Dial {
     }
 
     /// Writes the rest of the greeting.
-    fn greet(&mut self, stream: &mut SystemConnection, now: u64) -> Option<PeerEnd> {
+    fn greet(&mut self, stream: &mut C, now: u64) -> Option<PeerEnd> {
         for _ in 0..u64::MAX {
             if self.greeting.is_taken() {
                 return None;
@@ -273,7 +273,7 @@ impl Dial {
     }
 
     /// Reads the peer's reply, or its greeting again; nothing else may come.
-    fn handle(&mut self, stream: &mut SystemConnection) -> DialTurn {
+    fn handle(&mut self, stream: &mut C) -> DialTurn {
         let mut piece = [0u8; GREETING_BYTES];
         for _ in 0..MOST_READS {
             let room = GREETING_BYTES.saturating_sub(self.reply.len());
@@ -310,11 +310,11 @@ impl Dial {
 }
 
 /// A connection to an address, in progress. None: it can't begin.
-fn begin_connection<R: Net>(
-    context: &Context<'_, '_, R>,
+fn begin_connection<R: Net, N: Network>(
+    context: &Context<'_, '_, R, N>,
     address: SocketAddr,
     index: usize,
-) -> Option<SystemConnection> {
+) -> Option<N::Connection> {
     let mut stream = context.network.connect(context.rt, address)?;
     stream.send_at_once();
     if context
@@ -329,10 +329,10 @@ fn begin_connection<R: Net>(
 
 /// Writes what waits for a peer, and counts the bytes. Some: the connection has ended.
 #[tactic(auto, using(crate::proofs::Continuation::still, crate::proofs::Continuation::twice))]
-fn send<T: Tape + Drop>(
+fn send<T: Tape + Drop, C: Connection>(
     voter: &mut Voter<T>,
     peer: NodeId,
-    stream: &mut SystemConnection,
+    stream: &mut C,
     written: &mut u64,
 ) -> Option<PeerEnd>
     ensures { Continues T.Tape voter.old voter.new }

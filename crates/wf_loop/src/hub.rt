@@ -7,6 +7,7 @@ use std::net::SocketAddr;
 use wf_actor::Process;
 use wf_operator::{Behind, PictureCounts};
 use wf_peer::PeerProgress;
+use wf_sockets::{Network, SystemNetwork};
 use wf_tape::Tape;
 
 /// A process that answers clients, whether it acts, whether a majority has another history, what its folder has of what was heard, how many
@@ -23,12 +24,12 @@ pub struct Voter<T: Tape> {
     pub(crate) pictures: PictureCounts,
 }
 
-/// A node, the connections to and from its peers, its clients, and who only reads. A clause sees its process, and logs that only proofs
-/// read: each client that was answered, with the process before and after it.
+/// A node, the connections to and from its peers, its clients, and who only reads, over a network. A clause sees its process, and logs
+/// that only proofs read: each client that was answered, with the process before and after it.
 #[derive(Drop)]
-pub struct Hub<T: Tape> {
-    pub(crate) parts: HubParts,
-    pub(crate) clients: Clients<T>,
+pub struct Hub<T: Tape, N: Network = SystemNetwork> {
+    pub(crate) parts: HubParts<N>,
+    pub(crate) clients: Clients<T, N>,
     pub(crate) voter: Voter<T>,
     pub(crate) pace: Pace,
     pub(crate) behind: Behind,

@@ -9,14 +9,14 @@ use wf_peer::{
     GREETING_BYTES, Greeting, GreetingFault, PeerRejection, Progress, decode, encode,
     encode_rejection,
 };
-use wf_sockets::{Connection, Moved, SystemConnection};
+use wf_sockets::{Connection, Moved};
 use wf_stream::Sink;
 use wf_timing::is_silent;
 
 /// A connection from a peer.
 #[derive(Drop)]
-pub(crate) struct Inbound {
-    connection: SystemConnection,
+pub(crate) struct Inbound<C: Connection> {
+    connection: C,
     address: SocketAddr,
     from: Option<NodeId>,
     greeting: Vec<u8>,
@@ -39,14 +39,9 @@ pub(crate) enum Came {
     Ended(PeerEnd),
 }
 
-impl Inbound {
+impl<C: Connection + Drop> Inbound<C> {
     /// A connection that was accepted now.
-    pub(crate) fn new(
-        alloc: Global,
-        connection: SystemConnection,
-        address: SocketAddr,
-        now: u64,
-    ) -> Self {
+    pub(crate) fn new(alloc: Global, connection: C, address: SocketAddr, now: u64) -> Self {
         Inbound {
             connection,
             address,
@@ -68,7 +63,7 @@ impl Inbound {
     }
 
     /// The connection itself.
-    pub(crate) fn connection(&mut self) -> &mut SystemConnection {
+    pub(crate) fn connection(&mut self) -> &mut C {
         &mut self.connection
     }
 

@@ -25,7 +25,7 @@ use wf_digest::Digests;
 use wf_folder::Suspension;
 use wf_learner::History;
 use wf_peer::{Greeting, NodeState, PeerProgress, Progress};
-use wf_sockets::SystemListener;
+use wf_sockets::{Connection, Network};
 use wf_store::{FileName, FolderFault};
 use wf_tape::Tape;
 use wf_timing::CatchUp;
@@ -47,11 +47,11 @@ pub(crate) const INBOUND_SLOTS: usize = 128;
 
 /// The connections to and from the peers of a node, and what is known of them.
 #[derive(Drop)]
-pub(crate) struct Mesh {
+pub(crate) struct Mesh<N: Network> {
     pub(crate) plan: NodePlan,
-    pub(crate) listener: SystemListener,
-    pub(crate) dials: Vec<Dial>,
-    pub(crate) inbounds: Vec<Option<Inbound>>,
+    pub(crate) listener: N::Listener,
+    pub(crate) dials: Vec<Dial<N::Connection>>,
+    pub(crate) inbounds: Vec<Option<Inbound<N::Connection>>>,
     // where a piece is read to
     pub(crate) piece: Vec<u8>,
     pub(crate) states: Vec<PeerState>,
@@ -79,7 +79,10 @@ pub(crate) struct Mesh {
 }
 
 /// A connection to each node, none of them open.
-fn dials_of(alloc: Global, peers: &[SocketAddr]) -> Result<Vec<Dial>, AllocError> {
+fn dials_of<C: Connection + Drop>(
+    alloc: Global,
+    peers: &[SocketAddr],
+) -> Result<Vec<Dial<C>>, AllocError> {
     let mut dials = Vec::new(alloc);
     for address in peers {
         dials.push(Dial::new(alloc, *address))?;
@@ -88,7 +91,7 @@ fn dials_of(alloc: Global, peers: &[SocketAddr]) -> Result<Vec<Dial>, AllocError
 }
 
 /// Free slots for the connections from peers.
-fn free_slots(alloc: Global) -> Result<Vec<Option<Inbound>>, AllocError> {
+fn free_slots<C: Connection + Drop>(alloc: Global) -> Result<Vec<Option<Inbound<C>>>, AllocError> {
     let mut slots = Vec::new(alloc);
     for _ in 0..INBOUND_SLOTS {
         slots.push(None)?;
@@ -105,12 +108,12 @@ fn unknown_peers(alloc: Global, count: usize) -> Result<Vec<PeerState>, AllocErr
     Ok(states)
 }
 
-impl Mesh {
+impl<N: Network> Mesh<N> {
     /// No connection yet.
     pub(crate) fn new(
         alloc: Global,
         plan: NodePlan,
-        listener: SystemListener,
+        listener: N::Listener,
         known: PeerProgress,
         time: u64,
     ) -> Result<Self, AllocError>
@@ -185,7 +188,7 @@ impl Mesh {
     #[tactic(auto, using(crate::proofs::Continuation::twice_in, crate::proofs::Continuation::on_in))]
     pub(crate) fn save<R: Clock + Eprint + AllocGlobal, T: Tape + Drop, F: NodeFolder<T>>(
         &mut self,
-        context: &Context<'_, '_, R>,
+        context: &Context<'_, '_, R, N>,
         voter: &mut Voter<T>,
         folder: &mut F,
     ) -> bool

@@ -1,5 +1,5 @@
 //! What a node does by the clock.
-ghost use Rattle.std.specs.Prelude.{◌≡◌, ◌↔◌, IsTrue};
+ghost use Rattle.std.specs.Prelude.{◌≡◌, ◌≤◌, ◌↔◌, IsTrue};
 ghost use Rattle.wf_loop.specs.Hub.{IsDue};
 ghost use Rattle.wf_loop.specs.Continuation.{Continues, ContinuesIn};
 
@@ -16,6 +16,7 @@ use std::time::Clock;
 use wf_actor::Process;
 use wf_ballot::NodeId;
 use wf_proposer::ProposalState;
+use wf_sockets::Network;
 use wf_tape::Tape;
 use wf_timing::{Alarm, Backoff, SECOND, Ticker, retry_of};
 use wf_visitors::Context;
@@ -73,7 +74,9 @@ impl Pace {
     }
 
     /// The time until the next tick, in milliseconds.
-    pub(crate) fn rest(&self, time: u64) -> u64 {
+    pub(crate) fn rest(&self, time: u64) -> u64
+        ensures { result ≤ 100 }
+    {
         self.ticks.due.saturating_sub(time).min(TICK_MILLIS)
     }
 
@@ -111,14 +114,19 @@ impl Pace {
     }
 
     /// What the node does in a turn by the clock, and for its peers.
-    pub(crate) fn turn<R: Net + Clock + Eprint + AllocGlobal, T: Tape + Drop, F: NodeFolder<T>>(
+    pub(crate) fn turn<
+        R: Net + Clock + Eprint + AllocGlobal,
+        T: Tape + Drop,
+        F: NodeFolder<T>,
+        N: Network,
+    >(
         &mut self,
-        context: &Context<'_, '_, R>,
+        context: &Context<'_, '_, R, N>,
         voter: &mut Voter<T>,
         folder: &mut F,
-        mesh: &mut Mesh,
-        desk: &mut Desk,
-        clients: &mut Clients<T>,
+        mesh: &mut Mesh<N>,
+        desk: &mut Desk<N>,
+        clients: &mut Clients<T, N>,
     )
         ensures on { ContinuesIn T.Tape (F.stands folder.old) voter.old
             (F.stands folder.new) voter.new }
@@ -132,14 +140,14 @@ impl Pace {
 
     /// Does what is to be done at a tick, if one is over.
     #[tactic(auto, using(crate::proofs::Continuation::still_in, crate::proofs::Continuation::on_in))]
-    fn tick<R: Net + Clock + Eprint + AllocGlobal, T: Tape + Drop, F: NodeFolder<T>>(
+    fn tick<R: Net + Clock + Eprint + AllocGlobal, T: Tape + Drop, F: NodeFolder<T>, N: Network>(
         &mut self,
-        context: &Context<'_, '_, R>,
+        context: &Context<'_, '_, R, N>,
         voter: &mut Voter<T>,
         folder: &mut F,
-        mesh: &mut Mesh,
-        desk: &mut Desk,
-        clients: &mut Clients<T>,
+        mesh: &mut Mesh<N>,
+        desk: &mut Desk<N>,
+        clients: &mut Clients<T, N>,
     )
         ensures on { ContinuesIn T.Tape (F.stands folder.old) voter.old
             (F.stands folder.new) voter.new }
@@ -155,12 +163,12 @@ impl Pace {
 
     /// What the node does at a tick: nothing while it is halted.
     #[tactic(auto, using(crate::proofs::Continuation::still_in, crate::proofs::Continuation::on_in, crate::proofs::Continuation::twice_in))]
-    fn go_on<R: Net + Clock + Eprint + AllocGlobal, T: Tape + Drop, F: NodeFolder<T>>(
+    fn go_on<R: Net + Clock + Eprint + AllocGlobal, T: Tape + Drop, F: NodeFolder<T>, N: Network>(
         &mut self,
-        context: &Context<'_, '_, R>,
+        context: &Context<'_, '_, R, N>,
         voter: &mut Voter<T>,
         folder: &mut F,
-        mesh: &mut Mesh,
+        mesh: &mut Mesh<N>,
     )
         ensures on { ContinuesIn T.Tape (F.stands folder.old) voter.old
             (F.stands folder.new) voter.new }
@@ -174,12 +182,12 @@ impl Pace {
 
     /// What the node says by the clock, and what it saves of what it heard.
     #[tactic(auto, using(crate::proofs::Continuation::twice_in, crate::proofs::Continuation::on_in))]
-    fn respond_on<R: Clock + Eprint + AllocGlobal, T: Tape + Drop, F: NodeFolder<T>>(
+    fn respond_on<R: Clock + Eprint + AllocGlobal, T: Tape + Drop, F: NodeFolder<T>, N: Network>(
         &mut self,
-        context: &Context<'_, '_, R>,
+        context: &Context<'_, '_, R, N>,
         voter: &mut Voter<T>,
         folder: &mut F,
-        mesh: &mut Mesh,
+        mesh: &mut Mesh<N>,
     )
         ensures on { ContinuesIn T.Tape (F.stands folder.old) voter.old
             (F.stands folder.new) voter.new }
@@ -194,7 +202,13 @@ impl Pace {
 
     /// Begins a running proposal again, if it is time to, or if a majority is heard that wasn't.
     #[tactic(auto, using(crate::proofs::Continuation::still))]
-    fn retry<T: Tape + Drop>(&mut self, alloc: Global, voter: &mut Voter<T>, mesh: &Mesh, time: u64)
+    fn retry<T: Tape + Drop, N: Network>(
+        &mut self,
+        alloc: Global,
+        voter: &mut Voter<T>,
+        mesh: &Mesh<N>,
+        time: u64,
+    )
         ensures { Continues T.Tape voter.old voter.new }
     {
         let is_back = self.notes_majority(mesh.hears_majority(time));
@@ -227,11 +241,11 @@ impl Pace {
     }
 
     /// Once the tape has failed: writes that, and ends the connections with peers, to which the node has nothing more to say.
-    fn watch_tape<R: Clock + Eprint, T: Tape + Drop>(
+    fn watch_tape<R: Clock + Eprint, T: Tape + Drop, N: Network>(
         &mut self,
-        context: &Context<'_, '_, R>,
+        context: &Context<'_, '_, R, N>,
         process: &Process<T>,
-        mesh: &mut Mesh,
+        mesh: &mut Mesh<N>,
     ) {
         if process.is_halted() && self.reopening.is_none() {
             context.log.write(&TapeFailed {
@@ -245,9 +259,9 @@ impl Pace {
     }
 
     /// Writes what has become of the proposal.
-    fn watch_proposal<R: Clock + Eprint, T: Tape + Drop>(
+    fn watch_proposal<R: Clock + Eprint, T: Tape + Drop, N: Network>(
         &mut self,
-        context: &Context<'_, '_, R>,
+        context: &Context<'_, '_, R, N>,
         process: &Process<T>,
     ) {
         let proposal = process.node().proposal();
@@ -269,11 +283,11 @@ impl Pace {
 
 /// Accepts the connections of peers, ends those on which nothing comes, and connects to peers: nothing unless it has connections with them.
 #[tactic(auto, using(crate::proofs::Continuation::still_in, crate::proofs::Continuation::twice_in, crate::proofs::Continuation::on_in))]
-fn link<R: Net + Clock + Eprint + AllocGlobal, T: Tape + Drop, F: NodeFolder<T>>(
-    context: &Context<'_, '_, R>,
+fn link<R: Net + Clock + Eprint + AllocGlobal, T: Tape + Drop, F: NodeFolder<T>, N: Network>(
+    context: &Context<'_, '_, R, N>,
     voter: &mut Voter<T>,
     folder: &mut F,
-    mesh: &mut Mesh,
+    mesh: &mut Mesh<N>,
 )
     ensures on { ContinuesIn T.Tape (F.stands folder.old) voter.old
         (F.stands folder.new) voter.new }

@@ -14,32 +14,28 @@ use std::time::Clock;
 use wf_operator::StartTime;
 use wf_peer::PeerProgress;
 use wf_reader::Answerer;
-use wf_sockets::{Events, Network, SystemListener, SystemNetwork};
+use wf_sockets::Network;
 use wf_visitors::Visitors;
-
-/// The most events of a turn.
-pub(crate) const MOST_EVENTS: usize = 256;
 
 /// The network, and the listeners on it.
 #[derive(Drop)]
-struct Doors {
-    network: SystemNetwork,
-    http: SystemListener,
-    listener: SystemListener,
-    admin: Option<SystemListener>,
-    readers: Option<SystemListener>,
+struct Doors<N: Network> {
+    network: N,
+    http: N::Listener,
+    listener: N::Listener,
+    admin: Option<N::Listener>,
+    readers: Option<N::Listener>,
 }
 
 /// All of a hub but its node and its clients.
 #[derive(Drop)]
-pub(crate) struct HubParts {
-    pub(crate) network: SystemNetwork,
-    pub(crate) events: Events,
-    pub(crate) mesh: Mesh,
-    pub(crate) desk: Desk,
+pub(crate) struct HubParts<N: Network> {
+    pub(crate) network: N,
+    pub(crate) mesh: Mesh<N>,
+    pub(crate) desk: Desk<N>,
 }
 
-impl HubParts {
+impl<N: Network> HubParts<N> {
     /// What the node does by the clock, from now on.
     pub(crate) fn pace(&self, time: u64) -> Pace {
         Pace::new(self.mesh.plan.own.node, time)
@@ -48,18 +44,18 @@ impl HubParts {
 
 /// All of a hub but its node.
 #[derive(Drop)]
-pub(crate) struct HubStart {
-    pub(crate) parts: HubParts,
-    pub(crate) visitors: Visitors,
+pub(crate) struct HubStart<N: Network> {
+    pub(crate) parts: HubParts<N>,
+    pub(crate) visitors: Visitors<N>,
 }
 
 /// A listener at an address, if there is an address. Err: that address is taken, or not permitted.
-fn listen_if<R: Net>(
+fn listen_if<R: Net, N: Network>(
     rt: &R,
-    network: &SystemNetwork,
+    network: &N,
     address: Option<SocketAddr>,
     socket: Socket,
-) -> Result<Option<SystemListener>, SocketAddr>
+) -> Result<Option<N::Listener>, SocketAddr>
     ensures { IfErr result (λ taken. address ≡ Some taken) }
 {
     let Some(address) = address else {
@@ -71,18 +67,12 @@ fn listen_if<R: Net>(
     }
 }
 
-/// Binds the addresses of a node.
-fn doors_of<R: Net>(rt: &R, plan: &NodePlan) -> Result<Doors, LoopFault>
-    ensures { IfErr result (IsCause plan.now) }
-{
-    match SystemNetwork::new(rt) {
-        Ok(network) => doors_at(rt, plan, network),
-        Err(_) => Err(LoopFault::Poll),
-    }
-}
-
 /// Binds the addresses of a node on a network.
-fn doors_at<R: Net>(rt: &R, plan: &NodePlan, network: SystemNetwork) -> Result<Doors, LoopFault>
+fn doors_of<R: Net, N: Network + Drop>(
+    rt: &R,
+    plan: &NodePlan,
+    network: N,
+) -> Result<Doors<N>, LoopFault>
     ensures { IfErr result (IsCause plan.now) }
 {
     let Some(http) = network.listen(rt, plan.http, Socket::Http.token()) else {
@@ -117,14 +107,14 @@ fn answerer_of(plan: &NodePlan) -> Answerer {
 }
 
 /// All of a hub but its node, with these listeners. The only error is allocation failure.
-fn begin_at(
+fn begin_at<N: Network + Drop>(
     alloc: Global,
     plan: NodePlan,
-    doors: Doors,
+    doors: Doors<N>,
     known: PeerProgress,
     time: u64,
     started: StartTime,
-) -> Result<HubStart, LoopFault>
+) -> Result<HubStart<N>, LoopFault>
     ensures begun { IfOk result (λ begun. responses_of begun.visitors ≡ []) }
     ensures suspended { IfOk result (λ begun. begun.parts.mesh.suspension ≡ plan.suspension) }
     ensures memory { IfErr result (λ why. why ≡ LoopFault.Memory) }
@@ -136,7 +126,6 @@ fn begin_at(
         admin,
         readers,
     } = doors;
-    let events = Events::with_capacity(alloc, MOST_EVENTS)?;
     let answerer = answerer_of(&plan);
     let visitors = Visitors::new(alloc, plan.clients, Some(http), CLIENT)?;
     let desk = Desk::new(alloc, answerer, admin, readers, started)?;
@@ -144,7 +133,6 @@ fn begin_at(
     Ok(HubStart {
         parts: HubParts {
             network,
-            events,
             mesh,
             desk,
         },
@@ -152,18 +140,19 @@ fn begin_at(
     })
 }
 
-/// Binds the addresses of a node, and makes all of its hub but the node.
-pub(crate) fn bind<R: Net + Clock + AllocGlobal>(
+/// Binds the addresses of a node on a network, and makes all of its hub but the node.
+pub(crate) fn bind<R: Net + Clock + AllocGlobal, N: Network + Drop>(
     rt: &R,
+    network: N,
     plan: NodePlan,
     known: PeerProgress,
     time: u64,
-) -> Result<HubStart, LoopFault>
+) -> Result<HubStart<N>, LoopFault>
     ensures begun { IfOk result (λ begun. responses_of begun.visitors ≡ []) }
     ensures suspended { IfOk result (λ begun. begun.parts.mesh.suspension ≡ plan.suspension) }
     ensures cause { IfErr result (IsCause plan) }
 {
-    match doors_of(rt, &plan) {
+    match doors_of(rt, &plan, network) {
         Ok(doors) => begin_at(rt.alloc(), plan, doors, known, time, StartTime::now(rt)),
         Err(fault) => {
             drop(plan);

@@ -17,18 +17,19 @@ use std::time::Clock;
 use wf_ballot::NodeId;
 use wf_folder::{PeerAddress, Suspension};
 use wf_peer::{Greeting, GreetingReply, PeerRejection, encode};
+use wf_sockets::{Connection, Network};
 use wf_tape::Tape;
 use wf_visitors::Context;
 
 /// The most nodes of a farm.
 const MOST_NODES: usize = 64;
 
-impl Mesh {
+impl<N: Network> Mesh<N> {
     /// Lets the connection to a peer go on.
     #[tactic(auto, using(crate::proofs::Continuation::still_in, crate::proofs::Continuation::on_in, crate::proofs::Continuation::twice_in))]
     pub(crate) fn turn<R: Clock + Eprint + AllocGlobal, T: Tape + Drop, F: NodeFolder<T>>(
         &mut self,
-        context: &Context<'_, '_, R>,
+        context: &Context<'_, '_, R, N>,
         voter: &mut Voter<T>,
         folder: &mut F,
         index: usize,
@@ -63,7 +64,7 @@ impl Mesh {
     #[tactic(auto, using(crate::proofs::Continuation::still_in, crate::proofs::Continuation::on_in, crate::proofs::Continuation::twice_in))]
     fn open<R: Clock + Eprint + AllocGlobal, T: Tape + Drop, F: NodeFolder<T>>(
         &mut self,
-        context: &Context<'_, '_, R>,
+        context: &Context<'_, '_, R, N>,
         voter: &mut Voter<T>,
         folder: &mut F,
         index: usize,
@@ -103,7 +104,7 @@ impl Mesh {
     #[tactic(auto, using(crate::proofs::Continuation::still_in, crate::proofs::Continuation::on_in))]
     fn why_not<R: Clock + Eprint + AllocGlobal, T: Tape + Drop, F: NodeFolder<T>>(
         &mut self,
-        context: &Context<'_, '_, R>,
+        context: &Context<'_, '_, R, N>,
         voter: &mut Voter<T>,
         folder: &mut F,
         peer: NodeId,
@@ -132,7 +133,7 @@ impl Mesh {
     #[tactic(auto, using(crate::proofs::Continuation::still))]
     fn take_rejection<R: Clock + Eprint, T: Tape + Drop>(
         &mut self,
-        context: &Context<'_, '_, R>,
+        context: &Context<'_, '_, R, N>,
         voter: &mut Voter<T>,
         peer: NodeId,
         why: PeerRejection,
@@ -152,7 +153,7 @@ impl Mesh {
     /// Notes who suspended the node, and closes all connections.
     fn suspend<R: Clock + Eprint>(
         &mut self,
-        context: &Context<'_, '_, R>,
+        context: &Context<'_, '_, R, N>,
         peer: NodeId,
         why: PeerRejection,
     ) {
@@ -180,7 +181,7 @@ impl Mesh {
     #[tactic(auto, using(crate::proofs::Continuation::still))]
     fn end<R: Clock + Eprint, T: Tape + Drop>(
         &mut self,
-        context: &Context<'_, '_, R>,
+        context: &Context<'_, '_, R, N>,
         voter: &mut Voter<T>,
         index: usize,
         peer: NodeId,
@@ -209,7 +210,7 @@ impl Mesh {
     #[tactic(auto, using(crate::proofs::Continuation::still, crate::proofs::Continuation::twice))]
     pub(crate) fn connect<R: Net + Clock + Eprint + AllocGlobal, T: Tape + Drop>(
         &mut self,
-        context: &Context<'_, '_, R>,
+        context: &Context<'_, '_, R, N>,
         voter: &mut Voter<T>,
     )
         ensures { Continues T.Tape voter.old voter.new }
@@ -223,7 +224,7 @@ impl Mesh {
     #[tactic(auto, using(crate::proofs::Continuation::still))]
     fn connect_to<R: Net + Clock + Eprint + AllocGlobal, T: Tape + Drop>(
         &mut self,
-        context: &Context<'_, '_, R>,
+        context: &Context<'_, '_, R, N>,
         voter: &mut Voter<T>,
         index: usize,
     )
@@ -256,7 +257,7 @@ impl Mesh {
     /// Connects to a peer and greets it, if there is no connection and it is time to.
     fn connect_if_due<R: Net + Clock + Eprint + AllocGlobal, T: Tape + Drop>(
         &mut self,
-        context: &Context<'_, '_, R>,
+        context: &Context<'_, '_, R, N>,
         voter: &Voter<T>,
         index: usize,
     ) {
@@ -346,7 +347,7 @@ impl Mesh {
     /// this that the node is there.
     pub(crate) fn greet_again<R: Clock + Eprint + AllocGlobal, T: Tape + Drop>(
         &mut self,
-        context: &Context<'_, '_, R>,
+        context: &Context<'_, '_, R, N>,
         voter: &Voter<T>,
     ) {
         if !self.is_full || !voter.connects() {
@@ -364,7 +365,7 @@ impl Mesh {
     #[tactic(auto, using(crate::proofs::Continuation::still, crate::proofs::Continuation::twice))]
     pub(crate) fn go_on<R: Clock + Eprint + AllocGlobal, T: Tape + Drop>(
         &mut self,
-        context: &Context<'_, '_, R>,
+        context: &Context<'_, '_, R, N>,
         voter: &mut Voter<T>,
     )
         ensures { Continues T.Tape voter.old voter.new }
@@ -378,7 +379,7 @@ impl Mesh {
     #[tactic(auto, using(crate::proofs::Continuation::still, crate::proofs::Continuation::twice))]
     pub(crate) fn send<R: Clock + Eprint + AllocGlobal, T: Tape + Drop>(
         &mut self,
-        context: &Context<'_, '_, R>,
+        context: &Context<'_, '_, R, N>,
         voter: &mut Voter<T>,
     )
         ensures { Continues T.Tape voter.old voter.new }
@@ -395,7 +396,7 @@ impl Mesh {
     #[tactic(auto, using(crate::proofs::Continuation::still, crate::proofs::Continuation::twice))]
     fn send_to<R: Clock + Eprint + AllocGlobal, T: Tape + Drop>(
         &mut self,
-        context: &Context<'_, '_, R>,
+        context: &Context<'_, '_, R, N>,
         voter: &mut Voter<T>,
         index: usize,
     )
@@ -417,7 +418,7 @@ impl Mesh {
 }
 
 /// Greets the peer of a connection again, if there is one.
-fn greet(alloc: Global, slot: &mut Option<Inbound>, own: &Greeting) {
+fn greet<C: Connection + Drop>(alloc: Global, slot: &mut Option<Inbound<C>>, own: &Greeting) {
     match slot {
         Some(inbound) => inbound.greet_again(alloc, own),
         None => {}

@@ -15,19 +15,19 @@ use std::time::Clock;
 use wf_ballot::{NodeId, SEQUENCES};
 use wf_folder::PeerAddress;
 use wf_peer::{Greeting, PeerRejection};
-use wf_sockets::{Connection, Network, SystemConnection};
+use wf_sockets::{Connection, Network};
 use wf_tape::Tape;
 use wf_visitors::{Context, micros};
 
 /// The most pieces that a turn reads of a peer.
 const MOST_PIECES: u32 = 4;
 
-impl Mesh {
+impl<N: Network> Mesh<N> {
     /// Accepts connections from peers.
     #[tactic(auto, using(crate::proofs::Continuation::still_in, crate::proofs::Continuation::on_in, crate::proofs::Continuation::twice_in))]
     pub(crate) fn accept<R: Clock + Eprint + AllocGlobal, T: Tape + Drop, F: NodeFolder<T>>(
         &mut self,
-        context: &Context<'_, '_, R>,
+        context: &Context<'_, '_, R, N>,
         voter: &mut Voter<T>,
         folder: &mut F,
     )
@@ -48,10 +48,10 @@ impl Mesh {
     #[tactic(auto, using(crate::proofs::Continuation::still_in, crate::proofs::Continuation::on_in))]
     fn admit<R: Clock + Eprint + AllocGlobal, T: Tape + Drop, F: NodeFolder<T>>(
         &mut self,
-        context: &Context<'_, '_, R>,
+        context: &Context<'_, '_, R, N>,
         voter: &mut Voter<T>,
         folder: &mut F,
-        mut connection: SystemConnection,
+        mut connection: N::Connection,
         address: SocketAddr,
     )
         ensures on { ContinuesIn T.Tape (F.stands folder.old) voter.old
@@ -84,7 +84,7 @@ impl Mesh {
     #[tactic(auto, using(crate::proofs::Continuation::still_in, crate::proofs::Continuation::on_in))]
     pub(crate) fn handle<R: Clock + Eprint + AllocGlobal, T: Tape + Drop, F: NodeFolder<T>>(
         &mut self,
-        context: &Context<'_, '_, R>,
+        context: &Context<'_, '_, R, N>,
         voter: &mut Voter<T>,
         folder: &mut F,
         index: usize,
@@ -104,11 +104,11 @@ impl Mesh {
     /// Reads what came on a connection from a peer, and keeps it in its slot unless it has ended.
     fn receive_out<R: Clock + Eprint + AllocGlobal, T: Tape + Drop, F: NodeFolder<T>>(
         &mut self,
-        context: &Context<'_, '_, R>,
+        context: &Context<'_, '_, R, N>,
         voter: &mut Voter<T>,
         folder: &mut F,
         index: usize,
-        mut inbound: Inbound,
+        mut inbound: Inbound<N::Connection>,
     )
         ensures on { ContinuesIn T.Tape (F.stands folder.old) voter.old
             (F.stands folder.new) voter.new }
@@ -137,10 +137,10 @@ impl Mesh {
     #[tactic(auto, using(crate::proofs::Continuation::still_in, crate::proofs::Continuation::on_in))]
     fn read<R: Clock + Eprint + AllocGlobal, T: Tape + Drop, F: NodeFolder<T>>(
         &mut self,
-        context: &Context<'_, '_, R>,
+        context: &Context<'_, '_, R, N>,
         voter: &mut Voter<T>,
         folder: &mut F,
-        inbound: &mut Inbound,
+        inbound: &mut Inbound<N::Connection>,
     ) -> Option<PeerEnd>
         ensures on { ContinuesIn T.Tape (F.stands folder.old) voter.old
             (F.stands folder.new) voter.new }
@@ -155,10 +155,10 @@ impl Mesh {
     #[tactic(auto, using(crate::proofs::Continuation::still_in, crate::proofs::Continuation::on_in, crate::proofs::Continuation::twice_in))]
     fn read_pieces<R: Clock + Eprint + AllocGlobal, T: Tape + Drop, F: NodeFolder<T>>(
         &mut self,
-        context: &Context<'_, '_, R>,
+        context: &Context<'_, '_, R, N>,
         voter: &mut Voter<T>,
         folder: &mut F,
-        inbound: &mut Inbound,
+        inbound: &mut Inbound<N::Connection>,
         piece: &mut [u8],
     ) -> Option<PeerEnd>
         ensures on { ContinuesIn T.Tape (F.stands folder.old) voter.old
@@ -179,10 +179,10 @@ impl Mesh {
     #[tactic(auto, using(crate::proofs::Continuation::still_in, crate::proofs::Continuation::on_in))]
     fn take_in<R: Clock + Eprint + AllocGlobal, T: Tape + Drop, F: NodeFolder<T>>(
         &mut self,
-        context: &Context<'_, '_, R>,
+        context: &Context<'_, '_, R, N>,
         voter: &mut Voter<T>,
         folder: &mut F,
-        inbound: &mut Inbound,
+        inbound: &mut Inbound<N::Connection>,
         came: Came,
         piece: &[u8],
     ) -> Result<(), Option<PeerEnd>>
@@ -213,10 +213,10 @@ impl Mesh {
     #[tactic(auto, using(crate::proofs::Continuation::twice_in, crate::proofs::Continuation::on_in))]
     fn let_in<R: Clock + Eprint + AllocGlobal, T: Tape + Drop, F: NodeFolder<T>>(
         &mut self,
-        context: &Context<'_, '_, R>,
+        context: &Context<'_, '_, R, N>,
         voter: &mut Voter<T>,
         folder: &mut F,
-        inbound: &mut Inbound,
+        inbound: &mut Inbound<N::Connection>,
         greeting: &Greeting,
     ) -> Option<PeerEnd>
         ensures on { ContinuesIn T.Tape (F.stands folder.old) voter.old
@@ -257,7 +257,7 @@ impl Mesh {
     #[tactic(auto, using(crate::proofs::Continuation::still_in, crate::proofs::Continuation::on_in))]
     pub(crate) fn admit_peer<R: Clock + Eprint + AllocGlobal, T: Tape + Drop, F: NodeFolder<T>>(
         &mut self,
-        context: &Context<'_, '_, R>,
+        context: &Context<'_, '_, R, N>,
         voter: &mut Voter<T>,
         folder: &mut F,
         address: Option<SocketAddr>,
@@ -307,7 +307,7 @@ impl Mesh {
     }
 
     /// Closes the connections of a peer, in whose place a newer one comes.
-    fn close_older<R: Clock + Eprint>(&mut self, context: &Context<'_, '_, R>, peer: NodeId) {
+    fn close_older<R: Clock + Eprint>(&mut self, context: &Context<'_, '_, R, N>, peer: NodeId) {
         for slot in &mut self.inbounds {
             if is_of(slot, peer) {
                 context.log.write(&NodeEvent::Dropped {
@@ -323,7 +323,7 @@ impl Mesh {
     #[tactic(auto, using(crate::proofs::Continuation::still_in, crate::proofs::Continuation::on_in, crate::proofs::Continuation::twice_in))]
     fn deliver<R: Clock + Eprint + AllocGlobal, T: Tape + Drop, F: NodeFolder<T>>(
         &mut self,
-        context: &Context<'_, '_, R>,
+        context: &Context<'_, '_, R, N>,
         voter: &mut Voter<T>,
         folder: &mut F,
         peer: NodeId,
@@ -362,7 +362,7 @@ impl Mesh {
     #[tactic(auto, using(crate::proofs::Continuation::still_in, crate::proofs::Continuation::on_in, crate::proofs::Continuation::twice_in))]
     fn deliver_next<R: Clock + Eprint + AllocGlobal, T: Tape + Drop, F: NodeFolder<T>>(
         &mut self,
-        context: &Context<'_, '_, R>,
+        context: &Context<'_, '_, R, N>,
         voter: &mut Voter<T>,
         folder: &mut F,
         peer: NodeId,
@@ -384,7 +384,7 @@ impl Mesh {
     #[tactic(auto, using(crate::proofs::Continuation::still_in))]
     fn keeps_next<R: Clock + Eprint + AllocGlobal, T: Tape + Drop, F: NodeFolder<T>>(
         &mut self,
-        context: &Context<'_, '_, R>,
+        context: &Context<'_, '_, R, N>,
         voter: &mut Voter<T>,
         folder: &mut F,
         peer: NodeId,
@@ -403,7 +403,7 @@ impl Mesh {
     #[tactic(auto, using(crate::proofs::Continuation::twice))]
     fn deliver_first<R: Clock + Eprint + AllocGlobal, T: Tape + Drop>(
         &mut self,
-        context: &Context<'_, '_, R>,
+        context: &Context<'_, '_, R, N>,
         voter: &mut Voter<T>,
         peer: NodeId,
     )
@@ -419,7 +419,7 @@ impl Mesh {
     /// none is closed: peers hear the node by its greetings then.
     pub(crate) fn close_silent<R: Clock + Eprint>(
         &mut self,
-        context: &Context<'_, '_, R>,
+        context: &Context<'_, '_, R, N>,
         published: u16,
     ) {
         self.is_full = published == SEQUENCES;
@@ -439,7 +439,7 @@ impl Mesh {
 }
 
 /// Whether nothing came for too long on the connection in a slot.
-fn is_silent_at(slot: &Option<Inbound>, time: u64) -> bool {
+fn is_silent_at<C: Connection + Drop>(slot: &Option<Inbound<C>>, time: u64) -> bool {
     match slot {
         Some(inbound) => inbound.is_silent(time),
         None => false,
@@ -447,7 +447,7 @@ fn is_silent_at(slot: &Option<Inbound>, time: u64) -> bool {
 }
 
 /// The number of the peer in a slot, if it is known.
-fn peer_in(slot: &Option<Inbound>) -> Option<usize> {
+fn peer_in<C: Connection + Drop>(slot: &Option<Inbound<C>>) -> Option<usize> {
     match slot {
         Some(inbound) => number_of(inbound.from()),
         None => None,
@@ -455,7 +455,7 @@ fn peer_in(slot: &Option<Inbound>) -> Option<usize> {
 }
 
 /// Whether a connection is one of this peer.
-fn is_of(slot: &Option<Inbound>, peer: NodeId) -> bool {
+fn is_of<C: Connection + Drop>(slot: &Option<Inbound<C>>, peer: NodeId) -> bool {
     match slot {
         Some(inbound) => inbound.from() == Some(peer),
         None => false,
@@ -486,7 +486,7 @@ fn is_same_host(first: SocketAddr, second: SocketAddr) -> bool {
 }
 
 /// The first free slot.
-fn first_free(slots: &[Option<Inbound>]) -> Option<usize> {
+fn first_free<C: Connection + Drop>(slots: &[Option<Inbound<C>>]) -> Option<usize> {
     for (index, slot) in slots.iter().enumerate() {
         if slot.is_none() {
             return Some(index);

@@ -1,10 +1,10 @@
-//! How a hub begins, waits for its sockets and goes on, turn after turn.
+//! How a hub begins and goes on, turn after turn.
 ghost use Rattle.std.specs.Prelude.{◌≡◌, ◌≤◌, ◌+◌, ◌↔◌, ◌++◌, ◌∷◌, [], ℕ, List, true, Err, IfErr, IfOk, IsSome, IsTrue, OnErr, OnOk, Option};
 ghost use Rattle.wf_actor.specs.Process.{IsBegun};
 ghost use Rattle.wf_digest.specs.Digest.{AreDigestsOf};
 ghost use Rattle.wf_folder.specs.declared.suspension.Suspension.{Suspension as SuspensionValue};
 ghost use Rattle.wf_loop.specs.Folder.{counted};
-ghost use Rattle.wf_loop.specs.Hub.{GreetsAsNow, HasAnswered, IsHeardFirst, IsOutvoted, IsReopeningDue, IsSuspended, OnlyAnswersAsks, address_of, kept_of, process_of, time_of};
+ghost use Rattle.wf_loop.specs.Hub.{GreetsAsNow, HasAnswered, IsBusy, IsHeardFirst, IsOutvoted, IsReopeningDue, IsSuspended, OnlyAnswersAsks, address_of, kept_of, process_of, time_of};
 ghost use Rattle.wf_node.specs.Reopening.{HasStoredAs};
 ghost use Rattle.wf_loop.specs.Lived.{HasLived};
 ghost use Rattle.wf_loop.specs.Continuation.{Continues, ContinuesIn, Follows, GoesOn, KeepsEarlier, StaysSuspended};
@@ -18,7 +18,7 @@ use crate::gate::Gate;
 use crate::hub::{Hub, Voter};
 use crate::mesh::Mesh;
 use crate::pace::{Pace, TICK_MILLIS};
-use crate::parts::{HubParts, HubStart, MOST_EVENTS, bind};
+use crate::parts::{HubParts, HubStart, bind};
 use crate::plan::{LoopFault, NodePlan};
 use crate::reach::reach_of;
 use crate::reopening::{FolderError, NextRun, NodeFolder, NotReopened, TapeNotReopened};
@@ -33,21 +33,36 @@ use wf_digest::Digests;
 use wf_folder::Suspension;
 use wf_operator::{Behind, PictureCounts};
 use wf_peer::PeerProgress;
+use wf_sockets::{Network, NetworkError, SystemNetwork};
 use wf_store::{FileName, FolderFault};
 use wf_tape::Tape;
 use wf_visitors::{Context, Log, Visitors, now};
 
+/// The most sockets of a turn.
+const MOST_READY: usize = 256;
+
 /// For how long nothing comes before the digests are made that lack, in milliseconds.
 const MOMENT_MILLIS: u64 = 1;
 
+/// Why a node of this plan doesn't begin: there is no network of the system.
+fn fault_of(error: NetworkError, plan: &NodePlan) -> LoopFault
+    ensures { IsCause plan.now result }
+{
+    let _ = plan;
+    match error {
+        NetworkError::Poll => LoopFault::Poll,
+        NetworkError::Memory => LoopFault::Memory,
+    }
+}
+
 /// A hub of these parts. Err: that of the parts; the process is dropped.
-fn hub_of<T: Tape + Drop>(
+fn hub_of<T: Tape + Drop, N: Network + Drop>(
     alloc: Global,
-    begun: Result<HubStart, LoopFault>,
+    begun: Result<HubStart<N>, LoopFault>,
     process: Process<T>,
     known: PeerProgress,
     time: u64,
-) -> Result<Hub<T>, LoopFault>
+) -> Result<Hub<T, N>, LoopFault>
     requires { IfOk begun (λ begun. responses_of begun.visitors ≡ []) }
     ensures hub { IfOk result (λ hub. process_of hub ≡ process) }
     ensures kept { IfOk result (λ hub. kept_of hub ≡ known) }
@@ -94,14 +109,14 @@ fn voter_of<T: Tape>(
 }
 
 /// A hub of these parts.
-fn assemble<T: Tape + Drop>(
+fn assemble<T: Tape + Drop, N: Network + Drop>(
     alloc: Global,
-    parts: HubParts,
-    visitors: Visitors,
+    parts: HubParts<N>,
+    visitors: Visitors<N>,
     process: Process<T>,
     known: PeerProgress,
     time: u64,
-) -> Hub<T>
+) -> Hub<T, N>
     requires { responses_of visitors ≡ [] }
     ensures hub { process_of result ≡ process }
     ensures kept { kept_of result ≡ known }
@@ -116,14 +131,14 @@ fn assemble<T: Tape + Drop>(
 }
 
 /// A hub with these clients, of whom nobody was answered yet.
-fn hub_with<T: Tape>(
-    parts: HubParts,
-    clients: Clients<T>,
+fn hub_with<T: Tape, N: Network>(
+    parts: HubParts<N>,
+    clients: Clients<T, N>,
     voter: Voter<T>,
     pace: Pace,
     http: Option<SocketAddr>,
     time: u64,
-) -> Hub<T>
+) -> Hub<T, N>
     ensures voter { result.voter ≡ voter }
     ensures time { time_of result ≡ time }
 {
@@ -140,8 +155,8 @@ fn hub_with<T: Tape>(
 }
 
 impl<T: Tape + Drop> Hub<T> {
-    /// Binds the addresses of a node. Err: `Poll` if the system gives no poll; `Http`, `Listen`, `Admin` or `Readers` if that address is
-    /// taken or not permitted, the first one in this order; `Memory` if an allocation fails. The process is dropped then.
+    /// Binds the addresses of a node of the system. Err: `Poll` if the system gives no poll; `Http`, `Listen`, `Admin` or `Readers` if that
+    /// address is taken or not permitted, the first one in this order; `Memory` if an allocation fails. The process is dropped then.
     pub fn new<R: Net + Clock + AllocGlobal>(
         rt: &R,
         plan: NodePlan,
@@ -155,10 +170,74 @@ impl<T: Tape + Drop> Hub<T> {
         ensures suspended { IsSome plan.suspension → IfOk result IsSuspended }
         ensures cause { IfErr result (IsCause plan) }
     {
-        let time = now(rt);
+        match SystemNetwork::new(rt) {
+            Ok(network) => Hub::on(rt, network, plan, process, known, now(rt)),
+            Err(error) => {
+                let fault = fault_of(error, &plan);
+                drop(plan);
+                drop(process);
+                drop(known);
+                Err(fault)
+            }
+        }
+    }
+
+    /// One turn: waits until a socket is ready or a tick is over, and does a bounded part of what there is to do. What has to be in the
+    /// node's folder is written there: that it is suspended at once, and each second how far it is.
+    pub fn go_on<R: Net + Files + Clock + Eprint + AllocGlobal, F: NodeFolder<T>>(
+        &mut self,
+        rt: &R,
+        log: &Log<'_, R>,
+        folder: &mut F,
+    )
+        // Whatever came, the node has lived by its acts, was given only what receivers returned, and sent only what it returned.
+        ensures lived { HasLived T.Tape (process_of self.new) }
+        // Each response that any client was sent is the one to exactly what had come of its request, by a process that had lived.
+        ensures answered { HasAnswered T.Tape self.new }
+        // It goes on in the run that it was in, as the node that it was.
+        ensures on { GoesOn T.Tape (process_of self.old) (process_of self.new) }
+        ensures earlier { KeepsEarlier T.Tape (process_of self.old) (process_of self.new) }
+        // A suspended node stays suspended and as it is: it is given nothing, and emits no message.
+        ensures suspended { IsSuspended self.old → StaysSuspended self.old.voter self.new.voter }
+        // In a turn in which the history of a peer differs and no majority agrees, it is given no message but those that ask for what is
+        // published, so it doesn't vote, and no client is answered.
+        ensures outvoted { IsOutvoted self.new → OnlyAnswersAsks self.old self.new }
+        ensures starts { (F.stands folder.new).starts ≡ (F.stands folder.old).starts }
+        ensures begun { (F.stands folder.new).begun ≡ (F.stands folder.old).begun }
+        // What a message of a peer tells of its round and its promise is in the file `heard` before the node is given it.
+        ensures heard { IsHeardFirst (F.stands folder.old).heard self.old →
+            IsHeardFirst (F.stands folder.new).heard self.new }
+        ensures time { time_of self.old ≤ time_of self.new }
+    {
+        let mut tokens = [0usize; MOST_READY];
+        let millis = self.patience(now(rt));
+        let count = self.parts.network.wait(millis, &mut tokens);
+        self.turn(rt, log, folder, &tokens[..count], now(rt));
+    }
+}
+
+impl<T: Tape + Drop, N: Network + Drop> Hub<T, N> {
+    /// Binds the addresses of a node on a network, at this time in milliseconds. Err: `Http`, `Listen`, `Admin` or `Readers` if that address
+    /// is taken or not permitted, the first one in this order; `Memory` if an allocation fails. The process is dropped then.
+    pub fn on<R: Net + Clock + AllocGlobal>(
+        rt: &R,
+        network: N,
+        plan: NodePlan,
+        process: Process<T>,
+        known: PeerProgress,
+        time: u64,
+    ) -> Result<Self, LoopFault>
+        ensures process { IfOk result (λ hub. process_of hub ≡ process) }
+        // What the file `heard` has is what was heard, as long as nothing is written to it.
+        ensures kept { IfOk result (λ hub. kept_of hub ≡ known) }
+        // A node that its folder says is suspended begins so.
+        ensures suspended { IsSome plan.suspension → IfOk result IsSuspended }
+        ensures time { IfOk result (λ hub. time_of hub ≡ time) }
+        ensures cause { IfErr result (IsCause plan) }
+    {
         hub_of(
             rt.alloc(),
-            bind(rt, plan, known, time),
+            bind(rt, network, plan, known, time),
             process,
             known,
             time,
@@ -339,13 +418,41 @@ impl<T: Tape + Drop> Hub<T> {
         self.pace.note_reopening(self.time);
     }
 
-    /// One turn: waits until a socket is ready or a tick is over, and does a bounded part of what there is to do. What has to be in the
-    /// node's folder is written there: that it is suspended at once, and each second how far it is.
-    pub fn go_on<R: Net + Files + Clock + Eprint + AllocGlobal, F: NodeFolder<T>>(
+    /// For how long the next turn may be waited for at most where no socket is ready, in milliseconds: up to the next tick, for a moment
+    /// while digests are to be made, not at all if there is more to do.
+    pub fn patience(&self, time: u64) -> u64
+        ensures most { result ≤ 100 }
+        ensures busy { IsBusy self.now → result ≡ 0 }
+    {
+        if self.has_work() {
+            return 0;
+        }
+        let history = self.voter.process.node().history();
+        let most = if self.parts.mesh.wants_digests(history) {
+            MOMENT_MILLIS
+        } else {
+            TICK_MILLIS
+        };
+        self.pace.rest(time).min(most)
+    }
+
+    /// Whether there is more to do: a turn left some, or messages of the node to itself wait.
+    fn has_work(&self) -> bool
+        ensures { IsBusy self.now → IsTrue result }
+    {
+        self.is_busy || (self.voter.acts() && self.voter.process.waiting() != 0)
+    }
+
+    /// One turn, at this time in milliseconds: does a bounded part of what there is to do, for the sockets with these tokens and by the
+    /// clock, and waits for nothing. What has to be in the node's folder is written there: that it is suspended at once, and each second
+    /// how far it is. The tokens are of sockets that may be ready; one that isn't costs a look at it.
+    pub fn turn<R: Net + Files + Clock + Eprint + AllocGlobal, F: NodeFolder<T>>(
         &mut self,
         rt: &R,
         log: &Log<'_, R>,
         folder: &mut F,
+        ready: &[usize],
+        time: u64,
     )
         // Whatever came, the node has lived by its acts, was given only what receivers returned, and sent only what it returned.
         ensures lived { HasLived T.Tape (process_of self.new) }
@@ -365,19 +472,12 @@ impl<T: Tape + Drop> Hub<T> {
         ensures heard { IsHeardFirst (F.stands folder.old).heard self.old →
             IsHeardFirst (F.stands folder.new).heard self.new }
         ensures time { time_of self.old ≤ time_of self.new }
+        ensures now { time ≤ time_of self.new }
     {
-        let could_wait = self.wait(rt);
-        let mut ready = [0usize; MOST_EVENTS];
-        let count = self.ready(&mut ready);
-        self.time = now(rt).max(self.time);
+        let could_wait = !self.has_work();
+        self.time = time.max(self.time);
         self.judge(log);
-        self.is_busy = self.act(
-            rt,
-            log,
-            folder,
-            ready.split_at(count.min(MOST_EVENTS)).0,
-            could_wait,
-        );
+        self.is_busy = self.act(rt, log, folder, ready, could_wait);
         self.keep(log, folder);
         self.always_lived();
     }
@@ -428,49 +528,6 @@ impl<T: Tape + Drop> Hub<T> {
         }
     }
 
-    /// Waits until a socket is ready or the patience is over. Returns whether it could wait.
-    fn wait<R: Clock>(&mut self, rt: &R) -> bool
-        ensures voter { self.new.voter ≡ self.old.voter }
-        ensures clients { self.new.clients ≡ self.old.clients }
-        ensures time { time_of self.new ≡ time_of self.old }
-    {
-        let millis = self.patience(now(rt));
-        let HubParts {
-            network,
-            events,
-            ..
-        } = &mut self.parts;
-        network.wait(events, millis);
-        millis != 0
-    }
-
-    /// For how long a turn may wait, in milliseconds: up to the next tick, for a moment while digests are to be made, not at all if there is
-    /// more to do.
-    fn patience(&self, time: u64) -> u64 {
-        if self.is_busy || (self.voter.acts() && self.voter.process.waiting() != 0) {
-            return 0;
-        }
-        let history = self.voter.process.node().history();
-        let most = if self.parts.mesh.wants_digests(history) {
-            MOMENT_MILLIS
-        } else {
-            TICK_MILLIS
-        };
-        self.pace.rest(time).min(most)
-    }
-
-    /// The tokens of the sockets that are ready, and their number.
-    fn ready(&self, tokens: &mut [usize; MOST_EVENTS]) -> usize {
-        let mut count = 0;
-        for event in self.parts.events.iter() {
-            if count < MOST_EVENTS {
-                tokens[count] = event.token().0;
-                count += 1;
-            }
-        }
-        count
-    }
-
     /// Does what the sockets that are ready ask for, and what the clock does. Returns whether there is more to do.
     fn act<R: Net + Files + Clock + Eprint + AllocGlobal, F: NodeFolder<T>>(
         &mut self,
@@ -516,9 +573,9 @@ impl<T: Tape + Drop> Hub<T> {
 }
 
 /// Keeps in the folder how far a node is.
-fn keep_reach<T: Tape + Drop, F: NodeFolder<T>>(
+fn keep_reach<T: Tape + Drop, F: NodeFolder<T>, N: Network>(
     process: &Process<T>,
-    mesh: &mut Mesh,
+    mesh: &mut Mesh<N>,
     folder: &mut F,
 ) -> Result<(), FolderError>
     ensures stands { F.stands folder.new ≡ F.stands folder.old }

@@ -16,6 +16,7 @@ use std::time::Clock;
 use wf_actor::Process;
 use wf_operator::{Behind, Operator};
 use wf_readers_port::PortView;
+use wf_sockets::Network;
 use wf_tape::Tape;
 use wf_visitors::{Context, micros};
 
@@ -26,13 +27,18 @@ const MOST_OWN: u32 = 64;
 const MOST_SERVED: usize = 8;
 
 /// Does what the sockets with these tokens ask for, which are ready, and answers clients.
-pub(crate) fn serve_all<R: Net + Clock + Eprint + AllocGlobal, T: Tape + Drop, F: NodeFolder<T>>(
-    context: &Context<'_, '_, R>,
+pub(crate) fn serve_all<
+    R: Net + Clock + Eprint + AllocGlobal,
+    T: Tape + Drop,
+    F: NodeFolder<T>,
+    N: Network,
+>(
+    context: &Context<'_, '_, R, N>,
     voter: &mut Voter<T>,
     folder: &mut F,
-    mesh: &mut Mesh,
-    desk: &mut Desk,
-    clients: &mut Clients<T>,
+    mesh: &mut Mesh<N>,
+    desk: &mut Desk<N>,
+    clients: &mut Clients<T, N>,
     tokens: &[usize],
 )
     ensures on { ContinuesIn T.Tape (F.stands folder.old) voter.old
@@ -46,23 +52,23 @@ pub(crate) fn serve_all<R: Net + Clock + Eprint + AllocGlobal, T: Tape + Drop, F
 }
 
 /// Whether there is more to do.
-pub(crate) fn has_more<T: Tape + Drop>(
+pub(crate) fn has_more<T: Tape + Drop, N: Network>(
     voter: &Voter<T>,
-    mesh: &Mesh,
-    clients: &Clients<T>,
+    mesh: &Mesh<N>,
+    clients: &Clients<T, N>,
 ) -> bool {
     mesh.is_busy || (voter.answers() && clients.visitors.is_busy())
 }
 
 /// Does what the sockets with these tokens ask for: those of peers first.
 #[tactic(auto, using(crate::proofs::Continuation::still_in, crate::proofs::Continuation::on_in, crate::proofs::Continuation::twice_in))]
-fn act_on_all<R: Net + Clock + Eprint + AllocGlobal, T: Tape + Drop, F: NodeFolder<T>>(
-    context: &Context<'_, '_, R>,
+fn act_on_all<R: Net + Clock + Eprint + AllocGlobal, T: Tape + Drop, F: NodeFolder<T>, N: Network>(
+    context: &Context<'_, '_, R, N>,
     voter: &mut Voter<T>,
     folder: &mut F,
-    mesh: &mut Mesh,
-    desk: &mut Desk,
-    clients: &mut Clients<T>,
+    mesh: &mut Mesh<N>,
+    desk: &mut Desk<N>,
+    clients: &mut Clients<T, N>,
     tokens: &[usize],
 )
     ensures on { ContinuesIn T.Tape (F.stands folder.old) voter.old
@@ -75,13 +81,18 @@ fn act_on_all<R: Net + Clock + Eprint + AllocGlobal, T: Tape + Drop, F: NodeFold
 
 /// Does what those of the sockets with these tokens ask for that are of peers, or the others.
 #[tactic(auto, using(crate::proofs::Continuation::still_in, crate::proofs::Continuation::on_in, crate::proofs::Continuation::twice_in))]
-fn act_on_those<R: Net + Clock + Eprint + AllocGlobal, T: Tape + Drop, F: NodeFolder<T>>(
-    context: &Context<'_, '_, R>,
+fn act_on_those<
+    R: Net + Clock + Eprint + AllocGlobal,
+    T: Tape + Drop,
+    F: NodeFolder<T>,
+    N: Network,
+>(
+    context: &Context<'_, '_, R, N>,
     voter: &mut Voter<T>,
     folder: &mut F,
-    mesh: &mut Mesh,
-    desk: &mut Desk,
-    clients: &mut Clients<T>,
+    mesh: &mut Mesh<N>,
+    desk: &mut Desk<N>,
+    clients: &mut Clients<T, N>,
     tokens: &[usize],
     are_of_peers: bool,
 )
@@ -100,13 +111,13 @@ fn act_on_those<R: Net + Clock + Eprint + AllocGlobal, T: Tape + Drop, F: NodeFo
 
 /// Does what a ready socket asks for.
 #[tactic(auto, using(crate::proofs::Continuation::still_in, crate::proofs::Continuation::on_in))]
-fn act_on<R: Net + Clock + Eprint + AllocGlobal, T: Tape + Drop, F: NodeFolder<T>>(
-    context: &Context<'_, '_, R>,
+fn act_on<R: Net + Clock + Eprint + AllocGlobal, T: Tape + Drop, F: NodeFolder<T>, N: Network>(
+    context: &Context<'_, '_, R, N>,
     voter: &mut Voter<T>,
     folder: &mut F,
-    mesh: &mut Mesh,
-    desk: &mut Desk,
-    clients: &mut Clients<T>,
+    mesh: &mut Mesh<N>,
+    desk: &mut Desk<N>,
+    clients: &mut Clients<T, N>,
     socket: Socket,
 )
     ensures on { ContinuesIn T.Tape (F.stands folder.old) voter.old
@@ -127,34 +138,30 @@ fn act_on<R: Net + Clock + Eprint + AllocGlobal, T: Tape + Drop, F: NodeFolder<T
 }
 
 /// Answers a reader, from what is published: nothing of the node can change by it.
-fn answer_reader<R: Clock + Eprint + AllocGlobal, T: Tape + Drop>(
-    context: &Context<'_, '_, R>,
+fn answer_reader<R: Clock + Eprint + AllocGlobal, T: Tape + Drop, N: Network>(
+    context: &Context<'_, '_, R, N>,
     process: &Process<T>,
-    mesh: &mut Mesh,
-    desk: &mut Desk,
+    mesh: &mut Mesh<N>,
+    desk: &mut Desk<N>,
     index: usize,
 ) {
     // what was published in this turn has its digests too
     mesh.notes.extend(process.node().history());
-    let Desk {
-        readers,
-        answerer,
-        ..
-    } = desk;
+    let own = desk.answerer;
     let published = PortView {
-        own: answerer,
+        own: &own,
         history: process.node().history(),
         digests: mesh.notes.digests(),
     };
-    readers.turn(context, &published, index);
+    desk.readers.turn(context, &published, index);
 }
 
 /// Delivers messages of the node to itself, a bounded number of them.
 #[tactic(auto, using(crate::proofs::Continuation::still, crate::proofs::Continuation::twice))]
-fn handle_all_own<R: Clock + Eprint + AllocGlobal, T: Tape + Drop>(
-    context: &Context<'_, '_, R>,
+fn handle_all_own<R: Clock + Eprint + AllocGlobal, T: Tape + Drop, N: Network>(
+    context: &Context<'_, '_, R, N>,
     voter: &mut Voter<T>,
-    mesh: &mut Mesh,
+    mesh: &mut Mesh<N>,
 )
     ensures { Continues T.Tape voter.old voter.new }
 {
@@ -168,10 +175,10 @@ fn handle_all_own<R: Clock + Eprint + AllocGlobal, T: Tape + Drop>(
 /// Delivers the first message of the node to itself. What waits for the peers is written before: they store it while the node does.
 /// Returns whether a message waited.
 #[tactic(auto, using(crate::proofs::Continuation::twice))]
-fn handle_next_own<R: Clock + Eprint + AllocGlobal, T: Tape + Drop>(
-    context: &Context<'_, '_, R>,
+fn handle_next_own<R: Clock + Eprint + AllocGlobal, T: Tape + Drop, N: Network>(
+    context: &Context<'_, '_, R, N>,
     voter: &mut Voter<T>,
-    mesh: &mut Mesh,
+    mesh: &mut Mesh<N>,
 ) -> bool
     ensures { Continues T.Tape voter.old voter.new }
 {
@@ -186,11 +193,11 @@ fn handle_next_own<R: Clock + Eprint + AllocGlobal, T: Tape + Drop>(
 
 /// Answers requests of clients that are whole, a bounded number of them.
 #[tactic(auto, using(crate::proofs::Continuation::still, crate::proofs::Continuation::twice))]
-fn serve_clients<R: Clock + Eprint + AllocGlobal, T: Tape + Drop>(
-    context: &Context<'_, '_, R>,
+fn serve_clients<R: Clock + Eprint + AllocGlobal, T: Tape + Drop, N: Network>(
+    context: &Context<'_, '_, R, N>,
     voter: &mut Voter<T>,
-    mesh: &mut Mesh,
-    clients: &mut Clients<T>,
+    mesh: &mut Mesh<N>,
+    clients: &mut Clients<T, N>,
 )
     ensures on { Continues T.Tape voter.old voter.new }
     ensures outvoted { voter.old.is_outvoted ≡ true →
@@ -206,11 +213,11 @@ fn serve_clients<R: Clock + Eprint + AllocGlobal, T: Tape + Drop>(
 /// Answers the next request of a client, if it is whole. What it makes the node send is written to the peers before the client is
 /// written to. Returns whether there was one.
 #[tactic(auto, using(crate::proofs::Continuation::twice))]
-fn serve_next<R: Clock + Eprint + AllocGlobal, T: Tape + Drop>(
-    context: &Context<'_, '_, R>,
+fn serve_next<R: Clock + Eprint + AllocGlobal, T: Tape + Drop, N: Network>(
+    context: &Context<'_, '_, R, N>,
     voter: &mut Voter<T>,
-    mesh: &mut Mesh,
-    clients: &mut Clients<T>,
+    mesh: &mut Mesh<N>,
+    clients: &mut Clients<T, N>,
 ) -> bool
     ensures on { Continues T.Tape voter.old voter.new }
     ensures outvoted { voter.old.is_outvoted ≡ true →
@@ -225,12 +232,12 @@ fn serve_next<R: Clock + Eprint + AllocGlobal, T: Tape + Drop>(
 }
 
 /// Answers operators, who only read.
-pub(crate) fn answer_operators<R: Files + Clock + Eprint + AllocGlobal, T: Tape + Drop>(
-    context: &Context<'_, '_, R>,
+pub(crate) fn answer_operators<R: Files + Clock + Eprint + AllocGlobal, T: Tape + Drop, N: Network>(
+    context: &Context<'_, '_, R, N>,
     voter: &Voter<T>,
-    mesh: &mut Mesh,
-    desk: &mut Desk,
-    clients: &Clients<T>,
+    mesh: &mut Mesh<N>,
+    desk: &mut Desk<N>,
+    clients: &Clients<T, N>,
     behind: &mut Behind,
 ) {
     let history = voter.process.node().history();
@@ -245,12 +252,12 @@ pub(crate) fn answer_operators<R: Files + Clock + Eprint + AllocGlobal, T: Tape 
 }
 
 /// Answers operators with what is known.
-fn serve_facts<R: Files + Clock + Eprint + AllocGlobal, T: Tape + Drop>(
-    context: &Context<'_, '_, R>,
+fn serve_facts<R: Files + Clock + Eprint + AllocGlobal, T: Tape + Drop, N: Network>(
+    context: &Context<'_, '_, R, N>,
     voter: &Voter<T>,
-    mesh: &Mesh,
-    desk: &mut Desk,
-    clients: &Clients<T>,
+    mesh: &Mesh<N>,
+    desk: &mut Desk<N>,
+    clients: &Clients<T, N>,
     is_behind: bool,
 ) {
     let process = &voter.process;

@@ -9,7 +9,7 @@
 //! **Promises.** What is written in reply to bytes is the encoding of the reply that the question at their front has by that
 //! history, if the digests are the history's (`specs/QuestionReplies.antt`).
 //!
-//! **Doesn't.** What sockets do has no model.
+//! **Doesn't.** No clause says which sockets are ready. The network is any ([`wf_sockets`]); where none is named it is the system's.
 #![tactic(auto)]
 
 mod event;

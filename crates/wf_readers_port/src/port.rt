@@ -7,7 +7,7 @@ use std::time::Clock;
 use wf_digest::Digests;
 use wf_learner::History;
 use wf_reader::{Answerer, QuestionRejection};
-use wf_sockets::{Connection, Network, SystemConnection, SystemListener, SystemNetwork};
+use wf_sockets::{Connection, Network, SystemNetwork};
 use wf_visitors::Context;
 
 /// What the port is given of the process: who it is, its history and the digests of that, to be read only.
@@ -33,20 +33,20 @@ struct Difference {
 
 /// The readers' port: a listener, and slots of its own.
 #[derive(Drop)]
-pub struct ReadersPort {
-    listener: Option<SystemListener>,
-    slots: Vec<Option<Reader>>,
+pub struct ReadersPort<N: Network = SystemNetwork> {
+    listener: Option<N::Listener>,
+    slots: Vec<Option<Reader<N::Connection>>>,
     // the token of slot 0
     first: usize,
     difference: Option<Difference>,
 }
 
-impl ReadersPort {
+impl<N: Network> ReadersPort<N> {
     /// That many free slots, with the tokens from the first one on. The only error is allocation failure.
     pub fn new(
         alloc: Global,
         count: usize,
-        listener: Option<SystemListener>,
+        listener: Option<N::Listener>,
         first: usize,
     ) -> Result<Self, AllocError> {
         let mut slots = Vec::new(alloc);
@@ -77,7 +77,7 @@ impl ReadersPort {
     }
 
     /// Accepts connections, as long as there are some.
-    pub fn accept<R: Clock + Eprint + AllocGlobal>(&mut self, context: &Context<'_, '_, R>) {
+    pub fn accept<R: Clock + Eprint + AllocGlobal>(&mut self, context: &Context<'_, '_, R, N>) {
         for _ in 0..MOST_ACCEPTED {
             let Some(connection) = self.accept_one(context.network) else {
                 return;
@@ -100,7 +100,7 @@ impl ReadersPort {
     }
 
     /// The next connection, if there is one.
-    fn accept_one(&mut self, network: &SystemNetwork) -> Option<SystemConnection> {
+    fn accept_one(&mut self, network: &N) -> Option<N::Connection> {
         match &mut self.listener {
             Some(listener) => match network.accept(listener) {
                 Ok((connection, _)) => Some(connection),
@@ -113,8 +113,8 @@ impl ReadersPort {
     /// Puts a newcomer into a free slot, else into that of the reader that has waited longest.
     fn admit<R: Clock + Eprint + AllocGlobal>(
         &mut self,
-        context: &Context<'_, '_, R>,
-        mut connection: SystemConnection,
+        context: &Context<'_, '_, R, N>,
+        mut connection: N::Connection,
     ) {
         let Some(index) = slot_index(self.slots.as_slice()) else {
             return;
@@ -137,7 +137,7 @@ impl ReadersPort {
     }
 
     /// Takes the reader out of a slot.
-    fn take(&mut self, index: usize) -> Option<Reader> {
+    fn take(&mut self, index: usize) -> Option<Reader<N::Connection>> {
         match self.slots.get_mut(index) {
             Some(slot) => slot.take(),
             None => None,
@@ -145,7 +145,7 @@ impl ReadersPort {
     }
 
     /// Puts a reader into a slot.
-    fn put(&mut self, index: usize, reader: Reader) {
+    fn put(&mut self, index: usize, reader: Reader<N::Connection>) {
         if let Some(slot) = self.slots.get_mut(index) {
             *slot = Some(reader);
         }
@@ -154,7 +154,7 @@ impl ReadersPort {
     /// Answers the reader in a slot, a bounded number of its questions.
     pub fn turn<R: Clock + Eprint + AllocGlobal>(
         &mut self,
-        context: &Context<'_, '_, R>,
+        context: &Context<'_, '_, R, N>,
         published: &PortView<'_>,
         index: usize,
     ) {
@@ -199,7 +199,7 @@ impl ReadersPort {
 }
 
 /// Whether the reader in a slot has asked nothing for too long.
-fn is_silent_at(slot: &Option<Reader>, time: u64) -> bool {
+fn is_silent_at<C: Connection + Drop>(slot: &Option<Reader<C>>, time: u64) -> bool {
     match slot {
         Some(reader) => reader.is_silent(time),
         None => false,
@@ -207,7 +207,7 @@ fn is_silent_at(slot: &Option<Reader>, time: u64) -> bool {
 }
 
 /// The slot for a newcomer: the first free one, else that of the reader that has waited longest. None: there are no slots.
-fn slot_index(slots: &[Option<Reader>]) -> Option<usize> {
+fn slot_index<C: Connection + Drop>(slots: &[Option<Reader<C>>]) -> Option<usize> {
     let mut found: Option<(usize, u64)> = None;
     for (index, slot) in slots.iter().enumerate() {
         let since = match slot {

@@ -5,7 +5,7 @@ use crate::replies::{QuestionOutcome, answer};
 use std::alloc::Global;
 use wf_client::Outgoing;
 use wf_reader::{QUESTION_BYTES, QuestionRejection};
-use wf_sockets::{Connection, Moved, SystemConnection};
+use wf_sockets::{Connection, Moved};
 use wf_stream::Sink;
 use wf_timing::is_silent;
 
@@ -17,8 +17,8 @@ const MOST_READS: usize = 64;
 
 /// A reader's connection: what has come of its question, what is to be written of the reply, and when it asked last.
 #[derive(Drop)]
-pub(crate) struct Reader {
-    connection: SystemConnection,
+pub(crate) struct Reader<C: Connection> {
+    connection: C,
     question: Vec<u8>,
     reply: Outgoing,
     rejected: Option<QuestionRejection>,
@@ -47,9 +47,9 @@ enum Step {
     Done(ReaderTurn),
 }
 
-impl Reader {
+impl<C: Connection + Drop> Reader<C> {
     /// A reader that came now.
-    pub(crate) fn new(alloc: Global, connection: SystemConnection, time: u64) -> Self {
+    pub(crate) fn new(alloc: Global, connection: C, time: u64) -> Self {
         Reader {
             connection,
             question: Vec::new(alloc),
@@ -60,7 +60,7 @@ impl Reader {
     }
 
     /// Its connection.
-    pub(crate) fn connection(&mut self) -> &mut SystemConnection {
+    pub(crate) fn connection(&mut self) -> &mut C {
         &mut self.connection
     }
 

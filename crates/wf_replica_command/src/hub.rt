@@ -9,7 +9,7 @@ use crate::asker::Asker;
 use crate::clients::ReplicaClients;
 use crate::facts::ReplicaFacts;
 use crate::fault::ReplicaFault;
-use crate::parts::{MOST_EVENTS, OPERATORS, ReplicaStart, bind};
+use crate::parts::{OPERATORS, ReplicaStart, bind};
 use crate::plan::ReplicaPlan;
 use crate::token::ReplicaSocket;
 use std::alloc::AllocError;
@@ -20,10 +20,13 @@ use wf_operator::{Behind, Operator, StartTime};
 use wf_reader::QuestionRejection;
 use wf_readers_port::{PortView, ReadersPort};
 use wf_replica::{Follower, what_is_learned_is_served};
-use wf_sockets::{Events, SystemNetwork};
+use wf_sockets::SystemNetwork;
 use wf_tape::Tape;
 use wf_timing::Ticker;
 use wf_visitors::{Context, Log, Visitors, now};
+
+/// The most sockets of a turn.
+const MOST_READY: usize = 256;
 
 /// The time between two ticks, in milliseconds.
 const TICK_MILLIS: u64 = 100;
@@ -32,7 +35,6 @@ const TICK_MILLIS: u64 = 100;
 #[derive(Drop)]
 pub struct ReplicaHub<T: Tape> {
     network: SystemNetwork,
-    events: Events,
     operators: Visitors,
     readers: ReadersPort,
     asker: Asker,
@@ -141,11 +143,10 @@ impl<T: Tape + Drop> ReplicaHub<T> {
         // It has to end only where all of its sources refuse it.
         ensures ended { IsTurn T.Tape result self.new }
     {
-        self.wait(rt);
-        let mut ready = [0usize; MOST_EVENTS];
-        let count = self.ready(&mut ready);
+        let mut ready = [0usize; MOST_READY];
+        let count = self.wait(rt, &mut ready);
         self.time = now(rt).max(self.time);
-        self.is_busy = self.act(rt, log, ready.split_at(count.min(MOST_EVENTS)).0);
+        self.is_busy = self.act(rt, log, ready.split_at(count.min(MOST_READY)).0);
         self.always_lived();
         match self.asker.end() {
             Some(why) => Turn::Ended(why),
@@ -153,8 +154,9 @@ impl<T: Tape + Drop> ReplicaHub<T> {
         }
     }
 
-    /// Waits until a socket is ready or something is due; not at all if there is more to do.
-    fn wait<R: Clock>(&mut self, rt: &R)
+    /// Waits until a socket is ready or something is due; not at all if there is more to do. Returns the number of sockets that are ready,
+    /// whose tokens are at the front of the buffer.
+    fn wait<R: Clock>(&mut self, rt: &R, tokens: &mut [usize; MOST_READY]) -> usize
         ensures clients { self.new.clients ≡ self.old.clients }
         ensures asker { self.new.asker ≡ self.old.asker }
     {
@@ -165,24 +167,7 @@ impl<T: Tape + Drop> ReplicaHub<T> {
             let tick = self.ticks.due.saturating_sub(time).min(TICK_MILLIS);
             tick.min(self.asker.left(time))
         };
-        let ReplicaHub {
-            network,
-            events,
-            ..
-        } = self;
-        network.wait(events, millis);
-    }
-
-    /// The tokens of the sockets that are ready, and their number.
-    fn ready(&self, tokens: &mut [usize; MOST_EVENTS]) -> usize {
-        let mut count = 0;
-        for event in self.events.iter() {
-            if count < MOST_EVENTS {
-                tokens[count] = event.token().0;
-                count += 1;
-            }
-        }
-        count
+        self.network.wait(millis, tokens)
     }
 
     /// Does what the sockets that are ready ask for, and what the clock does. Returns whether there is more to do.
@@ -234,7 +219,6 @@ fn assemble<T: Tape + Drop>(
 {
     let ReplicaStart {
         network,
-        events,
         visitors,
         operators,
         readers,
@@ -242,7 +226,6 @@ fn assemble<T: Tape + Drop>(
     let clients = ReplicaClients::new(visitors, follower);
     ReplicaHub {
         network,
-        events,
         operators,
         readers,
         asker,

@@ -10,11 +10,8 @@ use std::alloc::Global;
 use std::net::{Net, SocketAddr};
 use wf_address::AddressOption;
 use wf_readers_port::ReadersPort;
-use wf_sockets::{Events, Network, SystemListener, SystemNetwork};
+use wf_sockets::{Network, NetworkError, SystemListener, SystemNetwork};
 use wf_visitors::Visitors;
-
-/// The most events of a turn.
-pub(crate) const MOST_EVENTS: usize = 256;
 
 /// The most clients at once.
 const CLIENTS: usize = 128;
@@ -29,7 +26,6 @@ const READERS: usize = 64;
 #[derive(Drop)]
 pub(crate) struct ReplicaStart {
     pub(crate) network: SystemNetwork,
-    pub(crate) events: Events,
     pub(crate) visitors: Visitors,
     pub(crate) operators: Visitors,
     pub(crate) readers: ReadersPort,
@@ -80,12 +76,13 @@ fn listen_if<R: Net>(
 }
 
 /// Binds the addresses of a replica.
-fn doors_of<R: Net>(rt: &R, plan: &ReplicaPlan) -> Result<ReplicaDoors, ReplicaFault>
+fn doors_of<R: Net + AllocGlobal>(rt: &R, plan: &ReplicaPlan) -> Result<ReplicaDoors, ReplicaFault>
     ensures { IfErr result (IsFromSystem plan.now) }
 {
     match SystemNetwork::new(rt) {
         Ok(network) => doors_at(rt, plan, network),
-        Err(_) => Err(ReplicaFault::Poll),
+        Err(NetworkError::Poll) => Err(ReplicaFault::Poll),
+        Err(NetworkError::Memory) => Err(ReplicaFault::Memory),
     }
 }
 
@@ -138,13 +135,11 @@ fn begin_at(alloc: Global, doors: ReplicaDoors) -> Result<ReplicaStart, ReplicaF
         admin,
         readers,
     } = doors;
-    let events = Events::with_capacity(alloc, MOST_EVENTS)?;
     let visitors = Visitors::new(alloc, CLIENTS, Some(http), CLIENT)?;
     let operators = Visitors::new(alloc, OPERATORS, admin, ASKER)?;
     let readers = ReadersPort::new(alloc, READERS, readers, READER)?;
     Ok(ReplicaStart {
         network,
-        events,
         visitors,
         operators,
         readers,

@@ -2,8 +2,8 @@
 //!
 //! - A [`Connection`] is read, written and ended; a [`Network`] listens, accepts and connects, and watches connections. What a read
 //!   or a write moved is [`Moved`].
-//! - [`SystemConnection`] and [`SystemNetwork`] are those of the system, over mio. What waits, by [`SystemNetwork::wait`], is told its
-//!   [`Events`].
+//! - [`SystemConnection`] and [`SystemNetwork`] are those of the system, over mio. What waits, by [`SystemNetwork::wait`], is told the
+//!   tokens of the sockets that are ready.
 //! - A [`ConnectionSink`] is a connection to be written to as a sink of `wf_stream`.
 //!
 //! **Model.** A connection is two lists that only proofs read, [`Trail`]s: all bytes that came on it, and all bytes that it took to
@@ -27,9 +27,8 @@ mod system;
 mod trail;
 
 pub use connection::Connection;
-pub use mio::Events;
 pub use moved::Moved;
-pub use network::{Network, NotAccepted};
+pub use network::{Network, NetworkError, NotAccepted};
 pub use sink::ConnectionSink;
 pub use system::{SystemConnection, SystemListener, SystemNetwork};
 pub use trail::Trail;

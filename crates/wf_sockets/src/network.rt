@@ -13,6 +13,15 @@ pub enum NotAccepted {
     Failed,
 }
 
+/// Why there is no network of the system.
+#[derive(Clone, Copy, Debug, PartialEq, Eq)]
+pub enum NetworkError {
+    /// The system gives no poll.
+    Poll,
+    /// An allocation failed.
+    Memory,
+}
+
 /// A network, on which one listens and connects. No call blocks, and none says which sockets are ready: a caller waits for the tokens
 /// under which it listens and watches, and may be told of one too often. What opens a socket is given the runtime, which permits it.
 pub trait Network {

@@ -1,10 +1,10 @@
 //! The network of the system, over mio. That its calls move the bytes that they report is a premise, and this the text to read for it.
-ghost use Rattle.std.specs.Prelude.{◌≡◌, ◌≢◌, []};
+ghost use Rattle.std.specs.Prelude.{◌≡◌, ◌≢◌, ◌≤◌, [], length};
 ghost use Rattle.wf_sockets.specs.Moved.{IsNone};
 
 use crate::connection::Connection;
 use crate::moved::Moved;
-use crate::network::{Network, NotAccepted};
+use crate::network::{Network, NetworkError, NotAccepted};
 use crate::trail::Trail;
 use mio::net::{TcpListener, TcpStream};
 use mio::{Events, Interest, Poll, Registry, Token};
@@ -111,24 +111,45 @@ pub struct SystemListener {
     listener: TcpListener,
 }
 
+/// The most sockets of which one is told at once.
+const MOST_EVENTS: usize = 256;
+
 /// The network of the system, and what waits for its sockets.
 #[derive(Drop)]
 pub struct SystemNetwork {
     poll: Poll,
+    events: Events,
 }
 
 impl SystemNetwork {
-    /// No socket is registered yet. Err: that of the system, which gives no poll.
-    pub fn new<R: Net>(rt: &R) -> io::Result<Self> {
-        Ok(SystemNetwork {
-            poll: Poll::new(rt)?,
-        })
+    /// No socket is registered yet. Err: the system gives no poll, or an allocation fails.
+    pub fn new<R: Net + AllocGlobal>(rt: &R) -> Result<Self, NetworkError> {
+        let Ok(poll) = Poll::new(rt) else {
+            return Err(NetworkError::Poll);
+        };
+        match Events::with_capacity(rt.alloc(), MOST_EVENTS) {
+            Ok(events) => Ok(SystemNetwork { poll, events }),
+            Err(_) => Err(NetworkError::Memory),
+        }
     }
 
-    /// Waits until a socket is ready, for so many milliseconds at most. The events are then those of the sockets that are: none after a
-    /// signal, or where the system can't wait.
-    pub fn wait(&mut self, events: &mut Events, millis: u64) {
-        let _ = self.poll.poll(events, Some(Duration::from_millis(millis)));
+    /// Waits until a socket is ready, for so many milliseconds at most. Puts the tokens of the sockets that are to the front of the
+    /// buffer, and returns how many that are: none after a signal, or where the system can't wait. Those that had no room are told of
+    /// again only by a later event.
+    pub fn wait(&mut self, millis: u64, tokens: &mut [usize]) -> usize
+        ensures { result ≤ length tokens.old }
+    {
+        let _ = self
+            .poll
+            .poll(&mut self.events, Some(Duration::from_millis(millis)));
+        let mut count = 0;
+        for event in self.events.iter() {
+            if count < tokens.len() {
+                tokens[count] = event.token().0;
+                count += 1;
+            }
+        }
+        count
     }
 }
 

@@ -1,0 +1,4 @@
+use Rattle.wf_loop.proofs.service.Hub+T.go_on.Goals as goal
+
+pub returns-clause-outvoted : goal.returns-clause-outvoted
+returns-clause-outvoted g c = λ is. let asks = c.turn.ensures.outvoted is in record { given = asks.given; answered = asks.answered }
