@@ -1,0 +1,10 @@
+pub mod Admission
+pub mod Agreement
+pub mod Answer
+pub mod Joining
+pub mod JoiningText
+pub mod Lines
+pub mod Phase
+pub mod Replacements
+pub mod ReplacementsText
+pub mod Theorems
