@@ -11,7 +11,6 @@ use Rattle.wf_career.specs.Continuation.{left}
 use Rattle.wf_career.specs.Run.{Act, Between, End, Failed, Within, given_to}
 use Rattle.wf_career.specs.Theorems.{outputs_in}
 use Rattle.wf_codec.specs.declared.message.Message.{Message}
-use Rattle.wf_loop.specs.Hub.{process_of}
 use Rattle.wf_tape.specs.declared.tape.Tape.{Ghosts as Tape}
 use Rattle.wf_histories.specs.Advance.{ActAdvances, HasBegun, NothingAdvances, ReadsAfter, RunAdvances, StartAdvances, in_next_run, last_cut, one_act_more, run_in, with_folder}
 use Rattle.wf_histories.specs.Nodes.{AreNodeProcesses, AreOnFolder, HasEndedBefore, NodeProcess, cut_before, cut_step, made_by, steps_on}
@@ -99,8 +98,8 @@ module _ {T : Type 0} (tapes : Tape T) where
 
   begun_steps : (i : ℕ) (p : NodeProcess tapes) → p.over ≡ 0 → p.made ≡ 0 → steps_made i (made_by tapes p) ≡ []
   begun_steps i p first none =
-      let ended = (process_of p.has.on.hub).ended.items in
-      let now = (process_of p.has.on.hub).actor in
+      let ended = p.has.on.voter.process.ended.items in
+      let now = p.has.on.voter.process.actor in
       ap (λ (over : ℕ). steps_made i (made_of tapes ended now p.lives over p.made)) first
       ∙ ap (λ (made : ℕ). steps_made i (made_of tapes ended now p.lives 0 made)) none
       ∙ none_made i ended now p.lives
@@ -185,7 +184,7 @@ module _ {T : Type 0} (tapes : Tape T) where
 
   on_further : (n i : ℕ) (bytes : List ℕ) (earlier : List (NodeProcess tapes)) (p : NodeProcess tapes) (over made : ℕ) → AreOnFolder tapes n i bytes (earlier ++ p ∷ [])
       → AreOnFolder tapes n i bytes (earlier ++ at p over made ∷ [])
-  on_further n i bytes [] p over made are = (record { number = are.0.number; among = are.0.among; on_read = are.0.on_read }, are.1, tt, tt)
+  on_further n i bytes [] p over made are = (record { number = are.0.number; among = are.0.among }, are.1, tt, tt)
   on_further n i bytes (first ∷ earlier) p over made are =
       (are.0, are.1, ended_one_more earlier p (at p over made) first are.2, on_further n i first.left earlier p over made are.3)
 
@@ -209,7 +208,7 @@ module _ {T : Type 0} (tapes : Tape T) where
   pub act_advances : ActAdvances tapes
   act_advances n i before sent folders steps earlier p act origin are less same is carried =
       let step : Step = record { process = i; takes = act.input; origin = origin; outputs = act.outputs } in
-      let grown = made_one_more i (process_of p.has.on.hub).ended.items (process_of p.has.on.hub).actor p.lives p.over p.made act origin is.act_at is.origin_at in
+      let grown = made_one_more i p.has.on.voter.process.ended.items p.has.on.voter.process.actor p.lives p.over p.made act origin is.act_at is.origin_at in
       advances n i before sent folders steps (step ∷ []) (earlier ++ one_act_more tapes p ∷ []) are less
       (on_further n i (left (before i)) earlier p p.over (suc p.made) (subst (λ (ps : List (NodeProcess tapes)). AreOnFolder tapes n i (left (before i)) ps) same (are.on_folders i less)))
       (steps_further i earlier p p.over (suc p.made) (step ∷ []) grown ∙ ap (λ (ps : List (NodeProcess tapes)). steps_on tapes i ps ++ step ∷ []) (sym same)) (refl, tt)
@@ -250,7 +249,7 @@ module _ {T : Type 0} (tapes : Tape T) where
   pub run_advances : RunAdvances tapes
   unfolding AreCarried
   run_advances n i before sent folders steps earlier p are less same is =
-      let grown = made_next_run i (process_of p.has.on.hub).ended.items (process_of p.has.on.hub).actor p.lives p.over p.made is.all is.another ∙ sym (append-nil (steps_made i (made_by tapes p))) in
+      let grown = made_next_run i p.has.on.voter.process.ended.items p.has.on.voter.process.actor p.lives p.over p.made is.all is.another ∙ sym (append-nil (steps_made i (made_by tapes p))) in
       subst (λ (all : List Step). AreNodeProcesses tapes n before sent (with_folder tapes folders i (earlier ++ in_next_run tapes p ∷ [])) all) (append-nil steps)
       (advances n i before sent folders steps [] (earlier ++ in_next_run tapes p ∷ []) are less
       (on_further n i (left (before i)) earlier p (suc p.over) 0 (subst (λ (ps : List (NodeProcess tapes)). AreOnFolder tapes n i (left (before i)) ps) same (are.on_folders i less)))

@@ -7,7 +7,8 @@ use Rattle.wf_career.specs.Career.{AreRuns, Ended, items_at, items_by, items_in,
 use Rattle.wf_career.specs.CrashImages.{ComparisonLeaves}
 use Rattle.wf_career.specs.Run.{Between, End, Failed, IsOpenedFrom, IsRun, Run, Within}
 use Rattle.wf_loop.specs.Continuation.{AreRunsFrom}
-use Rattle.wf_loop.specs.Hub.{process_of}
+use Rattle.wf_node.specs.Node.{stored_of}
+use Rattle.wf_node_command.specs.Folder.{StandsForRead, tape_in}
 use Rattle.wf_tape.specs.declared.tape.Tape.{Ghosts as Tape}
 use Rattle.wf_histories.specs.Nodes.{AreOnFolder, IsProcessOf, NodeProcess, bytes_read, cut_before, cut_step, made_by, steps_on, values_on}
 use Rattle.wf_histories.specs.Runs.{steps_made, steps_over, values_made, values_over}
@@ -30,26 +31,38 @@ module _ {T : Type 0} (tapes : Tape T) (n i : ℕ) where
   -- ---- one process
 
   received : (p : NodeProcess tapes) → IsReceived (made_by tapes p)
-  received p = received_of tapes (process_of p.has.on.hub).ended.items (process_of p.has.on.hub).actor p.lives p.over p.made
+  received p = received_of tapes p.has.on.voter.process.ended.items p.has.on.voter.process.actor p.lives p.over p.made
+
+  -- what was read of the tape last, before the node was served, is what was compared
+  last_read : (p : NodeProcess tapes) → tape_in p.has.begun ≡ Some (bytes_read tapes p)
+  last_read p =
+      let counted = p.has.is_start.is_counted in
+      ap tape_in counted.is_counted.calls ∙ (ap tape_in counted.is_on_tape.calls ∙ ap tape_in counted.is_on_tape.is_compared.calls)
 
   opened_as : (p : NodeProcess tapes) → IsProcessOf tapes n i p → IsOpenedFrom n i (bytes_read tapes p) p.has.started.actor.node
   opened_as p is =
-      let opened = p.has.is_started.1.opened in
-      record { id = opened.number ∙ is.number; among = opened.among ∙ is.among; runs = opened.runs; stored = is.on_read; idle = opened.idle }
+      let opened = p.has.is_started.opened in
+      record {
+        id = opened.number ∙ is.number;
+        among = opened.among ∙ is.among;
+        runs = opened.runs;
+        stored = subst (λ (had : Option (List ℕ)). StandsForRead (stored_of p.has.started.actor.node) had) (last_read p) p.has.on_read;
+        idle = opened.idle;
+      }
 
   -- its runs follow one another from its start on
-  all_runs : (p : NodeProcess tapes) → AreRunsFrom tapes p.has.started.actor (process_of p.has.on.hub).ended.items (process_of p.has.on.hub).actor
+  all_runs : (p : NodeProcess tapes) → AreRunsFrom tapes p.has.started.actor p.has.on.voter.process.ended.items p.has.on.voter.process.actor
   all_runs p =
       let earlier = p.has.on.earlier in
-      let none = p.has.is_started.1.first in
-      subst (λ (ended : List (Actor T tapes × ℕ)). AreRunsFrom tapes p.has.started.actor ended (process_of p.has.on.hub).actor)
+      let none = p.has.is_started.first in
+      subst (λ (ended : List (Actor T tapes × ℕ)). AreRunsFrom tapes p.has.started.actor ended p.has.on.voter.process.actor)
       (sym (earlier.ended ∙ ap (λ (runs : List (Actor T tapes × ℕ)). runs ++ earlier.since) none)) earlier.runs
 
   with_later : ComparisonLeaves tapes → (p : NodeProcess tapes) → IsProcessOf tapes n i p → (later : List (Ended T)) (now : Option (Run T))
       → ((from : List ℕ) → IsRun tapes n i from (made_by tapes p).last.run → AreRuns tapes n i from later now) → IsCareerWith tapes n i (bytes_read tapes p) (made_by tapes p) later now
   with_later compares p is later now next =
-      career_with tapes n i compares (bytes_read tapes p) p.has.started.actor (process_of p.has.on.hub).ended.items (process_of p.has.on.hub).actor (opened_as p is)
-      p.has.is_started.1.begun.began (all_runs p) p.lives p.over p.made later now next
+      career_with tapes n i compares (bytes_read tapes p) p.has.started.actor p.has.on.voter.process.ended.items p.has.on.voter.process.actor (opened_as p is)
+      p.has.is_started.begun.began (all_runs p) p.lives p.over p.made later now next
 
   -- ---- all of them
 

@@ -9,7 +9,6 @@ use Rattle.wf_career.specs.Continuation.{left, unstarted}
 use Rattle.wf_career.specs.Run.{Act, HasLeft, given_to}
 use Rattle.wf_career.specs.Theorems.{outputs_in}
 use Rattle.wf_codec.specs.declared.message.Message.{Message}
-use Rattle.wf_loop.specs.Hub.{process_of}
 use Rattle.wf_tape.specs.declared.tape.Tape.{Ghosts as Tape}
 use Rattle.wf_histories.specs.Nodes.{AreNodeProcesses, IsProcessOf, NodeProcess, StandsAsBefore, bytes_read, cut_step, made_by}
 use Rattle.wf_histories.specs.Runs.{LivesOf, TracedRun, traced_by}
@@ -59,7 +58,7 @@ module _ {T : Type 0} (tapes : Tape T) where
   run_in (run ∷ ended) now lives (suc over) = run_in ended now lives.1 over
 
   abbrev pub run_of : NodeProcess tapes → TracedRun T
-  run_of p = run_in (process_of p.has.on.hub).ended.items (process_of p.has.on.hub).actor p.lives p.over
+  run_of p = run_in p.has.on.voter.process.ended.items p.has.on.voter.process.actor p.lives p.over
 
   abbrev pub one_act_more : NodeProcess tapes → NodeProcess tapes
   one_act_more p = record { line = p.line; old = p.old; new = p.new; has = p.has; lives = p.lives; over = p.over; made = suc p.made; end = p.end; left = p.left }
@@ -82,7 +81,7 @@ module _ {T : Type 0} (tapes : Tape T) where
   -- All acts of its run were made, and another one came after it.
   pub record HasNextRun (p : NodeProcess tapes) : Type 0 where
     pub all : p.made ≡ length (run_of p).run.acts
-    pub another : p.over < length (process_of p.has.on.hub).ended.items
+    pub another : p.over < length p.has.on.voter.process.ended.items
 
   abbrev pub RunAdvances : Type 0
   RunAdvances = (n i : ℕ) (before : ℕ → Career T) (sent : List Message) (folders : ℕ → List (NodeProcess tapes)) (steps : List Step) (earlier : List (NodeProcess tapes)) (p : NodeProcess tapes) →

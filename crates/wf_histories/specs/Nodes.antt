@@ -8,10 +8,9 @@ use Rattle.wf_career.specs.Run.{End, Between, Within, Failed, HasLeft}
 use Rattle.wf_codec.specs.declared.message.Message.{Message}
 use Rattle.wf_def.specs.Definition.{Definition}
 use Rattle.wf_line.specs.declared.node_line.NodeLine.{NodeLine}
-use Rattle.wf_loop.specs.Hub.{process_of}
 use Rattle.wf_model.specs.DurableState.{DurableState}
 use Rattle.wf_node.specs.Images.{StandsFor}
-use Rattle.wf_node.specs.Node.{Node, stored_of}
+use Rattle.wf_node.specs.Node.{Node}
 use Rattle.wf_node_command.specs.Done.{HasServed}
 use Rattle.wf_store.specs.Call.{Call}
 use Rattle.wf_tape.specs.declared.tape.Tape.{Ghosts as Tape}
@@ -37,25 +36,23 @@ module _ {T : Type 0} (tapes : Tape T) where
     pub old : List Call
     pub new : List Call
     pub has : HasServed tapes line old new
-    pub lives : LivesOf tapes (process_of has.on.hub).ended.items (process_of has.on.hub).actor
+    pub lives : LivesOf tapes has.on.voter.process.ended.items has.on.voter.process.actor
     pub over : ℕ
     pub made : ℕ
     pub end : End
     pub left : List ℕ
 
   abbrev pub made_by : NodeProcess → Made T
-  made_by p = made_of tapes (process_of p.has.on.hub).ended.items (process_of p.has.on.hub).actor p.lives p.over p.made
+  made_by p = made_of tapes p.has.on.voter.process.ended.items p.has.on.voter.process.actor p.lives p.over p.made
 
   -- the bytes that it read of its tape, before it opened that: the folder's calls have them
   abbrev pub bytes_read : NodeProcess → List ℕ
   bytes_read p = p.has.is_start.is_counted.is_on_tape.is_compared.content
 
-  -- It is node i of n, as the file `farm` of its folder said, and its node was opened on the bytes that it had read: it had stored what
-  -- they stand for.
+  -- It is node i of n, as the file `farm` of its folder said.
   pub record IsProcessOf (n i : ℕ) (p : NodeProcess) : Type 0 where
     pub number : p.has.file.node ≡ i
     pub among : p.has.file.nodes ≡ n
-    pub on_read : StandsFor (stored_of p.has.started.actor.node) (bytes_read p)
 
   -- ---- on one folder
 

@@ -13,10 +13,10 @@
 //! - What replicas learn of such a farm is a beginning of that history, and they answer alike ([`replicas_are_of_the_farm`]).
 //!
 //! **Premises** (`AreNodeProcesses`). Of bytes: a process read of its tape what the one before it left, or what starts that didn't come to
-//! serve made of that; the first of a node, what an empty tape stands for, or what an earlier farm left that has ended (`wfarm init --from`);
-//! and its node was opened on the bytes that had been read. Of connections: there is an order of time in which what a node heard of a peer
-//! had been returned before. What a process leaves is said as `wf_career` says it, which a durable tape gives. All of it can be met, one thing
-//! after the other ([`node_processes_go_on`], `specs/Advance.antt`).
+//! serve made of that; the first of a node, what an empty tape stands for, or what an earlier farm left that has ended (`wfarm init --from`).
+//! Of connections: there is an order of time in which what a node heard of a peer had been returned before. What a process leaves is said
+//! as `wf_career` says it, which a durable tape gives. All of it can be met, one thing after the other ([`node_processes_go_on`],
+//! `specs/Advance.antt`).
 //!
 //! **Doesn't.** It opens no file and no socket, and no process of the program depends on it.
 #![tactic(auto)]

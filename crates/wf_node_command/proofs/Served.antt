@@ -16,14 +16,17 @@ use Rattle.wf_node_command.specs.Done.{HasLivedOn, IsNodeDone, IsServed}
 use Rattle.wf_node_command.specs.Fault.{IsFromSystem}
 use Rattle.wf_node_command.specs.Folder.{IsHeardIn, StaysFrom, heard_in}
 use Rattle.wf_node_command.specs.Ready.{IsFresh, IsReady}
-use Rattle.wf_node_command.specs.Start.{IsNodeCause, IsUnserved}
+use Rattle.wf_node_command.specs.Running.{IsRunning}
+use Rattle.wf_node_command.specs.Start.{IsNodeCause, IsNodeFault, IsUnserved}
 use Rattle.wf_node_command.specs.declared.fault.CommandFault.{CommandFault}
 use Rattle.wf_node_command.specs.declared.fault.CommandFault.TheVariants as faults
 use Rattle.wf_node_command.specs.declared.ready.ReadyNode.{ReadyNode}
 use Rattle.wf_peer.specs.Told.{IsHeardOf, IsHeardText}
 use Rattle.wf_peer.specs.declared.heard.Heard.{Heard as HeardOfNode}
+use Rattle.wf_sockets.specs.declared.connection.Connection.{Ghosts as Connection}
 use Rattle.wf_store.specs.Call.{Call, locked}
 use Rattle.wf_tape.specs.declared.tape.Tape.{Ghosts as Tape}
+use Rattle.wf_visitors.specs.Visitors.{responses_of}
 
 system_cause : (line : NodeLine) (old new : List Call) (fault : CommandFault) → IsFromSystem fault → IsNodeCause line old new fault
 system_cause line old new (faults.BadPeer index) is = absurd is
@@ -41,7 +44,7 @@ module _ {T : Type 0} (tapes : Tape T) where
   kept_same before after same = λ past earlier. subst (λ (p : Process T tapes). IsEarlier tapes past p) (sym same) earlier
 
   -- it was time to open the tape of a halted node again
-  pub kept_due : (hub : Hub T tapes) (after : Process T tapes) (due : Bool) → (IsTrue due ↔ IsReopeningDue hub) → due ≡ true → ((process_of hub).actor.node.halted ≡ true → KeepsEarlier tapes (process_of hub) after)
+  pub kept_due : {N C L : Type 0} {connections : Connection C} (hub : Hub T N C L tapes connections) (after : Process T tapes) (due : Bool) → (IsTrue due ↔ IsReopeningDue hub) → due ≡ true → ((process_of hub).actor.node.halted ≡ true → KeepsEarlier tapes (process_of hub) after)
       → KeepsEarlier tapes (process_of hub) after
   kept_due hub after due decides is keeps = keeps (decides.0 is).0
 
@@ -53,11 +56,20 @@ module _ {T : Type 0} (tapes : Tape T) where
   }
 
   -- the hub's process, at whatever end, is a later moment of the one that it began with
-  pub lived_on : (begun hub : Hub T tapes) (calls : List Call) → HasLived tapes (process_of hub) → HasAnswered tapes hub → KeepsEarlier tapes (process_of begun) (process_of hub)
+  pub lived_on : {N C L : Type 0} {connections : Connection C} (begun hub : Hub T N C L tapes connections) (calls : List Call) → HasLived tapes (process_of hub) → HasAnswered tapes hub → KeepsEarlier tapes (process_of begun) (process_of hub)
       → IsHeardFirst (heard_in calls) hub → HasLivedOn tapes (process_of begun) calls
-  lived_on begun hub calls lived answered keeps heard = record { hub = hub; earlier = keeps (process_of begun) (its_own (process_of begun)); lived = lived; answered = answered; heard = heard }
+  lived_on begun hub calls lived answered keeps heard = record {
+    voter = hub.voter;
+    lived = lived;
+    befores = hub.clients.before.items;
+    clients = responses_of hub.clients.visitors;
+    afters = hub.clients.after.items;
+    answered = answered;
+    earlier = keeps (process_of begun) (its_own (process_of begun));
+    heard = heard;
+  }
 
-  pub served_on : (process : Process T tapes) (hub : Hub T tapes) (old new : List Call) → process_of hub ≡ process → HasLivedOn tapes (process_of hub) new → ∥ StaysFrom old new ∥₁
+  pub served_on : {N C L : Type 0} {connections : Connection C} (process : Process T tapes) (hub : Hub T N C L tapes connections) (old new : List Call) → process_of hub ≡ process → HasLivedOn tapes (process_of hub) new → ∥ StaysFrom old new ∥₁
       → IsServed tapes process old new (Ok tt)
   served_on process hub old new same lived stays = (subst (λ (p : Process T tapes). HasLivedOn tapes p new) same lived, stays)
 
@@ -76,7 +88,7 @@ module _ {T : Type 0} (tapes : Tape T) where
   no_runs : (known : List (Option HeardOfNode)) (runs : List (Actor T tapes × ℕ)) → runs ≡ [] → AreRunsHeardFrom tapes known runs
   no_runs known runs none = subst (λ (xs : List (Actor T tapes × ℕ)). AreRunsHeardFrom tapes known xs) (sym none) (none_ended_yet known)
 
-  pub heard_at_first : (ready : ReadyNode T tapes) (hub : Hub T tapes) (calls : List Call) → IsFresh tapes ready calls → process_of hub ≡ ready.process → kept_of hub ≡ ready.heard
+  heard_at_first : {N C L : Type 0} {connections : Connection C} (ready : ReadyNode T tapes) (hub : Hub T N C L tapes connections) (calls : List Call) → IsFresh tapes ready calls → process_of hub ≡ ready.process → kept_of hub ≡ ready.heard
       → IsHeardFirst (heard_in calls) hub
   heard_at_first ready hub calls fresh same kept = record {
     known = ready.heard;
@@ -86,6 +98,13 @@ module _ {T : Type 0} (tapes : Tape T) where
     ended = no_runs (kept_of hub) (process_of hub).ended.items (ap (λ (p : Process T tapes). p.ended.items) same ∙ fresh.first);
   }
 
+  -- so it is of the hub as it is held, and of the calls as the held folder has them
+  pub heard_at_start : {N C L : Type 0} {connections : Connection C} (ready : ReadyNode T tapes) (hub held : Hub T N C L tapes connections) (calls held_calls : List Call) → IsFresh tapes ready calls → process_of hub ≡ ready.process
+      → kept_of hub ≡ ready.heard → held ≡ hub → held_calls ≡ calls → IsHeardFirst (heard_in held_calls) held
+  heard_at_start {N} {C} {L} {connections} ready hub held calls held_calls fresh same kept is are =
+      subst (λ (h : Hub T N C L tapes connections). IsHeardFirst (heard_in held_calls) h) (sym is)
+      (subst (λ (cs : List Call). IsHeardFirst (heard_in cs) hub) (sym are) (heard_at_first ready hub calls fresh same kept))
+
   heard_text : (bytes : Option (List ℕ)) (known : List (Option HeardOfNode)) → IsHeardIn bytes known → IsHeardText bytes known
   heard_text None known is = is
   heard_text (Some bytes) known is = is.2
@@ -94,13 +113,35 @@ module _ {T : Type 0} (tapes : Tape T) where
   fresh_by line ready old mid is =
       let counted = is.is_ready.is_counted.is_counted in
       record {
-        begun = is.is_ready.is_started.1.begun;
-        first = is.is_ready.is_started.1.first;
+        begun = is.is_ready.is_started.begun;
+        first = is.is_ready.is_started.first;
         heard = subst (λ (bytes : Option (List ℕ)). IsHeardText bytes ready.heard) (sym (ap heard_in counted.calls)) (heard_text counted.bytes ready.heard counted.is_heard);
       }
 
   pub not_served : (process : Process T tapes) (calls : List Call) (why : LoopFault) → IsServed tapes process calls calls (Err (faults.Loop why))
   not_served process calls why = (tt, refl)
+
+  -- a node that is ready runs
+  pub running_by : (line : NodeLine) (ready : ReadyNode T tapes) (process : Process T tapes) (old mid new : List Call) → IsReady tapes line ready (locked ∷ old) mid → process ≡ ready.process → new ≡ mid
+      → IsRunning tapes line process old new
+  running_by line ready process old mid new is same stays = record {
+    ready = ready;
+    is_ready = subst (λ (calls : List Call). IsReady tapes line ready (locked ∷ old) calls) (sym stays) is;
+    same = same;
+  }
+
+  -- or it doesn't, and only its start was counted
+  pub not_started : (line : NodeLine) (ready : ReadyNode T tapes) (old mid new : List Call) (fault : CommandFault) → IsReady tapes line ready (locked ∷ old) mid → IsFromSystem fault → new ≡ mid
+      → IsNodeFault line old new fault
+  not_started line ready old mid new fault is system same = record {
+    cause = system_cause line old new fault system;
+    left = inr (inr (subst (λ (calls : List Call). IsUnserved line (locked ∷ old) calls) (sym same) (record {
+      file = is.file;
+      written = ready.file;
+      heard = ready.heard;
+      is_start = record { admitted = is.admitted; is_admitted = is.is_admitted; is_counted = is.is_ready.is_counted };
+    })));
+  }
 
   -- a node that is ready was served, or not
   pub served_by : (line : NodeLine) (ready : ReadyNode T tapes) (old mid new : List Call) (result : Result (Unit {0}) CommandFault) → IsReady tapes line ready (locked ∷ old) mid
@@ -113,16 +154,9 @@ module _ {T : Type 0} (tapes : Tape T) where
     is_start = record { admitted = is.admitted; is_admitted = is.is_admitted; is_counted = is.is_ready.is_counted };
     started = ready.process;
     is_started = is.is_ready.is_started;
+    on_read = is.is_ready.on_read;
     is_raised = is.is_ready.is_raised;
     on = served.0;
     stays = served.1;
   }
-  served_by line ready old mid new (Err fault) is served = record {
-    cause = system_cause line old new fault served.0;
-    left = inr (inr (subst (λ (calls : List Call). IsUnserved line (locked ∷ old) calls) (sym served.1) (record {
-      file = is.file;
-      written = ready.file;
-      heard = ready.heard;
-      is_start = record { admitted = is.admitted; is_admitted = is.is_admitted; is_counted = is.is_ready.is_counted };
-    })));
-  }
+  served_by line ready old mid new (Err fault) is served = not_started line ready old mid new fault is served.0 served.1

@@ -1,5 +1,5 @@
 -- The calls of a start, one after the other.
-use Rattle.std.proofs.Common.{◌≡◌, ◌⊎◌, ◌∙◌, List, ◌∷◌, ap, inl, inr, subst, sym}
+use Rattle.std.proofs.Common.{◌≡◌, ◌⊎◌, ◌∙◌, ℕ, List, ◌∷◌, ap, inl, inr, subst, sym}
 use Rattle.std.specs.Prelude.{Option, Result, Ok, Err, IfErr, IfOk, OnErr}
 use Rattle.wf_actor.specs.declared.process.Process.{Process}
 use Rattle.wf_def.specs.Definition.{Definition}
@@ -10,7 +10,7 @@ use Rattle.wf_line.specs.declared.node_line.NodeLine.{NodeLine}
 use Rattle.wf_model.specs.DurableState.{DurableState}
 use Rattle.wf_node.specs.Node.{stored_of}
 use Rattle.wf_node_command.specs.Fault.{IsFromSystem, IsWhyUnheard}
-use Rattle.wf_node_command.specs.Folder.{IsHeardFound}
+use Rattle.wf_node_command.specs.Folder.{IsHeardFound, StandsForRead, tape_in}
 use Rattle.wf_node_command.specs.Held.{IsKnownOf, IsRaisedTo}
 use Rattle.wf_node_command.specs.Ready.{IsReady, IsReadyAs}
 use Rattle.wf_node_command.specs.Start.{
@@ -29,7 +29,7 @@ use Rattle.wf_node_command.specs.Start.{
   IsUncounted,
   IsUnopened,
   IsWhyNotAdmitted,
-  IsWhyUnopened,
+  IsWhyNotCompared,
   IsWordsFault,
 }
 use Rattle.wf_node_command.specs.declared.fault.CommandFault.{CommandFault}
@@ -65,7 +65,7 @@ raised_by stored file written known is value = record { known = known; is_known 
 
 -- ---- a start that was admitted
 
-pub stop_unopened : (file : NodeFile) (old new : List Call) (fault : CommandFault) → IsWhyUnopened file old new fault → IsStopFault file old new fault
+pub stop_unopened : (file : NodeFile) (old new : List Call) (fault : CommandFault) → IsWhyNotCompared file old new fault → IsStopFault file old new fault
 stop_unopened file old new (faults.Rejected why) is = is
 stop_unopened file old new (faults.PeerProgress why) is = absurd is
 stop_unopened file old new fault is = is
@@ -90,10 +90,11 @@ unplanned file old on_tape new is reads = inr (record { on_tape = on_tape; is_on
 
 module _ {T : Type 0} (tapes : Tape T) (file : NodeFile) (old on_tape planned new : List Call) (result : Result (ReadyNode T tapes) CommandFault) where
   -- one was, and then the start was counted
-  pub counted_on : (process : Process T tapes) → IsStarted tapes file process → IsTapeOpened file old on_tape → IsDrawn on_tape planned → IfOk result (λ ready. ready.process ≡ process)
+  pub counted_on : (process : Process T tapes) → IsStarted tapes file process → StandsForRead (stored_of process.actor.node) (tape_in on_tape) → IsTapeOpened file old on_tape → IsDrawn on_tape planned
+      → IfOk result (λ ready. ready.process ≡ process)
       → IfOk result (λ ready. IsCounted ready.heard ready.file planned new) → IfOk result (λ ready. IsRaisedTo (stored_of process.actor.node) file ready.file)
       → IfOk result (λ ready. IsReadyAs tapes file ready old new)
-  counted_on process started is draws same counted raised = by_result result same counted raised
+  counted_on process started stands is draws same counted raised = by_result result same counted raised
     where
       by_result : (r : Result (ReadyNode T tapes) CommandFault) → IfOk r (λ ready. ready.process ≡ process) → IfOk r (λ ready. IsCounted ready.heard ready.file planned new)
           → IfOk r (λ ready. IsRaisedTo (stored_of process.actor.node) file ready.file) → IfOk r (λ ready. IsReadyAs tapes file ready old new)
@@ -104,6 +105,9 @@ module _ {T : Type 0} (tapes : Tape T) (file : NodeFile) (old on_tape planned ne
           life = draws.0;
           is_counted = subst (λ (calls : List Call). IsCounted ready.heard ready.file calls new) draws.1 now;
         };
+        on_read =
+            subst (λ (p : Process T tapes). StandsForRead (stored_of p.actor.node) (tape_in new)) (sym one)
+            (subst (λ (had : Option (List ℕ)). StandsForRead (stored_of process.actor.node) had) (sym (ap tape_in now.calls ∙ ap tape_in draws.1)) stands);
         is_started = subst (λ (p : Process T tapes). IsStarted tapes file p) (sym one) started;
         is_raised = subst (λ (p : Process T tapes). IsRaisedTo (stored_of p.actor.node) file ready.file) (sym one) raise;
       }

@@ -1,18 +1,19 @@
 -- What a command did.
 use Rattle.std.specs.Prelude.{◌≡◌, ◌∷◌, ℕ, List, Option, Result, Ok, Err}
 use Rattle.wf_actor.specs.declared.process.Process.{Process}
+use Rattle.wf_client.specs.Client.{Client}
 use Rattle.wf_folder.specs.declared.node_file.NodeFile.{NodeFile}
 use Rattle.wf_line.specs.declared.node_line.NodeCommand.{NodeCommand}
 use Rattle.wf_line.specs.declared.node_line.NodeCommand.TheVariants as commands
 use Rattle.wf_line.specs.declared.node_line.NodeLine.{NodeLine}
-use Rattle.wf_loop.specs.Continuation.{IsEarlier}
-use Rattle.wf_loop.specs.Hub.{HasAnswered, IsHeardFirst, process_of}
+use Rattle.wf_loop.specs.Answer.{AreAnswered}
+use Rattle.wf_loop.specs.Continuation.{IsEarlier, IsHeardKept}
 use Rattle.wf_loop.specs.Lived.{HasLived}
-use Rattle.wf_loop.specs.declared.hub.Hub.{Hub}
+use Rattle.wf_loop.specs.declared.hub.Voter.{Voter}
 use Rattle.wf_node.specs.Node.{stored_of}
 use Rattle.wf_node_command.specs.Cleared.{IsClearDone}
 use Rattle.wf_node_command.specs.Fault.{IsFromSystem, fault_status}
-use Rattle.wf_node_command.specs.Folder.{StaysFrom, heard_in}
+use Rattle.wf_node_command.specs.Folder.{StandsForRead, StaysFrom, heard_in, tape_in}
 use Rattle.wf_node_command.specs.Held.{IsRaisedTo}
 use Rattle.wf_node_command.specs.Made.{IsInitDone}
 use Rattle.wf_node_command.specs.Start.{IsNodeFault, IsStartOn, IsStarted}
@@ -24,15 +25,18 @@ use Rattle.wf_tape.specs.declared.tape.Tape.{Ghosts as Tape}
 -- ---- node
 
 module _ {T : Type 0} (tapes : Tape T) where
-  -- The process has gone on in a hub, whose process it is at an earlier moment, and which has lived; each client was sent the response to
-  -- exactly what had come of its request, by a process that had lived so; and what any message of a peer that it was given tells of the
-  -- peer's round and promise is in the file `heard`.
+  -- The process has gone on in a hub, whose voter it is of at a later moment, and has lived; each client was sent the response to exactly
+  -- what had come of its request, by a process that had lived so, as it was before; and what any message of a peer that it was given tells
+  -- of the peer's round and promise is in the file `heard`.
   pub record HasLivedOn (started : Process T tapes) (calls : List Call) : Type 0 where
-    pub hub : Hub T tapes
-    pub lived : HasLived tapes (process_of hub)
-    pub answered : HasAnswered tapes hub
-    pub earlier : IsEarlier tapes started (process_of hub)
-    pub heard : IsHeardFirst (heard_in calls) hub
+    pub voter : Voter T tapes
+    pub lived : HasLived tapes voter.process
+    pub befores : List (Voter T tapes × ℕ)
+    pub clients : List (Client × ℕ)
+    pub afters : List (Voter T tapes × ℕ)
+    pub answered : ∥ AreAnswered tapes befores clients afters ∥₁
+    pub earlier : IsEarlier tapes started voter.process
+    pub heard : IsHeardKept (heard_in calls) voter
 
   -- how the turns of a process ended, if they began: its tape was left to it
   abbrev pub IsServed : Process T tapes → List Call → List Call → Result (Unit {0}) CommandFault → Type 0
@@ -49,6 +53,7 @@ module _ {T : Type 0} (tapes : Tape T) where
     pub is_start : IsStartOn line file written heard (locked ∷ old) begun
     pub started : Process T tapes
     pub is_started : IsStarted tapes file started
+    pub on_read : StandsForRead (stored_of started.actor.node) (tape_in begun)
     pub is_raised : IsRaisedTo (stored_of started.actor.node) file written
     pub on : HasLivedOn started new
     pub stays : ∥ StaysFrom begun new ∥₁

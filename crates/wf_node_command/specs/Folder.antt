@@ -1,9 +1,12 @@
 -- The files of a node's folder: what they say, and which of them a process leaves alone.
 use Rattle.std.specs.Prelude.{◌≡◌, ◌⊎◌, ℕ, ⊤, Bool, true, false, List, [], ◌∷◌, ◌++◌, Option, Some, None, Result, Ok, Err, length, replicate, if◌then◌else◌}
+use Rattle.wf_def.specs.Definition.{Definition}
 use Rattle.wf_folder.specs.NodeFile.{IsNodeFile, IsTextOf}
 use Rattle.wf_folder.specs.declared.node_admission.NodeFound.{NodeFound}
 use Rattle.wf_folder.specs.declared.node_admission.NodeFound.TheVariants as finds
 use Rattle.wf_folder.specs.declared.node_file.NodeFile.{NodeFile}
+use Rattle.wf_model.specs.DurableState.{DurableState}
+use Rattle.wf_node.specs.Images.{StandsFor}
 use Rattle.wf_peer.specs.PeerProgressText as peers
 use Rattle.wf_peer.specs.declared.heard.Heard.{Heard as HeardOfNode}
 use Rattle.wf_store.specs.Call.{Call, IsAfter, changes, read}
@@ -56,6 +59,26 @@ pub record IsHeardBad (new : List Call) : Type 0 where
   pub earlier : List Call
   pub calls : new ≡ read Heard (Some bytes) ∷ earlier
   pub none : (known : List (Option HeardOfNode)) → length known ≡ 64 → peers.ArePeerProgress known → ¬ peers.IsTextOf bytes known
+
+-- ---- what the tape had
+
+-- what was read of a node's tape last
+abbrev pub tape_of_file : FileName → (bytes earlier : Option (List ℕ)) → Option (List ℕ)
+tape_of_file (NodeTape node) bytes earlier = bytes
+tape_of_file file bytes earlier = earlier
+
+abbrev pub tape_by : Deed → (bytes earlier : Option (List ℕ)) → Option (List ℕ)
+tape_by (deeds.Reads file) bytes earlier = tape_of_file file bytes earlier
+tape_by deed bytes earlier = earlier
+
+abbrev pub tape_in : List Call → Option (List ℕ)
+tape_in [] = None
+tape_in (call ∷ earlier) = tape_by call.deed call.bytes (tape_in earlier)
+
+-- bytes were read, and stand for this
+abbrev pub StandsForRead : DurableState Definition → Option (List ℕ) → Type 0
+StandsForRead stored None = ⊥
+StandsForRead stored (Some bytes) = StandsFor stored bytes
 
 -- ---- what the file `heard` has
 

@@ -1,5 +1,5 @@
 -- How far a stored state goes, and whether it holds what is known of its node.
-use Rattle.std.specs.Prelude.{◌≡◌, ℕ, List, length, nat_le, if◌then◌else◌, Option, Some, None}
+use Rattle.std.specs.Prelude.{◌≡◌, ℕ, false, List, length, nat_le, if◌then◌else◌, Option, Some, None}
 use Rattle.wf_def.specs.Definition.{Definition}
 use Rattle.wf_digest.specs.Digest.{digest_at}
 use Rattle.wf_folder.specs.NodeAdmission.{IsTapeAdmitted, IsTapeRejection}
@@ -11,7 +11,9 @@ use Rattle.wf_folder.specs.declared.reach.Reach.{Reach}
 use Rattle.wf_journal.specs.Journal.{ReadsSame}
 use Rattle.wf_loop.specs.Reach.{IsHighestVote}
 use Rattle.wf_model.specs.DurableState.{DurableState}
+use Rattle.wf_model.specs.VolatileState.{at_start}
 use Rattle.wf_node.specs.Images.{StandsFor}
+use Rattle.wf_node.specs.Node.{Node, stored_of, volatile_of}
 use Rattle.wf_node_command.specs.Fault.{IsFromSystem}
 use Rattle.wf_node_command.specs.declared.fault.CommandFault.{CommandFault}
 use Rattle.wf_node_command.specs.declared.fault.CommandFault.TheVariants as faults
@@ -62,10 +64,12 @@ abbrev pub IsWhyNotHeldBy : NodeFile → List ℕ → CommandFault → Type 0
 IsWhyNotHeldBy file content (faults.Rejected why) = HasGoneBack file content why
 IsWhyNotHeldBy file content fault = IsFromSystem fault
 
--- why the node of a file isn't opened on a tape: some bytes that were read of it hold less, or the system failed
-abbrev pub IsWhyNotOpened : NodeFile → CommandFault → Type 0
-IsWhyNotOpened file (faults.Rejected why) = (content : List ℕ) × HasGoneBack file content why
-IsWhyNotOpened file fault = IsFromSystem fault
+-- The node of this file, of as many nodes as the file says, was just opened: it runs, with no proposal and no leadership.
+pub record IsOpenedFor {T : Type 0} (file : NodeFile) (node : Node T) : Type 0 where
+  pub number : node.id ≡ file.node
+  pub among : node.n ≡ file.nodes
+  pub runs : node.halted ≡ false
+  pub idle : volatile_of node ≡ at_start
 
 -- ---- a tape that is written anew
 
@@ -86,3 +90,9 @@ pub record IsRaisedTo (stored : DurableState Definition) (file written : NodeFil
   pub known : Known
   pub is_known : IsKnownOf stored known
   pub value : written ≡ record file { known = raised_known file.known known.reach known.digest }
+
+-- The node of this file was opened, holds all that is known of it, and goes so far.
+pub record IsExamined {T : Type 0} (file : NodeFile) (node : Node T) (known : Known) : Type 0 where
+  pub opened : IsOpenedFor file node
+  pub holds : HoldsAll file.known (stored_of node)
+  pub is_known : IsKnownOf (stored_of node) known

@@ -7,4 +7,5 @@ pub mod From
 pub mod Held
 pub mod Made
 pub mod Ready
+pub mod Running
 pub mod Start

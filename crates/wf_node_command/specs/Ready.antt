@@ -4,7 +4,7 @@ use Rattle.wf_actor.specs.Process.{IsBegun}
 use Rattle.wf_folder.specs.declared.node_file.NodeFile.{NodeFile}
 use Rattle.wf_line.specs.declared.node_line.NodeLine.{NodeLine}
 use Rattle.wf_node.specs.Node.{stored_of}
-use Rattle.wf_node_command.specs.Folder.{heard_in}
+use Rattle.wf_node_command.specs.Folder.{StandsForRead, heard_in, tape_in}
 use Rattle.wf_node_command.specs.Held.{IsRaisedTo}
 use Rattle.wf_node_command.specs.Start.{IsAdmitted, IsCountedOn, IsStarted}
 use Rattle.wf_node_command.specs.declared.ready.ReadyNode.{ReadyNode}
@@ -13,10 +13,11 @@ use Rattle.wf_store.specs.Call.{Call}
 use Rattle.wf_tape.specs.declared.tape.Tape.{Ghosts as Tape}
 
 module _ {T : Type 0} (tapes : Tape T) where
-  -- It was started as the node of this file, whose folder had admitted that, and its start was counted: the file was written, raised to
-  -- what it had stored.
+  -- It was started as the node of this file, whose folder had admitted that: it had stored what the bytes stand for that had been read of
+  -- its tape. And its start was counted: the file was written, raised to what it had stored.
   pub record IsReadyAs (file : NodeFile) (ready : ReadyNode T tapes) (old new : List Call) : Type 0 where
     pub is_counted : IsCountedOn file ready.file ready.heard old new
+    pub on_read : StandsForRead (stored_of ready.process.actor.node) (tape_in new)
     pub is_started : IsStarted tapes file ready.process
     pub is_raised : IsRaisedTo (stored_of ready.process.actor.node) file ready.file
 

@@ -6,7 +6,6 @@ use Rattle.wf_actor.specs.declared.process.Process.{Process}
 use Rattle.wf_address.specs.Address.{IsFirstBad, IsNoAddress, words_of}
 use Rattle.wf_address.specs.declared.address_option.AddressOption.{AddressOption}
 use Rattle.wf_address.specs.declared.address_option.AddressOption.TheVariants as options
-use Rattle.wf_def.specs.Definition.{Definition}
 use Rattle.wf_folder.specs.NodeAdmission.{IsNodeRejection, IsNodeStart, IsSoundFind}
 use Rattle.wf_folder.specs.NodeFile.{node_text}
 use Rattle.wf_folder.specs.declared.node_admission.NodeFound.{NodeFound}
@@ -15,8 +14,6 @@ use Rattle.wf_folder.specs.declared.node_admission.NodeRejection.{NodeRejection}
 use Rattle.wf_folder.specs.declared.node_file.NodeFile.{NodeFile}
 use Rattle.wf_folder.specs.declared.presence.Presence.{Presence}
 use Rattle.wf_line.specs.declared.node_line.NodeLine.{NodeLine}
-use Rattle.wf_model.specs.DurableState.{DurableState}
-use Rattle.wf_node.specs.Images.{AllStandFor, StandsFor}
 use Rattle.wf_node.specs.Node.{stored_of}
 use Rattle.wf_node_command.specs.Fault.{IsFromSystem}
 use Rattle.wf_node_command.specs.Folder.{IsFoundIn, IsHeardBad, IsHeardIn}
@@ -94,34 +91,15 @@ IsTapeTouched file old new = (compared : List Call) × IsCompared file old compa
 abbrev pub IsUnopened : NodeFile → List Call → List Call → Type 0
 IsUnopened file old new = OnlyReads old new ⊎ IsTapeTouched file old new
 
--- it held less than is known: as it was read, or as it was opened
-abbrev pub HasTapeReturned : NodeFile → NodeRejection → List Call → List Call → Type 0
-HasTapeReturned file why old new = IsReturned file why old new ⊎ ((content : List ℕ) × HasGoneBack file content why × IsTapeOpened file old new)
-
-abbrev pub IsWhyUnopened : NodeFile → List Call → List Call → CommandFault → Type 0
-IsWhyUnopened file old new (faults.Rejected why) = HasTapeReturned file why old new
-IsWhyUnopened file old new fault = IsFromSystem fault
-
--- each image stands for the durable state that the content's records fold to
-abbrev pub StandsAlike : List ℕ → (List ℕ → Type 0) → Type 0
-StandsAlike content images = (stored : DurableState Definition) → StandsFor stored content → AllStandFor stored images
-
 module _ {T : Type 0} (tapes : Tape T) where
-  -- The process was just opened on a tape as the node of this file, of as many nodes as the file says, and is in its first run. Before
-  -- that the tape was put in order: if the one that was found is durable, whatever a crash leaves stands for all that its records say.
-  -- Its node holds all that the file says is known of it.
-  pub record IsStartedOn (found : T) (file : NodeFile) (process : Process T tapes) : Type 0 where
-    pub kept : tapes.durable → StandsAlike (tapes.content found) (tapes.images process.actor.node.tape)
-    pub tape : T
-    pub opened : IsOpened tapes tape file.node file.nodes process.actor.node
+  -- The process is the node of this file, of as many nodes as the file says, and is in its first run: its node was opened, and moved to its
+  -- tape, which has its records since. It holds all that the file says is known of it.
+  pub record IsStarted (file : NodeFile) (process : Process T tapes) : Type 0 where
+    pub opened : IsOpened tapes process.actor.node.tape file.node file.nodes process.actor.node
     pub begun : IsBegun process
     pub first : process.ended.items ≡ []
     pub among : process.n ≡ file.nodes
     pub holds : HoldsAll file.known (stored_of process.actor.node)
-
-  -- some tape was found
-  abbrev pub IsStarted : NodeFile → Process T tapes → Type 0
-  IsStarted file process = (found : T) × IsStartedOn found file process
 
 -- ---- what is drawn and written
 
@@ -195,7 +173,7 @@ pub record HasReturned (line : NodeLine) (why : NodeRejection) (old new : List C
   pub file : NodeFile
   pub admitted : List Call
   pub is_admitted : IsAdmitted line file old admitted
-  pub returned : HasTapeReturned file why admitted new
+  pub returned : IsReturned file why admitted new
 
 -- why a start is rejected: by what was found in the folder, or by the tape
 abbrev pub IsRejected : NodeLine → NodeRejection → List Call → List Call → Type 0
@@ -223,7 +201,7 @@ IsWordsFault line fault = IsFromSystem fault
 
 -- why a start that was admitted isn't counted
 abbrev pub IsStopFault : NodeFile → List Call → List Call → CommandFault → Type 0
-IsStopFault file old new (faults.Rejected why) = HasTapeReturned file why old new
+IsStopFault file old new (faults.Rejected why) = IsReturned file why old new
 IsStopFault file old new (faults.PeerProgress why) = IsHeardBad new
 IsStopFault file old new fault = IsFromSystem fault
 

@@ -1,16 +1,17 @@
 //! The commands of a node in a process of its own: `wfarm init`, which makes its folder, and `wfarm node`, which serves it.
 //!
 //! [`run`] runs a parsed command line on a folder, a [`wf_store::Store`], and returns its error, whose `Display` is the line for standard
-//! error and whose [`CommandFault::status`] is the exit status; the folder is handed back.
+//! error and whose [`CommandFault::status`] is the exit status; the folder is handed back. [`RunningNode`] is a node that `node` has started,
+//! stepped by its caller over any network and at times that it is handed.
 //!
 //! **Promises** (`specs/Done.antt`), of the calls of the folder in their order (`specs/Start.antt`, `specs/Made.antt`, `specs/Cleared.antt`).
 //! - `node` locks the folder first. It begins only where the file `farm` that was read is a node's, of a farm of as many nodes as addresses
 //!   are listed, and its tape is there: never on an empty or an unknown folder. The tape is read, compared with what the file says is known
-//!   of the node, and then opened; the start is counted last, once the file `heard` was read. Its node was opened on a tape as that node of
-//!   that farm. Before, zeros that were never synced are dropped from the tape (`wf_recovery`), and it is shortened; if it is durable,
-//!   whatever a crash leaves stands for all that its records said.
-//! - A start that is rejected has changed no file of the folder, or has opened the tape that it had compared, which then held less. A bad
-//!   file `heard` is an error.
+//!   of the node, and then opened; the start is counted last, once the file `heard` was read. Its node was opened in memory, as that node
+//!   of that farm, on the bytes that were read, without zeros that were never synced (`wf_recovery`): it had stored what they stand for.
+//!   Then it moved to its tape, of which nothing is read: its records replace what that held, in one call. If the tape is durable, whatever
+//!   a crash leaves stands for what the node had stored.
+//! - A start that is rejected by what its tape holds has changed no file of the folder. A bad file `heard` is an error.
 //! - However many turns it was to take, and however it ended after it had begun, its process has lived as `HasLived` of `wf_loop` says,
 //!   from that node on, and each client was sent the response to exactly what had come of its request (`HasAnswered`). Meanwhile no tape
 //!   was made or put in the place of another, and a file was opened or written only where the folder at its path had been seen to be the
@@ -20,10 +21,10 @@
 //! - `clear` locks the folder, forgets what was heard, and then writes the file that it read without its suspension.
 //! - Each error has its cause, and its status: 2 where the command line is bad, else 1.
 //!
-//! **Doesn't.** What the system does with files, sockets and clocks has no model: that its lock holds, that what is read is what was written,
-//! and what comes of a tape between its reading and its opening. The tape of `--from`, and the file beside it, are of another folder, and
-//! are read by their paths. Where a tape failed, a start tries a second copy of it for the system's cause (`node-I.tape.new`, which is
-//! removed).
+//! **Doesn't.** What the system does with files, sockets and clocks has no model: that its lock holds, and that what is read is what was
+//! written. What another program writes to a tape between its reading and its opening is replaced. The tape of `--from`, and the file
+//! beside it, are of another folder, and are read by their paths. Where a tape failed, a start tries a second copy of it for the system's
+//! cause (`node-I.tape.new`, which is removed).
 #![tactic(auto)]
 
 mod addresses;
@@ -38,8 +39,10 @@ mod held;
 mod held_state;
 mod init;
 mod node;
+mod read_node;
 mod ready;
 mod running;
+mod running_node;
 mod serve;
 mod settled;
 mod tape;
@@ -47,4 +50,5 @@ mod tape;
 pub use command::run;
 pub use fault::CommandFault;
 pub use from_rejection::FromRejection;
+pub use running_node::RunningNode;
 pub use wf_address::AddressOption;

@@ -6,9 +6,10 @@ ghost use Rattle.wf_line.specs.NodeLine.{IsNodeInRange};
 ghost use Rattle.wf_node.specs.Node.{stored_of};
 ghost use Rattle.wf_node_command.specs.Done.{IsNodeDone};
 ghost use Rattle.wf_node_command.specs.Fault.{IsFromSystem, IsWhyUnheard};
+ghost use Rattle.wf_node_command.specs.Folder.{StandsForRead, tape_in};
 ghost use Rattle.wf_node_command.specs.Held.{IsKnownOf, IsRaisedTo};
 ghost use Rattle.wf_node_command.specs.Ready.{IsReady, IsReadyAs};
-ghost use Rattle.wf_node_command.specs.Start.{IsAdmitted, IsCounted, IsDrawn, IsHeldCause, IsLeft, IsNodeFault, IsNotCounted, IsStarted, IsStopFault, IsStopped, IsTapeOpened, IsUnopened, IsWhyNotAdmitted, IsWhyUnopened, node_in};
+ghost use Rattle.wf_node_command.specs.Start.{IsAdmitted, IsCounted, IsDrawn, IsHeldCause, IsLeft, IsNodeFault, IsNotCounted, IsStarted, IsStopFault, IsStopped, IsTapeOpened, IsUnopened, IsWhyNotAdmitted, IsWhyNotCompared, node_in};
 ghost use Rattle.wf_store.specs.Call.{OnlyReads, locked};
 
 use crate::addresses::{NodeAddresses, addresses_of};
@@ -50,7 +51,7 @@ pub(crate) fn node<R: Files<File = File> + Clock + Eprint + Net + AllocGlobal, S
 
 /// Starts a node on its folder, which is locked first.
 #[tactic(auto, using(crate::proofs::Starting::bad_words, crate::proofs::Starting::not_locked, crate::proofs::Starting::ready_so, crate::proofs::Starting::not_ready))]
-fn start<R: Files<File = File> + Clock + Eprint + AllocGlobal, S: Store>(
+pub(crate) fn start<R: Files<File = File> + Clock + Eprint + AllocGlobal, S: Store>(
     rt: &R,
     store: &mut S,
     line: &NodeLine<'_>,
@@ -177,9 +178,9 @@ fn start_as<R: Files<File = File> + Clock + Eprint + AllocGlobal, S: Store>(
     }
 }
 
-/// The process of the node of this file on its tape, and how far the node is. The tape is compared with what is known of the node before
-/// anything is written.
-#[tactic(auto, using(crate::proofs::Opening::untouched, crate::proofs::Opening::only_read, crate::proofs::Opening::not_compared, crate::proofs::Opening::not_opened, crate::proofs::Opening::unopened_of_system, crate::proofs::Opening::opened_so, crate::proofs::Opening::opened_alone, crate::proofs::Opening::opened_returned, crate::proofs::Opening::started_on))]
+/// The process of the node of this file on its tape, and how far the node is. The node is opened on what is read of the tape, and compared
+/// with what is known of it, before anything is written; then it moves to the tape.
+#[tactic(auto, using(crate::proofs::Opening::untouched, crate::proofs::Opening::only_read, crate::proofs::Opening::uncompared_of_system, crate::proofs::Opening::not_opened, crate::proofs::Opening::opened_so, crate::proofs::Opening::opened_alone, crate::proofs::Opening::opened_read, crate::proofs::Opening::opened_of_system))]
 fn open_node<R: Files + Clock + Eprint + AllocGlobal, S: Store>(
     rt: &R,
     store: &mut S,
@@ -189,10 +190,13 @@ fn open_node<R: Files + Clock + Eprint + AllocGlobal, S: Store>(
     requires range { IsNodeInRange line.now }
     requires file { IsNodeFile file.now }
     ensures started { IfOk result (λ opened. IsStarted S.Tape.Tape file.now opened.0) }
+    ensures read { IfOk result (λ opened.
+        StandsForRead (stored_of opened.0.actor.node) (tape_in (S.calls store.new))) }
     ensures known { IfOk result (λ opened. IsKnownOf (stored_of opened.0.actor.node) opened.1) }
     ensures calls { OnOk result (IsTapeOpened file.now (S.calls store.old) (S.calls store.new)) }
     ensures left { OnErr result (IsUnopened file.now (S.calls store.old) (S.calls store.new)) }
-    ensures fault { IfErr result (IsWhyUnopened file.now (S.calls store.old) (S.calls store.new)) }
+    ensures fault { IfErr result
+        (IsWhyNotCompared file.now (S.calls store.old) (S.calls store.new)) }
 {
     let log = Log::new(rt, line.log);
     log.write(&NodeStarts {
@@ -203,12 +207,16 @@ fn open_node<R: Files + Clock + Eprint + AllocGlobal, S: Store>(
     let Ok(path) = path_in(rt.alloc(), line.state, tape_file) else {
         return Err(CommandFault::Memory);
     };
-    if let Err(fault) = examine_tape(rt.alloc(), store, file) {
-        return Err(fault);
-    }
+    let copy = match examine_tape(rt.alloc(), store, file) {
+        Ok(copy) => copy,
+        Err(fault) => return Err(fault),
+    };
     match store.open(tape_file) {
-        Ok(tape) => open_process(rt, &log, file, tape, path.as_str(), line.cache),
-        Err(fault) => Err(fault_of_tape(rt, path.as_str(), fault)),
+        Ok(tape) => open_process(rt, &log, file, tape, path.as_str(), copy, line.cache),
+        Err(fault) => {
+            drop(copy);
+            Err(fault_of_tape(rt, path.as_str(), fault))
+        }
     }
 }
 

@@ -5,24 +5,22 @@ ghost use Rattle.wf_loop.specs.Continuation.{KeepsEarlier};
 ghost use Rattle.wf_loop.specs.Hub.{HasAnswered, IsHeardFirst, process_of};
 ghost use Rattle.wf_loop.specs.Lived.{HasLived};
 ghost use Rattle.wf_node_command.specs.Done.{HasLivedOn, IsServed};
-ghost use Rattle.wf_node_command.specs.Folder.{StaysFrom, heard_in};
+ghost use Rattle.wf_node_command.specs.Folder.{StaysFrom, calls_in, heard_in};
 ghost use Rattle.wf_node_command.specs.Ready.{IsFresh};
 
 use crate::fault::CommandFault;
-use crate::held::HeldFolder;
 use crate::ready::ReadyNode;
+use crate::running_node::{RunningNode, log_begun};
 use std::fs::File;
-use std::net::{Net, SocketAddr};
+use std::net::Net;
 use std::rt::Files;
 use std::time::Clock;
-use wf_folder::NodeFile;
 use wf_line::NodeLine;
-use wf_loop::{Hub, Log, NodeEvent, NodeFolder};
+use wf_loop::{Hub, Log};
 use wf_store::Store;
-use wf_tape::Tape;
 
-/// Serves a node that is ready for this many turns, and hands its folder back.
-#[tactic(auto, using(crate::proofs::Served::served_on, crate::proofs::Served::not_served, crate::proofs::Served::heard_at_first))]
+/// Serves a node that is ready for this many turns, over the network of the system, and hands its folder back.
+#[tactic(auto, using(crate::proofs::Served::served_on, crate::proofs::Served::not_served))]
 pub(crate) fn serve<R: Files<File = File> + Clock + Eprint + Net + AllocGlobal, S: Store>(
     rt: &R,
     store: S,
@@ -45,89 +43,54 @@ pub(crate) fn serve<R: Files<File = File> + Clock + Eprint + Net + AllocGlobal, 
     match Hub::new(rt, plan, process, heard) {
         Ok(hub) => {
             log_begun(&log, &hub, &file, listen);
-            (Ok(()), take_turns(rt, &log, store, hub, file, turns))
+            let node = RunningNode::of(rt.alloc(), hub, store, file);
+            (Ok(()), take_turns(rt, &log, node, turns))
         }
         Err(fault) => (Err(CommandFault::Loop(fault)), store),
     }
 }
 
-/// Logs where the node listens, and how far it is.
-fn log_begun<R: Clock + Eprint, T: Tape + Drop>(
-    log: &Log<'_, R>,
-    hub: &Hub<T>,
-    file: &NodeFile,
-    listen: SocketAddr,
-) {
-    if let Some(http) = hub.http() {
-        log.write(&NodeEvent::Listening { http, listen });
-    }
-    log.write(&NodeEvent::Opened {
-        node: file.node as usize,
-        published: hub.process().node().published().number(),
-    });
-}
-
-/// Takes that many turns of a node whose file was written last so, and hands its folder back.
+/// Takes that many turns of a node, and hands its folder back.
 #[tactic(auto, using(crate::proofs::Served::lived_on))]
 fn take_turns<R: Files<File = File> + Clock + Eprint + Net + AllocGlobal, S: Store>(
     rt: &R,
     log: &Log<'_, R>,
-    store: S,
-    hub: Hub<S::Tape>,
-    file: NodeFile,
+    node: RunningNode<S>,
     turns: u64,
 ) -> S
-    requires file { IsNodeFile file }
-    requires heard { IsHeardFirst (heard_in (S.calls store)) hub }
-    ensures on { HasLivedOn S.Tape.Tape (process_of hub) (S.calls result) }
-    ensures stays { ∥ StaysFrom (S.calls store) (S.calls result) ∥₁ }
+    requires heard { IsHeardFirst (heard_in (S.calls node.folder.running.store)) node.hub }
+    ensures on { HasLivedOn S.Tape.Tape (process_of node.hub) (S.calls result) }
+    ensures stays { ∥ StaysFrom (calls_in S.calls node.folder.running.began.items)
+        (S.calls result) ∥₁ }
 {
-    let mut hub = hub;
-    let mut folder = HeldFolder::new(rt.alloc(), store, file);
-    go_on(rt, log, &mut hub, &mut folder, turns);
-    drop(hub);
-    folder.close()
+    let mut node = node;
+    go_on(rt, log, &mut node, turns);
+    node.close()
 }
 
-/// Takes that many turns; where the tape has failed, it is opened again.
+/// Takes that many turns of a node.
 #[tactic(auto, using(crate::proofs::Served::kept_still))]
-fn go_on<
-    R: Files<File = File> + Clock + Eprint + Net + AllocGlobal,
-    T: Tape + Drop,
-    F: NodeFolder<T>,
->(rt: &R, log: &Log<'_, R>, hub: &mut Hub<T>, folder: &mut F, turns: u64)
-    // Whatever came in however many turns, the node has lived by its acts, was given only what receivers returned, and sent only what it
-    // returned.
-    ensures lived { HasLived T.Tape (process_of hub.new) }
-    // Each client was sent the response to exactly what had come of its request, by a process that had lived so.
-    ensures answered { HasAnswered T.Tape hub.new }
-    // It goes on in its run, or its run has ended and others began.
-    ensures earlier { KeepsEarlier T.Tape (process_of hub.old) (process_of hub.new) }
-    ensures begun { (F.stands folder.new).begun ≡ (F.stands folder.old).begun }
-    ensures heard { IsHeardFirst (F.stands folder.old).heard hub.old →
-        IsHeardFirst (F.stands folder.new).heard hub.new }
-{
-    for _ in 0..turns {
-        hub.go_on(rt, log, folder);
-        reopen_if_due(rt, log, hub, folder);
-    }
-    hub.always_lived();
-}
-
-/// Opens the tape of a halted node again, if it is time to; where that fails it is tried later.
-#[tactic(auto, using(crate::proofs::Served::kept_still, crate::proofs::Served::kept_same, crate::proofs::Served::kept_due))]
-fn reopen_if_due<R: Clock + Eprint + AllocGlobal, T: Tape + Drop, F: NodeFolder<T>>(
+fn go_on<R: Files<File = File> + Clock + Eprint + Net + AllocGlobal, S: Store>(
     rt: &R,
     log: &Log<'_, R>,
-    hub: &mut Hub<T>,
-    folder: &mut F,
+    node: &mut RunningNode<S>,
+    turns: u64,
 )
-    ensures earlier { KeepsEarlier T.Tape (process_of hub.old) (process_of hub.new) }
-    ensures begun { (F.stands folder.new).begun ≡ (F.stands folder.old).begun }
-    ensures heard { IsHeardFirst (F.stands folder.old).heard hub.old →
-        IsHeardFirst (F.stands folder.new).heard hub.new }
+    // Whatever came in however many turns, the node has lived by its acts, was given only what receivers returned, and sent only what it
+    // returned.
+    ensures lived { HasLived S.Tape.Tape (process_of node.new.hub) }
+    // Each client was sent the response to exactly what had come of its request, by a process that had lived so.
+    ensures answered { HasAnswered S.Tape.Tape node.new.hub }
+    // It goes on in its run, or its run has ended and others began.
+    ensures earlier { KeepsEarlier S.Tape.Tape (process_of node.old.hub)
+        (process_of node.new.hub) }
+    ensures began { calls_in S.calls node.new.folder.running.began.items ≡
+        calls_in S.calls node.old.folder.running.began.items }
+    ensures heard { IsHeardFirst (heard_in (S.calls node.old.folder.running.store)) node.old.hub →
+        IsHeardFirst (heard_in (S.calls node.new.folder.running.store)) node.new.hub }
 {
-    if hub.is_reopening_due() {
-        let _ = hub.reopen(rt, log, folder);
+    for _ in 0..turns {
+        node.go_on(rt, log);
     }
+    node.always_lived();
 }

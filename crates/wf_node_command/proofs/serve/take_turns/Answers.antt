@@ -8,6 +8,5 @@ use Rattle.wf_store.specs.Call.{Call}
 
 pub returns-clause-on : goal.returns-clause-on
 returns-clause-on g c =
-    let begun = subst (λ (calls : List Call). IsHeardFirst (heard_in calls) c.args.hub) (sym c.new-folder.ensures.same) c.requires.heard in
-    let heard = subst (λ (calls : List Call). IsHeardFirst (heard_in calls) c.go_on.new.hub) (sym c.close.ensures.same) (c.go_on.ensures.heard begun) in
-    lived_on g.S.Tape.Tape c.args.hub c.go_on.new.hub _ c.go_on.ensures.lived c.go_on.ensures.answered c.go_on.ensures.earlier heard
+    let heard = subst (λ (calls : List Call). IsHeardFirst (heard_in calls) c.go_on.new.node.hub) (sym c.close.ensures.same) (c.go_on.ensures.heard c.requires.heard) in
+    lived_on g.S.Tape.Tape c.args.node.hub c.go_on.new.node.hub _ c.go_on.ensures.lived c.go_on.ensures.answered c.go_on.ensures.earlier heard

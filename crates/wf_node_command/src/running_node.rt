@@ -1,0 +1,235 @@
+//! A node that runs on its folder, and that its caller steps.
+ghost use Rattle.std.specs.Prelude.{◌≡◌, ◌≤◌, IfErr, IfOk};
+ghost use Rattle.wf_folder.specs.NodeFile.{IsNodeFile};
+ghost use Rattle.wf_line.specs.NodeLine.{IsNodeInRange};
+ghost use Rattle.wf_loop.specs.Continuation.{KeepsEarlier};
+ghost use Rattle.wf_loop.specs.Hub.{HasAnswered, IsHeardFirst, process_of};
+ghost use Rattle.wf_loop.specs.Lived.{HasLived};
+ghost use Rattle.wf_node_command.specs.Fault.{IsFromSystem};
+ghost use Rattle.wf_node_command.specs.Folder.{StaysFrom, calls_in, heard_in};
+ghost use Rattle.wf_node_command.specs.Ready.{IsFresh};
+ghost use Rattle.wf_node_command.specs.Running.{IsRunning};
+ghost use Rattle.wf_node_command.specs.Start.{IsNodeFault};
+
+use crate::fault::CommandFault;
+use crate::held::HeldFolder;
+use crate::node::start;
+use crate::ready::ReadyNode;
+use std::alloc::Global;
+use std::fs::File;
+use std::net::{Net, SocketAddr};
+use std::rt::Files;
+use std::time::Clock;
+use wf_folder::NodeFile;
+use wf_line::NodeLine;
+use wf_loop::{Hub, Log, NodeEvent, NodeFolder, Process};
+use wf_sockets::{Network, SystemNetwork};
+use wf_store::Store;
+use wf_tape::Tape;
+
+/// A node that runs on its folder, which it has locked, over a network: its caller waits for sockets and steps it. A clause sees its hub
+/// and its folder.
+pub struct RunningNode<S: Store, N: Network = SystemNetwork> {
+    hub: Hub<S::Tape, N>,
+    folder: HeldFolder<S>,
+}
+
+impl<S: Store + Drop, N: Network + Drop> Drop for RunningNode<S, N> {
+    fn drop(self) {
+        drop(self.close());
+    }
+}
+
+impl<S: Store, N: Network + Drop> RunningNode<S, N> {
+    /// Starts a node on its folder, which is locked first, and binds its addresses on a network, at this time in milliseconds. Err: the
+    /// cause, as that of `wfarm node`, and the folder.
+    #[tactic(auto, using(crate::proofs::Served::running_by, crate::proofs::Served::not_started, crate::proofs::Served::fresh_by))]
+    pub fn start<R: Files<File = File> + Clock + Eprint + Net + AllocGlobal>(
+        rt: &R,
+        network: N,
+        store: S,
+        line: &NodeLine<'_>,
+        time: u64,
+    ) -> Result<Self, (CommandFault, S)>
+        requires { IsNodeInRange line.now }
+        ensures running { IfOk result (λ node. IsRunning S.Tape.Tape line.now
+            (process_of node.hub) (S.calls store) (S.calls node.folder.running.store)) }
+        ensures began { IfOk result (λ node. calls_in S.calls node.folder.running.began.items ≡
+            S.calls node.folder.running.store) }
+        ensures heard { IfOk result (λ node.
+            IsHeardFirst (heard_in (S.calls node.folder.running.store)) node.hub) }
+        ensures fault { IfErr result (λ failed.
+            IsNodeFault line.now (S.calls store) (S.calls failed.1) failed.0) }
+    {
+        let mut store = store;
+        match start(rt, &mut store, line) {
+            Ok(ready) => RunningNode::on(rt, network, store, line, ready, time),
+            Err(fault) => Err((fault, store)),
+        }
+    }
+
+    /// The node that is ready, on its folder and over a network.
+    fn on<R: Clock + Eprint + Net + AllocGlobal>(
+        rt: &R,
+        network: N,
+        store: S,
+        line: &NodeLine<'_>,
+        ready: ReadyNode<S::Tape>,
+        time: u64,
+    ) -> Result<Self, (CommandFault, S)>
+        requires file { IsNodeFile ready.file }
+        requires fresh { IsFresh S.Tape.Tape ready (S.calls store) }
+        ensures process { IfOk result (λ node. process_of node.hub ≡ ready.process) }
+        ensures same { IfOk result (λ node. S.calls node.folder.running.store ≡ S.calls store) }
+        ensures began { IfOk result (λ node. calls_in S.calls node.folder.running.began.items ≡
+            S.calls store) }
+        ensures heard { IfOk result (λ node. IsHeardFirst (heard_in (S.calls store)) node.hub) }
+        ensures fault { IfErr result (λ failed. IsFromSystem failed.0) }
+        ensures left { IfErr result (λ failed. S.calls failed.1 ≡ S.calls store) }
+    {
+        let ReadyNode {
+            plan,
+            process,
+            heard,
+            file,
+        } = ready;
+        let listen = plan.listen;
+        match Hub::on(rt, network, plan, process, heard, time) {
+            Ok(hub) => {
+                log_begun(&Log::new(rt, line.log), &hub, &file, listen);
+                Ok(RunningNode::of(rt.alloc(), hub, store, file))
+            }
+            Err(fault) => Err((CommandFault::Loop(fault), store)),
+        }
+    }
+
+    /// The node of a hub, on the folder whose file was written last so.
+    pub(crate) fn of(alloc: Global, hub: Hub<S::Tape, N>, store: S, file: NodeFile) -> Self
+        requires { IsNodeFile file }
+        ensures hub { result.hub ≡ hub }
+        ensures same { S.calls result.folder.running.store ≡ S.calls store }
+        ensures began { calls_in S.calls result.folder.running.began.items ≡ S.calls store }
+    {
+        RunningNode {
+            hub,
+            folder: HeldFolder::new(alloc, store, file),
+        }
+    }
+
+    /// The node's process.
+    pub fn process(&self) -> &Process<S::Tape>
+        ensures { result.now ≡ process_of self.now.hub }
+    {
+        self.hub.process()
+    }
+
+    /// The life of the node and what clients were answered, always. The call does nothing.
+    pub fn always_lived(&self)
+        ensures lived { HasLived S.Tape.Tape (process_of self.now.hub) }
+        ensures answered { HasAnswered S.Tape.Tape self.now.hub }
+    {
+        self.hub.always_lived();
+    }
+
+    /// For how long the next turn may be waited for at most where no socket is ready, in milliseconds.
+    pub fn patience(&self, time: u64) -> u64
+        ensures { result ≤ 100 }
+    {
+        self.hub.patience(time)
+    }
+
+    /// One turn, at this time in milliseconds, for the sockets with these tokens, which may be ready; it waits for nothing. Where the tape
+    /// has failed, it is opened again once that is due.
+    #[tactic(auto, using(crate::proofs::Served::kept_still))]
+    pub fn turn<R: Files<File = File> + Clock + Eprint + Net + AllocGlobal>(
+        &mut self,
+        rt: &R,
+        log: &Log<'_, R>,
+        ready: &[usize],
+        time: u64,
+    )
+        // Whatever came, the node has lived by its acts, was given only what receivers returned, and sent only what it returned.
+        ensures lived { HasLived S.Tape.Tape (process_of self.new.hub) }
+        // Each client was sent the response to exactly what had come of its request, by a process that had lived so.
+        ensures answered { HasAnswered S.Tape.Tape self.new.hub }
+        // It goes on in its run, or its run has ended and another began.
+        ensures earlier { KeepsEarlier S.Tape.Tape (process_of self.old.hub)
+            (process_of self.new.hub) }
+        ensures began { calls_in S.calls self.new.folder.running.began.items ≡
+            calls_in S.calls self.old.folder.running.began.items }
+        ensures heard { IsHeardFirst (heard_in (S.calls self.old.folder.running.store)) self.old.hub →
+            IsHeardFirst (heard_in (S.calls self.new.folder.running.store)) self.new.hub }
+    {
+        let RunningNode { hub, folder } = self;
+        hub.turn(rt, log, folder, ready, time);
+        reopen_if_due(rt, log, hub, folder);
+        hub.always_lived();
+    }
+
+    /// Ends the node. Its folder is handed back, unlocked where it is dropped: no tape of it was made or put in the place of another, and
+    /// only the folder that was locked was written to.
+    pub fn close(self) -> S
+        ensures same { S.calls result ≡ S.calls self.folder.running.store }
+        ensures stays { ∥ StaysFrom (calls_in S.calls self.folder.running.began.items)
+            (S.calls result) ∥₁ }
+    {
+        let RunningNode { hub, folder } = self;
+        drop(hub);
+        folder.close()
+    }
+}
+
+impl<S: Store> RunningNode<S> {
+    /// One turn over the network of the system, for which it waits.
+    #[tactic(auto, using(crate::proofs::Served::kept_still))]
+    pub(crate) fn go_on<R: Files<File = File> + Clock + Eprint + Net + AllocGlobal>(
+        &mut self,
+        rt: &R,
+        log: &Log<'_, R>,
+    )
+        ensures earlier { KeepsEarlier S.Tape.Tape (process_of self.old.hub)
+            (process_of self.new.hub) }
+        ensures began { calls_in S.calls self.new.folder.running.began.items ≡
+            calls_in S.calls self.old.folder.running.began.items }
+        ensures heard { IsHeardFirst (heard_in (S.calls self.old.folder.running.store)) self.old.hub →
+            IsHeardFirst (heard_in (S.calls self.new.folder.running.store)) self.new.hub }
+    {
+        let RunningNode { hub, folder } = self;
+        hub.go_on(rt, log, folder);
+        reopen_if_due(rt, log, hub, folder);
+    }
+}
+
+/// Logs where the node listens, and how far it is.
+pub(crate) fn log_begun<R: Clock + Eprint, T: Tape + Drop, N: Network + Drop>(
+    log: &Log<'_, R>,
+    hub: &Hub<T, N>,
+    file: &NodeFile,
+    listen: SocketAddr,
+) {
+    if let Some(http) = hub.http() {
+        log.write(&NodeEvent::Listening { http, listen });
+    }
+    log.write(&NodeEvent::Opened {
+        node: file.node as usize,
+        published: hub.process().node().published().number(),
+    });
+}
+
+/// Opens the tape of a halted node again, if it is time to; where that fails it is tried later.
+#[tactic(auto, using(crate::proofs::Served::kept_still, crate::proofs::Served::kept_same, crate::proofs::Served::kept_due))]
+fn reopen_if_due<
+    R: Clock + Eprint + AllocGlobal,
+    T: Tape + Drop,
+    F: NodeFolder<T>,
+    N: Network + Drop,
+>(rt: &R, log: &Log<'_, R>, hub: &mut Hub<T, N>, folder: &mut F)
+    ensures earlier { KeepsEarlier T.Tape (process_of hub.old) (process_of hub.new) }
+    ensures begun { (F.stands folder.new).begun ≡ (F.stands folder.old).begun }
+    ensures heard { IsHeardFirst (F.stands folder.old).heard hub.old →
+        IsHeardFirst (F.stands folder.new).heard hub.new }
+{
+    if hub.is_reopening_due() {
+        let _ = hub.reopen(rt, log, folder);
+    }
+}
