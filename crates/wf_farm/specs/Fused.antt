@@ -1,6 +1,6 @@
 -- A run in which one call of a node's tape fails. If it fails within a step, the node crashes there and is opened again: a crash
 -- within a step and a restart in the model.
-use Rattle.std.specs.Prelude.{◌≡◌, ◌⊎◌, ◌<◌, ◌+◌, ◌≤◌, ℕ, Bool, true, false, ⊤, List, [], ◌∷◌, ◌++◌, length, take, drop, slice_get, Option, Some, None}
+use Rattle.std.specs.Prelude.{◌≡◌, ◌⊎◌, ◌<◌, ◌+◌, ◌≤◌, ℕ, ⊤, List, [], ◌∷◌, ◌++◌, length, take, drop, slice_get, Option, Some, None}
 use Rattle.wf_farm.specs.Common.{Message, Definition, definition_eq, Action, StepRejection, World, Event, happens, refused, Kept, NeverFails}
 use Rattle.wf_model.specs.Kept.{view as view_kept}
 use Rattle.wf_model.specs.World as world

@@ -6,7 +6,7 @@ use Rattle.wf_def.specs.Equality.{definition_eq}
 use Rattle.wf_delivery.specs.Delivery.{AnyPart, IsNode}
 use Rattle.wf_journal.specs.Records.{AreReadOneWay, IsReadAsNone}
 use Rattle.wf_learner.specs.History.{map_at}
-use Rattle.wf_model.specs.DurableState.{DurableState, Record, definition_at, fold_from, fold, nothing_stored}
+use Rattle.wf_model.specs.DurableState.{Record, definition_at, fold_from, fold, nothing_stored}
 use Rattle.wf_model.specs.World as world
 use Rattle.wf_node.specs.Node.{Node}
 use Rattle.wf_safety.specs.Theorems.{IsBeginning}
@@ -14,7 +14,7 @@ use Rattle.wf_tape.specs.declared.tape.Tape.{Ghosts as Tape}
 use Rattle.wf_trace.specs.Course.{Move, course_nodes, AreAllowed, CourseAgrees, CoursesAgree, EntriesAreMoves, CoursesAreOne}
 use Rattle.wf_trace.specs.Order.{LivesGoOn}
 use Rattle.wf_wms.specs.Answer.{AnswerValue, AskedMapsAreAnsweredAlike, AsksForMap, EachQueryHasOneAnswer, IsAnswerOf, subject}
-use Rattle.wf_replacement.specs.Timeline.{ProcessEvent, IsTimeline, state_at, node_at}
+use Rattle.wf_replacement.specs.Timeline.{ProcessEvent, IsTimeline, state_at}
 use Rattle.wf_replacement.specs.Rejoining.{EachMayRejoin}
 use Rattle.wf_replacement.specs.Theorems.{IsOneCourse, TimelineIsCourse, IsHeldAt, HasOneHistory, OneHistory, OneDefinition, ListsGrow, OneAnswer, OneMapAnswer}
 use Rattle.wf_replacement.proofs.Courses.{first, shown, course_is, course_outputs, course_seen, course_moment, course_allowed}

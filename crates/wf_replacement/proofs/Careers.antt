@@ -1,13 +1,13 @@
 -- The runs of one process of a farm without a loss, as events.
-use Rattle.std.proofs.Common.{◌≡◌, ℕ, ◌<◌, List, [], ◌∷◌, ◌++◌, Option, Some, None, refl, sym, ap, subst, ◌∙◌, append-nil, append_assoc}
+use Rattle.std.proofs.Common.{◌≡◌, ℕ, List, [], ◌∷◌, ◌++◌, Option, Some, None, refl, sym, ap, subst, ◌∙◌, append-nil, append_assoc}
 use Rattle.std.specs.Prelude.{⊤}
-use Rattle.wf_career.specs.Career.{Ended, IsEnded, AreRuns, values_after, values_of, Item, items_by, items_at, items_in, IsOneOf}
-use Rattle.wf_career.specs.Run.{Act, Run, last_of, last, End, Between, Within, Failed, HasLeft, IsAct, AreDone, IsRun}
+use Rattle.wf_career.specs.Career.{Ended, AreRuns, values_after, values_of, Item, items_by, items_at, items_in, IsOneOf}
+use Rattle.wf_career.specs.Run.{Act, Run, last_of, End, Between, Within, Failed, HasLeft, AreDone}
 use Rattle.wf_career.specs.RunTheorems.{last_more}
 use Rattle.wf_codec.specs.declared.message.Message.{Message}
 use Rattle.wf_node.specs.Node.{Node}
 use Rattle.wf_tape.specs.declared.tape.Tape.{Ghosts as Tape}
-use Rattle.wf_replacement.specs.Timeline.{ProcessEvent, Opens, Acts, Ends, Loses, Rejoins, process_of, returned_by, ProcessState, Down, Up, Lost, state_after, node_in, IsPossible}
+use Rattle.wf_replacement.specs.Timeline.{ProcessEvent, Opens, Acts, Ends, Loses, Rejoins, process_of, ProcessState, Down, Up, state_after, node_in, IsPossible}
 use Rattle.wf_replacement.specs.Theorems.{IsWithoutLoss}
 
 -- ---- the events

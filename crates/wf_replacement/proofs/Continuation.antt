@@ -1,5 +1,5 @@
 -- A timeline goes on with one more event.
-use Rattle.std.proofs.Common.{◌≡◌, ℕ, ◌<◌, List, [], ◌∷◌, ◌++◌, length, take, refl, sym, ap, subst, append-nil, append_assoc}
+use Rattle.std.proofs.Common.{ℕ, ◌<◌, List, [], ◌∷◌, ◌++◌, take, sym, subst, append-nil, append_assoc}
 use Rattle.std.proofs.Math.Seq.{take-length}
 use Rattle.wf_codec.specs.declared.message.Message.{Message}
 use Rattle.wf_tape.specs.declared.tape.Tape.{Ghosts as Tape}

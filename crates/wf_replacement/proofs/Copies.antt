@@ -1,5 +1,5 @@
 -- Bytes that read as the records by which definitions are published hold a copy of these.
-use Rattle.std.proofs.Common.{◌≡◌, ℕ, zero, suc, ◌+◌, ◌<◌, true, List, [], ◌∷◌, slice_get, Some, refl, sym, ap, subst, ◌∙◌, inl, inr, arith}
+use Rattle.std.proofs.Common.{◌≡◌, ℕ, zero, suc, ◌+◌, true, List, [], ◌∷◌, slice_get, Some, refl, sym, ap, subst, ◌∙◌, inl, inr, arith}
 use Rattle.std.proofs.lemmas.Option.{none-some, same_Some}
 use Rattle.wf_ballot.specs.Ballot.{Ballot}
 use Rattle.wf_ballot.specs.Majority.{count_nodes, is_majority_of}
@@ -7,7 +7,7 @@ use Rattle.wf_def.specs.Definition.{Definition}
 use Rattle.wf_model.specs.Chosen.{Voted, IsChosen}
 use Rattle.wf_model.specs.DurableState.{definition_at}
 use Rattle.wf_model.specs.Message.{Message, Accept, Accepted}
-use Rattle.wf_safety.specs.Replacement.{AreChosen, published_from, CopiedTapes}
+use Rattle.wf_safety.specs.Replacement.{published_from, CopiedTapes}
 use Rattle.wf_replacement.specs.Rejoining.{CopiesAreHeld}
 
 -- Any definitions are chosen by the votes of a farm of one node, so what is known of tapes of

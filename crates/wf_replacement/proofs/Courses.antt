@@ -19,7 +19,7 @@ use Rattle.wf_trace.specs.Course.{Move, process_moved, outputs_of, outputs_throu
 use Rattle.wf_trace.specs.Deed.{Stops, new_node}
 use Rattle.wf_trace.specs.Order.{seen, items_of, outputs_in, AreLivesFrom, GoOnAsOne, LivesGoOn}
 use Rattle.wf_trace.specs.Trace.{Entry}
-use Rattle.wf_replacement.specs.Timeline.{ProcessEvent, process_of, returned_by, returned_through, ProcessState, Down, state_after, IsPossible, states_with, states_from, ArePossible, unstarted_process, IsTimeline, node_at}
+use Rattle.wf_replacement.specs.Timeline.{ProcessEvent, process_of, returned_by, returned_through, ProcessState, state_after, IsPossible, states_with, states_from, ArePossible, unstarted_process, IsTimeline, node_at}
 use Rattle.wf_replacement.proofs.Deeds.{down}
 use Rattle.wf_replacement.proofs.Moves.{StandOnlyFor, Shows, IsKnown, IsSeen, shown_last, shown_seen, IsMoveOf, OneMove, GoesOn, goes_on}
 use Rattle.wf_replacement.proofs.Prefixes.{move_at}

@@ -17,7 +17,7 @@ use Rattle.wf_tape.specs.declared.tape.Tape.{Ghosts as Tape}
 use Rattle.wf_replacement.specs.Examples.{started, EndsReplaced, LostIsReplaced}
 use Rattle.wf_replacement.specs.Rejoining.{IsSilent, WasAsked, MayRejoin, HoldsExactly, CopiesAreHeld}
 use Rattle.wf_replacement.specs.Theorems.{IsWithoutLoss}
-use Rattle.wf_replacement.specs.Timeline.{ProcessEvent, Opens, Loses, Rejoins, process_of, returned_through, ProcessState, Lost, node_in, IsPossible, states_with, states_from, unstarted_process, IsTimeline, state_at, node_at}
+use Rattle.wf_replacement.specs.Timeline.{ProcessEvent, Opens, Loses, Rejoins, process_of, returned_through, Lost, node_in, IsPossible, states_with, states_from, unstarted_process, IsTimeline, state_at, node_at}
 use Rattle.wf_replacement.proofs.Agreement.{nothing_alone}
 use Rattle.wf_replacement.proofs.Continuation.{timeline_goes_on}
 use Rattle.wf_replacement.proofs.Farms.{none_rejoins}

@@ -1,17 +1,16 @@
 -- The processes of a farm without a loss are a timeline: their runs are merged in the order of the
 -- farm's items.
-use Rattle.std.proofs.Common.{◌≡◌, ◌≢◌, ℕ, zero, suc, ◌+◌, ◌<◌, ◌≤◌, ◌==◌, List, [], ◌∷◌, ◌++◌, take, slice_get, Option, Some, None, refl, sym, ap, subst, ◌∙◌, inl, inr, arith, append-nil, append_assoc, eq-eqb, ne_eqb, if◌then◌else◌}
+use Rattle.std.proofs.Common.{◌≡◌, ◌≢◌, ℕ, zero, suc, ◌+◌, ◌<◌, ◌≤◌, ◌==◌, List, [], ◌∷◌, ◌++◌, take, slice_get, Option, Some, None, refl, sym, ap, subst, ◌∙◌, inl, inr, arith, append-nil, eq-eqb, ne_eqb, if◌then◌else◌}
 use Rattle.std.proofs.lemmas.Bool.{cases_eq, cases_lt}
 use Rattle.std.proofs.lemmas.Option.{none-some, same_Some}
-use Rattle.wf_career.specs.Career.{Career, values, Item, items_of, items_at, IsOneOf, AreInTurn, IsFarm}
-use Rattle.wf_career.specs.Run.{End, Between, Within, Failed}
-use Rattle.wf_career.specs.Theorems.{IsHeld, outputs_in}
+use Rattle.wf_career.specs.Career.{Career, values, Item, items_of, IsOneOf, AreInTurn, IsFarm}
+use Rattle.wf_career.specs.Run.{Between, Within, Failed}
+use Rattle.wf_career.specs.Theorems.{outputs_in}
 use Rattle.wf_codec.specs.declared.message.Message.{Message}
 use Rattle.wf_node.specs.Node.{Node}
 use Rattle.wf_tape.specs.declared.tape.Tape.{Ghosts as Tape}
-use Rattle.wf_replacement.specs.Timeline.{ProcessEvent, Opens, Acts, Ends, Loses, Rejoins, process_of, returned_by, returned_through, ProcessState, Down, state_after, node_in, IsPossible, states_with, states_from, ArePossible, unstarted_process, node_at}
-use Rattle.wf_replacement.specs.Rejoining.{EachMayRejoin}
-use Rattle.wf_replacement.specs.Theorems.{IsHeldAt, IsWithoutLoss, AreHeldInOrder, IsOneTimeline, FarmIsTimeline}
+use Rattle.wf_replacement.specs.Timeline.{ProcessEvent, Opens, Acts, Ends, Loses, Rejoins, process_of, returned_by, returned_through, ProcessState, Down, state_after, node_in, IsPossible, states_with, states_from, ArePossible, unstarted_process}
+use Rattle.wf_replacement.specs.Theorems.{IsWithoutLoss, IsOneTimeline, FarmIsTimeline}
 use Rattle.wf_replacement.proofs.Careers.{own_events, items_for, items_through, AreOf, MayHappen, AllMayHappen, AreSentAmong, nodes_with, nodes_by, events_own, events_plain, events_items, events_happen, events_nodes}
 use Rattle.wf_replacement.proofs.Courses.{put, put_own, put_other, state_own, state_other}
 

@@ -1,5 +1,5 @@
 -- Where each process that is replaced may be, the moves of the timeline are allowed.
-use Rattle.std.proofs.Common.{◌≡◌, ◌≢◌, ◌⊎◌, ℕ, zero, suc, ◌+◌, ◌<◌, ◌≤◌, Bool, true, false, List, [], ◌∷◌, ◌++◌, take, drop, slice_get, Option, Some, None, refl, sym, ap, subst, ◌∙◌, arith, append_assoc}
+use Rattle.std.proofs.Common.{◌≡◌, ℕ, zero, suc, ◌+◌, ◌<◌, ◌≤◌, Bool, true, false, List, [], ◌∷◌, ◌++◌, take, drop, slice_get, Some, refl, sym, ap, subst, ◌∙◌, arith}
 use Rattle.std.proofs.lemmas.Bool.{both_ways}
 use Rattle.std.proofs.lemmas.Option.{none-some}
 use Rattle.wf_def.specs.Definition.{Definition}
@@ -12,8 +12,8 @@ use Rattle.wf_safety.specs.Theorems.{IsBeginning}
 use Rattle.wf_trace.specs.Course.{Move, Entered, Renewed, process_moved, nodes_after, course_nodes, AreOfOthers, WasUpTo, MayReplace, IsAllowed, AreAllowed}
 use Rattle.wf_trace.specs.Deed.{new_node}
 use Rattle.wf_replacement.specs.Timeline.{ProcessEvent, Opens, Acts, Ends, Loses, Rejoins, process_of, node_at}
-use Rattle.wf_replacement.specs.Rejoining.{IsSilent, WasAsked, MayRejoin, EachMayRejoin}
-use Rattle.wf_replacement.proofs.Courses.{AreMovesOf, IsOfEvent, event_at}
+use Rattle.wf_replacement.specs.Rejoining.{WasAsked, MayRejoin, EachMayRejoin}
+use Rattle.wf_replacement.proofs.Courses.{AreMovesOf, event_at}
 use Rattle.wf_replacement.proofs.Moves.{StandOnlyFor, IsMoveOf}
 use Rattle.wf_replacement.proofs.Prefixes.{begins_through, begins_itself, up_to_behind, between, nodes_in_turn, others_each, allowed_each}
 

@@ -1,11 +1,10 @@
 -- Those who are asked before a replacement are others than the process that is replaced.
-use Rattle.std.proofs.Common.{◌≡◌, ◌≢◌, ℕ, zero, suc, ◌<◌, ◌≤◌, List, [], Option, Some, None, slice_get, refl, sym, ap, subst, ◌∙◌, inl, inr, arith}
+use Rattle.std.proofs.Common.{◌≡◌, ℕ, zero, suc, ◌<◌, ◌≤◌, List, [], Option, Some, None, slice_get, refl, sym, ap, ◌∙◌, inl, inr, arith}
 use Rattle.std.proofs.lemmas.Bool.{cases_lt}
 use Rattle.std.proofs.lemmas.Option.{none-some}
 use Rattle.wf_codec.specs.declared.message.Message.{Message}
-use Rattle.wf_node.specs.Node.{Node}
 use Rattle.wf_tape.specs.declared.tape.Tape.{Ghosts as Tape}
-use Rattle.wf_replacement.specs.Timeline.{ProcessEvent, Rejoins, process_of, ProcessState, Down, Up, Lost, node_in, IsPossible, unstarted_process, IsTimeline, state_at}
+use Rattle.wf_replacement.specs.Timeline.{ProcessEvent, Rejoins, ProcessState, Down, Up, Lost, node_in, IsPossible, unstarted_process, state_at}
 use Rattle.wf_replacement.specs.Rejoining.{IsSilent, WasAsked}
 use Rattle.wf_replacement.specs.Theorems.{AskedAreOthers}
 use Rattle.wf_replacement.proofs.Courses.{state_other}

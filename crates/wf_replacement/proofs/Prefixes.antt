@@ -1,7 +1,6 @@
 -- Lists cut at numbers, and moves of a course that is cut so.
-use Rattle.std.proofs.Common.{◌≡◌, ◌≢◌, ℕ, zero, suc, ◌+◌, ◌<◌, ◌≤◌, Bool, List, [], ◌∷◌, ◌++◌, take, drop, slice_get, Some, refl, sym, ap, subst, ◌∙◌, arith, append-nil, append_assoc}
+use Rattle.std.proofs.Common.{◌≡◌, ◌≢◌, ℕ, suc, ◌+◌, ◌≤◌, Bool, List, [], ◌∷◌, ◌++◌, take, drop, slice_get, Some, refl, sym, ap, subst, ◌∙◌, arith, append-nil, append_assoc}
 use Rattle.std.proofs.lemmas.List.{take-append-drop, take-take, append_cancel_left}
-use Rattle.std.proofs.lemmas.Option.{none-some}
 use Rattle.wf_model.specs.Message.{Message}
 use Rattle.wf_model.specs.World.{Node}
 use Rattle.wf_safety.specs.Theorems.{IsBeginning}

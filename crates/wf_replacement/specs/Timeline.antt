@@ -1,6 +1,6 @@
 -- A farm whose processes may lose their disks and be replaced: what happens to them, in one order
 -- of time.
-use Rattle.std.specs.Prelude.{◌≡◌, ℕ, ◌<◌, ◌==◌, ⊤, List, [], ◌∷◌, ◌++◌, take, Option, Some, None, if◌then◌else◌}
+use Rattle.std.specs.Prelude.{ℕ, ◌<◌, ◌==◌, ⊤, List, [], ◌∷◌, ◌++◌, take, Option, Some, None, if◌then◌else◌}
 use Rattle.wf_career.specs.Career.{IsOneOf}
 use Rattle.wf_career.specs.Run.{Act, Run, last, End, Between, Within, Failed, HasLeft, IsOpenedFrom, IsAct}
 use Rattle.wf_codec.specs.declared.message.Message.{Message}

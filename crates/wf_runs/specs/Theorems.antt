@@ -1,5 +1,5 @@
 -- The theorems about sessions on one folder.
-use Rattle.std.specs.Prelude.{◌≡◌, ◌≢◌, ℕ, ◌<◌, ◌≤◌, List, length, slice_get, Option, Some, Result, Ok, Err, Vec}
+use Rattle.std.specs.Prelude.{◌≡◌, ◌≢◌, ℕ, ◌<◌, ◌≤◌, List, slice_get, Option, Some, Result, Ok, Err, Vec}
 use Rattle.std.specs.declared.alloc.Global.{Global}
 use Rattle.wf_career.specs.Career.{Career, Item, IsFarm, values}
 use Rattle.wf_codec.specs.declared.message.Message.{Message}

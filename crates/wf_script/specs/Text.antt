@@ -1,5 +1,5 @@
 -- Which script a text is: its lines are read one after the other.
-use Rattle.std.specs.Prelude.{◌≡◌, ◌==◌, ◌&&◌, ◌+◌, not, ℕ, Bool, List, [], ◌∷◌, ◌++◌, length, map, nat_le, nat_lt, codes, true, false, Option, Some, None, Result, Ok, Err, if◌then◌else◌}
+use Rattle.std.specs.Prelude.{◌≡◌, ◌==◌, ◌&&◌, ◌+◌, not, ℕ, Bool, List, [], ◌∷◌, ◌++◌, length, map, nat_le, nat_lt, codes, Option, Some, None, Result, Ok, Err, if◌then◌else◌}
 use Rattle.std.specs.Char.{is_ascii_alphanumeric}
 use Rattle.std.specs.List.{list_all}
 use Rattle.std.specs.Option.{ok_or}
@@ -11,7 +11,6 @@ use Rattle.wf_mapfile.specs.Meaning.{meaning}
 use Rattle.wf_script.specs.Lines.{Lines, examined, lines, most_maps, over_limit}
 use Rattle.wf_script.specs.Script.{name, Numbered, Script, definition, numbered}
 use Rattle.wf_script.specs.Order as order
-use Rattle.wf_script.specs.Order.{Order}
 use Rattle.wf_script.specs.Orders.{order_of, index_of}
 use Rattle.wf_script.specs.ReadContract.{◌>>=◌, at_line}
 use Rattle.wf_script.specs.Verb.{verb_of}

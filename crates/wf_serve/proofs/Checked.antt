@@ -1,13 +1,13 @@
 -- The tapes of a folder are read, and compared with the one that has published most.
-use Rattle.std.proofs.Common.{◌≡◌, ◌∙◌, ◌+◌, ◌<◌, ◌≤◌, ◌⊎◌, ℕ, zero, suc, List, [], ◌∷◌, length, ap, arith, inl, inr, refl, subst, sym}
-use Rattle.std.proofs.lemmas.Option.{none-some, same_Some, slice_get_within}
+use Rattle.std.proofs.Common.{◌≡◌, ◌∙◌, ◌+◌, ◌<◌, ◌≤◌, ℕ, zero, suc, List, [], ◌∷◌, length, ap, arith, inl, inr, refl, subst, sym}
+use Rattle.std.proofs.lemmas.Option.{none-some, same_Some}
 use Rattle.std.proofs.lemmas.Bool.{cases_lt}
 use Rattle.std.specs.Prelude.{Option, Some, None, Result, Ok, Err, IfOk, slice_get, slice_index_or}
 use Rattle.wf_def.specs.Definition.{Definition}
 use Rattle.wf_folder.specs.declared.presence.Presence.{Presence}
 use Rattle.wf_folder.specs.declared.presence.Presence.TheVariants.{Absent}
 use Rattle.wf_model.specs.DurableState.{DurableState, definition_at}
-use Rattle.wf_node.specs.Node.{Node, stored_of}
+use Rattle.wf_node.specs.Node.{stored_of}
 use Rattle.wf_node.specs.OpenedNode.{IsFoldOf}
 use Rattle.wf_serve.proofs.Difference.{none_past}
 use Rattle.wf_serve.specs.Difference.{Agree}

@@ -1,7 +1,7 @@
 -- What a survey of a folder has found, call by call.
-use Rattle.std.proofs.Common.{◌≡◌, ◌≢◌, ◌∙◌, ◌+◌, ◌<◌, ◌≤◌, ℕ, zero, suc, List, [], ◌∷◌, length, ap, arith, refl, subst, sym}
+use Rattle.std.proofs.Common.{◌≡◌, ◌≢◌, ◌∙◌, ◌+◌, ◌<◌, ◌≤◌, ℕ, zero, suc, List, ◌∷◌, length, ap, arith, refl, subst, sym}
 use Rattle.std.proofs.lemmas.List.{get_or-set_other, get_or-set_same}
-use Rattle.std.specs.Prelude.{Option, Some, None, slice_index_or}
+use Rattle.std.specs.Prelude.{Some, None, slice_index_or}
 use Rattle.std.proofs.Math.ListN.{set}
 use Rattle.wf_folder.specs.declared.admission.FoundFile.{FoundFile}
 use Rattle.wf_folder.specs.declared.admission.FoundFile.TheVariants as finds

@@ -1,6 +1,6 @@
 -- Tapes are taken one after the other, and the node that has published most is kept.
-use Rattle.std.proofs.Common.{◌≡◌, ◌≢◌, ◌∙◌, ◌⊎◌, ℕ, zero, suc, List, [], ◌∷◌, ap, inl, inr, refl, subst, sym}
-use Rattle.std.specs.Prelude.{Option, Some, None, Result, Ok, Err, IfErr, IfOk, IfSome, slice_get}
+use Rattle.std.proofs.Common.{◌≡◌, ◌≢◌, ◌∙◌, ℕ, suc, List, [], ◌∷◌, ap, inl, inr, refl, subst, sym}
+use Rattle.std.specs.Prelude.{Option, Some, None, Result, Ok, Err, IfErr, IfOk, IfSome}
 use Rattle.wf_def.specs.Definition.{Definition}
 use Rattle.wf_folder.specs.Admission.{IsRejection}
 use Rattle.wf_folder.specs.declared.admission.StartRejection.{StartRejection}
@@ -11,9 +11,9 @@ use Rattle.wf_node.specs.Node.{stored_of}
 use Rattle.wf_node.specs.OpenedNode.{IsFoldOf, IsWhyBad}
 use Rattle.wf_serve.proofs.Checked.{all_agree, have_next}
 use Rattle.wf_serve.specs.Difference.{DifferAt}
-use Rattle.wf_serve.specs.LongestTape.{AreTaken, AreTakenOr, HasTaken, HaveLongest, IsKeptOrNext, IsLonger, IsNextLongest, IsOfTape, IsOneOf, IsRejected, IsWhyDifferent, IsWhyNoNode, IsWhyNotNext, IsWhyUnlike, cause_of}
+use Rattle.wf_serve.specs.LongestTape.{AreTaken, AreTakenOr, HasTaken, IsKeptOrNext, IsNextLongest, IsOfTape, IsOneOf, IsRejected, IsWhyDifferent, IsWhyNoNode, IsWhyNotNext, IsWhyUnlike, cause_of}
 use Rattle.wf_serve.specs.StartCause.{IsStartCause, start_cause}
-use Rattle.wf_serve.specs.TapesTaken.{AreDifferentAt, AreFolds, AreSoundOr, HasTape, IsTapeCause, NumberedTape}
+use Rattle.wf_serve.specs.TapesTaken.{AreFolds, AreSoundOr, HasTape, IsTapeCause, NumberedTape}
 use Rattle.wf_serve.specs.declared.check.Longest.{Longest}
 use Rattle.wf_serve.specs.declared.event.Cause.{Cause}
 use Rattle.wf_serve.specs.declared.event.Cause.TheVariants as causes

@@ -7,7 +7,7 @@ use Rattle.wf_journal.specs.declared.open_error.OpenFault.TheVariants.{BadRecord
 use Rattle.wf_serve.specs.Difference.{DifferAt}
 use Rattle.wf_serve.specs.TapeCheck.{AllAgree}
 use Rattle.wf_serve.specs.declared.event.Cause.{Cause}
-use Rattle.wf_serve.specs.declared.event.Cause.TheVariants.{Memory, TapeBad, TapesDiffer}
+use Rattle.wf_serve.specs.declared.event.Cause.TheVariants.{TapeBad, TapesDiffer}
 
 -- a tape: the number of its node, and its bytes
 abbrev pub NumberedTape : Type 0

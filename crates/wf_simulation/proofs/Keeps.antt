@@ -1,5 +1,5 @@
 -- Steps that leave the bytes of a direction as they are.
-use Rattle.std.proofs.Common.{◌≡◌, ◌∙◌, refl}
+use Rattle.std.proofs.Common.{◌∙◌, refl}
 use Rattle.wf_simulation.specs.Pipe.{PipeState, KeepsBytes}
 
 pub keeps_same : (pipe : PipeState) → KeepsBytes pipe pipe

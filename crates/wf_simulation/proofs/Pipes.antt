@@ -1,5 +1,5 @@
 -- A pipe stays one: over bytes that are written, and over bytes that are read.
-use Rattle.std.proofs.Common.{◌≡◌, ◌∙◌, ℕ, ◌+◌, ◌-◌, ◌≤◌, List, [], ◌++◌, length, take, refl, sym, ap, append_assoc, length-append, arith}
+use Rattle.std.proofs.Common.{◌≡◌, ◌∙◌, ℕ, ◌+◌, ◌-◌, ◌≤◌, List, [], ◌++◌, length, sym, ap, append_assoc, length-append, arith}
 use Rattle.wf_simulation.specs.Pipe.{IsBeginning, IsPipe}
 
 pub new_pipe : (sent came waiting : List ℕ) (limit : ℕ) → sent ≡ [] → came ≡ [] → waiting ≡ [] → IsPipe sent came waiting limit

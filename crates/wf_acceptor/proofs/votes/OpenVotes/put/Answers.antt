@@ -1,5 +1,5 @@
 -- The slot's entry is replaced, or one is inserted where it has to be.
-use Rattle.std.proofs.Common.{◌≡◌, ◌-◌, ◌<◌, ◌∙◌, ap, arith}
+use Rattle.std.proofs.Common.{◌≡◌, ◌-◌, ◌∙◌, ap, arith}
 use Rattle.std.specs.Prelude.{vec_len, vec_capacity}
 use Rattle.std.specs.FinMap as map
 use Rattle.wf_acceptor.specs.OpenVotes.{OpenVotes}

@@ -1,5 +1,5 @@
 -- The vote is that of the slot's entry.
-use Rattle.std.proofs.Common.{◌≡◌, Some, get_or, sym, ◌∙◌, ap}
+use Rattle.std.proofs.Common.{Some, sym, ◌∙◌, ap}
 use Rattle.std.specs.FinMap as map
 use Rattle.wf_acceptor.specs.OpenVotes.{OpenVotes}
 use Rattle.wf_acceptor.proofs.Search.{get_at, get_in_gap}
