@@ -1,6 +1,6 @@
 #!/usr/bin/env python3
 """Checks the Python beside the program: that it compiles, the tests of the tools, flake8, and the types of
-farmkit by mypy.
+farmkit by mypy; and by tools of it the documents and crates.txt.
 
     python3 tools/check_python.py
 
@@ -22,6 +22,8 @@ HERE = pathlib.Path(__file__).resolve().parent
 TOP = HERE.parent
 OLDEST = (3, 11)
 VERSION = re.compile(r"\d+\.\d+")
+# tools that say whether what stands elsewhere is so
+CHECKS = (("links.py",), ("definitions.py", "--check"), ("crates.py", "--check"))
 LEFT_OUT = {".git", "out", "__pycache__", "unlanded"}
 
 
@@ -99,6 +101,13 @@ def linted() -> Iterator[tuple[str, str]]:
         yield name, ran.stdout + ran.stderr if ran.returncode else ""
 
 
+def checked() -> Iterator[tuple[str, str]]:
+    """Each tool of CHECKS, with what it finds."""
+    for name, *words in CHECKS:
+        ran = subprocess.run([sys.executable, "-B", str(HERE / name), *words], capture_output=True, text=True)
+        yield f"tools/{name}", ran.stdout + ran.stderr if ran.returncode else ""
+
+
 def main() -> int:
     raw = argparse.RawDescriptionHelpFormatter
     argparse.ArgumentParser(description=__doc__, formatter_class=raw).parse_args()
@@ -109,7 +118,7 @@ def main() -> int:
         return 0
     done = [tell(f"{len(scripts())} files compile", uncompiled())]
     passed, failed = untested()
-    done += [tell(name, wrong) for name, wrong in linted()]
+    done += [tell(name, wrong) for name, wrong in (*linted(), *checked())]
     passed, failed = passed + done.count(True), failed + done.count(False)
     print(f"{passed} passed, {failed} failed")
     return 1 if failed else 0

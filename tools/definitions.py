@@ -1,17 +1,16 @@
 #!/usr/bin/env python3
-"""Writes docs/DEFINITIONS.md, an index of crates/*/specs/, from the comments that stand there: each
-definition is said once.
+"""Writes docs/DEFINITIONS.md, the crates with an index of their specs/, from the comments that stand there:
+each definition is said once.
 
     python3 tools/definitions.py              writes the index
     python3 tools/definitions.py --check      says whether the index is what the comments say, which words of
-    public
-                                              clauses no comment explains, and which names in docs/PROVED.md,
-                                              ARCHITECTURE.md and CHANGES.md aren't there
+                                              public clauses no comment explains, and which names in
+                                              docs/PROVED.md, ARCHITECTURE.md and CHANGES.md aren't there
     python3 tools/definitions.py --all [WORD] prints each definition with its comment, or those whose name
-    holds WORD
+                                              holds WORD
 
 A comment line `-- ..` above a definition says what it is; the comment at the top of a file says what the file
-is about.
+is about, and the first sentence of src/lib.rt what the crate is.
 """
 
 import re
@@ -24,13 +23,14 @@ from farmkit.repository import TOP, dependencies
 DOCUMENT = TOP / "docs" / "DEFINITIONS.md"
 HEAD = """# Definitions
 
-An index of the words that contracts cite, crate by crate, lowest crate first: each file of \
-`crates/*/specs/`, what it is about, and the words that it defines. What each word means stands above it \
-in its file; `python3 tools/definitions.py --all` prints all of them. This page is made by that tool: \
-change the comment, not the page. Definitions share nothing with the code's loops, except that a block of \
-a mapfile is defined by a table of its keywords, which has the shape of the reader's step \
-([DECISIONS.md](DECISIONS.md)). They are meant to be read beside the standard (OGC 06-042, the MapServer \
-mapfile reference, Netpbm's P6) or a textbook on Paxos. What files named `..Theorems` state is proved.
+Each crate, lowest first: what it is, by the first sentence of its first page, and an index of the \
+words that contracts cite: each file of its `specs/`, what it is about, and the words that it \
+defines. What each word means stands above it in its file; `python3 tools/definitions.py --all` \
+prints all of them. This page is made by that tool: change the comment, not the page. Definitions \
+share nothing with the code's loops, except that a block of a mapfile is defined by a table of its \
+keywords, which has the shape of the reader's step ([DECISIONS.md](DECISIONS.md)). They are meant to \
+be read beside the standard (OGC 06-042, the MapServer mapfile reference, Netpbm's P6) or a textbook \
+on Paxos. What files named `..Theorems` state is proved.
 """
 DEFINED = re.compile(r"(?:(?:unfoldable|abbrev|opaque) )?pub (?!use )(?:(?:record|data) )?(\S+)")
 
@@ -100,13 +100,21 @@ def files_of(crate):
     return [(it, it.read_text(encoding="utf-8").splitlines()) for it in every if it.name != "Lib.antt"]
 
 
+def sentence(crate):
+    """The first sentence of a crate's first page."""
+    source = TOP / "crates" / crate / "src"
+    page = next(file for file in (source / "lib.rt", source / "main.rt") if file.exists())
+    lines = re.match(r"(?://!? ?.*\n)+", page.read_text(encoding="utf-8"))[0].splitlines()
+    return re.split(r"(?<=[.])(?: |$)", " ".join(line.lstrip("/! ") for line in lines), maxsplit=1)[0]
+
+
 def section(crate):
-    lines = []
+    lines = [f"{sentence(crate)}\n"]
     for file, text in files_of(crate):
         top, words = about(text), ", ".join(f"`{word}`" for word, _ in words_of(text))
         name = f"[{file.stem}](../{file.relative_to(TOP)})"
         lines.append(f"- {name}: {top[:1].upper() + top[1:]} {words}".rstrip() + "\n")
-    return f"\n## {crate}\n\n" + "".join(lines) if lines else ""
+    return f"\n## {crate}\n\n" + "\n".join([lines[0], "".join(lines[1:])]).rstrip("\n") + "\n"
 
 
 def print_all(part):

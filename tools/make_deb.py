@@ -33,7 +33,7 @@ UNITS = ("examples/wfarm.service", "examples/wfarm@.service", "examples/three/wf
          "examples/three/wfarm-failed@.service", "examples/three/wfarm-replica@.service")
 
 # the documents that operators read, and what these name
-DOCUMENTS = ("README.md", "CHANGELOG.md", "CONTRIBUTING.md", "docs", "bench/README.md")
+DOCUMENTS = ("README.md", "CHANGELOG.md", "CONTRIBUTING.md", "SECURITY.md", "docs", "bench/README.md")
 MAP_TOOLS = ("make_map.py", "import_mapfile.py", "pixmap_to_png.py", "maps", "geojson")
 COMMANDS = ("init", "node", "clear", "replica", "serve", "draw", "caps", "check", "canon", "tape", "run",
             "wire")

@@ -12,10 +12,18 @@ MARK = re.compile(r"`([^`\n]+)`")
 LINK = re.compile(r"\]\(([^)#\s]*)(?:#([^)]*))?\)")
 # a document by a link, a code mark or its name, and behind it a section of it in quotes
 SECTION = re.compile(r'(?:\]\(([\w./-]+\.md)\)|`([\w./-]+\.md)`|\b(README|CONTRIBUTING)), "([^"]+)"')
+SECTION_OF = re.compile(r'"([^"]+)" of (?:\[[^]]*\]\(([\w./-]+\.md)\)|`?([\w./-]+\.md)\b)')
+# a section of the document itself
+OWN_SECTION = re.compile(r'(?:\(|\b(?:see|under|what|or) )"([A-Z][^"]+)"')
+# a document that a text of another kind names
+NAMED = re.compile(r"(?<![\w./-])(?:docs/|bench/|examples/)?[A-Z]{4,}\.md\b")
 SUFFIXES = "antt conf css edit html js map md py rt script service sh toml txt xml yaml yml"
 FILE = re.compile(rf"[\w.-]+(?:/[\w.-]+)*\.(?:{SUFFIXES.replace(' ', '|')})|\w[\w.-]*(?:/[\w.-]+)*/")
+# a path from the top, also within a command
+FROM_TOP = re.compile(r"(?<![\w./-])(?:tools|bench|docs|examples|crates)/[\w./-]*\w")
+TEXTS = (".py", ".rt", ".antt", ".conf", ".service", ".yml", ".yaml", ".toml", ".js", ".html", ".c")
 # a word in capitals stands for any of a kind, as in `specs/BLOCK.antt`
-PLACEHOLDER = re.compile(r"\b(?:BLOCK|NAME|DIR|FILE)\b")
+PLACEHOLDER = re.compile(r"\b(?:BLOCK|NAME|DIR|FILE|CRATE)\b")
 LEFT_OUT = {".git", "out", "unlanded", "__pycache__", ".mypy_cache"}
 
 
@@ -55,6 +63,10 @@ class Document:
             elif not is_code:
                 yield line
 
+    @property
+    def name(self) -> str:
+        return str(self.path.relative_to(TOP)) if self.path.is_relative_to(TOP) else self.path.name
+
     def headings(self) -> set[str]:
         found = (re.fullmatch(r"#+ (.*)", line) for line in self.prose)
         return {it[1].replace("`", "").strip() for it in found if it}
@@ -69,6 +81,14 @@ class Document:
             for mark in MARK.findall(line):
                 if FILE.fullmatch(mark) and not PLACEHOLDER.search(mark) and not mark.startswith("out/"):
                     yield mark
+
+    def paths_in_commands(self) -> Iterator[str]:
+        """The paths from the top that stand within its commands."""
+        code = [line for line in self.lines if line not in self.prose]
+        for text in (*code, *(mark for line in self.prose for mark in MARK.findall(line) if " " in mark)):
+            for path in FROM_TOP.findall(text):
+                if "/out/" not in path and not PLACEHOLDER.search(path):
+                    yield path
 
     def rows(self) -> Iterator[tuple[tuple[str, ...], list[str]]]:
         """Each row of a table, with the heads of its columns behind the first one, which names the rows."""
@@ -104,6 +124,10 @@ def sections_of(document: Document) -> Iterator[tuple[pathlib.Path, str]]:
     text = "\n".join(document.prose)
     for link, mark, name, section in SECTION.findall(text):
         yield document.path.parent / link if link else TOP / (mark or f"{name}.md"), section
+    for section, link, mark in SECTION_OF.findall(text):
+        yield document.path.parent / link if link else TOP / mark, section
+    for section in OWN_SECTION.findall(text):
+        yield document.path, section.replace("`", "")
 
 
 def lost_sections(document: Document) -> Iterator[str]:
@@ -114,14 +138,18 @@ def lost_sections(document: Document) -> Iterator[str]:
             yield f'{file.name} has no section "{section}"'
 
 
-def differing_rows(every: list[Document]) -> Iterator[str]:
-    """Rows of one name that differ between tables of equal heads: both tell figures of one run."""
-    seen: dict[tuple[tuple[str, ...], str], tuple[Document, list[str]]] = {}
-    for document in every:
-        for heads, cells in document.rows():
-            if not any(re.search(r"\d", cell) for cell in cells[1:]):
-                continue
-            other, before = seen.setdefault((heads, cells[0]), (document, cells))
-            if before != cells and other is not document:
-                yield (f"{document.path.relative_to(TOP)}: {' | '.join(cells)}; "
-                       f"{other.path.relative_to(TOP)} has {' | '.join(before)}")
+def texts(top: pathlib.Path = TOP) -> list[pathlib.Path]:
+    """The texts of the repository that aren't documents or tests, of the kinds whose comments name one."""
+    return [top / path for path in sorted(paths(top)) if path.endswith(TEXTS) and "/tests/" not in path]
+
+
+def lost_in_text(path: pathlib.Path) -> Iterator[str]:
+    """The documents that a text names and that aren't there, and such sections of theirs."""
+    text = re.sub(r"\n\s*(?://[/!]?|--|#|\*)? ?", " ", path.read_text(encoding="utf-8"))
+    for found in NAMED.finditer(text):
+        file = next((it for it in (TOP / found[0], TOP / "docs" / found[0]) if it.exists()), None)
+        section = re.match(r',? "([A-Z][^"]+)"', text[found.end():])
+        if file is None:
+            yield f"{found[0]} isn't there"
+        elif section and section[1] not in Document(file).headings():
+            yield f'{found[0]} has no section "{section[1]}"'

@@ -28,7 +28,7 @@ DEFINED = (
 # A word in capitals stands for any of a kind, as in `specs/BLOCK.antt`.
 PLACEHOLDERS = ("BLOCK", "NAME")
 # Words of the command line, of HTTP and of the kit, which no crate here defines.
-OUTER = {"main", "xmllint", "src", "specs", "proofs", "text"}
+OUTER = {"main", "src", "specs", "proofs", "text"}
 
 
 class Crate:

@@ -6,7 +6,7 @@ import socket
 import tempfile
 import unittest
 
-from farmkit import calls, documents, measure, relay, repository, tapes, wanted, web
+from farmkit import calls, documents, figures, measure, relay, repository, tapes, wanted, web
 from farmkit.folder import Folder, drawn, extremes
 from farmkit.ledger import Ledger
 from farmkit.mapfiles import map_of, picture_of
@@ -141,19 +141,43 @@ class Documents(unittest.TestCase):
                          ["other.md#no: no such heading", "none.md isn't there"])
         self.assertEqual(list(documents.lost_sections(one)), ['other.md has no section "None"'])
 
+    def test_sections_of_the_document_itself(self) -> None:
+        one = self.document("one.md", '# Look\n\n("Look"), see "Replace", "Up" of [it](one.md)\n')
+        self.assertEqual(list(documents.lost_sections(one)),
+                         ['one.md has no section "Up"', 'one.md has no section "Replace"'])
+
+    def test_what_a_text_names(self) -> None:
+        text = self.top / "it.py"
+        text.write_text('# docs/LIMITS.md, "Limits", docs/LIMITS.md,\n# "No such thing", docs/NONE.md\n')
+        self.assertEqual(list(documents.lost_in_text(text)),
+                         ['docs/LIMITS.md has no section "No such thing"', "docs/NONE.md isn't there"])
+
     def test_files_in_code_marks(self) -> None:
         one = self.document("one.md", "`tools/x.py`, `x.py --all`, `specs/BLOCK.antt`, `three/`, "
                             "`/etc/x.conf`\n```\n`y.py`\n```\n")
         self.assertEqual(list(one.files()), ["tools/x.py", "three/"])
         self.assertEqual(documents.ends_of(iter(["a/b/c.py"])), {"a/b/c.py", "b/c.py", "c.py"})
 
+    def test_paths_in_commands(self) -> None:
+        one = self.document("one.md", "`python3 tools/x.py --all`, `/usr/share/wfarm/examples/y.map`\n```sh\n"
+                            "cp examples/z.conf /etc; crates/wfarm/out/wfarm\n```\n")
+        self.assertEqual(list(one.paths_in_commands()), ["examples/z.conf", "tools/x.py"])
+
     def test_rows_of_one_run_are_equal(self) -> None:
         tables = ["| | ours | theirs |\n|---|---|---|\n| tile | 1 | 2 |\n",
                   "| Times | ours | theirs |\n|---|---|---|\n| tile | 1 | 3 |\n"]
         every = [self.document(f"{number}.md", table) for number, table in enumerate(tables)]
-        for document in every:
-            document.path = repository.TOP / document.path.name
-        self.assertEqual(list(documents.differing_rows(every)), ["1.md: tile | 1 | 3; 0.md has tile | 1 | 2"])
+        self.assertEqual(list(figures.differing_rows(every)), ["1.md: tile | 1 | 3; 0.md has tile | 1 | 2"])
+
+    def test_names_with_a_version_are_equal(self) -> None:
+        every = [self.document("0.md", "`rattle-kit-1a`"), self.document("1.md", "the kit rattle-kit-1b")]
+        self.assertEqual(list(figures.differing_names(every)),
+                         ["1.md: rattle-kit-1b; another document has rattle-kit-1a"])
+
+    def test_limits_are_those_of_the_code(self) -> None:
+        row = "| What | At most |\n|---|---|\n| nodes | 65, fixed |\n"
+        self.assertIn("LIMITS.md, nodes: wf_ballot::NODES is 64",
+                      list(figures.differing_limits(self.document("LIMITS.md", row))))
 
 
 class Others(unittest.TestCase):

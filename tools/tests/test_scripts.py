@@ -61,6 +61,13 @@ class Help(unittest.TestCase):
                     self.assertEqual((status, error), (0, ""))
                     self.assertRegex(told, r"(?m)^[A-Z].*[a-z]")
 
+    def test_each_script_stands_in_a_page(self) -> None:
+        pages = {"tools": TOP / "CONTRIBUTING.md", "bench": TOP / "bench" / "README.md"}
+        for path in scripts():
+            if path.parent.name in pages and path.suffix:
+                with self.subTest(path):
+                    self.assertIn(path.name, pages[path.parent.name].read_text(encoding="utf-8"))
+
 
 class Gate(unittest.TestCase):
     def run_with(self, *programs: str) -> tuple[int, str]:
