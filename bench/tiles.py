@@ -24,7 +24,7 @@ import subprocess
 import sys
 import tempfile
 
-from farmkit.command import program_parser
+from farmkit.command import lacks, program_parser, tell_missing
 from farmkit.mapfiles import PIXMAP
 from farmkit.measure import tell, timed
 from farmkit.nginx import Nginx, whole
@@ -34,6 +34,7 @@ from farmkit.wanted import seconds_until
 from farmkit.web import exchange, loopback
 
 SPARE = 1_000_000
+MAPSERV = shutil.which("mapserv") or "/usr/lib/cgi-bin/mapserv"
 
 
 def ask(port, target, body=None):
@@ -117,13 +118,13 @@ def mapserver(it, room):
     (room / "served.map").write_text(text)
     (room / "ms.conf").write_text(f'CONFIG\n ENV\n  MS_MAP_PATTERN "."\n END\n MAPS\n  "served" '
                                   f'"{room}/served.map"\n END\nEND\n')
-    (port,), program = free_ports(1), shutil.which("mapserv") or "/usr/lib/cgi-bin/mapserv"
+    port, = free_ports(1)
     (room / "lighttpd.conf").write_text(
         f'server.modules = ("mod_fastcgi")\nserver.document-root = "{room}"\nserver.bind = '
         f'"127.0.0.1"\nserver.port = {port}\n'
         f'fastcgi.server = ("/wms" => (("socket" => "{room}/socket", "check-local" => "disable")))\n')
     environment = {**os.environ, "MAPSERVER_CONFIG_FILE": f"{room}/ms.conf"}
-    words = ["spawn-fcgi", "-n", "-s", f"{room}/socket", "-F", "1", "--", program]
+    words = ["spawn-fcgi", "-n", "-s", f"{room}/socket", "-F", "1", "--", MAPSERV]
     quiet = {"stdout": subprocess.DEVNULL, "stderr": subprocess.DEVNULL}
     running = [subprocess.Popen(words, env=environment, start_new_session=True, **quiet)]
     try:
@@ -188,10 +189,16 @@ def main():
     words.add_argument("--seconds", type=int, default=3, help="of each run of wrk (3)")
     words.add_argument("--alone", action="store_true", help="leaves the other servers out")
     given = words.parse_args()
+    lacking = [] if given.alone else lacks("lighttpd", "spawn-fcgi", "nginx")
+    if not given.alone and not os.access(MAPSERV, os.X_OK):
+        lacking.append("mapserv")
+    if lacking:
+        return tell_missing([*lacking, "or --alone"])
     print(f"milliseconds of an answer: median (mean); {os.cpu_count()} processors")
     for path in given.map:
         compare(given.program, Map(path), given.seconds, given.alone)
+    return 0
 
 
 if __name__ == "__main__":
-    main()
+    sys.exit(main())

@@ -23,7 +23,7 @@ TOP = HERE.parent
 OLDEST = (3, 11)
 VERSION = re.compile(r"\d+\.\d+")
 # tools that say whether what stands elsewhere is so
-CHECKS = (("links.py",), ("definitions.py", "--check"), ("crates.py", "--check"))
+CHECKS = (("links.py",), ("definitions.py", "--check"), ("crates.py", "--check"), ("columns.py", "--check"))
 LEFT_OUT = {".git", "out", "__pycache__", "unlanded"}
 
 

@@ -3,31 +3,19 @@
 address is resolved.
 
 Hosts are network namespaces on a bridge (`farmkit.hosts`), which loses what goes from one to another; this
-program reaches all of them all the while. Cases, all of them where none is named, each on new nodes, with 3
-and 5 nodes or as --nodes says, for 10, 60 and 300 seconds or as --seconds says:
+program reaches all of them all the while. Each case is tried on new nodes, 3 and 5 or as --nodes says, for
+10, 60 and 300 seconds or as --seconds says. Asked of each: within six seconds of the cut, and as long as the
+links are silent, `/votez`, `wfarm_peers_connected` and `wfarm_majority_connected` of every node say whom it
+hears (within seven in mute, deaf and ring: a peer's last word may come a second after the cut); `wfarmctl
+status` says `no majority` of the nodes that hear none; a publish that waits at node 0 is published within
+five seconds of the healing, or overtaken where another was published; by then all nodes have it, and hear one
+another; and no node ends by itself. Then each node publishes once more.
 
-    both    nothing goes anywhere
-    mute    what one node sends is lost
-    deaf    what is sent to one node is lost
-    each    nothing goes anywhere, and a publish waits at each node
-    away    a minority is cut off, both ways, and the others publish: `wfarmctl publish` goes to them
-    ring    each link between two nodes is silent one way, so that no reply arrives
-    last    nothing goes anywhere, and the publish that waits is for the last sequence, 4,096; once it is
-            published, so that nobody asks for another, no connection is dialed anew, and the links are silent
-            once more, for ten seconds
-
-Asked of each: within six seconds of the cut, and as long as the links are silent, `/votez`,
-`wfarm_peers_connected` and `wfarm_majority_connected` of every node say whom it hears (within seven in mute,
-deaf and ring: a peer's last word may come a second after the cut); `wfarmctl status` says `no majority` of
-the nodes that hear none; a publish that waits at node 0 is published within five seconds of the healing, or
-overtaken where another was published; by then all nodes have it, and hear one another; and no node ends by
-itself. Then each node publishes once more.
-
-A line for each, and a table at the end, in seconds: from the cut until the last node said whom it hears
-(fell), and from the healing until what waited was published, all had it, and all heard one another. Status 1
-where one didn't go as it should. Three farms at a time, or as --at-once says: 35 minutes. The seconds are the
-nodes' own where they get a processor at once; on a machine with other work --slack is added to each limit.
-Wants root, iproute2, nftables.
+A line for each, with seconds: from the cut until the last node said whom it hears (fell), and from the
+healing until what waited was published, all had it (level), and all heard one another. Status 1 where one
+didn't go as it should. Three farms at a time, or as --at-once says: 35 minutes. The seconds are the nodes'
+own where they get a processor at once; on a machine with other work --slack is added to each limit. Wants
+root, iproute2, nftables.
 """
 
 import concurrent.futures
@@ -39,9 +27,9 @@ import sys
 import tempfile
 import time
 
-from farmkit import hosts, processes
-from farmkit.command import add_cases, numbers, program_parser, tell_missing
-from farmkit.hosts import CLIENTS, OPERATOR, PEERS, addresses
+from farmkit import hosts
+from farmkit.command import add_cases, listed, numbers, program_parser, tell_missing
+from farmkit.hosts import HostedNode
 from farmkit.mapfiles import map_of
 from farmkit.nodes import NO_MAJORITY, VOTES
 from farmkit.tapes import MOST_MAPS, tape_of
@@ -53,19 +41,15 @@ HERE = pathlib.Path(__file__).resolve().parent
 HEALED, NOTICED, ONE_WAY, QUIET = 5, 6, 1, 12
 PATIENCE = 30
 AGAIN = 10
-TABLE = "{:<6} {:>5} {:>7} {:>8} {:>9} {:>7} {:>7}  {}"
 
 
 def until(is_so, seconds=PATIENCE):
     return seconds_until(is_so, seconds, 0.1)
 
 
-class Node(processes.Node):
-    def __init__(self, host, above, program, peers, tape):
-        self.host = host
-        super().__init__(program, host.number, above / host.name / "state", peers, host.at(CLIENTS),
-                         host.at(OPERATOR), before=host.before)
-        self.init("silent")
+class Node(HostedNode):
+    def __init__(self, host, above, program, hosts_of_all, tape):
+        super().__init__(host, above / host.name / "state", program, hosts_of_all, "silent")
         if tape is not None:
             shutil.copy(tape, self.tape)
 
@@ -91,8 +75,8 @@ class Farm:
     def __init__(self, options, count, network, folder, tape):
         self.options, self.folder, self.number = options, folder, 0
         self.network = hosts.Network(network, count)
-        peers = addresses(self.network.hosts, PEERS)
-        self.nodes = [Node(host, folder, options.program, peers, tape) for host in self.network.hosts]
+        every = self.network.hosts
+        self.nodes = [Node(host, folder, options.program, every, tape) for host in every]
         self.file = folder / "nodes"
         self.file.write_text("".join(f"{node.clients} {node.operator}\n" for node in self.nodes))
 
@@ -162,29 +146,46 @@ def links(ones, others):
 
 
 def both(nodes):
+    """nothing goes anywhere"""
     return links(nodes, nodes)
 
 
 def mute(nodes):
+    """what one node sends is lost"""
     return links(nodes[:1], nodes[1:])
 
 
 def deaf(nodes):
+    """what is sent to one node is lost"""
     return links(nodes[1:], nodes[:1])
 
 
+def each(nodes):
+    """nothing goes anywhere, and a publish waits at each node"""
+    return both(nodes)
+
+
 def away(nodes):
+    """a minority is cut off, both ways, and the others publish: `wfarmctl publish` goes to them"""
     few = (len(nodes) - 1) // 2
     return links(nodes[:few], nodes[few:]) + links(nodes[few:], nodes[:few])
 
 
 def ring(nodes):
+    """each link between two nodes is silent one way, so that no reply arrives"""
     count = len(nodes)
     return [(node, nodes[(at + step) % count]) for at, node in enumerate(nodes)
             for step in range(1, count // 2 + 1)]
 
 
-CASES = {"both": both, "mute": mute, "deaf": deaf, "each": both, "away": away, "ring": ring, "last": both}
+def last(nodes):
+    """nothing goes anywhere, and the publish that waits is for the last sequence, 4,096; once it is
+    published, so that nobody asks for another, no connection is dialed anew, and the links are silent once
+    more, for ten seconds"""
+    return both(nodes)
+
+
+CASES = {case.__name__: case for case in (both, mute, deaf, each, away, ring, last)}
 
 
 # ---- what is asked of each case
@@ -221,10 +222,8 @@ def healed(farm, waiting, ends):
                 seconds[name] = round(time.monotonic() - begun, 2)
         time.sleep(0.05)
     told = ", ".join(f"{name} {seconds.get(name, 'never')}" for name in looks)
-    want(f"after the healing at "
-         f"{time.strftime('%H:%M:%S', time.gmtime(time.time() - time.monotonic() + begun))}: {told} "
-         f"({PATIENCE} s looked), {[node.proposal() for node in waiting]}" , len(seconds) == len(looks)
-         and max(seconds.values()) <= HEALED + farm.options.slack)
+    want(f"after the healing, for {PATIENCE} s: {told}, {[node.proposal() for node in waiting]}",
+         len(seconds) == len(looks) and max(seconds.values()) <= HEALED + farm.options.slack)
     return seconds
 
 
@@ -262,11 +261,11 @@ def waits(farm, name, seconds):
         again = {"fell": silence(farm, silenced, AGAIN), **healed(farm, [], ends)}
         rest(farm)
         want("a further publish", farm.nodes[0].publish(farm.next())[0] == 409)
-        seen["words"] = f"when full: fell {again['fell']}, heard {again['heard']}"
+        seen["when full"] = f"fell {again['fell']}, heard {again['heard']}"
     else:
         for node in farm.nodes:
             farm.publish(node)
-        seen["words"] = ", ".join(states)
+        seen["ended as"] = ", ".join(states)
     return seen
 
 
@@ -277,7 +276,7 @@ def map_file(farm):
 
 
 def attempt(name, count, seconds, options, networks):
-    """What a case saw; under `wrong` what was wrong, and where the nodes' logs are then."""
+    """Tries a case, and prints what it saw, or what was wrong, and where the nodes' logs are then."""
     folder, network, farm = pathlib.Path(tempfile.mkdtemp(prefix="silent-")), networks.get(), None
     try:
         tape = options.tape if name == "last" else None
@@ -286,20 +285,20 @@ def attempt(name, count, seconds, options, networks):
         seen = waits(farm, name, seconds)
         ends = [node.last_line() for node in farm.nodes if node.ended() is not None]
         want(f"ended by themselves: {ends}", not ends)
+        shutil.rmtree(folder)
+        said = ", ".join(f"{what} {it}" for what, it in seen.items())
     except Wrong as wrong:
-        return {"wrong": f"{wrong}; the logs are in {folder}"}
+        said = f"FAILED: {wrong}; the logs are in {folder}"
     finally:
         if farm is not None:
             farm.stop()
         networks.put(network)
-    shutil.rmtree(folder)
-    return seen
+    print(f"{name}, {count} nodes, {seconds} s: {said}", flush=True)
+    return said.startswith("FAILED")
 
-
-# ---- the command line
 
 def options_of():
-    asked = program_parser(__doc__)
+    asked = program_parser(listed(__doc__, CASES.values()))
     asked.add_argument("--nodes", type=numbers, default=[3, 5],
                        help="how many, with commas between them (3,5)")
     asked.add_argument("--seconds", type=numbers, default=[10, 60, 300],
@@ -318,7 +317,7 @@ def main():
         return tell_missing(lacking)
     # the longest begin first
     rows = [(name, count, seconds) for seconds in sorted(options.seconds, reverse=True)
-            for count in options.nodes for name in CASES if not options.cases or name in options.cases]
+            for count in options.nodes for name in options.cases or CASES]
     networks = queue.SimpleQueue()
     for number in range(options.at_once):
         networks.put(options.network + number)
@@ -326,18 +325,7 @@ def main():
           concurrent.futures.ThreadPoolExecutor(options.at_once) as pool):
         options.tape = pathlib.Path(folder) / "tape"
         tape_of(options.program, options.tape, MOST_MAPS - 1, 0)
-        attempts = {pool.submit(attempt, *row, options, networks): row for row in rows}
-        seen = {}
-        for done in concurrent.futures.as_completed(attempts):
-            row = attempts[done]
-            seen[row] = done.result()
-            said = f"FAILED: {seen[row]['wrong']}" if "wrong" in seen[row] else "as it should"
-            print(f"{row[0]}, {row[1]} nodes, {row[2]} s: {said}", flush=True)
-    print(TABLE.format("case", "nodes", "silent", "fell", "published", "level", "heard", ""))
-    for row in sorted(rows, key=lambda row: (row[1], list(CASES).index(row[0]), row[2])):
-        told = [seen[row].get(key, "-") for key in ("fell", "published", "level", "heard")]
-        print(TABLE.format(row[0], row[1], row[2], *told, seen[row].get("words", "FAILED")))
-    wrong = sum("wrong" in each for each in seen.values())
+        wrong = sum(pool.map(lambda row: attempt(*row, options, networks), rows))
     print(f"{wrong} wrong of {len(rows)}")
     return int(bool(wrong))
 

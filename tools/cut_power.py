@@ -1,11 +1,11 @@
 #!/usr/bin/env python3
-"""Traces what the built program's `serve` writes to its folder, and cuts its power again and again.
+"""Kills the built program and cuts its power, again and again, and looks at what its folder has then.
 
-SIGKILL ends a program and not the machine: what it has written and not synced is still there
-(`tools/kill_nodes.py`). Here it may be lost. Three parts:
+SIGKILL ends a program and not the machine: what it has written and not synced is still there. After a power
+cut it may be lost. Parts, all of them where none is named:
 
-Order. Starts on a new folder, on one with tapes and on one with a torn record, and publishes, are traced
-(strace). Judged is that
+order: starts of `serve` on a new folder, on one with tapes and on one with a torn record, and publishes, are
+traced (strace). Judged is that
 - what is written to a file is synced before another file is written, and before a byte goes to a client or
   the standard output;
 - a file is renamed only once it is made or emptied, written and synced, in that order; and the folder is
@@ -14,27 +14,38 @@ Order. Starts on a new folder, on one with tapes and on one with a torn record, 
 - what a node reports as published is among the synced records of its tape, and a majority's synced tapes hold
   a vote for it.
 
-Cuts in a model. The program is killed at the nth call of one kind, while it starts or later. The calls of its
-trace are done again to a model of the folder (`farmkit.folder`), which says what POSIX lets a power cut
-leave: of unsynced bytes any beginning, of each name that was made or renamed since the folder was synced the
-new or the old. The tapes are compared in five such folders: all and none of the unsynced names, with all and
-none of the unsynced bytes, and one at random, on which the program is started again.
+kills: `serve` is killed at random moments, one in eight times while it starts; before one in four the
+beginning of a record is added to a tape, as a machine leaves it that stops in the middle of a write.
 
-Cuts of a device. The folder is on an ext4, and that on a device (`farmkit.device`) whose power goes off at
-some write or flush: what was written and not flushed is kept, lost, or kept in part. ext4 recovers, and the
-program is started again. This part is left out where mounting isn't permitted. ext4 syncs more than it has
-to: whatever file is synced, all earlier renames are. So a folder that isn't synced behind a rename is found
-by the other two parts alone.
+model: it is killed at the nth call of one kind, while it starts or later. The calls of its trace are done
+again to a model of the folder (`farmkit.folder`), which says what POSIX lets a power cut leave: of unsynced
+bytes any beginning, of each name that was made or renamed since the folder was synced the new or the old. The
+tapes are compared in five such folders: all and none of the unsynced names, with all and none of the unsynced
+bytes, and one at random, on which the program is started again.
 
-In both kinds of cuts a client publishes to three nodes and reads from each, and one run in six is killed
-without a cut, so that the next one finds bytes and names that aren't synced. Compared is all that
-`tools/kill_nodes.py` compares: no sequence has two maps, two pictures or two capabilities; a node's published
-sequence never goes back; what a node reported as published stays.
+device: the folder is on an ext4, and that on a device (`farmkit.device`) whose power goes off at some write
+or flush: what was written and not flushed is kept, lost, or kept in part. ext4 recovers, and the program is
+started again. Left out where mounting isn't permitted. ext4 syncs more than it has to: whatever file is
+synced, all earlier renames are. So a folder that isn't synced behind a rename is found by `order` and `model`
+alone.
 
-200 cuts of each kind in T seconds (default 900) at most; fewer than N in that time is an error. A line for
-each part, one for each violation, and their number at the end; status 1 where there is one. Wants Linux and
-strace. With --without the first two parts count syncs of one kind as not made, to show that a program without
-them would be found.
+In these three a client publishes to three nodes and reads from each; in two of them one run in six is killed
+without a cut, so that the next one finds bytes and names that aren't synced. Compared is that
+- no sequence has two maps, pictures or capabilities, whenever and from whichever node they come, and each is
+  of a map that was sent;
+- a node's published sequence (`/status`) never goes back;
+- what a node reports as published stays, and is on its tape after each kill or cut.
+
+starts: `init`, `node` and `clear` are traced once, and then killed at each of their calls that changes or
+syncs a file. On five folders that a power cut there may leave, as above, the node is started:
+- after a cut of `init` it is served, or there is no file `farm` yet: the folder is not a node's;
+- after a cut of a start or of `clear` it is served, and has published no less than before;
+- after a cut of a start the file `farm` counts as many starts as before, or one more.
+
+600 kills, 200 cuts of each kind, each part in T seconds (default 900) at most; fewer in that time is an
+error. A line for each part, one for each violation, and their number at the end; status 1 where there is one.
+Wants Linux and, but for `kills`, strace. With --without `order`, `model` and `starts` count syncs of one kind
+as not made, to show that a program without them would be found.
 """
 
 import collections
@@ -49,23 +60,29 @@ import tempfile
 import threading
 import time
 
-from farmkit.calls import Unfollowed, Watcher, follow, traced
-from farmkit.command import lacks, program_parser, tell_missing
+from farmkit import ledger
+from farmkit.calls import Follower, Unfollowed, Watcher, calls, follow, traced
+from farmkit.command import add_cases, lacks, program_parser, tell_missing
 from farmkit.device import Machine, formatted, is_permitted
 from farmkit.folder import Folder, drawn, everything, extremes, nothing
 from farmkit.ledger import MOST_VIOLATIONS
-from farmkit.processes import STATUS, serve_words
-from farmkit.tapes import ACCEPTED, PUBLISHED, records
-from farmkit.web import Unanswered
-from kill_nodes import CONNECTIONS, NODES, Ledger, Publisher, check_again, tear
+from farmkit.mapfiles import PIXEL, map_of, picture_of
+from farmkit.processes import STATUS, Farm, end, free_ports, serve_words
+from farmkit.tapes import ACCEPTED, PUBLISHED, record, records, tape_of
+from farmkit.web import CAPABILITIES, Unanswered, exchange, loopback
 
-MOST_SEQUENCES = 20
-# how long a run may take to reach the call that it is cut at
-RUN_SECONDS = 2.5
+NODES = 3
+CONNECTIONS = 1_000_000
+# how long a run may take to reach the call that it is cut at; a start until it serves
+RUN_SECONDS, START_SECONDS = 2.5, 20
 DEVICE_BYTES = 16 << 20
+CUT_AT = ("openat", "write", "fsync", "rename")
+NOT_A_NODES = "bad folder: not a node's folder: wfarm init makes one"
+OPENED = re.compile(r"opened node=0 published=([0-9]+)")
+STARTS = re.compile(rb"^starts ([0-9a-f]{8})$", re.MULTILINE)
 
 
-def tape_of(node):
+def tape_name(node):
     return f"node-{node}.tape"
 
 
@@ -80,6 +97,10 @@ def put(path, files):
         (pathlib.Path(path) / name).write_bytes(content)
 
 
+def is_unsynced(folder):
+    return folder.changes != [] or any(file.changes for file in folder.names.values())
+
+
 class Violations(collections.Counter):
     """The violations of one part, and how often each was seen. The first of each are printed."""
 
@@ -92,10 +113,159 @@ class Violations(collections.Counter):
         return self.total() >= MOST_VIOLATIONS
 
 
-class Compared(Ledger):
+class Ledger(ledger.Ledger):
+    """What a farm has told so far, and which of its answers contradict that."""
+
+    def __init__(self, violations):
+        super().__init__(sent=set())
+        self.violations = violations
+
     def violation(self, words):
         self.violations.add(words if len(words) < 160 else words[:160] + " ..")
 
+    @property
+    def told(self):
+        """The highest published sequence that each node told."""
+        return [self.most[f"node {node}"] for node in range(NODES)]
+
+    @property
+    def texts(self):
+        return self.kept["the text on the tapes at"]
+
+    def status(self, answer, node, proposed=None):
+        line = STATUS.fullmatch(answer.body)
+        if answer.status != 200 or not line or int(line[1]) != node:
+            return self.violation(f"/status of node {node}: {answer}")
+        sequence = int(line[2])
+        self.published(f"node {node}", sequence)
+        if proposed is not None and line[3] == b"published %d" % sequence:
+            self.counts["published"] += 1
+            self.same("the map published at", sequence, picture_of(proposed))
+            self.same("the picture at", sequence, picture_of(proposed))
+
+    def capabilities(self, answer):
+        if answer.status != 200:
+            return self.violation(f"capabilities: {answer}")
+        self.document(answer.body)
+
+    def tapes(self, folder):
+        """Compares what the tapes hold with what they held, and with what their nodes told."""
+        for node in range(NODES):
+            path = pathlib.Path(folder) / tape_name(node)
+            found, torn = records(path.read_bytes() if path.exists() else b"")
+            self.counts["torn"] += torn
+            here = {int.from_bytes(body[:2], "big"): body[2:] for kind, body in found if kind == PUBLISHED}
+            for sequence, text in here.items():
+                self.same("the text on the tapes at", sequence, text)
+            if sorted(here) != list(range(1, len(here) + 1)) or len(here) < self.told[node]:
+                self.violation(f"node {node} told {self.told[node]} as published, "
+                               f"its tape has {len(here)}: {sorted(here)[-3:]}")
+
+
+class Client:
+    """A client of one run of the program: publishes maps of about so many bytes, one of these, and reads."""
+
+    def __init__(self, ledger, port, draw, numbers, lengths=(0, 0, 0, 0, 0, 1_000)):
+        self.ledger, self.address, self.draw, self.numbers = ledger, loopback(port), draw, numbers
+        self.lengths, self.connections = lengths, 0
+
+    def ask(self, path, body=None):
+        """The node whose turn it is, and its answer."""
+        node = self.connections % NODES
+        answer = exchange(self.address, path, body)
+        self.connections += 1
+        return node, answer
+
+    def look(self, pictures):
+        """Asks each node for its status and capabilities, and for some of the pictures it published."""
+        for _ in range(NODES):
+            node, answer = self.ask("/status")
+            self.ledger.status(answer, node)
+        for _ in range(NODES):
+            self.ledger.capabilities(self.ask(CAPABILITIES)[1])
+        for _ in range(pictures):
+            most = self.ledger.told[self.connections % NODES]
+            if most:
+                sequence = self.draw.choice((most, self.draw.randint(1, most)))
+                self.ledger.picture(sequence, self.ask(PIXEL % sequence)[1])
+            else:
+                self.ask("/status")
+
+    def publish(self):
+        number = next(self.numbers)
+        self.ledger.sent.add(picture_of(number))
+        self.ledger.counts["sent"] += 1
+        node, (status, _) = self.ask("/publish", map_of(number, self.draw.choice(self.lengths)))
+        if status != 202:
+            return status
+        self.ledger.counts["accepted"] += 1
+        while self.connections % NODES != node:
+            self.ledger.status(self.ask("/status")[1], (self.connections - 1) % NODES)
+        self.ledger.status(self.ask("/status")[1], node, number)
+        return status
+
+    def use(self, run):
+        """Publishes and reads until the program is killed."""
+        try:
+            self.look(6)
+            run.looked()
+            while (status := self.publish()) in (202, 409):
+                if self.draw.random() < 1 / 4:
+                    self.look(3)
+            self.ledger.violation(f"a publish was answered with {status}")
+        except Unanswered:
+            pass
+        except TimeoutError:
+            self.ledger.violation("no answer in 30 seconds")
+
+
+class Run:
+    """One run of the program, from its start to its kill, so many seconds after its first answers or its
+    start; `begun` is given its process."""
+
+    def __init__(self, words, seconds, begun=None, is_late=False):
+        self.process = subprocess.Popen(words, stdout=subprocess.PIPE, stderr=subprocess.DEVNULL, text=True)
+        if begun is not None:
+            begun(self.process)
+        listening = re.fullmatch(r"listening ([0-9]+)\n", self.process.stdout.readline())
+        self.port = listening and int(listening[1])
+        self.timer, self.is_late = threading.Timer(seconds, self.process.kill), is_late
+        if not is_late:
+            self.timer.start()
+
+    def looked(self):
+        if self.is_late:
+            self.timer.start()
+
+    def end(self):
+        self.timer.cancel()
+        self.process.kill()
+        self.process.stdout.close()
+        return self.process.wait() == -signal.SIGKILL
+
+
+def new_folder(above):
+    """An empty folder that is there after a power cut."""
+    path = os.path.join(os.path.realpath(above), "state")
+    os.mkdir(path)
+    handle = os.open(above, os.O_RDONLY)
+    os.fsync(handle)
+    os.close(handle)
+    return path
+
+
+def tear(folder, draw):
+    """Adds a beginning of a record to a tape, as a machine leaves it that stops in a write."""
+    path = pathlib.Path(folder) / tape_name(draw.randrange(NODES))
+    found, torn = records(path.read_bytes() if path.exists() else b"")
+    if found and not torn:
+        kind, body = draw.choice(found)
+        whole = record(kind, body)
+        with path.open("ab") as rest:
+            rest.write(whole[:draw.randrange(1, len(whole))])
+
+
+# ---- the order of calls
 
 class Judge(Watcher):
     """Whether the calls of one run come in order."""
@@ -154,8 +324,9 @@ class Judge(Watcher):
 
     def reported(self, node, sequence):
         self.counts["reports"] += 1
-        tapes = [records(self.folder.synced[tape_of(it)].synced)[0] if tape_of(it) in self.folder.synced
-                 else [] for it in range(NODES)]
+        synced = self.folder.synced
+        tapes = [records(synced[name].synced)[0] if name in synced else []
+                 for name in map(tape_name, range(NODES))]
         own = {int.from_bytes(body[:2], "big") for kind, body in tapes[node] if kind == PUBLISHED}
         if not own.issuperset(range(1, sequence + 1)):
             self.violations.add(f"node {node} reports what its synced tape doesn't hold")
@@ -165,88 +336,73 @@ class Judge(Watcher):
             self.violations.add(f"node {node} reports what no majority's synced tapes hold")
 
 
-class Client(Publisher):
-    """A client whose maps are small, so that the tapes of many starts are too."""
-
-    lengths = (0, 0, 0, 0, 0, 1_000)
-
-
-class Run:
-    """One run of the program, from its start to its kill; `begun` is given its process."""
-
-    def __init__(self, words, seconds, begun=None):
-        self.process = subprocess.Popen(words, stdout=subprocess.PIPE, stderr=subprocess.DEVNULL, text=True)
-        if begun is not None:
-            begun(self.process)
-        listening = re.fullmatch(r"listening ([0-9]+)\n", self.process.stdout.readline())
-        self.port = listening and int(listening[1])
-        self.timer = threading.Timer(seconds, self.process.kill)
-        self.timer.start()
-
-    def end(self):
-        self.timer.cancel()
-        self.process.kill()
-        self.process.stdout.close()
-        return self.process.wait() == -signal.SIGKILL
-
-
-def new_folder(above):
-    """An empty folder that is there after a power cut."""
-    path = os.path.join(os.path.realpath(above), "state")
-    os.mkdir(path)
-    handle = os.open(above, os.O_RDONLY)
-    os.fsync(handle)
-    os.close(handle)
-    return path
-
-
-def judge_run(program, path, given, ledger, counts, draw, numbers):
+def judge_run(path, given, ledger, counts, draw, numbers):
     """Traces a start, some publishes and answers, and judges their calls. How many calls were seen."""
-    folder = Folder(contents(path))
-    trace = f"{path}.trace"
-    run = Run(traced(serve_words(program, CONNECTIONS, path), trace), 60)
+    folder, trace = Folder(contents(path)), f"{path}.trace"
+    run = Run(traced(serve_words(given.program, CONNECTIONS, path), trace), 60)
     if run.port:
-        publisher = Client(ledger, run.port, draw, numbers)
-        publisher.look(2)
+        client = Client(ledger, run.port, draw, numbers)
+        client.look(2)
         for _ in range(8):
-            publisher.publish()
-        publisher.look(6)
+            client.publish()
+        client.look(6)
     else:
         ledger.violation("the program didn't start")
     run.end()
     return follow(trace, path, folder, Judge(folder, ledger.violations, counts), given.without)
 
 
-def judge_calls(program, given, draw, numbers):
-    """Traces three starts: on a new folder, on one with tapes, on one with a torn record."""
-    violations, counts = Violations(), collections.Counter()
-    ledger = Compared(violations)
+def order(given, draw, numbers):
+    violations, counts, seen = Violations(), collections.Counter(), 0
+    ledger = Ledger(violations)
     with tempfile.TemporaryDirectory(dir=given.folder) as above:
         path = new_folder(above)
-        seen = 0
         for begins in range(3):
             if begins == 2:
                 tear(path, draw)
-            seen += judge_run(program, path, given, ledger, counts, draw, numbers)
+            seen += judge_run(path, given, ledger, counts, draw, numbers)
     if not counts["reports"]:
         violations.add("no answer is in the traces: the program sends them by a call that isn't followed")
     print(f"order: {seen} calls of 3 starts and {ledger.counts['sent']} publishes: {counts['appended']} "
-          f"appends to tapes, {counts['synced']} "
-          f"syncs of new bytes, {counts['renamed']} renames, {counts['folders']} syncs of the folder, "
-          f"{counts['sent']} times bytes sent, "
-          f"{counts['reports']} statuses; {violations.total()} violations", flush=True)
+          f"appends to tapes, {counts['synced']} syncs of new bytes, {counts['renamed']} renames, "
+          f"{counts['folders']} syncs of the folder, {counts['sent']} times bytes sent, {counts['reports']} "
+          f"statuses; {violations.total()} violations", flush=True)
     return violations.total()
 
 
-class Modelled:
-    """A folder, with a model of what its disk holds. A run is cut at a system call."""
+# ---- kills and cuts of `serve`
 
-    name = "cuts in a model"
+class Killed:
+    """A folder whose program is killed, at random moments and without a cut."""
+
+    name, lengths, most_sequences, cuts = "kills", (0, 0, 0, 4_000, 4_000, 29_000), 600, False
 
     def __init__(self, above, given, done):
-        self.path, self.without, self.done = new_folder(above), given.without, done
-        self.trace = f"{self.path}.trace"
-        self.folder = Folder({})
+        self.path, self.given, self.done = new_folder(above), given, done
+
+    def start(self, draw, _):
+        if draw.random() < 1 / 4:
+            tear(self.path, draw)
+        seconds = draw.uniform(0, 0.02)
+        is_early = draw.random() < 1 / 8
+        return Run(serve_words(self.given.program, CONNECTIONS, self.path), draw.uniform(0, 0.04),
+                   lambda process: is_early and threading.Timer(seconds, process.kill).start(), is_late=True)
+
+    def ended(self):
+        """Its program has ended."""
+
+    def close(self):
+        """It isn't used any more."""
+
+
+class Modelled(Killed):
+    """A folder with a model of what its disk holds. A run is cut at a system call."""
+
+    name, lengths, most_sequences, cuts = "cuts in a model", (0, 0, 0, 0, 0, 1_000), 20, True
+
+    def __init__(self, above, given, done):
+        super().__init__(above, given, done)
+        self.trace, self.folder = f"{self.path}.trace", Folder({})
 
     def drawn_cut(self, draw):
         """At which call a run is cut: one of three while the program starts, mostly."""
@@ -256,17 +412,16 @@ class Modelled:
         return draw.choice((("fsync", draw.randint(13, 80)), ("fsync", draw.randint(13, 80)),
                             ("sendto,sendmsg", draw.randint(1, 75))))
 
-    def start(self, program, draw, _):
-        return Run(traced(serve_words(program, CONNECTIONS, self.path), self.trace, self.drawn_cut(draw)),
-                   RUN_SECONDS)
+    def start(self, draw, _):
+        return Run(traced(serve_words(self.given.program, CONNECTIONS, self.path), self.trace,
+                          self.drawn_cut(draw)), RUN_SECONDS)
 
     def ended(self):
-        self.done["calls"] += follow(self.trace, self.path, self.folder, Watcher(), self.without)
+        follow(self.trace, self.path, self.folder, Watcher(), self.given.without)
 
     def cut(self, ledger, draw):
         """Compares the tapes as power cuts may leave them, and makes the folder one of these."""
-        self.done["unsynced"] += self.folder.changes != [] or any(file.changes
-                                                                  for file in self.folder.names.values())
+        self.done["unsynced"] += is_unsynced(self.folder)
         left = drawn(self.folder, draw)
         for files in (*extremes(self.folder), left):
             put(self.path, files)
@@ -274,27 +429,25 @@ class Modelled:
             self.done["folders"] += 1
         self.folder = Folder(left)
 
-    def close(self):
-        pass
 
-
-class OnDevice:
+class OnDevice(Modelled):
     """A folder on an ext4 of its own. A run is cut at a write to the device, or a flush of it."""
 
     name = "cuts of a device"
 
-    def __init__(self, above, _, done):
-        self.above, self.done = above, done
+    def __init__(self, above, given, done):
+        self.above, self.given, self.done = above, given, done
         self.machine = Machine(above, formatted(DEVICE_BYTES, above))
         self.path = new_folder(str(self.machine.folder))
 
-    def start(self, program, draw, is_cut):
+    def start(self, draw, is_cut):
         count = draw.choice((draw.randint(0, 50), draw.randint(50, 300), draw.randint(50, 300)))
-        return Run(serve_words(program, CONNECTIONS, self.path), RUN_SECONDS if is_cut else draw.random(),
+        return Run(serve_words(self.given.program, CONNECTIONS, self.path),
+                   RUN_SECONDS if is_cut else draw.random(),
                    lambda process: self.machine.disk.cut_at(count, process.kill) if is_cut else None)
 
     def ended(self):
-        pass
+        """Its program has ended."""
 
     def cut(self, ledger, draw):
         """Drops writes that weren't flushed, and lets ext4 recover."""
@@ -312,28 +465,13 @@ class OnDevice:
         self.machine.stop()
 
 
-def use(run, ledger, draw, numbers):
-    """Publishes and reads until the program is killed."""
-    publisher = Client(ledger, run.port, draw, numbers)
-    try:
-        publisher.look(6)
-        while (status := publisher.publish()) in (202, 409):
-            if draw.random() < 1 / 4:
-                publisher.look(3)
-        ledger.violation(f"a publish was answered with {status}")
-    except Unanswered:
-        pass
-    except TimeoutError:
-        ledger.violation("no answer in 30 seconds")
-
-
-def run_once(program, store, ledger, draw, numbers, done):
+def run_once(store, ledger, draw, numbers, done):
     """One run to its kill, and mostly a power cut."""
-    is_cut = draw.random() >= 1 / 6
-    run = store.start(program, draw, is_cut)
+    is_cut = store.cuts and draw.random() >= 1 / 6
+    run = store.start(draw, is_cut)
     try:
         if run.port:
-            use(run, ledger, draw, numbers)
+            Client(ledger, run.port, draw, numbers, store.lengths).use(run)
         else:
             done["starting"] += 1
     finally:
@@ -347,49 +485,65 @@ def run_once(program, store, ledger, draw, numbers, done):
     done["cuts" if is_cut else "kills"] += 1
 
 
-def cut_one_folder(program, store, draw, numbers, ledger, is_going_on, done):
+def check_again(program, folder, ledger, draw, numbers):
+    """A start that isn't killed: every sequence that was told, from the nodes in turn."""
+    farm = Farm(program, CONNECTIONS, folder)
+    try:
+        client = Client(ledger, farm.port, draw, numbers)
+        client.look(0)
+        for sequence in range(1, min(ledger.told) + 1):
+            ledger.picture(sequence, client.ask(PIXEL % sequence)[1])
+    finally:
+        farm.kill()
+        ledger.tapes(folder)
+
+
+def use_one_folder(store, draw, numbers, ledger, is_going_on, done):
     """Runs, kills and cuts on one folder, until it has enough sequences."""
     try:
-        while is_going_on() and max(ledger.told) < MOST_SEQUENCES:
-            run_once(program, store, ledger, draw, numbers, done)
-        check_again(program, store.path, ledger, draw, numbers)
+        while is_going_on() and max(ledger.told) < store.most_sequences:
+            run_once(store, ledger, draw, numbers, done)
+        check_again(store.given.program, store.path, ledger, draw, numbers)
     except AssertionError as begun:
         ledger.violation(f"the program didn't start, and wrote {begun!s:.200}")
     finally:
         store.close()
 
 
-def cut_often(kind, program, given, draw, numbers):
-    """Cuts until there are enough, the time is over, or too much is wrong. How many violations."""
+def again_and_again(kind, given, draw, numbers):
+    """Until there are enough, the time is over, or too much is wrong. How many violations."""
     violations, done, ledgers = Violations(), collections.Counter(), []
     until = time.monotonic() + given.seconds
+    what, wanted = ("cuts", given.cuts) if kind.cuts else ("kills", given.kills)
 
     def is_going_on():
-        return done["cuts"] < given.cuts and time.monotonic() < until and not violations.are_many()
+        return done[what] < wanted and time.monotonic() < until and not violations.are_many()
 
     while is_going_on():
         with tempfile.TemporaryDirectory(dir=given.folder) as above:
-            ledgers.append(Compared(violations))
-            cut_one_folder(program, kind(above, given, done), draw, numbers, ledgers[-1], is_going_on, done)
-    if done["cuts"] < given.cuts and not violations:
-        violations.add("too few cuts")
+            ledgers.append(Ledger(violations))
+            use_one_folder(kind(above, given, done), draw, numbers, ledgers[-1], is_going_on, done)
+    if done[what] < wanted and not violations:
+        violations.add(f"too few {what}")
     counts = sum((ledger.counts for ledger in ledgers), collections.Counter())
-    print(f"{kind.name}: {done['cuts']} (of {given.cuts}) and {done['kills']} kills alone, "
-          f"{done['starting']} of them while starting, "
-          f"{done['unsynced']} cuts with something unsynced; {done['folders']} folders compared; "
-          f"{counts['sent']} maps sent, "
+    print(f"{kind.name}: {done['cuts']} cuts, {done['unsynced']} of them with something unsynced, "
+          f"{done['kills']} kills alone, {done['starting']} runs ended while starting; {done['folders']} "
+          f"folders compared, {counts['torn']} torn records seen; {counts['sent']} maps sent, "
           f"{counts['accepted']} answered 202, {counts['published']} reported as published by their node, "
-          f"{sum(len(it.texts) for it in ledgers)} "
-          f"sequences; {counts['answers']} answers and texts compared; {violations.total()} violations",
-          flush=True)
+          f"{sum(len(it.texts) for it in ledgers)} sequences; {counts['answers']} answers and texts "
+          f"compared; {violations.total()} violations", flush=True)
     return violations.total()
 
 
-def cut_model(*given):
-    return cut_often(Modelled, *given)
+def kills(*given):
+    return again_and_again(Killed, *given)
 
 
-def cut_device(program, given, *more):
+def model(*given):
+    return again_and_again(Modelled, *given)
+
+
+def device(given, *more):
     """Cuts on a device, where one may be made, and the program's own syncs count."""
     if given.without is not None:
         return 0
@@ -398,33 +552,147 @@ def cut_device(program, given, *more):
             print("cuts of a device: skipped, they want root, /dev/fuse, a loop device, losetup and "
                   "mkfs.ext4")
             return 0
-    return cut_often(OnDevice, program, given, *more)
+    return again_and_again(OnDevice, given, *more)
+
+
+# ---- cuts of `init`, `node` and `clear`
+
+class StartFollower(Follower):
+    """Follows a command that makes its folder, where that is there already."""
+
+    def refuse(self, call):
+        if call.name not in ("mkdir", "mkdirat") or call.result == 0:
+            super().refuse(call)
+
+
+class Single:
+    """A folder of a node of a farm of one, and the addresses of that node."""
+
+    def __init__(self, given, above):
+        self.given, self.path = given, new_folder(above)
+        self.trace = f"{self.path}.trace"
+        self.peers, self.http = map(loopback, free_ports(2))
+
+    def words(self, command):
+        more = {"init": ["--id", "0", "--nodes", "1", "--farm", "trial"], "clear": [],
+                "node": ["--peers", self.peers, "--http", self.http, "--log"]}
+        return [self.given.program, command, "--state", self.path, *more[command]]
+
+    def run(self, command, cut=None):
+        """Runs a command under strace up to its end, the cut or its service: the folder as it left it."""
+        folder = Folder(contents(self.path))
+        served(traced(self.words(command), self.trace, cut))
+        follower = StartFollower(self.path, folder, Watcher(), self.given.without)
+        counts = collections.Counter()
+        for call in calls(self.trace):
+            follower.follow(call)
+            counts[call.name] += 1
+        follower.end()
+        return folder, counts
+
+    def begin(self):
+        """What its folder has once some maps are published; how many."""
+        subprocess.run(self.words("init"), check=True, capture_output=True)
+        tape_of(self.given.program, pathlib.Path(self.path) / tape_name(0), 3)
+        served(self.words("node"))
+        used = contents(self.path)
+        return used, sum(kind == PUBLISHED for kind, _ in records(used[tape_name(0)])[0])
+
+
+def served(words):
+    """How much a node has published once it is served, when it is killed; else its last line."""
+    process = subprocess.Popen(words, stdout=subprocess.DEVNULL, stderr=subprocess.PIPE, text=True)
+    last, until = "", time.monotonic() + START_SECONDS
+    for line in process.stderr:
+        last = line.strip() or last
+        if found := OPENED.search(line):
+            last = int(found[1])
+        if found or time.monotonic() > until:
+            break
+    end(process)
+    process.stderr.close()
+    return last
+
+
+def starts_in(files):
+    found = STARTS.search(files.get("farm", b""))
+    return found and int(found[1], 16)
+
+
+def judge(command, before, files, said, published):
+    """What is wrong with what the node said on a folder that a cut left; None if nothing is."""
+    if command == "init":
+        right = said == 0 if "farm" in files else said == NOT_A_NODES
+        return None if right else f"a folder with {sorted(files)} is answered with: {said}"
+    if not isinstance(said, int):
+        return f"the node isn't served: {said}"
+    if said < published:
+        return f"{published} were published, and {said} are left"
+    counted = starts_in(files)
+    if command == "node" and counted not in (before, before + 1):
+        return f"{before} starts were counted, and then {counted}"
+    return None
+
+
+def cut_command(single, command, files, published, draw):
+    """Cuts a command at each of its calls, or some. How many violations."""
+    put(single.path, files)
+    _, counts = single.run(command)
+    done, violations, most = collections.Counter(), Violations(), single.given.cuts
+    cuts = [(kind, index) for kind in CUT_AT for index in range(1, counts[kind] + 1)]
+    for kind, index in cuts if len(cuts) <= most else draw.sample(cuts, most):
+        put(single.path, files)
+        folder, _ = single.run(command, (kind, index))
+        done["cuts"] += 1
+        done["unsynced"] += is_unsynced(folder)
+        for left in (*extremes(folder), drawn(folder, draw)):
+            put(single.path, left)
+            said = served(single.words("node"))
+            done["folders"] += 1
+            if why := judge(command, starts_in(files), left, said, published):
+                violations.add(f"{command}, cut at {kind} {index}: {why}")
+    print(f"starts, {command}: {done['cuts']} cuts, {done['unsynced']} of them with something unsynced, "
+          f"{done['folders']} folders started on; {violations.total()} violations", flush=True)
+    return violations.total()
+
+
+def starts(given, draw, _):
+    with tempfile.TemporaryDirectory(dir=given.folder) as above:
+        single = Single(given, above)
+        used, published = single.begin()
+        return sum(cut_command(single, command, files, published, draw)
+                   for command, files in (("init", {}), ("node", used), ("clear", used)))
+
+
+PARTS = {part.__name__: part for part in (order, kills, model, device, starts)}
 
 
 def words():
     asked = program_parser(__doc__)
-    asked.add_argument("--cuts", type=int, default=200, metavar="N", help="of each kind (200)")
+    asked.add_argument("--kills", type=int, default=600, metavar="N", help="(600)")
+    asked.add_argument("--cuts", type=int, default=200, metavar="N",
+                       help="of each kind, or of each command at most (200)")
     asked.add_argument("--seed", type=int, default=1, metavar="S")
     asked.add_argument("--seconds", type=int, default=900, metavar="T", help="for each part, at most (900)")
     asked.add_argument("--without", choices=("own", "second", "folder"),
                        help="counts these syncs as left out: of a tape, of its second file before a rename, "
                        "of the folder behind one; each has to be found")
     asked.add_argument("--folder", metavar="DIR",
-                       help="where the tapes are (default: that of temporary files)")
+                       help="where the folders are (default: that of temporary files)")
+    add_cases(asked, PARTS, "PART")
     return asked.parse_args()
 
 
 def main():
     given = words()
-    if lacks("strace"):
+    chosen = given.cases or list(PARTS)
+    if chosen != ["kills"] and lacks("strace"):
         return tell_missing(["strace"])
-    program = given.program
-    draw = random.Random(given.seed)
-    numbers = iter(range(1, 1 << 24))
+    draw, numbers = random.Random(given.seed), iter(range(1, 1 << 24))
     violations = 0
-    for part in (judge_calls, cut_model, cut_device):
+    for name in chosen:
         try:
-            violations += part(program, given, draw, numbers)
+            violations += PARTS[name](given, draw, numbers)
         except Unfollowed as why:
             violations += 1
             print(f"violation: {why}")

@@ -1,9 +1,9 @@
 #!/usr/bin/env python3
 """Makes each allocation of the built programs of cases, and of the tests, fail in turn.
 
-    python3 tools/fail_allocations.py                           the programs of cases below, and
-    wf_test_failures python3 tools/fail_allocations.py wf_test_map wf_test_failures     these alone python3
-    tools/fail_allocations.py wf_test_map --case 503   the cases whose names hold this text
+    python3 tools/fail_allocations.py                           those of CRATES below
+    python3 tools/fail_allocations.py wf_test_map               these alone
+    python3 tools/fail_allocations.py wf_test_map --case 503    the cases whose names hold this text
 
 Run it after `rt ci`, or after `rt run < stdin` in each program of cases and `rt test` in wf_test_failures.
 Wants cc, and a C library that is linked dynamically.

@@ -38,91 +38,18 @@ MAP_TOOLS = ("make_map.py", "import_mapfile.py", "pixmap_to_png.py", "maps", "ge
 COMMANDS = ("init", "node", "clear", "replica", "serve", "draw", "caps", "check", "canon", "tape", "run",
             "wire")
 
-CONTROL = """\
-Package: wfarm
-Version: {version}
-Architecture: amd64
-Maintainer: {maintainer}
-Depends: {depends}
-Recommends: systemd
-Suggests: nginx, haproxy, prometheus, libjs-leaflet, python3-gdal, python3-mapscript, python3-shapely, python3-numpy
-Section: web
-Priority: optional
-Description: farm of Web Map Service servers that never differ
- Several machines serve one history of maps, numbered by update sequence.
- No two of them ever publish different maps under one number.
-"""
-
 RUNNING = "'wfarm-node@*.service' 'wfarm-replica@*.service' 'wfarm@*.service' wfarm.service"
 
-AFTER_INSTALLATION = f"""\
-#!/bin/sh
-set -e
-if [ "$1" = configure ]; then
-    adduser --system --group --quiet --home /var/lib/wfarm --no-create-home wfarm
-    install -d -o wfarm -g wfarm -m 0750 /var/lib/wfarm
-    if [ -d /run/systemd/system ]; then
-        systemctl --system daemon-reload
-        # An upgrade: what runs is started anew, one program for all of a machine.
-        deb-systemd-invoke try-restart {RUNNING}
-    fi
-fi
-"""
+# the texts of a package: scripts of dpkg, and what Debian wants of each
+FORMS = TOP / "tools" / "debian"
 
-AFTER_REMOVAL = """\
-#!/bin/sh
-set -e
-if [ -d /run/systemd/system ]; then
-    systemctl --system daemon-reload
-fi
-if [ "$1" = purge ]; then
-    # the links by which units were enabled
-    rm -f /etc/systemd/system/*.wants/wfarm.service /etc/systemd/system/*.wants/wfarm@*.service \\
-        /etc/systemd/system/*.wants/wfarm-node@*.service /etc/systemd/system/*.wants/wfarm-replica@*.service
-    if [ -d /var/lib/wfarm ]; then
-        echo "wfarm: /var/lib/wfarm stays, since it holds votes of nodes; remove it by hand once the farm is gone"
-    fi
-fi
-"""
 
-BEFORE_REMOVAL = f"""\
-#!/bin/sh
-set -e
-if [ "$1" = remove ] && [ -d /run/systemd/system ]; then
-    deb-systemd-invoke stop {RUNNING} || true
-fi
-"""
-
-COPYRIGHT = """\
-wfarm is made of this repository's own files, by its authors. No licence has been chosen yet, so nothing but use by whoever was given
-the package is allowed.
-"""
-
-# what lintian is told
-OVERRIDES = """\
-# The program is the bytes that were built, but for its revision: BUILD has the SHA-256 of both.
-wfarm: unstripped-binary-or-object [usr/bin/wfarm]
-# No licence has been chosen yet.
-wfarm: copyright-without-copyright-notice
-# An example for nftables, which reads it so.
-wfarm: unusual-interpreter /usr/sbin/nft [usr/share/wfarm/examples/three/firewall.nft]
-"""
-
-CHANGES = """\
-wfarm ({version}) unstable; urgency=medium
-
-  * The state of {day}; CHANGELOG.md says what an operator notices.
-
- -- {maintainer}  {date}
-"""
-
-BUILD = """\
-version   {version}
-revision  {revision}
-program   SHA-256 {installed}
-built as  SHA-256 {built}, before the revision was written into it
-proved    {proved}
-"""
+def form(name, **values):
+    """A text of tools/debian, with each of these values in the place of its name in braces."""
+    text = (FORMS / name).read_text(encoding="utf-8")
+    for word, value in values.items():
+        text = text.replace("{" + word + "}", value)
+    return text
 
 
 def installed(unit):
@@ -213,17 +140,18 @@ def put_build(root, program, version, maintainer):
     """What Debian wants of each package, and what the program was built of."""
     documents = root / "usr/share/doc/wfarm"
     day = stamp.git("log", "-1", "--format=%cs")
-    place(COPYRIGHT, documents / "copyright", 0o644)
-    place(OVERRIDES, root / "usr/share/lintian/overrides/wfarm", 0o644)
+    place(form("copyright"), documents / "copyright", 0o644)
+    place(form("overrides"), root / "usr/share/lintian/overrides/wfarm", 0o644)
     date = stamp.git("log", "-1", "--format=%cD") or email.utils.formatdate(0)
-    put_zipped(CHANGES.format(version=version, day=day, date=date, maintainer=maintainer),
+    put_zipped(form("changelog", version=version, day=day, date=date, maintainer=maintainer),
                documents / "changelog.gz")
     is_ours = program == PROGRAM
-    proved = "yes: `rt ci` leaves it where all proofs passed" if is_ours else "not known: it was given by --program"
+    proved = ("yes: `rt ci` leaves it where all proofs passed" if is_ours
+              else "not known: it was given by --program")
     revision = stamp.revision_now()
     known = revision if revision != stamp.UNKNOWN else "not known: there are changes that aren't committed"
-    place(BUILD.format(version=version, revision=known, installed=sum_of(root / "usr/bin/wfarm"),
-                       built=sum_of(program), proved=proved), documents / "BUILD", 0o644)
+    place(form("BUILD", version=version, revision=known, installed=sum_of(root / "usr/bin/wfarm"),
+               built=sum_of(program), proved=proved), documents / "BUILD", 0o644)
     put_manuals(root, day)
 
 
@@ -234,11 +162,10 @@ def fill(root, program, version, maintainer):
         place(installed(unit), root / "lib/systemd/system" / pathlib.Path(unit).name, 0o644)
     put_shared(root)
     put_build(root, program, version, maintainer)
-    place(CONTROL.format(version=version, maintainer=maintainer, depends=depends(program)),
+    place(form("control", version=version, maintainer=maintainer, depends=depends(program)),
           root / "DEBIAN/control", 0o644)
-    for name, text in (("postinst", AFTER_INSTALLATION), ("prerm", BEFORE_REMOVAL),
-                       ("postrm", AFTER_REMOVAL)):
-        place(text, root / "DEBIAN" / name, 0o755)
+    for name in ("postinst", "prerm", "postrm"):
+        place(form(name, running=RUNNING), root / "DEBIAN" / name, 0o755)
     for folder in root.rglob("*"):
         if folder.is_dir() and not folder.is_symlink():
             folder.chmod(0o755)
@@ -260,8 +187,6 @@ def main():
     program = pathlib.Path(options.program)
     if lacks("dpkg-deb"):
         return tell_missing(["dpkg-deb"])
-    if not program.exists():
-        return tell_missing([f"{program}; `rt ci` makes it"])
     package = options.to / f"wfarm_{options.version}_amd64.deb"
     with tempfile.TemporaryDirectory() as folder:
         root = pathlib.Path(folder) / "root"

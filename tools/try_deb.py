@@ -2,8 +2,7 @@
 """Tries the Debian package (`tools/make_deb.py`) in a clean root made by debootstrap: what is in it, and what
 lintian says of it, where that is there. Its services, upgrades and removal are `tools/try_units.py`'s.
 
-A line for each thing that was seen; status 1 where one is not as it should be. Wants root, debootstrap and
-Debian's packages.
+A line for each thing that was seen; status 1 where one is not as it should be. Wants root and debootstrap.
 """
 
 import gzip
@@ -75,7 +74,7 @@ def look_inside(root, package):
 
 def lint(root, package):
     if shutil.which("lintian") is None:
-        return
+        return print("lintian: left out, it isn't here")
     told = subprocess.run(["lintian", "--allow-root", str(package)], capture_output=True, text=True).stdout
     tags = [line for line in told.splitlines() if line[:2] in ("E:", "W:")]
     root.see("lintian has no complaint" + "".join(f"; {tag}" for tag in tags), not tags)
@@ -112,10 +111,15 @@ def words(document):
     return asked
 
 
+def missing(options, *programs):
+    """What isn't here of what a trial of the package wants."""
+    return lacks("dpkg-deb", *programs, *([] if options.root else ["debootstrap"]), root=True)
+
+
 def main():
     options = words(__doc__).parse_args()
-    if not options.root and lacks("debootstrap"):
-        return tell_missing(["debootstrap"])
+    if lacking := missing(options):
+        return tell_missing(lacking)
     with tempfile.TemporaryDirectory() as folder:
         path = pathlib.Path(folder) / "root"
         debian(options.root, path, "python3-minimal,adduser,python3")

@@ -4,50 +4,9 @@
 Each case starts three nodes, or five, on new folders and does something to them, while each node is asked
 again and again for its capabilities and for a picture with MAPSEQ: no two answers may differ for one
 sequence, whenever and from whichever node they come, and no node goes back. At its end all must stand at one
-sequence, with equal histories. Cases:
+sequence, with equal histories.
 
-    publish     at one node, at each in turn, at all at once
-    pieces      a publish whose body comes in pieces, the last one short: the answer comes at once
-    kill        SIGKILL of each node in turn, while the others publish
-    stop        SIGSTOP of a node, 12 seconds or as --stopped says
-    unheard     SIGSTOP of two nodes: the third says that it hears no majority, and publishes once they go on
-    clients     200 idle clients, and 20 that trickle
-    strangers   at the peers' port garbage, half a greeting, another version, another farm, another address
-    unknown     many connections from two addresses that no peer has: a line of the log for each address
-    dual        nodes that listen at [::], and whose peers are listed by addresses of IPv4
-    forged      at the peers' port a peer's own greeting, and behind it half a message, or ballots and votes
-                of other nodes
-    forgot      an old copy, a new folder, and a clone of a node
-    missed      a node that was away gets 1,000 maps, or as --missed says
-    used_up     a farm that has published all 4,096 maps keeps its connections and its health
-    refused     bad command lines
-    zeros       a tape with zeros behind its records, as a power cut may leave one, and with other bytes
-    full        a start on files that can't grow
-    disk        a disk that is full while its node runs; wants root
-    room        the same for 16 seconds, and a publish that needs the vote of its node; wants root
-    removed     a tape that failed, and whose file is removed
-    unmounted   a disk that is full, unmounted while its node runs, and mounted again; wants root
-    exchanged   a tape that failed, and another one in its place
-    rewritten   a tape that failed, and another file `farm` beside it
-    completed   a tape that failed, and has the record of the step that failed
-    emptied     a start on an emptied tape, in a farm of three and in one of one
-    older       a start on the tape of two publishes ago
-    zeroed      a start on a tape with zeros where a vote or a publication was
-    restored    a folder is copied between two publishes of one leadership, and put back
-    promised    all are killed after a new promise, and a copy of a folder from before it is put back
-    suspended   an old copy that is started again and again, and once without peers
-    cleared     `wfarm clear`
-    unwritten   a node that can't write what it hears of its peers
-    taken       `wfarm init --from` with tapes of other nodes and farms
-    changed     a byte has changed on a disk: its node alone answers nobody, and nobody is answered while
-                another one is down
-    split       two nodes of different histories, and the third is down; then it comes
-    behind      the same, and the third has only what is common to both
-    lagging     one of another history, and one that lacks the last sequence
-    halves      two nodes of one history, two of another, and the fifth is down; then it comes
-    alone       a suspended node, and one that is down; then that one comes with another history
-
-A line says what each saw; the status is 0 where all went as they should. A run takes 13 minutes.
+A line says what each saw; the status is 0 where all went as they should. A run takes 12 minutes.
 """
 
 import os
@@ -59,15 +18,16 @@ import sys
 import threading
 import time
 
-from farmkit.command import add_cases, program_parser
+from farmkit.command import add_cases, listed, program_parser
+from farmkit.ledger import Ledger, Watch
 from farmkit.mapfiles import a_map, canonical
-from farmkit.nodes import NO_MAJORITY, NODES, VOTES, Nodes, Watch
+from farmkit.nodes import NODES, Nodes
 from farmkit.processes import UNSIGNALLED, Node, free_ports, limited
-from farmkit.tapes import MOST_MAPS, record, tape_of
+from farmkit.tapes import record
 from farmkit.trial import chosen, go_through
-from farmkit.wanted import PATIENCE, until, want
+from farmkit.wanted import PATIENCE, until, want, want_none
 from farmkit.web import connect, loopback, received
-from trials_of_nodes import differing_histories, halted_nodes, returned_folders
+from trials_of_nodes import differing_histories, halted_nodes, replaced_machines, returned_folders
 from trials_of_nodes.returned_folders import suspension
 
 # the lengths of a greeting, and of a rejection that says nothing of what is remembered or says it
@@ -76,7 +36,8 @@ GREETING_BYTES, REJECTION_BYTES = 132, (12, 66)
 SERVES = 1
 
 
-def publish(nodes, _):
+def publish(nodes):
+    """at one node, at each in turn, at all at once"""
     for k in range(9):
         nodes.publish_whole(k % NODES, a_map(f"turn{k}"))
 
@@ -109,8 +70,8 @@ def in_pieces(nodes, body, pieces):
         return int(answer.split()[-1]), time.time() - begun
 
 
-def pieces(nodes, _):
-    """A publish that comes in pieces is answered as soon as its last byte is there."""
+def pieces(nodes):
+    """a publish whose body comes in pieces, the last one short, is answered as soon as that is there"""
     slowest = 0
     cases = (12, [-100]), (100, [-100]), (12, [-1]), (100, [8192]), (100, [60_000, 8_192]), (120, [])
     for k, (more, cuts) in enumerate(cases):
@@ -124,46 +85,6 @@ def pieces(nodes, _):
     return f"{k + 1} publishes, the slowest answered {1000 * slowest:.0f} ms after its last byte"
 
 
-def kill(nodes, _):
-    said = []
-    for i in range(NODES):
-        nodes.kill(i)
-        for k in range(3):
-            nodes.publish_whole((i + 1) % NODES, a_map(f"without{i}{k}"))
-        nodes.start(i)
-        until(lambda: nodes.published(i) >= 0)
-        said.append(nodes.level())
-    return f"level again after {said} s"
-
-
-def stop(nodes, options):
-    nodes.pause(1)
-    start = time.time()
-    while time.time() < start + options.stopped:
-        nodes.publish(0, a_map(f"stopped{int(time.time())}"))
-        time.sleep(0.5)
-    nodes.go_on(1)
-    return f"level after {nodes.level()} s at {nodes.published(0)}"
-
-
-def unheard(nodes, _):
-    """It says so within ten seconds; a publish that waits comes within five once they go on."""
-    nodes.publish_whole(0, a_map("before"))
-    until(lambda: all(nodes.votes(i) == VOTES for i in range(NODES)))
-    nodes.pause(1, 2)
-    noticed = until(lambda: nodes.votes(0) == NO_MAJORITY, 10)
-    counts = nodes.connected(0)
-    want(f"connected peers, majority: {counts}", counts == [0, 0])
-    want(f"its health is {nodes.health(0)}", nodes.health(0)[0] == 200)
-    want("no publish", nodes.publish(0, a_map("waiting")) == 202)
-    time.sleep(5)
-    nodes.go_on(1, 2)
-    published = until(lambda: nodes.published(0) == 2, 5)
-    votes = until(lambda: all(nodes.votes(i) == VOTES for i in range(NODES)), 5)
-    return (f"noticed after {noticed} s; published {published} s after they went on, all hear a majority "
-            f"{votes} s later")
-
-
 def median(nodes, count=40):
     times = []
     for _ in range(count):
@@ -173,8 +94,8 @@ def median(nodes, count=40):
     return round(sorted(times)[count // 2], 1)
 
 
-def clients(nodes, _):
-    """They hold up nobody; each gets its answer or is closed in time."""
+def clients(nodes):
+    """200 idle clients, and 20 that trickle, hold up nobody; each gets its answer or is closed in time"""
     alone = median(nodes)
     idle = [connect(loopback(nodes.http[0])) for _ in range(200)]
     beside_idle = median(nodes)
@@ -257,7 +178,8 @@ def told_to(nodes, i, sent, source="127.0.0.1"):
     return came, round(time.time() - begun, 1)
 
 
-def strangers(nodes, _):
+def strangers(nodes):
+    """at the peers' port garbage, half a greeting, another version, another farm, another address"""
     sent = {"a request": b"GET / HTTP/1.1\r\n\r\n", "zeros": bytes(200), "random bytes": os.urandom(4096),
             "two bytes": b"wf", "half a greeting": greeting(nodes, 1)[:60]}
     waited = {}
@@ -281,8 +203,8 @@ def strangers(nodes, _):
             f"after {nodes.level()} s")
 
 
-def unknown(nodes, _):
-    """Connections from addresses that no peer has: the log has a line of each address, once in a minute."""
+def unknown(nodes):
+    """many connections from two addresses that no peer has: a line of the log for each address"""
     for _ in range(50):
         for source in ("127.0.0.9", "127.0.0.10"):
             told_to(nodes, 0, b"", source)
@@ -295,7 +217,8 @@ def unknown(nodes, _):
     return f"100 connections from two addresses, two lines: {found['127.0.0.9'][0].split(' ', 1)[1]}"
 
 
-def dual(nodes, _):
+def dual(nodes):
+    """nodes that listen at [::], and whose peers are listed by addresses of IPv4"""
     try:
         socket.create_server(("::", 0), family=socket.AF_INET6, dualstack_ipv6=True).close()
     except (OSError, ValueError):
@@ -311,8 +234,9 @@ def dual(nodes, _):
     return f"level after {nodes.level()} s"
 
 
-def forged(nodes, _):
-    """Whoever greets as a peer and then sends what that peer may not is closed, and no vote counts."""
+def forged(nodes):
+    """at the peers' port a peer's own greeting, and behind it half a message, or ballots and votes of other
+    nodes: it is closed, and no vote counts"""
     nodes.publish_whole(0, a_map("before"))
     nodes.level()
     nodes.kill(2)
@@ -358,8 +282,9 @@ def clear(nodes, i):
     want(f"clear of node {i}: {ran.returncode} {ran.stderr.strip()}", ran.returncode == 0)
 
 
-def forgot(nodes, _):
-    """It is suspended, also the folder that has all, of which a copy was started, until it is cleared."""
+def forgot(nodes):
+    """a node with an old copy of its folder or a new one, a clone, and the folder that has all once a copy of
+    it was started, are suspended until they are cleared"""
     for k in range(4):
         nodes.publish_whole(0, a_map(f"first{k}"))
     nodes.level()
@@ -411,84 +336,25 @@ def suspended_on(nodes, folder, name):
     return told
 
 
-def missed(nodes, options):
+def refused(nodes):
+    """a start at an address that is taken: the status, and the one line (other bad command lines are cases of
+    `crates/wf_test_commands`)"""
+    taken, free = loopback(nodes.http[0]), "127.0.0.1:0"
     nodes.kill(2)
-    for k in range(options.missed):
-        nodes.publish_whole(0, a_map(f"missed{k}", "x" * 900))
+    for option in ("--http", "--listen", "--admin"):
+        words = {"--http": free, "--listen": free, option: taken}
+        ran = nodes.run("node", "--state", nodes[2].folder, "--peers", "127.0.0.1:1,127.0.0.1:2,127.0.0.1:3",
+                        *(word for pair in words.items() for word in pair))
+        line = f"the address of {option} is taken or not permitted: {taken}\n"
+        want(f"{option}: {ran.returncode} {ran.stderr}",
+             (ran.returncode, ran.stderr, ran.stdout) == (1, line, ""))
     nodes.start(2)
-    start = time.time()
-    until(lambda: nodes.published(2) == nodes.published(0))
-    return f"{nodes.published(0)} maps in {time.time() - start:.2f} s; level after {nodes.level()} s"
+    return "three command lines"
 
 
-def used_up(nodes, _):
-    """Nobody asks for another sequence: no connection is dialed anew, and each hears a majority."""
-    nodes.kill_all()
-    tape = nodes.folder / "full.tape"
-    tape_of(nodes.program, tape, MOST_MAPS, 0)
-    for i in range(NODES):
-        nodes.put(i)
-        nodes.init(i)
-        shutil.copy(tape, nodes[i].tape)
-        nodes.start(i)
-    until(lambda: all(nodes.published(i) == MOST_MAPS for i in range(NODES)), 10 * PATIENCE)
-    until(lambda: all(nodes.votes(i) == VOTES for i in range(NODES)))
-    before = [nodes.lines(i, "connected") + nodes.lines(i, "lost") for i in range(NODES)]
-    time.sleep(12)
-    after = [nodes.lines(i, "connected") + nodes.lines(i, "lost") for i in range(NODES)]
-    want(f"connections are opened anew: {[len(each) for each in before]} lines, then "
-         f"{[len(each) for each in after]}", before == after)
-    told = [(nodes.votes(i), nodes.health(i)) for i in range(NODES)]
-    want(f"/votez and /healthz: {told}", all(each == ((200, "votes"), (200, "ok")) for each in told))
-    want("a further publish", nodes.publish(0, a_map("further")) == 409)
-    return f"{MOST_MAPS} maps"
-
-
-def refused(nodes, _):
-    """Bad command lines, folders and addresses: the status, and the one line."""
-    empty, damaged = nodes.folder / "empty", nodes.folder / "damaged"
-    empty.mkdir()
-    damaged.mkdir()
-    want("init",
-         nodes.run("init", "--state", damaged, "--farm", "f", "--id", 0, "--nodes", 1).returncode == 0)
-    (damaged / "node-0.tape").write_bytes(b"no record")
-    one, three = "127.0.0.1:1", "127.0.0.1:1,127.0.0.1:2,127.0.0.1:3"
-    taken = f"127.0.0.1:{nodes.http[0]}"
-    nodes.kill(2)
-
-    def node(folder, peers, http="127.0.0.1:0", *more):
-        return ["node", "--state", folder, "--peers", peers, "--http", http, *more]
-
-    def init(folder, number=0, farm="f", *more):
-        return ["init", "--state", folder, "--farm", farm, "--id", number, "--nodes", 3, *more]
-
-    cases = [
-        (1, "folder held by another program", node(nodes[0].folder, three)),
-        (1, "bad folder: a folder of a farm of 3 nodes", node(nodes[2].folder, one)),
-        (1, "bad folder: not a node's folder: wfarm init makes one", node(empty, one)),
-        (1, "folder missing", node(empty / "none", one)),
-        (1, "the tape is damaged: P2: a bad record at 0", node(damaged, one)),
-        (1, f"the address of --http is taken or not permitted: {taken}",
-         node(nodes[2].folder, three, taken, "--listen", "127.0.0.1:0")),
-        (1, f"the address of --listen is taken or not permitted: {taken}",
-         node(nodes[2].folder, three, "127.0.0.1:0", "--listen", taken)),
-        (1, f"the address of --admin is taken or not permitted: {taken}",
-         node(nodes[2].folder, three, "127.0.0.1:0", "--listen", "127.0.0.1:0", "--admin", taken)),
-        (1, "--from isn't a tape: P2: a bad record at 0", init(empty, 0, "f", "--from", "/bin/ls")),
-        (1, "--from can't be read: entity not found", init(empty, 0, "f", "--from", empty / "none")),
-        (1, "folder held by another program", init(nodes[0].folder)),
-        (1, "the folder isn't empty", init(nodes[2].folder)),
-    ]
-    for status, line, words in cases:
-        ran = nodes.run(*words)
-        want(f"{words}: {ran.returncode} {ran.stderr}",
-             (ran.returncode, ran.stderr, ran.stdout) == (status, line + "\n", ""))
-    nodes.start(2)
-    return f"{len(cases)} command lines"
-
-
-def zeros(nodes, _):
-    """It drops zeros, and doesn't start on other bytes there."""
+def zeros(nodes):
+    """a tape with zeros behind its records, as a power cut may leave one, loses them; a node doesn't start on
+    other bytes there"""
     for k in range(3):
         nodes.publish_whole(0, a_map(f"zeros{k}"))
     nodes.level()
@@ -517,7 +383,8 @@ def zeros(nodes, _):
     return f"{len(lines)} starts without the zeros, none on 4 other endings; level after {nodes.level()} s"
 
 
-def full(nodes, _):
+def full(nodes):
+    """a start on files that can't grow"""
     for k in range(3):
         nodes.publish_whole(0, a_map(f"full{k}", "x" * 900))
     nodes.level()
@@ -531,24 +398,25 @@ def full(nodes, _):
     return f"{last}; level after {nodes.level()} s"
 
 
-CASES = [publish, pieces, kill, stop, unheard, clients, strangers, unknown, dual, forged, forgot, missed,
-         used_up, refused, zeros, full, *halted_nodes.CASES,
-         *returned_folders.CASES, *differing_histories.CASES]
+CASES = [publish, pieces, clients, strangers, unknown, dual, forged, forgot, refused, zeros, full,
+         *halted_nodes.CASES, *returned_folders.CASES, *differing_histories.CASES,
+         *replaced_machines.CASES]
 # at the end of these not all nodes run
 UNEVEN = [forgot, *halted_nodes.CASES, *returned_folders.CASES, *differing_histories.CASES]
 
 
-def attempt(case, folder, options):
+def attempt(case, folder, program):
     """What a case saw; raises what was wrong."""
-    nodes = Nodes(options.program, folder, differing_histories.COUNTS.get(case, NODES))
+    nodes = Nodes(program, folder, differing_histories.COUNTS.get(case, NODES))
     watch = None
     try:
         nodes.begin()
-        watch = Watch(nodes)
-        said = case(nodes, options)
+        watch = Watch(nodes.each, Ledger())
+        said = case(nodes)
         if case not in UNEVEN:
             nodes.level()
         watch.end()
+        want_none(watch.ledger.violations[:5])
         return f"{said}; {watch.ledger.counts['answers']} answers compared"
     finally:
         if watch:
@@ -556,17 +424,12 @@ def attempt(case, folder, options):
         nodes.end()
 
 
-def words():
-    asked = program_parser(__doc__)
-    asked.add_argument("--stopped", type=float, default=12, metavar="SECONDS")
-    asked.add_argument("--missed", type=int, default=1000, metavar="MAPS")
-    add_cases(asked, (case.__name__ for case in CASES))
-    return asked.parse_args()
-
-
 def main():
-    options = words()
-    return go_through(chosen(CASES, options.cases), lambda case, folder: attempt(case, folder, options))
+    asked = program_parser(listed(__doc__, CASES))
+    add_cases(asked, (case.__name__ for case in CASES))
+    options = asked.parse_args()
+    return go_through(chosen(CASES, options.cases),
+                      lambda case, folder: attempt(case, folder, options.program))
 
 
 if __name__ == "__main__":

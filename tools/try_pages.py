@@ -19,9 +19,9 @@ import tempfile
 import threading
 
 import make_deb
-from farmkit.command import lacks, tell_missing
+from farmkit.command import tell_missing
 from farmkit.repository import TOP
-from try_deb import debian, package, words
+from try_deb import debian, missing, package, words
 from try_units import Container
 
 INCLUDED = ("systemd,systemd-sysv,dbus,python3,python3-minimal,adduser,procps,iproute2,nginx-light,curl,sudo,"
@@ -315,8 +315,7 @@ def main():
     asked = words(__doc__)
     asked.add_argument("--older", metavar="PROGRAM", help="the program before the upgrade; else the same")
     options = asked.parse_args()
-    lacking = lacks("systemd-nspawn", "nsenter", "dpkg-deb", "ip")
-    if lacking:
+    if lacking := missing(options, "systemd-nspawn", "nsenter", "ip"):
         return tell_missing(lacking)
     with tempfile.TemporaryDirectory(prefix="wfarm-pages-") as folder:
         wrong = walk_through(options, folder)

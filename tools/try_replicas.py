@@ -1,27 +1,9 @@
 #!/usr/bin/env python3
 """Tries replicas of a farm of three voters, over the built program.
 
-Cases, all of them where none is named:
-    kills   publishes at the voters (1,000; in 300 seconds at most, or as --seconds says) while replicas (10)
-            and voters are killed at random, folders of replicas removed, and one replica pointed at another
-            farm of the same name: no two answers of any processes differ for one sequence, none goes back but
-            a replica whose folder was removed, the misled one ends, the others are level within ten seconds
-            after the last publish
-    lag     from a voter's publication until each replica has learned it, by their logs, in a quiet farm: p99
-            below 100 ms
-    fill    a replica learns 4,096 maps of 2 KB from nothing, within ten seconds
-    rest    what replicas at rest cost a voter: below two percent of a core
-    tape    a replica begins with what its tape has, also with a torn, missing or damaged one, and goes on
-            where it can't be written
-    chain   replicas that ask one another: one that is four away from a voter is asked, one that is five isn't
-    misled  a replica that is pointed at another farm of the same name ends with status 1 and one line,
-            whichever has published more
-    twice   a source that sends each reply twice, among three and alone: no map is published under two
-            sequences, and the replica learns on
-    foreign one source among three is of another farm, or of another history with fewer or more maps: it is
-            skipped with a warning
-
-A line says what each saw; the status is 0 where all went as they should. A run takes four minutes.
+Replicas and voters that are killed at random, and replicas that lose their folders, are
+`tools/rehearse.py`'s. A line says what each case saw; the status is 0 where all went as they should. A run
+takes three minutes.
 """
 
 import collections
@@ -37,15 +19,14 @@ import sys
 import threading
 import time
 
-from farmkit.command import add_cases, program_parser
-from farmkit.ledger import Ledger
-from farmkit.mapfiles import PIXEL, map_of, picture_of
+from farmkit.command import add_cases, listed, program_parser
+from farmkit.mapfiles import PIXEL, map_of
 from farmkit.measure import percentile
 from farmkit.processes import UNSIGNALLED, Replica, free_ports, limited, nodes_in
 from farmkit.tapes import MOST_MAPS, tape_of
 from farmkit.trial import chosen, go_through
 from farmkit.wanted import seconds_until, want, want_none
-from farmkit.web import CAPABILITIES, connect
+from farmkit.web import connect
 
 VOTERS = 3
 PATIENCE = 60
@@ -106,96 +87,6 @@ class Farm:
         return until(lambda: (voter.published() or 0) > before, seconds) is not None
 
 
-# ---- kills
-
-class Trial:
-    """Publishes and kills, and readers of every process."""
-
-    def __init__(self, farm, options):
-        self.farm, self.options = farm, options
-        self.draw, self.ledger, self.over = random.Random(options.seed), Ledger(), threading.Event()
-        self.replicas = farm.some(options.replicas)
-        self.lives, self.number = collections.Counter(), 0
-
-    def name(self, process):
-        return f"{process.folder.name} of folder {self.lives[process]}"
-
-    def read(self, process):
-        draw = random.Random(process.folder.name)
-        while not self.over.wait(0.05):
-            name = self.name(process)
-            status, body = process.ask(CAPABILITIES, seconds=5)
-            if status != 200 or name != self.name(process):
-                continue
-            sequence = self.ledger.document(body)
-            self.ledger.published(name, sequence)
-            if sequence:
-                at = draw.choice((sequence, draw.randint(1, sequence)))
-                answer = process.ask(PIXEL % at, seconds=5)
-                if answer.status == 200:
-                    self.ledger.picture(at, answer)
-
-    def kill(self):
-        counts = self.ledger.counts
-        while not self.over.wait(self.draw.uniform(0.05, 0.5)):
-            if self.draw.random() < 0.25:
-                process = self.draw.choice(self.farm.voters)
-                counts["voters killed"] += 1
-            else:
-                process = self.draw.choice(self.replicas)
-                counts["replicas killed"] += 1
-            process.kill()
-            if process in self.replicas and self.draw.random() < 0.3:
-                counts["folders removed"] += 1
-                self.lives[process] += 1
-                shutil.rmtree(process.folder)
-                process.folder.mkdir()
-            time.sleep(self.draw.uniform(0, 0.3))
-            process.start()
-            if process in self.farm.voters:
-                until(lambda: process.published() is not None)
-
-    def publish(self, count, seconds):
-        """Publishes maps until the voters stand at so many, or the time is over; where they stand."""
-        end, top = time.monotonic() + seconds, 0
-        while top < count and time.monotonic() < end:
-            self.number += 1
-            self.ledger.sent.add(picture_of(self.number))
-            self.farm.publish(map_of(self.number, self.draw.choice((0, 0, 2_000))),
-                              self.draw.choice(self.farm.voters))
-            top = self.farm.top()
-        return top
-
-
-def kills(options, top):
-    with Farm(options, top, "kills") as farm, Farm(options, top, "other") as other:
-        other.publish(map_of(1 << 20), other.voters[0])
-        trial = Trial(farm, options)
-        threads = [threading.Thread(target=trial.read, args=(process,))
-                   for process in farm.voters + trial.replicas]
-        killer, begun = threading.Thread(target=trial.kill), time.monotonic()
-        for thread in [*threads, killer]:
-            thread.start()
-        try:
-            trial.publish(options.publishes // 2, options.seconds / 2)
-            ended = mislead(farm, other)
-            trial.publish(options.publishes, options.seconds / 2)
-            took = time.monotonic() - begun
-        finally:
-            trial.over.set()
-            for thread in [*threads, killer]:
-                thread.join()
-        done, ledger = farm.top(), trial.ledger
-        late = until(lambda: all(process.published() == done for process in farm.voters + trial.replicas), 10)
-    print(f"kills: {done} sequences in {took:.0f} s, "
-          + ", ".join(f"{count:,} {what}" for what, count in sorted(ledger.counts.items()))
-          + f"; level after {late and round(late, 1)} s; the misled one: {ended}")
-    want_none(ledger.violations[:5])
-    want("the misled replica went on", ended[0] == 1)
-    want("not level", late is not None)
-    want("fewer publishes than wanted", done >= options.publishes)
-
-
 def mislead(farm, other):
     replica = farm.replica("misled")
     want("the replica doesn't begin", until(lambda: (replica.published() or 0) >= 1))
@@ -207,6 +98,8 @@ def mislead(farm, other):
 
 
 def misled(options, top):
+    """a replica that is pointed at another farm of the same name ends with status 1 and one line, whichever
+    has published more"""
     with Farm(options, top, "ours") as ours, Farm(options, top, "theirs") as theirs:
         for number in range(3):
             ours.publish(map_of(number), ours.voters[0])
@@ -298,6 +191,8 @@ def follows(farm, replica, numbers, pause, is_enough=lambda: False):
 
 
 def twice(options, top):
+    """a source that sends each reply twice, among three and alone: no map is published under two sequences,
+    and the replica learns on"""
     found = []
     with Farm(options, top, "twice") as farm:
         want("no publish", farm.publish(map_of(0), farm.voters[0]))
@@ -317,6 +212,8 @@ def twice(options, top):
 
 
 def foreign(options, top):
+    """one source among three is of another farm, or of another history with fewer or more maps: it is skipped
+    with a warning"""
     found = []
     theirs, others = Farm(options, top, "theirs", voters=1), Farm(options, top, "others", farm="others",
                                                                   voters=1)
@@ -357,6 +254,8 @@ def beside(ours, foreign_farm, name):
 # ---- tapes and chains
 
 def tape(options, top):
+    """a replica begins with what its tape has, also with a torn, missing or damaged one, and goes on where it
+    can't be written"""
     with Farm(options, top, "tape") as farm:
         for number in range(1, 4):
             want("no publish", farm.publish(map_of(number), farm.voters[0]))
@@ -410,6 +309,7 @@ def write_no_more(farm, replica, most):
 
 
 def chain(options, top):
+    """replicas that ask one another: one that is four away from a voter is asked, one that is five isn't"""
     with Farm(options, top, "chain") as farm:
         sources, links = None, []
         for number in range(6):
@@ -454,7 +354,9 @@ class Lines(threading.Thread):
 
 
 def lag(options, top):
-    lines, draw = Lines(), random.Random(options.seed)
+    """from a voter's publication until each replica has learned it, by their logs, in a quiet farm: p99 below
+    100 ms"""
+    lines, draw = Lines(), random.Random(1)
     with Farm(options, top, "lag") as farm:
         for voter in farm.voters:
             voter.kill()
@@ -495,6 +397,7 @@ def lags_in(seen):
 
 
 def fill(options, top):
+    """a replica learns 4,096 maps of 2 KB from nothing, within ten seconds"""
     size = tape_of(options.program, top / "full.tape", MOST_MAPS)
     with Farm(options, top, "fill", top / "full.tape") as farm:
         begun = time.monotonic()
@@ -520,6 +423,7 @@ def spent_by(processes, seconds):
 
 
 def rest(options, top):
+    """what replicas at rest cost a voter: below two percent of a core"""
     with Farm(options, top, "rest") as farm:
         for number in range(3):
             farm.publish(map_of(number, 2_000), farm.voters[0])
@@ -535,21 +439,14 @@ def rest(options, top):
          max(after - before for after, before in zip(beside, alone)) < 2)
 
 
-CASES = [kills, lag, fill, rest, tape, chain, misled, twice, foreign]
-
-
-def words():
-    asked = program_parser(__doc__)
-    asked.add_argument("--publishes", type=int, default=1000, metavar="N")
-    asked.add_argument("--replicas", type=int, default=10, metavar="N")
-    asked.add_argument("--seconds", type=float, default=300, metavar="S")
-    asked.add_argument("--seed", type=int, default=1, metavar="S")
-    add_cases(asked, (case.__name__ for case in CASES))
-    return asked.parse_args()
+CASES = [lag, fill, rest, tape, chain, misled, twice, foreign]
 
 
 def main():
-    options = words()
+    asked = program_parser(listed(__doc__, CASES))
+    asked.add_argument("--replicas", type=int, default=10, metavar="N", help="of `lag` and `rest` (10)")
+    add_cases(asked, (case.__name__ for case in CASES))
+    options = asked.parse_args()
     return go_through(chosen(CASES, options.cases), lambda case, folder: case(options, folder))
 
 

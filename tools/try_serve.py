@@ -1,13 +1,11 @@
 #!/usr/bin/env python3
 """Tries the built program's `serve`: three nodes, two publishes, equal answers, old maps by MAPSEQ, refusals
 of which the client hears though it is still sending, answers that come whole though the client has sent more
-than its request, clients that stay, send byte by byte or wait for 100 Continue, a start at a port that is
-taken and one on a folder that is in use, and a new start on the same folder. Then starts that are rejected:
-a folder that isn't there, of another number of nodes, with a tape missing, a bad one, or one of another farm
-(the other cases are CI's); each leaves every file as it was, and its error is one line, with a line of the
-log before it where that is asked for. Then a folder that is taken over, what
-`wfarm tape` says of a folder and of a map, and files that may not grow. It takes about half a minute, most of
-it waiting for two clients to be given up.
+than its request, and a new start on the same folder. Then starts that are rejected, and leave every file as
+it was: of another number of nodes, and with a tape of another farm; the file `farm` of a new folder, and of
+one that is taken over; lines of the log; and files that may not grow. The other causes of a rejected start,
+and what `wfarm tape` lists, are cases of `crates/wf_test_commands` and `crates/wf_test_failures`; clients
+that stay or trickle are `tools/hostile.py`'s.
 """
 
 import pathlib
@@ -17,10 +15,8 @@ import signal
 import subprocess
 import sys
 import tempfile
-import time
 
 from farmkit.command import program_parser
-from farmkit.mapfiles import canonical
 from farmkit.processes import UNSIGNALLED, Farm, limited, serve_words
 from farmkit.web import CAPABILITIES
 
@@ -46,28 +42,8 @@ def tapes(folder):
     return {path.name: path.read_bytes() for path in folder.iterdir()}
 
 
-def starts_again(program, folder, port):
-    """A second start at a port and on a folder: its status, what it prints and its error line."""
-    second = subprocess.run(serve_words(program, 1, folder, port=port), capture_output=True, text=True,
-                            timeout=20)
-    return second.returncode, second.stdout, second.stderr
-
-
-def second_start(program, folder, farm):
-    """A torn record at the end of a tape is removed where that is opened: a second start must not open it."""
-    torn = folder / "node-0.tape"
-    with torn.open("ab") as tape:
-        tape.write(b"\x02\x01\x00")
-    before = tapes(folder)
-    yield same("a second start at its port", starts_again(program, folder, farm.port),
-               (1, "", "serve fault\n"))
-    yield same("a second start at another port", starts_again(program, folder, 0), (1, "", "serve fault\n"))
-    yield same("the tapes after it", tapes(folder) == before, True)
-    torn.write_bytes(before[torn.name][:-3])
-
-
 def three_nodes(program, folder):
-    farm = Farm(program, 26, folder)
+    farm = Farm(program, 20, folder)
     red, blue = (MAP % "255 0 0").encode(), (MAP % "0 0 255").encode()
     yield same("a publish", farm.ask("/publish", red), (202, b"accepted for 1\n"))
     for node, proposal in ((1, "none"), (2, "none"), (0, "published 1")):
@@ -90,23 +66,6 @@ def three_nodes(program, folder):
     for more in (0, 20_000):
         yield same("a picture, %d bytes after the head" % more,
                    len(farm.ask_with_more(large, more).partition(b"\r\n\r\n")[2]), 120_015)
-    yield from second_start(program, folder, farm)
-    waited, came = farm.trickle(15)
-    yield same("a client that sends byte by byte is given up", (9 < waited < 12, came[:12]),
-               (True, b"HTTP/1.1 400"))
-    before = time.monotonic()
-    came = farm.wait_for_continue(red)
-    yield same("one that waits for 100 Continue", (came[:12], 9 < time.monotonic() - before < 13),
-               (b"HTTP/1.1 400", True))
-    stays = (("a client that was answered and stays", b"GET /status HTTP/1.1\r\n\r\n", 0.5),
-             ("one that was rejected and stays",
-              b"POST /publish HTTP/1.1\r\nContent-Length: 200000\r\n\r\n", 2))
-    for name, request, most in stays:
-        client = farm.keep_open(request)
-        before = time.monotonic()
-        answered = farm.ask("/status")[0]
-        yield same(name, (answered, time.monotonic() - before < most), (200, True))
-        client.close()
     farm.end()
     again = Farm(program, 3, folder)
     for node in range(3):
@@ -120,19 +79,6 @@ def start(program, folder, nodes=3, log=False):
     words = serve_words(program, 0, folder, nodes=nodes, log=log)
     ended = subprocess.run(words, capture_output=True, text=True, timeout=20)
     return ended.returncode, ended.stdout, ended.stderr
-
-
-def rejected(name, program, folder, cause, nodes=3):
-    """A start is rejected for this cause, with a line of the log, and every file is as before."""
-    before = tapes(folder) if folder.is_dir() else None
-    yield same(name, start(program, folder, nodes), (1, "", "serve fault\n"))
-    status, printed, lines = start(program, folder, nodes, log=True)
-    lines = lines.splitlines()
-    told = [line for line in lines[:-1] if " error fault cause=" in line]
-    yield same("%s, its cause" % name, (status, printed, lines[-1], len(told)), (1, "", "serve fault", 1))
-    yield same("%s, in words" % name, cause in told[0] if told else lines, True)
-    after = tapes(folder) if folder.is_dir() else None
-    yield same("%s, the files" % name, after == before, True)
 
 
 def farm_with(program, folder, colors):
@@ -153,25 +99,20 @@ def copied(folder, name):
 
 
 def rejections(program, folder):
-    """Starts that are rejected."""
+    """Starts that are rejected for a cause, which the log names."""
     farm_with(program, folder, ["255 0 0", "0 0 255"])
     other = folder.parent / "other"
     farm_with(program, other, ["0 255 0"])
-    yield from rejected("no folder", program, folder.parent / "nowhere", 'cause="folder missing"')
-    yield from rejected("five in place of three", program, folder, "one of 3 nodes", nodes=5)
-    copy = copied(folder, "missing")
-    (copy / "node-1.tape").unlink()
-    yield from rejected("a missing tape", program, copy, f'cause="tape missing" file="{copy}/node-1.tape"')
     copy = copied(folder, "foreign")
     shutil.copy(other / "node-1.tape", copy / "node-1.tape")
-    cause = f'cause="tapes differ" file="{copy}/node-0.tape" other="{copy}/node-1.tape" sequence=1'
-    yield from rejected("a tape of another farm", program, copy, cause)
-    copy = copied(folder, "bad")
-    whole = (copy / "node-1.tape").read_bytes()
-    (copy / "node-1.tape").write_bytes(whole + b"\xff\xff")
-    (copy / "node-0.tape").write_bytes((copy / "node-0.tape").read_bytes() + b"\x02\x01\x00")
-    cause = f'cause="tape bad" file="{copy}/node-1.tape" offset={len(whole)}'
-    yield from rejected("a bad tape, and a torn one before it", program, copy, cause)
+    differ = f'cause="tapes differ" file="{copy}/node-0.tape" other="{copy}/node-1.tape" sequence=1'
+    for place, nodes, cause in ((folder, 5, "one of 3 nodes"), (copy, 3, differ)):
+        before = tapes(place)
+        status, printed, lines = start(program, place, nodes, log=True)
+        told = [line for line in lines.splitlines() if " error fault cause=" in line]
+        yield same(cause, (status, printed, lines.splitlines()[-1:], cause in "".join(told), len(told)),
+                   (1, "", ["serve fault"], True, 1))
+        yield same("the files", tapes(place), before)
 
 
 def beginnings(program, folder):
@@ -189,33 +130,6 @@ def beginnings(program, folder):
     yield same("a folder that is taken over", start(program, copy)[0], 0)
     yield same("its file", bool(re.fullmatch(form % "found", (copy / "farm").read_text())), True)
     yield same("a start on it", start(program, copy)[0], 0)
-
-
-def listed(program, path, *words):
-    ended = subprocess.run([program, "tape", str(path), *words], capture_output=True, text=True, timeout=20)
-    return ended.returncode, ended.stdout, ended.stderr
-
-
-def listings(program, folder):
-    status, text, told = listed(program, folder)
-    lines = text.splitlines()
-    names = [line for line in lines if line.endswith(".tape")]
-    yield same("a folder's listing", (status, names, told),
-               (0, ["node-%d.tape" % node for node in range(3)], ""))
-    yield same("its last line", lines[-1], "whole, 3 tapes of one farm, began empty")
-    for name, wanted in (
-        ("missing", 'not whole, cause="tape missing" file="%s/node-1.tape"'),
-        ("foreign",
-         'not whole, cause="tapes differ" file="%s/node-0.tape" other="%s/node-1.tape" sequence=1')):
-        copy = folder.parent / name
-        yield same("of one that is %s" % name, listed(program, copy)[1].splitlines()[-1],
-                   wanted.replace("%s", str(copy)))
-    text = canonical(program, (MAP % "0 0 255").encode()).decode()
-    for node in range(3):
-        tape = folder / ("node-%d.tape" % node)
-        yield same("map 2 of node %d" % node, listed(program, tape, "--map", "2"), (0, text, ""))
-    yield same("a map that isn't there", listed(program, folder / "node-0.tape", "--map", "3"),
-               (1, "", "tape fault P4\n"))
 
 
 def log(program, folder):
@@ -261,7 +175,7 @@ def main():
         done = list(three_nodes(program, pathlib.Path(folder)))
     with tempfile.TemporaryDirectory() as place:
         folder = pathlib.Path(place) / "farm"
-        for part in (rejections, beginnings, listings, log, files_that_cannot_grow):
+        for part in (rejections, beginnings, log, files_that_cannot_grow):
             done += list(part(program, folder))
     print("%d of %d as wanted" % (sum(done), len(done)))
     return 0 if all(done) else 1

@@ -17,10 +17,10 @@ import tempfile
 import time
 
 import make_deb
-from farmkit.command import lacks, tell_missing
+from farmkit.command import tell_missing
 from farmkit.processes import children, end
 from farmkit.trial import Trial
-from try_deb import debian, package, words
+from try_deb import debian, missing, package, words
 
 INCLUDED = "systemd,systemd-sysv,dbus,python3,python3-minimal,adduser,procps"
 NODES = 3
@@ -218,8 +218,7 @@ def upgrade(container, program, folder, units):
 
 def main():
     options = words(__doc__).parse_args()
-    lacking = lacks("systemd-nspawn", "nsenter", "dpkg-deb")
-    if lacking:
+    if lacking := missing(options, "systemd-nspawn", "nsenter"):
         return tell_missing(lacking)
     with tempfile.TemporaryDirectory() as folder:
         path = pathlib.Path(folder) / "root"

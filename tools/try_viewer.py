@@ -169,29 +169,9 @@ class Look(Trial):
         self(what if took is None else f"{what} ({took:.1f} s)", took is not None)
 
 
-# the tiles of a map on the page: position, path, pixels, and the words of the tint
-READ = """
-const [id, done] = arguments;
-(async () => {
-  const found = [];
-  const layer = state.maps[id].tiles;
-  for (const tile of Object.values(layer._tiles)) {
-    const canvas = tile.el.querySelector('canvas');
-    const data = canvas.getContext('2d').getImageData(0, 0, 256, 256).data;
-    let text = '';
-    for (let k = 0; k < data.length; k += 4) text += String.fromCharCode(data[k], data[k + 1], data[k + 2]);
-    const { sequence } = layer.options;
-    const path = queryOf(boxOf(tile.coords), 256, await namesAt(sequence), sequence);
-    found.push({ ...tile.coords, x: tile.coords.x, y: tile.coords.y, z: tile.coords.z, path, rgb: btoa(text), by: tile.el.querySelector('.tint')?.textContent ?? null });
-  }
-  done(JSON.stringify(found));
-})();
-"""
-LOADED = """
-const it = state.maps[arguments[0]];
-const tiles = it && it.tiles ? Object.values(it.tiles._tiles) : [];
-return tiles.length > 0 && tiles.every((tile) => tile.loaded && tile.current) && it.old.length === 0;
-"""
+# scripts for the page: its tiles as they are shown, and whether all are loaded
+READ, LOADED = ((pathlib.Path(__file__).parent / "viewer" / name).read_text()
+                for name in ("tiles.js", "loaded.js"))
 
 
 class Page:

@@ -5,7 +5,8 @@ import os
 import pathlib
 import shutil
 import sys
-from collections.abc import Iterable
+import textwrap
+from collections.abc import Callable, Iterable
 from typing import Any
 
 from farmkit.repository import PROGRAM
@@ -26,7 +27,7 @@ def add_program(to: argparse.ArgumentParser, default: pathlib.Path = PROGRAM,
     """The built program, by an option or (`program`) as a word of the command line that may be left out."""
     words: dict[str, Any] = {"nargs": "?"} if name == "program" else {}
     said = f"the built program ({default.relative_to(default.parents[3])})"
-    to.add_argument(name, type=absolute, default=str(default), metavar="PROGRAM", help=said, **words)
+    to.add_argument(name, type=program_at, default=str(default), metavar="PROGRAM", help=said, **words)
 
 
 def program_parser(document: str | None, name: str = "--program") -> argparse.ArgumentParser:
@@ -36,8 +37,10 @@ def program_parser(document: str | None, name: str = "--program") -> argparse.Ar
     return made
 
 
-def absolute(path: str) -> str:
-    """A path of the command line, from wherever it is used later."""
+def program_at(path: str) -> str:
+    """The path of a program that is there, from wherever it is used later."""
+    if not os.access(path, os.X_OK):
+        raise argparse.ArgumentTypeError(f"no program is at {path}; `rt ci` makes the proved one")
     return os.path.abspath(path)
 
 
@@ -47,12 +50,21 @@ def add_cases(to: argparse.ArgumentParser, names: Iterable[str], metavar: str = 
                     help="one of those above; all of them if left out")
 
 
+def listed(document: str | None, cases: Iterable[Callable[..., Any]], title: str = "Cases") -> str:
+    """A docstring with a line for each case behind it: its name, and what its own docstring says."""
+    lines = [textwrap.fill(" ".join((case.__doc__ or "").split()), 110, subsequent_indent=" " * 16,
+                           initial_indent=f"    {case.__name__:<11} ") for case in cases]
+    return "\n".join([f"{document}\n{title}:", *lines])
+
+
 def numbers(text: str) -> list[int]:
     return [int(word) for word in text.split(",")]
 
 
-def lacks(*programs: str) -> list[str]:
-    return [name for name in programs if shutil.which(name) is None]
+def lacks(*programs: str, root: bool = False) -> list[str]:
+    """Those of these programs that aren't here, and root where it is wanted."""
+    wanted = ["root"] if root and os.geteuid() != 0 else []
+    return wanted + [name for name in programs if shutil.which(name) is None]
 
 
 def tell_missing(things: Iterable[str]) -> int:

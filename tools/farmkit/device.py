@@ -1,6 +1,7 @@
 """A block device that loses, at a power cut, what wasn't flushed: a loop device over a file of a file system
 of our own, by FUSE."""
 
+import contextlib
 import ctypes
 import os
 import pathlib
@@ -195,3 +196,17 @@ def is_permitted(above: str | pathlib.Path) -> bool:
     except (OSError, subprocess.CalledProcessError):
         return False
     return True
+
+
+def fill(folder: pathlib.Path) -> None:
+    """Fills the disk that a folder is on by a file in it."""
+    with (folder / "filling").open("wb", buffering=0) as file, contextlib.suppress(OSError):
+        while True:
+            file.write(bytes(4096))
+
+
+def make_room(folder: pathlib.Path) -> bool:
+    """Takes away what filled a disk, where something did."""
+    is_full = (folder / "filling").exists()
+    (folder / "filling").unlink(missing_ok=True)
+    return is_full

@@ -1,16 +1,14 @@
-"""Hosts on one machine: network namespaces on a bridge, whose links are cut or silent, and whose traffic is
-redirected.
+"""Hosts on one machine: network namespaces on a bridge, whose links are cut or silent, and nodes on them.
 
 Wants root, iproute2 and nftables.
 """
 
-import os
+import pathlib
 import subprocess
-from collections.abc import Iterable, Sequence
-from typing import Any
+from collections.abc import Iterable
 
 from farmkit.command import lacks
-from farmkit.processes import UNSIGNALLED, end
+from farmkit.processes import UNSIGNALLED, Node
 
 # where a host's programs listen: for nodes, for readers, for clients, for operators
 PEERS, READERS, CLIENTS, OPERATOR = 7000, 7001, 8080, 9090
@@ -23,10 +21,7 @@ def run(*words: str, check: bool = True) -> str:
 
 def missing(number: int) -> list[str]:
     """What isn't there that a network of this number wants: commands, root, or what the kernel refuses."""
-    lacking = lacks("ip", "nft", "nsenter")
-    if os.geteuid() != 0:
-        lacking.append("root")
-    if lacking:
+    if lacking := lacks("ip", "nft", "nsenter", root=True):
         return lacking
     try:
         network = Network(number, 2)
@@ -66,13 +61,11 @@ class Network:
         run("nft", f"flush chain bridge {self.bridge} silent")
 
     def stop(self) -> None:
-        for host in self.hosts:
-            host.kill_all()
         self.clear(len(self.hosts))
 
 
 class Host:
-    """A network namespace with an address of its own, and the processes that run in it."""
+    """A network namespace with an address of its own."""
 
     def __init__(self, network: int, number: int) -> None:
         self.number, self.name = number, f"wfarm{network}-{number}"
@@ -80,15 +73,13 @@ class Host:
         # (`ip netns exec` would give each program mounts of its own, and a disk that is unmounted here would
         # stay mounted there)
         self.entering = ["nsenter", f"--net=/run/netns/{self.name}"]
-        self.processes: list[subprocess.Popen[Any]] = []
         run("ip", "netns", "add", self.name)
         run("ip", "link", "add", self.name, "type", "veth", "peer", "name", "eth0", "netns", self.name)
         run("ip", "link", "set", self.name, "master", f"wfarm{network}", "up")
         self.inside("ip", "address", "add", f"{self.address}/24", "dev", "eth0")
         self.inside("ip", "link", "set", "eth0", "up")
         self.inside("ip", "link", "set", "lo", "up")
-        self.inside("nft", "add table ip cuts; add chain ip cuts out { type filter hook output priority 0; };"
-                    "add table ip relay; add chain ip relay out { type nat hook output priority -100; }")
+        self.inside("nft", "add table ip cuts; add chain ip cuts out { type filter hook output priority 0; }")
 
     def at(self, port: int) -> str:
         return f"{self.address}:{port}"
@@ -101,26 +92,6 @@ class Host:
     def inside(self, *words: str) -> str:
         return run(*self.entering, *words)
 
-    def start(self, words: Sequence[str], **settings: Any) -> "subprocess.Popen[Any]":
-        process = subprocess.Popen([*self.entering, *words], start_new_session=True, **settings)
-        self.processes.append(process)
-        return process
-
-    def kill(self, process: "subprocess.Popen[Any]") -> None:
-        """Ends a program by SIGKILL. `nsenter` becomes the program, so the number is its own."""
-        self.processes.remove(process)
-        end(process)
-
-    def kill_all(self) -> None:
-        for process in list(self.processes):
-            self.kill(process)
-
-    def redirect(self, ports: Iterable[int], relay: int, mark: int) -> None:
-        """Sends connections to these ports of others to one of this host, unless they have the mark."""
-        self.inside("nft",
-                    "add rule ip relay out tcp dport { %s } ip daddr != %s meta mark != %d redirect to :%d"
-                    % (", ".join(map(str, ports)), self.address, mark, relay))
-
     def cut(self, others: "Iterable[Host]") -> None:
         for other in others:
             self.inside("nft", f"add rule ip cuts out ip daddr {other.address} drop")
@@ -132,3 +103,14 @@ class Host:
 def addresses(hosts: Iterable[Host], port: int) -> str:
     """The addresses of a port of these hosts, with commas between them."""
     return ",".join(host.at(port) for host in hosts)
+
+
+class HostedNode(Node):
+    """A node on a host of its own."""
+
+    def __init__(self, host: Host, folder: pathlib.Path, program: str, hosts: Iterable[Host], farm: str,
+                 has_readers: bool = False) -> None:
+        self.host = host
+        super().__init__(program, host.number, folder, addresses(hosts, PEERS), host.at(CLIENTS),
+                         host.at(OPERATOR), host.at(READERS) if has_readers else None, host.before)
+        self.init(farm)

@@ -1,24 +1,28 @@
 """All that the processes of a farm told, and what contradicts it."""
 
 import collections
+import random
 import threading
-from collections.abc import Callable, Hashable
+from collections.abc import Callable, Hashable, Sequence
 
-from farmkit.web import Answer, sequence_of
+from farmkit.mapfiles import PIXEL
+from farmkit.processes import Process
+from farmkit.web import CAPABILITIES, Answer, sequence_of
 
 MOST_VIOLATIONS = 20
 
 
 class Ledger:
-    """Compares what is told with what was told before, by whichever process; threads may share one."""
+    """Compares what is told with what was told before, by whichever process; threads may share one. `sent`
+    are the pictures of all maps that were sent, where they are known."""
 
-    def __init__(self, tell: Callable[[str], object] = lambda words: None) -> None:
-        self.tell, self.lock = tell, threading.RLock()
+    def __init__(self, tell: Callable[[str], object] = lambda words: None,
+                 sent: set[bytes] | None = None) -> None:
+        self.tell, self.sent, self.lock = tell, sent, threading.RLock()
         self.violations: list[str] = []
         self.counts = collections.Counter[str]()
         self.kept: dict[str, dict[Hashable, bytes]] = collections.defaultdict(dict)
         self.latest, self.most = collections.Counter[Hashable](), collections.Counter[Hashable]()
-        self.sent: set[bytes] = set()
 
     def violation(self, words: str) -> None:
         with self.lock:
@@ -50,8 +54,38 @@ class Ledger:
 
     def picture(self, sequence: int, answer: Answer) -> None:
         """A picture at a sequence, which has to be of a map that was sent."""
-        if answer.status != 200 or answer.body not in self.sent:
+        if answer.status != 200 or self.sent is not None and answer.body not in self.sent:
             told = f"{answer.status} {answer.body[:100]!r}"
             self.violation(f"the picture at {sequence} is of no map that was sent: {told}")
         else:
             self.same("the picture at", sequence, answer.body)
+
+
+class Watch:
+    """Asks processes again and again, and compares all answers by sequence."""
+
+    def __init__(self, processes: Sequence[Process], ledger: Ledger) -> None:
+        self.ledger, self.over = ledger, threading.Event()
+        self.threads = [threading.Thread(target=self.ask, args=(process,)) for process in processes]
+        for thread in self.threads:
+            thread.start()
+
+    def ask(self, process: Process) -> None:
+        """Asks a process until the watch is over. What it answers while its folder changes doesn't count."""
+        draw = random.Random(process.known_as)
+        while not self.over.wait(0.02):
+            name, (status, body) = process.name, process.ask(CAPABILITIES, seconds=5)
+            if status != 200 or name != process.name:
+                continue
+            sequence = self.ledger.document(body)
+            self.ledger.published(name, sequence)
+            if sequence:
+                at = draw.choice((sequence, draw.randint(1, sequence)))
+                answer = process.ask(PIXEL % at, seconds=5)
+                if answer.status not in (0, 503) and name == process.name:
+                    self.ledger.picture(at, answer)
+
+    def end(self) -> None:
+        self.over.set()
+        for thread in self.threads:
+            thread.join()

@@ -19,9 +19,16 @@ WORDS = ("MAP", "NAME", "EXTENT", "PROJECTION", "WEB", "METADATA", "LAYER", "TYP
 LISTED = ("", "a", " b", "k l", "'", '"', "#", "/*", "é", "x;y",
           "[a]")  # what a list may hold, between commas
 SOUND = ('"a"', '"b"', '"k"', '"a b"', '"x;y"', '"k,l"')
-KINDS = ("POINT", "LINE", "POLYGON", "point", '"LINE"')
-SIZES = ("TINY", "SMALL", "MEDIUM", "LARGE", "GIANT", "giant")
-POSITIONS = ("UL", "UC", "UR", "CL", "CC", "CR", "LL", "LC", "LR", "cc")
+# what each block may have: a block, or a keyword with its arguments, each a number from one to another, one
+# of some words, a text, or an expression
+GRAMMAR = {
+    "LAYER": "CLASSITEM text; LABELITEM text",
+    "CLASS": "NAME text; EXPRESSION expression; STYLE; STYLE; LABEL",
+    "STYLE": "COLOR 0..255 0..255 0..255; OUTLINECOLOR 0..255 0..255 0..255; WIDTH 1..16; SIZE 1..64",
+    "LABEL": "COLOR 0..255 0..255 0..255; SIZE TINY|SMALL|MEDIUM|LARGE|GIANT|giant; POSITION "
+             "UL|UC|UR|CL|CC|CR|LL|LC|LR|cc; PRIORITY 1..10; FORCE TRUE|FALSE; BUFFER 0..9",
+    "FEATURE": "POINTS; ITEMS text; TEXT text",
+}
 
 
 class Maps:
@@ -89,82 +96,51 @@ class Maps:
     def errs(self) -> bool:
         return self.draw.random() < self.errors
 
-    def some(self, makers: Sequence[Callable[[], str]], most: int) -> str:
-        return " ".join(make()
-                        for make in self.draw.sample(makers, self.draw.randint(0, min(most, len(makers)))))
-
     def word(self, word: str) -> str:
         return word + "X" if self.errs() else word.lower() if self.draw.random() < 0.1 else word
 
-    def block(self, word: str, inside: str) -> str:
-        return f"{self.word(word)} {inside}{'' if self.errs() else ' END'}"
+    def argument(self, form: str) -> str:
+        low, dots, high = form.partition("..")
+        if self.errs():
+            return self.draw.choice(NUMBERS if dots else TEXTS)
+        if form == "expression" and self.draw.random() < 0.5:
+            count = self.draw.choice((0, 1, 2, 3, 1_000))
+            texts = ",".join(self.draw.choice(TEXTS if self.errs() else LISTED) for _ in range(count))
+            return "{" + texts + ("" if self.errs() else "}")
+        if form in ("text", "expression"):
+            return self.draw.choice(SOUND)
+        return str(self.draw.randint(int(low), int(high))) if dots else self.draw.choice(form.split("|"))
 
-    def number(self, low: int = 0, high: int = 9) -> str:
-        return self.draw.choice(NUMBERS) if self.errs() else str(self.draw.randint(low, high))
+    def item(self, form: str) -> str:
+        """A keyword with its arguments, or a block."""
+        word, *forms = form.split()
+        return " ".join([self.word(word), *map(self.argument, forms)]) if forms else self.block(word)
 
-    def text(self) -> str:
-        return self.draw.choice(TEXTS) if self.errs() else self.draw.choice(SOUND)
+    def block(self, word: str, first: str = "", last: str = "") -> str:
+        if word == "POINTS":
+            count = 1 if self.errs() else self.draw.choice((3, 4, 5, 50))
+            inside = [self.argument("-9..9") for _ in range(2 * count)]
+        else:
+            items = GRAMMAR[word].split("; ")
+            inside = [self.item(it) for it in self.draw.sample(items, self.draw.randint(0, len(items)))]
+        return " ".join([self.word(word), first, *inside, last, "" if self.errs() else "END"])
 
-    def expression(self) -> str:
-        """A text, or a list of texts."""
-        if self.draw.random() < 0.5:
-            return self.text()
-        count = self.draw.choice((0, 1, 2, 3, 1_000))
-        texts = ",".join(self.draw.choice(TEXTS if self.errs() else LISTED) for _ in range(count))
-        return "{" + texts + ("" if self.errs() else "}")
-
-    def item(self, word: str, make: Callable[[], str]) -> Callable[[], str]:
-        return lambda: f"{self.word(word)} {make()}"
-
-    def chosen(self, choices: Sequence[str], more: str) -> Callable[[], str]:
-        return lambda: more if self.errs() else self.draw.choice(choices)
-
-    def color(self) -> str:
-        return " ".join(self.number(0, 255) for _ in range(3))
-
-    def style(self) -> str:
-        item = self.item
-        return self.block("STYLE", self.some((item("COLOR", self.color), item("OUTLINECOLOR", self.color),
-                                              item("WIDTH", lambda: self.number(1, 16)),
-                                              item("SIZE", lambda: self.number(1, 64))), 4))
-
-    def label(self) -> str:
-        item, chosen = self.item, self.chosen
-        return self.block("LABEL", self.some((
-            item("COLOR", self.color), item("SIZE", chosen(SIZES, "HUGE")),
-            item("POSITION", chosen(POSITIONS, "AUTO")),
-            item("PRIORITY", lambda: self.number(1, 10)), item("FORCE", chosen(("TRUE", "FALSE"), "ON")),
-            item("BUFFER", self.number)), 6))
-
-    def a_class(self) -> str:
-        return self.block("CLASS", self.some((
-            self.item("NAME", self.text), self.item("EXPRESSION", self.expression), self.style, self.style,
-            self.label), 5))
-
-    def points(self) -> str:
-        count = 1 if self.errs() else self.draw.choice((3, 4, 5, 50))
-        return self.block("POINTS",
-                          " ".join(f"{self.number(-9, 9)} {self.number(-9, 9)}" for _ in range(count)))
-
-    def feature(self) -> str:
-        return self.block(
-            "FEATURE", self.points() + " "
-            + self.some((self.points, self.item("ITEMS", self.text), self.item("TEXT", self.text)), 3))
+    def several(self, counts: Sequence[int], make: Callable[[int], str]) -> str:
+        return " ".join(make(number) for number in range(self.draw.choice(counts)))
 
     def layer(self, number: int) -> str:
-        head = f'NAME l{number} TYPE {self.chosen(KINDS, "CIRCLE")()} PROCESSING "ITEMS=k,l"'
-        more = " ".join(self.a_class() for _ in range(self.draw.choice((0, 1, 1, 2, 3))))
-        features = " ".join(self.feature() for _ in range(self.draw.choice((0, 1, 3, 10))))
-        items = self.some((self.item("CLASSITEM", self.text), self.item("LABELITEM", self.text)), 2)
-        return self.block("LAYER", f"{head} {items} {more} {features}")
+        head = f'NAME l{number} {self.item("TYPE POINT|LINE|POLYGON|point")} PROCESSING "ITEMS=k,l"'
+        classes = self.several((0, 1, 1, 2, 3), lambda _: self.block("CLASS"))
+        features = self.several((0, 1, 3, 10), lambda _: self.block("FEATURE", self.block("POINTS")))
+        return self.block("LAYER", head, f"{classes} {features}")
 
     def made(self) -> str:
         self.errors = self.draw.choice((0, 0, 0.01))
-        extent = " ".join(self.number(*sides) for sides in ((-9, 0), (-9, 0), (1, 9), (1, 9)))
-        code = self.chosen(("4326", "3857", "3857"), "1")()
-        layers = " ".join(self.layer(number) for number in range(self.draw.choice((1, 1, 2, 3, 0))))
-        return self.block("MAP",
-                          f'NAME {self.text()} EXTENT {extent} PROJECTION "init=epsg:{code}" END {layers}')
+        extent = self.item("EXTENT -9..0 -9..0 1..9 1..9")
+        code = self.argument("4326|3857|3857")
+        layers = self.several((1, 1, 2, 3, 0), self.layer)
+        return (f'{self.word("MAP")} {self.item("NAME text")} {extent} PROJECTION "init=epsg:{code}" END '
+                f"{layers}{'' if self.errs() else ' END'}")
 
 
 VALUES = {

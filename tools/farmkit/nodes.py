@@ -1,20 +1,16 @@
-"""The nodes of a farm by their numbers, in processes of their own on loopback addresses of this machine, and
-a watch over what they answer."""
+"""The nodes of a farm by their numbers, in processes of their own on loopback addresses of this machine."""
 
 import pathlib
 import re
 import resource
 import shutil
 import subprocess
-import threading
 from collections.abc import Sequence
 from typing import Any
 
-from farmkit.ledger import Ledger
-from farmkit.mapfiles import PICTURE
 from farmkit.processes import UNSIGNALLED, Node, end, free_ports
-from farmkit.wanted import PATIENCE, Wrong, until, want, want_none
-from farmkit.web import CAPABILITIES, Answer, ask, loopback
+from farmkit.wanted import PATIENCE, Wrong, until, want
+from farmkit.web import Answer, ask, loopback
 
 NODES = 3
 # seconds until what a node has, and what it heard of its peers, is in its folder
@@ -32,7 +28,6 @@ class Nodes:
         peers = ",".join(map(loopback, self.peer))
         self.each = [Node(program, i, folder / str(i), peers, loopback(self.http[i]), loopback(self.admin[i]))
                      for i in range(count)]
-        self.folders = [0] * count
         self.writers: list[subprocess.Popen[Any]] = []
 
     def __getitem__(self, i: int) -> Node:
@@ -125,7 +120,7 @@ class Nodes:
         shutil.rmtree(self[i].folder, ignore_errors=True)
         if folder:
             shutil.copytree(folder, self[i].folder)
-        self.folders[i] += 1
+        self[i].life += 1
 
     def end(self) -> None:
         for node in self.each:
@@ -192,33 +187,3 @@ class Nodes:
                     for i in range(self.count)}
             want("histories differ", len(told) == 1 and told != {""})
         return seconds
-
-
-class Watch:
-    """Asks each node again and again, and compares all answers by sequence."""
-
-    def __init__(self, nodes: Nodes) -> None:
-        self.nodes, self.over, self.ledger = nodes, threading.Event(), Ledger()
-        self.threads = [threading.Thread(target=self.ask, args=(i,)) for i in range(nodes.count)]
-        for thread in self.threads:
-            thread.start()
-
-    def ask(self, i: int) -> None:
-        """Asks a node until the watch is over. An answer after its folder was changed isn't the latest."""
-        while not self.over.wait(0.02):
-            life = self.nodes.folders[i]
-            status, body = self.nodes.get(i, CAPABILITIES)
-            if status != 200:
-                continue
-            sequence = self.ledger.document(body)
-            if life == self.nodes.folders[i]:
-                self.ledger.published(f"node {i} of folder {life}", sequence)
-            status, body = self.nodes.get(i, PICTURE % sequence) if sequence else Answer(0, b"")
-            if status == 200:
-                self.ledger.same("the picture at", sequence, body)
-
-    def end(self) -> None:
-        self.over.set()
-        for thread in self.threads:
-            thread.join()
-        want_none(self.ledger.violations[:5])

@@ -101,37 +101,6 @@ class Farm:
             time.sleep(0.2)
             return received(client)
 
-    def trickle(self, most: float) -> tuple[float, bytes]:
-        """Sends a head byte by byte: after how many seconds an answer comes or the connection is closed."""
-        begun = time.monotonic()
-        came = b""
-        with connect(self.address, 20) as client:
-            client.settimeout(0.5)
-            while time.monotonic() - begun < most and not came:
-                try:
-                    client.sendall(b"G")
-                    came = client.recv(1 << 16)
-                    if not came:
-                        break
-                except TimeoutError:
-                    continue
-                except OSError:
-                    break
-        return time.monotonic() - begun, came
-
-    def wait_for_continue(self, body: bytes) -> bytes:
-        """Sends the head of a publish that expects 100 Continue, and waits for it: what comes."""
-        head = b"POST /publish HTTP/1.1\r\nContent-Length: %d\r\nExpect: 100-continue\r\n\r\n" % len(body)
-        with connect(self.address, 20) as client:
-            client.sendall(head)
-            return received(client)
-
-    def keep_open(self, sent: bytes) -> socket.socket:
-        """A client that sends a request, reads nothing and doesn't close."""
-        client = connect(self.address, 20)
-        client.sendall(sent)
-        return client
-
     def end(self) -> None:
         assert self.process.wait(timeout=20) == 0
 
@@ -152,9 +121,15 @@ class Process:
         self.words, self.before = words, list(before)
         self.clients, self.operator = clients, operator
         self.process: subprocess.Popen[Any] | None = None
+        self.known_as, self.life = self.folder.name, 0
         # the file of its standard error, and when it was started, and answered last
         self.log = self.folder.parent / f"log-{self.folder.name}"
         self.started = self.answered = 0.0
+
+    @property
+    def name(self) -> str:
+        """What it is called, anew with each folder: with another one it may tell less than before."""
+        return f"{self.known_as} of folder {self.life}"
 
     def log_lines(self) -> list[str]:
         return self.log.read_text(errors="replace").splitlines()
@@ -228,7 +203,7 @@ class Node(Process):
                  clients: str, operator: str, readers: str | None = None, before: Sequence[str] = ()) -> None:
         more = [] if readers is None else ["--readers", readers]
         super().__init__(program, folder, clients, operator, ["node", "--peers", peers, *more], before)
-        self.number, self.count = number, len(peers.split(","))
+        self.number, self.count, self.known_as = number, len(peers.split(",")), f"node {number}"
 
     def init(self, farm: str, *more: str) -> "subprocess.CompletedProcess[str]":
         self.folder.mkdir(parents=True, exist_ok=True)
@@ -256,10 +231,12 @@ class Replica(Process):
 
 
 def nodes_in(program: str | pathlib.Path, folder: str | pathlib.Path, farm: str, count: int = 3,
-             readers: Sequence[int] | None = None, tape: pathlib.Path | None = None) -> list[Node]:
-    """New nodes of a farm, not started: with these ports for readers and this tape, where given."""
-    ports = list(map(loopback, free_ports(3 * count)))
-    peers, clients, operators = ports[:count], ports[count:2 * count], ports[2 * count:]
+             readers: Sequence[int] | None = None, tape: pathlib.Path | None = None,
+             ports: Sequence[int] | None = None) -> list[Node]:
+    """New nodes of a farm, not started: with these ports for readers and this tape, where given, and these
+    for peers, clients and operators."""
+    addresses = list(map(loopback, ports or free_ports(3 * count)))
+    peers, clients, operators = addresses[:count], addresses[count:2 * count], addresses[2 * count:]
     nodes = [Node(program, number, pathlib.Path(folder) / f"node-{number}", ",".join(peers), clients[number],
                   operators[number],
                   loopback(readers[number]) if readers else None) for number in range(count)]

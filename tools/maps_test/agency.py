@@ -116,71 +116,15 @@ def write_data(folder, columns=20, rows=10, depth=5, roads=300, towns=60):
     write_table(folder / "net.gpkg", "GPKG", "towns", ogr.wkbPoint, [("name", ogr.OFTString), ("people", ogr.OFTInteger)], places)
 
 
-MAPFILE = """MAP
-  NAME "agency"
-  EXTENT {west} {south} {east} {north}
-  SIZE 800 400
-  UNITS METERS
-  IMAGECOLOR 255 255 255
-  PROJECTION "init=epsg:2056" END
-  SYMBOL NAME "dot" TYPE ELLIPSE FILLED TRUE POINTS 1 1 END END
-  WEB METADATA
-    "wms_title" "Die Gemeinden"
-    "wms_abstract" "Gemeinden, Strassen und Orte"
-    "wms_onlineresource" "https://maps.county.example/wms?"
-  END END
-  INCLUDE "communes.inc"
-  INCLUDE "net.inc"
-END
-"""
-
-COMMUNES = """LAYER
-  NAME "communes"
-  TYPE POLYGON
-  DATA "communes.shp"
-  ENCODING "ISO-8859-1"
-  METADATA "wms_title" "Gemeinden" END
-  CLASSITEM "USE"
-{labels}
-  CLASS NAME "Wald"  EXPRESSION /^Wa/ STYLE COLOR 60 140 60 END {label} END
-  CLASS NAME "gross" EXPRESSION ([POP] >= 3000) STYLE COLOR 200 90 60 END {label} END
-  CLASS NAME "Genf"  EXPRESSION ("[NAME]" ~ "Genève") STYLE COLOR 220 220 90 END {label} END
-  CLASS NAME "Rest"  EXPRESSION {{Wiese,Stadt,Fels}} STYLE COLOR 210 210 230 END {label} END
-END
-"""
-
-NET = """LAYER
-  NAME "roads"
-  TYPE LINE
-  CONNECTIONTYPE OGR
-  CONNECTION "net.gpkg"
-  DATA "SELECT geom, class, number, lanes FROM roads WHERE class IN ('A', 'H', 'N')"
-  CLASSITEM "class"
-  CLASS NAME "Autobahn" EXPRESSION "A" STYLE COLOR 90 60 20 WIDTH 5 END STYLE COLOR 250 160 60 WIDTH 3 END END
-  CLASS NAME "Haupt" EXPRESSION ("[class]" = "H" AND [lanes] > 0) STYLE COLOR 180 60 60 WIDTH 2 END END
-  CLASS NAME "Neben" STYLE COLOR 120 120 120 WIDTH 1 PATTERN 4 2 END END END
-END
-LAYER
-  NAME "towns"
-  TYPE POINT
-  CONNECTIONTYPE OGR
-  CONNECTION "net.gpkg"
-  DATA "towns"
-  CLASS EXPRESSION ([people] > 50000)
-    STYLE SYMBOL "dot" COLOR 0 0 0 SIZE 8 END
-    LABEL TEXT "[name]" COLOR 0 0 0 SIZE LARGE POSITION UR PRIORITY 5 END
-  END
-  CLASS STYLE SYMBOL "dot" COLOR 80 80 80 SIZE 5 END END
-END
-"""
-
 LABEL = 'LABEL COLOR 40 40 40 SIZE TINY POSITION CC END'
 
 
 def write_mapfile(folder, labels=True):
     """agency.map with its two included files beside the data."""
-    sides = {"west": WEST, "south": SOUTH, "east": WEST + WIDTH, "north": SOUTH + HEIGHT}
-    label = LABEL if labels else ""
-    (folder / "agency.map").write_text(MAPFILE.format(**sides))
-    (folder / "communes.inc").write_text(COMMUNES.format(labels='  LABELITEM "NAME"' if labels else "", label=label))
-    (folder / "net.inc").write_text(NET)
+    values = {"west": WEST, "south": SOUTH, "east": WEST + WIDTH, "north": SOUTH + HEIGHT,
+              "labels": '  LABELITEM "NAME"' if labels else "", "label": LABEL if labels else ""}
+    for form in (Path(__file__).parent / "agency_files").iterdir():
+        text = form.read_text()
+        for word, value in values.items():
+            text = text.replace("{" + word + "}", str(value))
+        (folder / form.name).write_text(text)

@@ -6,7 +6,7 @@ import socket
 import tempfile
 import unittest
 
-from farmkit import calls, documents, figures, measure, relay, repository, tapes, wanted, web
+from farmkit import calls, documents, figures, measure, repository, tapes, wanted, web
 from farmkit.folder import Folder, drawn, extremes
 from farmkit.ledger import Ledger
 from farmkit.mapfiles import map_of, picture_of
@@ -60,16 +60,11 @@ class Tapes(unittest.TestCase):
         for cut in range(1, 11):
             self.assertEqual(tapes.records(tape[:-cut]), (whole[:1], True))
 
-    def test_a_frame_is_a_record(self) -> None:
-        frame = tapes.record(tapes.TRIED, b"body")
-        self.assertEqual(relay.frames(frame + frame + frame[:7]), ([frame, frame], frame[:7]))
-
 
 class Compared(unittest.TestCase):
     def test_what_changes_or_goes_back_is_a_violation(self) -> None:
         told: list[str] = []
-        ledger = Ledger(told.append)
-        ledger.sent.add(picture_of(7))
+        ledger = Ledger(told.append, {picture_of(7)})
         ledger.picture(1, web.Answer(200, picture_of(7)))
         ledger.published("node 0", 3)
         ledger.published("node 1", 2)

@@ -61,7 +61,7 @@ def change(nodes, i, old, new):
     count = int(re.search("published ([0-9a-f]{8})", path.read_text())[1], 16)
     want(f"{count} sequences", count <= len(new))
     path.write_text(re.sub("digest [0-9a-f]{64}", f"digest {digest_of(new[:count]).hex()}", path.read_text()))
-    nodes.folders[i] += 1
+    nodes[i].life += 1
 
 
 # ---- what is asked of nodes
@@ -153,8 +153,9 @@ def end(wrong, *words):
 
 # ---- cases
 
-def changed(nodes, _):
-    """It alone answers nobody, however often others start; with one of them gone nobody is served."""
+def changed(nodes):
+    """a byte has changed on a disk: its node alone answers nobody, however often others start, and nobody is
+    answered while another one is down"""
     x, y = history(nodes, False), history(nodes, True)
     begin_with(nodes, [x, x, x])
     for i in range(3):
@@ -205,8 +206,8 @@ def changed(nodes, _):
                f"{seconds} s, mended {mended} s", shown(states))
 
 
-def split(nodes, _):
-    """Nobody is answered, also while one of them is gone. Then the third comes."""
+def split(nodes):
+    """two nodes of different histories, and the third is down: nobody is answered; then it comes"""
     x, y = history(nodes, False), history(nodes, True)
     begin_with(nodes, [x, y, x])
     readers = free_ports(1)[0]
@@ -229,8 +230,9 @@ def split(nodes, _):
                f"nobody serves; then two, {took} s after the third was started", shown(states))
 
 
-def behind(nodes, _):
-    """It agrees with neither yet and mixes nothing; once one of the two is ended, the others go on."""
+def behind(nodes):
+    """the same, and the third has only what is common to both: it agrees with neither yet and mixes nothing;
+    once one of the two is ended, the others go on"""
     x, y = history(nodes, False), history(nodes, True)
     begin_with(nodes, [x, y, x[:1]])
     for i in range(3):
@@ -269,8 +271,8 @@ def behind(nodes, _):
     return end(wrong, said, shown(states))
 
 
-def lagging(nodes, _):
-    """The two of one history go on by themselves."""
+def lagging(nodes):
+    """one of another history, and one that lacks the last sequence: it and the third go on by themselves"""
     x, y = history(nodes, False), history(nodes, True)
     begin_with(nodes, [x, y, x[:-1]])
     for i in range(3):
@@ -289,8 +291,8 @@ def lagging(nodes, _):
     return end(wrong + endings(nodes, range(3)), f"two serve {caught_up} s after the start", shown(states))
 
 
-def halves(nodes, _):
-    """Nobody is answered. Then the fifth comes, and three serve."""
+def halves(nodes):
+    """two nodes of one history, two of another, and the fifth is down: nobody is answered; then it comes"""
     x, y = history(nodes, False), history(nodes, True)
     begin_with(nodes, [x, x, y, y, x])
     for i in range(4):
@@ -311,8 +313,9 @@ def halves(nodes, _):
                f"nobody serves; then three, {took} s after the fifth was started", shown(states))
 
 
-def alone(nodes, _):
-    """The third answers clients all the same; then one comes with another history, and nobody is answered."""
+def alone(nodes):
+    """a suspended node, and one that is down: the third answers clients all the same, until that one comes
+    with another history"""
     put_back_copy(nodes)
     nodes.kill(2)
     nodes.start(1)

@@ -12,6 +12,7 @@ import shutil
 import subprocess
 import time
 
+from farmkit.device import fill, make_room
 from farmkit.mapfiles import PICTURE, a_map, canonical, map_of
 from farmkit.nodes import KEPT, NODES
 from farmkit.tapes import ACCEPTED, PROMISED, PUBLISHED, TRIED, record, records
@@ -68,8 +69,9 @@ def compare_answers(nodes):
 
 # ---- a tape that was removed, or unmounted
 
-def removed(nodes, _):
-    """It stays halted, and serves what it had, until it is restarted and doesn't start."""
+def removed(nodes):
+    """a tape that failed, and whose file is removed: its node stays halted, and serves what it had, until it
+    is restarted and doesn't start"""
     nodes.kill(2, 1)
     nodes.start_limitable(1)
     nodes.publish_whole(0, a_map("x"))
@@ -129,12 +131,10 @@ class Disk:
         subprocess.run(["umount", "-l", self.place], check=True)
 
     def fill(self):
-        with (self.kept / "filling").open("wb", buffering=0) as file, contextlib.suppress(OSError):
-            while True:
-                file.write(bytes(4096))
+        fill(self.kept)
 
     def make_room(self):
-        (self.kept / "filling").unlink()
+        make_room(self.kept)
 
 
 @contextlib.contextmanager
@@ -150,8 +150,9 @@ def disk_of(nodes, i):
             subprocess.run(["umount", "-l", place], capture_output=True)
 
 
-def unmounted(nodes, _):
-    """It is halted, and is ever only the node that it was; not so on a copy that it hasn't locked."""
+def unmounted(nodes):
+    """a disk that is full, unmounted while its node runs, and mounted again: it is halted, and is ever only
+    the node that it was; not so on a copy that it hasn't locked; wants root"""
     if not may_mount(nodes.folder / "tried"):
         return LEFT_OUT
     nodes.kill(2, 1)
@@ -195,27 +196,9 @@ def unmounted(nodes, _):
 
 # ---- a full disk
 
-def disk(nodes, _):
-    if not may_mount(nodes.folder / "tried"):
-        return LEFT_OUT
-    nodes.kill(2)
-    with disk_of(nodes, 2) as its:
-        nodes.start_all([2])
-        its.fill()
-        for k in range(3):
-            nodes.publish_whole(0, a_map(f"disk{k}", "x" * 900))
-        halted = until(lambda: nodes.health(2)[0] == 503)
-        cause = nodes.health(2)[1]
-        want("a halted node took a publish", nodes.publish(2, a_map("refused")) == 503)
-        want("a halted node doesn't answer", nodes.get(2, CAPABILITIES)[0] == 200)
-        its.make_room()
-        again = until(lambda: nodes.health(2)[0] == 200, 90)
-        return (f"503 ({cause}) after {halted} s, 200 again {again} s after there was room; level after "
-                f"{nodes.level()} s")
-
-
-def room(nodes, _):
-    """A publish needs the vote of its node: it comes within seconds, with one start more counted."""
+def room(nodes):
+    """a disk that is full for 16 seconds while its node runs, which is halted and serves what it had; a
+    publish that needs its vote comes within seconds, with one start more counted; wants root"""
     if not may_mount(nodes.folder / "tried"):
         return LEFT_OUT
     nodes.kill(2)
@@ -228,6 +211,8 @@ def room(nodes, _):
         its.fill()
         nodes.publish_whole(0, LONG_MAP)
         until(lambda: nodes.health(2)[0] == 503)
+        want("a halted node took a publish", nodes.publish(2, a_map("refused")) == 503)
+        want("a halted node doesn't answer", nodes.get(2, CAPABILITIES)[0] == 200)
         time.sleep(LONG_HALT)
         nodes.kill(1)
         want("no publish", nodes.publish(0, a_map("third")) == 202)
@@ -273,7 +258,8 @@ def has_promised(nodes, i):
     return any(kind == PROMISED for kind, _ in records(nodes[i].tape.read_bytes())[0])
 
 
-def exchanged(nodes, _):
+def exchanged(nodes):
+    """a tape that failed, and another one in its place"""
     for k in range(9):
         nodes.publish_whole(0, a_map(f"first{k}"))
         nodes.level()
@@ -305,8 +291,8 @@ def exchanged(nodes, _):
     return f"halted with each of {len(changes)} other tapes"
 
 
-def rewritten(nodes, _):
-    """In the place of a halted node's file `farm` is another one, or none: it stays halted."""
+def rewritten(nodes):
+    """a tape that failed, and another file `farm` beside it, or none: its node stays halted"""
     nodes.publish_whole(0, a_map("first"))
     nodes.level()
     nodes.kill(1)
@@ -328,8 +314,9 @@ def rewritten(nodes, _):
     return f"halted with each of {len(changes)} other files"
 
 
-def completed(nodes, _):
-    """As a failed sync may leave it: its node goes on with it, and has counted one start more."""
+def completed(nodes):
+    """a tape that failed, and has the record of the step that failed, as a failed sync may leave it: its node
+    goes on with it, and has counted one start more"""
     # a tape that is longer than the other files of the folder, which stay as long as they are
     nodes.publish_whole(0, a_map("first", "x" * 900))
     nodes.level()
@@ -362,4 +349,4 @@ def completed(nodes, _):
     return f"it went on after {seconds} s; one start more"
 
 
-CASES = [disk, room, removed, unmounted, exchanged, rewritten, completed]
+CASES = [room, removed, unmounted, exchanged, rewritten, completed]

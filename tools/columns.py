@@ -1,0 +1,43 @@
+#!/usr/bin/env python3
+"""Says where comments and clauses of the crates have lines of over 100 columns.
+
+    python3 tools/columns.py             by crate, how many: of comments, and of clauses
+    python3 tools/columns.py --check     whether there are more than the numbers below
+
+Looked at are `//`, `///` and `//!` in sources, `--` in definitions and proofs, and lines that begin with
+`requires` or `ensures`. Blocks of code and tables within comments count: not all of them can be wrapped.
+"""
+
+import collections
+import re
+import sys
+
+from farmkit.command import parser
+from farmkit.repository import TOP
+
+WIDE = 100
+KINDS = {"comments": re.compile(r"\s*(?://|--)"), "clauses": re.compile(r"\s*(?:requires|ensures)\b")}
+# as many as there are until all comments are wrapped; then lower them
+MOST = {"comments": 3_600, "clauses": 280}
+
+
+def main() -> int:
+    words = parser(__doc__)
+    words.add_argument("--check", action="store_true", help="prints the whole alone")
+    is_check = words.parse_args().check
+    found: dict[str, collections.Counter[str]] = {kind: collections.Counter() for kind in KINDS}
+    for path in (TOP / "crates").glob("*/[sp]*/**/*"):
+        if path.suffix in (".rt", ".antt"):
+            long = [line for line in path.read_text(encoding="utf-8").splitlines() if len(line) > WIDE]
+            for kind, pattern in KINDS.items():
+                found[kind][path.relative_to(TOP).parts[1]] += sum(bool(pattern.match(it)) for it in long)
+    for crate in sorted(set().union(*found.values())):
+        if not is_check:
+            print(f"{crate}: {found['comments'][crate]} of comments, {found['clauses'][crate]} of clauses")
+    for kind, counts in found.items():
+        print(f"{counts.total()} lines of {kind} have over {WIDE} columns, at most {MOST[kind]} may")
+    return 0 if all(found[kind].total() <= MOST[kind] for kind in KINDS) else 1
+
+
+if __name__ == "__main__":
+    sys.exit(main())

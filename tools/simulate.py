@@ -1,0 +1,156 @@
+#!/usr/bin/env python3
+"""Plays farms of real nodes on a simulated network, disks and clock, with seeds that the table of CI hasn't.
+
+The program of `crates/wf_test_simulation` plays them, as many as fit into the minutes, each with a plan
+that is drawn from its seed: how many nodes, for how long, and which faults how often. The first play that
+violates what a farm promises ends it: its case is printed, and a smaller one, of which nodes, seconds and
+faults were left out as long as it still violates. `--renew` plays the table of CI in place of that, and
+puts what was counted there into it, unless a play violates.
+"""
+
+import pathlib
+import random
+import re
+import subprocess
+import sys
+import time
+from collections.abc import Callable
+from dataclasses import dataclass, field, replace
+
+from farmkit.command import add_program, parser
+from farmkit.repository import TOP, built
+
+TABLE = TOP / "crates" / "wf_test_simulation" / "stdin"
+WEIGHTS = ("alone", "one-way", "kills", "cuts", "disks")
+# (no losses: of a connection that is dead in silence only silence tells, for longer than a play gives a farm)
+PER_MILLION = {"resets": 3_000, "refusals": 100_000, "silences": 100_000, "false-events": 50_000}
+FIRST_SEED = 1_000_000
+
+
+@dataclass(frozen=True)
+class Plan:
+    """The words of a play."""
+    nodes: int
+    seconds: int
+    kinds: dict[str, int] = field(default_factory=dict)
+
+    def __str__(self) -> str:
+        words = [f"{kind} {number}" for kind, number in self.kinds.items()]
+        return " ".join([str(self.nodes), str(self.seconds), *words])
+
+    def having(self, **kinds: int) -> "Plan":
+        return replace(self, kinds={**self.kinds, **{kind.replace("_", "-"): kinds[kind] for kind in kinds}})
+
+    def without(self, kind: str) -> "Plan":
+        return replace(self, kinds={name: self.kinds[name] for name in self.kinds if name != kind})
+
+
+@dataclass(frozen=True)
+class Played:
+    """What a play violated, and what was counted."""
+    violations: list[str]
+    counts: dict[str, int]
+
+
+def plan_of(seed: int) -> Plan:
+    """The plan of a seed."""
+    draw = random.Random(seed)
+    kinds = {kind: draw.randint(1, 10) for kind in WEIGHTS if draw.random() < 0.6}
+    kinds |= {kind: draw.randint(1, most) for kind, most in PER_MILLION.items() if draw.random() < 0.5}
+    kinds |= {"delay": draw.choice((1, 10, 40, 200)), "pause": draw.choice((300, 1_500, 4_000))}
+    return Plan(draw.choice((1, 2, 3, 3, 3, 4, 5, 5, 7)), draw.choice((5, 10, 20, 40)), kinds)
+
+
+def case_of(seed: int, plan: Plan) -> str:
+    """The table with this play alone. No answer is the one that it expects."""
+    return f"case seed {seed}\nask play {plan}\nfor {seed} => any\n"
+
+
+def given_in(report: str) -> dict[int, str]:
+    """The answers that a report has, by their lines in the table: those that weren't expected."""
+    found = re.findall(r"^line (\d+): .*\n  expected: .*\n  given: +(.*)$", report, re.MULTILINE)
+    return {int(line): answer.removesuffix("\\n") for line, answer in found}
+
+
+def counts_in(line: str) -> dict[str, int]:
+    """The numbers of the line that tells what happened, by their words."""
+    return {word: int(number) for word, number in re.findall(r"([a-z-]+) (\d+)", line)}
+
+
+def play(program: str, seed: int, plan: Plan) -> Played:
+    """What a play answered."""
+    ran = subprocess.run([program], input=case_of(seed, plan), capture_output=True, text=True)
+    for answer in given_in(ran.stdout).values():
+        *violations, happened = answer.split("\\n")
+        return Played(violations, counts_in(happened))
+    return Played([f"the program ended with status {ran.returncode}", ran.stdout, ran.stderr[-2_000:]], {})
+
+
+def fewer(plan: Plan) -> list[Plan]:
+    """Plans with a kind of fault, nodes or seconds left out, those that leave out most first."""
+    return [*(plan.without(kind) for kind in [*WEIGHTS, *PER_MILLION] if kind in plan.kinds),
+            *(replace(plan, nodes=nodes) for nodes in (1, 2, 3, 4, 5) if nodes < plan.nodes),
+            *(replace(plan, seconds=seconds) for seconds in (2, 5, 10, 20) if seconds < plan.seconds)]
+
+
+def smaller(seed: int, plan: Plan, violates: Callable[[int, Plan], bool]) -> Plan:
+    """A plan that violates too, of which nothing more can be left out."""
+    for other in fewer(plan):
+        if violates(seed, other):
+            return smaller(seed, other, violates)
+    return plan
+
+
+def tell(counts: dict[str, int]) -> str:
+    return ", ".join(f"{word} {count}" for word, count in counts.items())
+
+
+def search(program: str, first: int, minutes: float) -> int:
+    """Plays seeds until the time is over or one violates."""
+    ends, seed, sums = time.monotonic() + 60 * minutes, first, dict[str, int]()
+    while time.monotonic() < ends:
+        plan = plan_of(seed)
+        played = play(program, seed, plan)
+        if played.violations:
+            print(*played.violations, "it is played again by", case_of(seed, plan.having(log=1)), sep="\n")
+            fewer = smaller(seed, plan, lambda number, plan: bool(play(program, number, plan).violations))
+            print("and with fewer faults by", case_of(seed, fewer.having(log=1)), sep="\n")
+            return 1
+        for word, count in played.counts.items():
+            sums[word] = sums.get(word, 0) + count * (word != "digest")
+        seed += 1
+    sums.pop("digest", None)
+    print(f"{seed - first} plays, none violates: {tell(sums)}")
+    return 0
+
+
+def renew(program: str) -> int:
+    """Plays the table, and writes what was counted into it."""
+    ran = subprocess.run([program], input=TABLE.read_text(), capture_output=True, text=True)
+    lines = TABLE.read_text().splitlines()
+    for number, answer in given_in(ran.stdout).items():
+        said, _, _ = lines[number - 1].partition(" => ")
+        if "\\n" in answer:
+            print(f"line {number} violates: {answer}", file=sys.stderr)
+            return 1
+        lines[number - 1] = f"{said} => {answer}"
+    TABLE.write_text("\n".join(lines) + "\n")
+    print(ran.stdout.splitlines()[-1] if ran.stdout else f"status {ran.returncode}")
+    return 0
+
+
+def main() -> int:
+    options = parser(__doc__)
+    add_program(options, built("wf_test_simulation"))
+    options.add_argument("--minutes", type=float, default=1, help="for how long (1)")
+    options.add_argument("--seed", type=int, default=FIRST_SEED, help=f"the first one ({FIRST_SEED})")
+    options.add_argument("--renew", action="store_true", help="play the table of CI, and renew its numbers")
+    told = options.parse_args()
+    if not pathlib.Path(told.program).exists():
+        print(f"missing: {told.program} (rt ci or rt run makes it)", file=sys.stderr)
+        return 2
+    return renew(told.program) if told.renew else search(told.program, told.seed, told.minutes)
+
+
+if __name__ == "__main__":
+    sys.exit(main())
