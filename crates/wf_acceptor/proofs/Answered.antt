@@ -14,7 +14,7 @@ use Rattle.wf_codec.specs.Message.{view}
 use Rattle.wf_codec.specs.declared.message.Message.TheVariants.{Accepted, Nack}
 use Rattle.wf_acceptor.specs.Acceptor.{Part, ActsFor, votes_of}
 use Rattle.wf_acceptor.specs.Prepared.{nack_of, promising, replying, voting}
-use Rattle.wf_acceptor.specs.AcceptorAnswer.{accept_transition, prepare_transition, Answers, Stores}
+use Rattle.wf_acceptor.specs.AcceptorAnswer.{accept_transition, prepare_transition, AnswersAlways, Stores}
 use Rattle.wf_acceptor.specs.declared.acceptor.AcceptorAnswer.{AcceptorAnswer}
 use Rattle.wf_acceptor.proofs.Reported.{as_reported}
 
@@ -61,38 +61,38 @@ accept_votes part stored volatile s b d acts open_ high voted =
 -- ---- the answers are the transitions
 
 pub promising_answers : (part : Part) (s : ℕ) (b : Ballot) → part.published < s → is_above part.promise b ≡ true →
-    Answers part (prepare_transition part s b) (promising part s b)
+    AnswersAlways part (prepare_transition part s b) (promising part s b)
 unfolding stores
 promising_answers part s b open_ high stored volatile acts =
     ap (λ (votes : List (Option (Vote Definition))). stores volatile (stored_part.Promised s b) (model.Promise part.id s b votes)) (as_reported part.votes s window)
     ∙ sym (prepare_promises part stored volatile s b acts open_ high)
 
 pub step_rejection_answers : (part : Part) (s : ℕ) (b : Ballot) → part.published < s → is_above part.promise b ≡ false → is_rejected part.promise b ≡ true →
-    Answers part (prepare_transition part s b) (replying (nack_of part s b))
+    AnswersAlways part (prepare_transition part s b) (replying (nack_of part s b))
 unfolding prepare_open only_sends
 step_rejection_answers part s b open_ high low stored volatile acts =
     rw (nack-as part s b) (sym (prepare_by_promise part stored volatile s b acts open_ ∙ rw (high, low)))
 
 pub silence_answers : (part : Part) (s : ℕ) (b : Ballot) → part.published < s → is_above part.promise b ≡ false → is_rejected part.promise b ≡ false →
-    Answers part (prepare_transition part s b) (replying None)
+    AnswersAlways part (prepare_transition part s b) (replying None)
 unfolding prepare_open quiet
 silence_answers part s b open_ high low stored volatile acts = sym (prepare_by_promise part stored volatile s b acts open_ ∙ rw (high, low))
 
 pub nack_answers : (part : Part) (s : ℕ) (b : Ballot) (d : Definition) → part.published < s → is_rejected part.promise b ≡ true →
-    Answers part (accept_transition part s b d) (replying (nack_of part s b))
+    AnswersAlways part (accept_transition part s b d) (replying (nack_of part s b))
 unfolding accept_open only_sends
 nack_answers part s b d open_ low stored volatile acts =
     rw (nack-as part s b) (sym (accept_by_promise part stored volatile s b d acts open_ ∙ rw low))
 
 pub again_answers : (part : Part) (s : ℕ) (b : Ballot) (d : Definition) → part.published < s → is_rejected part.promise b ≡ false → votes_at (votes_of part s) b ≡ true →
-    Answers part (accept_transition part s b d) (replying (Some (Accepted part.id s b)))
+    AnswersAlways part (accept_transition part s b d) (replying (Some (Accepted part.id s b)))
 unfolding accept_open vote_for only_sends
 again_answers part s b d open_ high voted stored volatile acts =
     let here : votes_at (stored.votes s) b ≡ true = ap (λ (f : ℕ → Option (Vote Definition)). votes_at (f s) b) acts.votes ∙ voted in
     sym (accept_by_promise part stored volatile s b d acts open_ ∙ rw (high, here))
 
 pub voting_answers : (part : Part) (s : ℕ) (b : Ballot) (d : Definition) → part.published < s → is_rejected part.promise b ≡ false → votes_at (votes_of part s) b ≡ false →
-    Answers part (accept_transition part s b d) (voting part s b d)
+    AnswersAlways part (accept_transition part s b d) (voting part s b d)
 unfolding stores
 voting_answers part s b d open_ high voted stored volatile acts = sym (accept_votes part stored volatile s b d acts open_ high voted)
 
@@ -116,11 +116,11 @@ voting_stores part s b d open_ high voted stored volatile acts =
 -- ---- the same for a call's result
 
 -- an answer that is equal to one that is the transition
-pub answers_as : (part : Part) (transition : DurableState Definition → VolatileState Definition → Transition Definition) (given wanted : AcceptorAnswer) → given ≡ wanted → Answers part transition wanted → Answers part transition given
-answers_as part transition given wanted is answers = subst (λ (x : AcceptorAnswer). Answers part transition x) (sym is) answers
+pub answers_as : (part : Part) (transition : DurableState Definition → VolatileState Definition → Transition Definition) (given wanted : AcceptorAnswer) → given ≡ wanted → AnswersAlways part transition wanted → AnswersAlways part transition given
+answers_as part transition given wanted is answers = subst (λ (x : AcceptorAnswer). AnswersAlways part transition x) (sym is) answers
 
 pub answers_if_ok : {E : Type 0} (part : Part) (transition : DurableState Definition → VolatileState Definition → Transition Definition) (wanted : AcceptorAnswer) (r : Result AcceptorAnswer E) →
-    IfOk r (λ answer. answer ≡ wanted) → Answers part transition wanted → IfOk r (Answers part transition)
+    IfOk r (λ answer. answer ≡ wanted) → AnswersAlways part transition wanted → IfOk r (AnswersAlways part transition)
 answers_if_ok part transition wanted (Ok given) is answers = answers_as part transition given wanted is answers
 answers_if_ok part transition wanted (Err e) is answers = tt
 

@@ -14,7 +14,7 @@ use Rattle.wf_codec.specs.Message.{view_vote}
 use Rattle.wf_journal.specs.Record.{view}
 use Rattle.wf_journal.specs.declared.record.Record.{Record}
 use Rattle.wf_journal.specs.declared.record.Record.TheVariants.{Tried, Promised, Accepted, Published}
-use Rattle.wf_acceptor.specs.Acceptor.{Acceptor, Part, ActsFor, Applies, IsNext}
+use Rattle.wf_acceptor.specs.Acceptor.{Acceptor, Part, ActsFor, Applies, IsNextSlot}
 use Rattle.wf_acceptor.specs.Prepared.{with_entry, with_open}
 
 -- inserting into a map, or removing from it, changes the map's function at that slot
@@ -68,7 +68,7 @@ applies_published part s d next stored acts = record {
 }
 
 -- Each kind of record has the fold's effect on the part. A tried round doesn't concern an acceptor.
-applies : (part : Part) (r : Record) → IsNext part r → Applies part (with_entry part r) (view r)
+applies : (part : Part) (r : Record) → IsNextSlot part r → Applies part (with_entry part r) (view r)
 unfolding with_record published
 applies part (Tried round) next stored acts = record { promise = acts.promise; votes = acts.votes; published = acts.published }
 applies part (Promised s b) next stored acts = applies_promised part s b stored acts
@@ -76,11 +76,11 @@ applies part (Accepted s b d) next stored acts = applies_accepted part s b d sto
 applies part (Published s d) next stored acts = applies_published part s d next stored acts
 
 -- A part that is the old one with the record is the old one after it.
-pub applied_where_equal : (old new : Part) (r : Record) → IsNext old r → new ≡ with_entry old r → Applies old new (view r)
+pub applied_where_equal : (old new : Part) (r : Record) → IsNextSlot old r → new ≡ with_entry old r → Applies old new (view r)
 applied_where_equal old new r next is = subst (λ (part : Part). Applies old part (view r)) (sym is) (applies old r next)
 
 -- If applying a record succeeds, it is applied.
-pub applied_if_ok : {T E : Type 0} (result : Result T E) (old new : Acceptor) (r : Record) → IsNext old.part r →
+pub applied_if_ok : {T E : Type 0} (result : Result T E) (old new : Acceptor) (r : Record) → IsNextSlot old.part r →
     OnOk result (new ≡ record { part = with_entry old.part r; prepared = None }) → OnOk result (Applies old.part new.part (view r))
 applied_if_ok (Ok x) old new r next ok =
     subst (λ (part : Part). Applies old.part part (view r)) (sym (ap (λ (a : Acceptor). a.part) ok)) (applies old.part r next)

@@ -40,9 +40,9 @@ abbrev pub Applies : Part → Part → model.Record Definition → Type 0
 Applies old new r = (stored : DurableState Definition) → ActsFor old stored → ActsFor new (with_record stored r)
 
 -- a record of a published definition is of the next slot
-abbrev pub IsNext : Part → Record → Type 0
-IsNext part (Published s d) = s ≡ part.published + 1
-IsNext part r = ⊤
+abbrev pub IsNextSlot : Part → Record → Type 0
+IsNextSlot part (Published s d) = s ≡ part.published + 1
+IsNextSlot part r = ⊤
 
 -- There is room for the record: applying it doesn't allocate. That holds of each record but a vote, and of the prepared one.
 abbrev pub HasRoomFor : Acceptor → Record → Type 0

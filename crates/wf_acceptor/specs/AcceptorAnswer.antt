@@ -27,8 +27,8 @@ abbrev pub accept_transition : Part → ℕ → Ballot → Definition → Durabl
 accept_transition part s b d stored volatile = on_accept part.id stored volatile s b d
 
 -- The answer is this transition, whatever else the node's state is.
-abbrev pub Answers : Part → (DurableState Definition → VolatileState Definition → Transition Definition) → AcceptorAnswer → Type 0
-Answers part transition answer = (stored : DurableState Definition) (volatile : VolatileState Definition) → ActsFor part stored → transition_of answer volatile ≡ transition stored volatile
+abbrev pub AnswersAlways : Part → (DurableState Definition → VolatileState Definition → Transition Definition) → AcceptorAnswer → Type 0
+AnswersAlways part transition answer = (stored : DurableState Definition) (volatile : VolatileState Definition) → ActsFor part stored → transition_of answer volatile ≡ transition stored volatile
 
 -- The transition stores a record, whatever else the node's state is.
 abbrev pub Stores : Part → (DurableState Definition → VolatileState Definition → Transition Definition) → Type 0

@@ -81,9 +81,9 @@ impl Acceptor {
     ghost use Rattle.std.specs.Option.{option_copied};
     ghost use Rattle.wf_codec.specs.Message.{view_vote};
     ghost use Rattle.wf_journal.specs.Record.{view as record_view};
-    ghost use Rattle.wf_acceptor.specs.Acceptor.{votes_of, ActsFor, Applies, IsNext, HasRoomFor};
+    ghost use Rattle.wf_acceptor.specs.Acceptor.{votes_of, ActsFor, Applies, IsNextSlot, HasRoomFor};
     ghost use Rattle.wf_acceptor.specs.Comparison.{Agrees};
-    ghost use Rattle.wf_acceptor.specs.AcceptorAnswer.{accept_transition, prepare_transition, Answers, Stores};
+    ghost use Rattle.wf_acceptor.specs.AcceptorAnswer.{accept_transition, prepare_transition, AnswersAlways, Stores};
     ghost use Rattle.wf_acceptor.specs.Prepared.{nack_of, promising, replying, unprepared, voting, with_promise, with_open, with_entry, with_entry_at, with_published};
 
     /// The acceptor of a node that has stored nothing yet.
@@ -140,7 +140,7 @@ impl Acceptor {
     /// the promise. Allocation can fail only for a Promise.
     pub fn on_prepare(&mut self, slot: Slot, ballot: Ballot) -> Result<AcceptorAnswer, AllocError>
         requires { self.old.part.published < slot }
-        ensures transition { IfOk result (Answers self.old.part (prepare_transition self.old.part slot ballot)) }
+        ensures transition { IfOk result (AnswersAlways self.old.part (prepare_transition self.old.part slot ballot)) }
         ensures part { self.new.part ≡ self.old.part }
         ensures room { IfOk result (λ answer. IfSome answer.entry (HasRoomFor self.new)) }
         ensures none_set_aside { OnOk result (self.new.prepared ≡ None) }
@@ -167,7 +167,7 @@ impl Acceptor {
     ) -> Result<AcceptorAnswer, AllocError>
         requires { self.old.part.published < slot }
         ensures transition { IfOk result
-            (Answers self.old.part (accept_transition self.old.part slot ballot canon)) }
+            (AnswersAlways self.old.part (accept_transition self.old.part slot ballot canon)) }
         ensures part { self.new.part ≡ self.old.part }
         ensures room { IfOk result (λ answer. IfSome answer.entry (HasRoomFor self.new)) }
         ensures set_aside { IfOk result (λ answer. self.new.prepared ≡ answer.entry) }
@@ -188,7 +188,7 @@ impl Acceptor {
     /// Applies a record, as the fold does; afterwards no record is prepared. Allocates only for a vote, and not for that of the last
     /// answer. An error changes nothing.
     pub fn apply(&mut self, entry: &Record) -> Result<(), AllocError>
-        requires { IsNext self.old.part entry.now }
+        requires { IsNextSlot self.old.part entry.now }
         ensures ok { OnOk result (Applies self.old.part self.new.part (record_view entry.now)) }
         ensures id { self.new.part.id ≡ self.old.part.id }
         ensures spent { OnOk result (self.new.prepared ≡ None) }
@@ -210,7 +210,7 @@ impl Acceptor {
     /// Whether this acceptor has what the other one would have after the record, which has to be of the next slot if it is that of a
     /// published definition.
     pub fn has_applied(&self, other: &Acceptor, entry: &Record) -> bool
-        requires { IsNext other.now.part entry.now }
+        requires { IsNextSlot other.now.part entry.now }
         ensures { IsTrue result → Applies other.now.part self.now.part (record_view entry.now) }
     {
         self.is_with(other, entry)

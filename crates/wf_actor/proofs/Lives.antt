@@ -4,7 +4,7 @@ use Rattle.std.specs.declared.alloc.Global.{Global}
 use Rattle.wf_career.specs.RunTheorems.{last_more, done_more, fold_stands, outputs_more}
 use Rattle.wf_career.specs.Run.{Act, Input, IsAct, given_to, last_of, outputs}
 use Rattle.wf_codec.specs.declared.message.Message.{Message}
-use Rattle.wf_edge.specs.StepResult.{IsAnswer}
+use Rattle.wf_edge.specs.StepResult.{IsStepResult}
 use Rattle.wf_edge.specs.RequestEffect.{HandsOut, MovesOnce, Stays, Proposes}
 use Rattle.wf_delivery.specs.Reachability.{outputs_by}
 use Rattle.wf_delivery.proofs.Outcomes.{step_is_answered}
@@ -38,7 +38,7 @@ logged_grows log log' messages more = ap logged more ∙ logged_more log message
 
 -- a step keeps the node's number, and how many there are
 module _ {T A : Type 0} (tapes : Tape T) (input : Input) (before after : Node T) (answer : Result (Vec Message A) NodeFault) where
-  kept_numbers : (halted : Bool) → before.halted ≡ halted → IsAnswer tapes (view input) before answer after → (after.id ≡ before.id) × (after.n ≡ before.n)
+  kept_numbers : (halted : Bool) → before.halted ≡ halted → IsStepResult tapes (view input) before answer after → (after.id ≡ before.id) × (after.n ≡ before.n)
   kept_numbers true is answered = (ap (λ (x : Node T). x.id) (answered.refused is).1, ap (λ (x : Node T). x.n) (answered.refused is).1)
   kept_numbers false is answered = by_result answer (answered.steps is).done (answered.steps is).same
     where
@@ -47,7 +47,7 @@ module _ {T A : Type 0} (tapes : Tape T) (input : Input) (before after : Node T)
       by_result (Ok messages) transition same = (transition.id, transition.n)
       by_result (Err why) transition same = (ap (λ (x : Node T). x.id) same, ap (λ (x : Node T). x.n) same)
 
-  pub keeps_numbers : IsAnswer tapes (view input) before answer after → (after.id ≡ before.id) × (after.n ≡ before.n)
+  pub keeps_numbers : IsStepResult tapes (view input) before answer after → (after.id ≡ before.id) × (after.n ≡ before.n)
   keeps_numbers answered = kept_numbers before.halted refl answered
 
 -- so does a request
@@ -125,14 +125,14 @@ module _ {T : Type 0} (tapes : Tape T) where
     }
 
     -- by one more step
-    pub life_steps : (input : Input) (origin : Origin) (answer : Result (Vec Message Global) NodeFault) (after : Node T) → IsAnswer tapes (view input) node answer after →
+    pub life_steps : (input : Input) (origin : Origin) (answer : Result (Vec Message Global) NodeFault) (after : Node T) → IsStepResult tapes (view input) node answer after →
         AreOwnAmong emitted origin (given_to input) → IsLife tapes read_from began (given ++ all_from origin (given_to input)) (emitted ++ outputs_by answer) after
     life_steps input origin answer after answered own =
         life_acts (record { input = input; outputs = outputs_by answer; after = after }) origin
         (record { lost = is_lost answer; takes = step_is_answered tapes node after (view input) answer answered.refused answered.steps })
         (keeps_numbers tapes input node after answer answered) own
 
-    pub life_steps_now : (input : Input) (origin : Origin) (answer : Result (Vec Message Global) NodeFault) (after : Node T) → IsAnswer tapes (view input) node answer after →
+    pub life_steps_now : (input : Input) (origin : Origin) (answer : Result (Vec Message Global) NodeFault) (after : Node T) → IsStepResult tapes (view input) node answer after →
         AreOwnAmong emitted origin (given_to input) → (began' : List (Node T × ℕ)) (given' : List (Message × Origin)) (emitted' : List Message) → began' ≡ began → given' ≡ given ++ all_from origin (given_to input) →
         emitted' ≡ emitted ++ outputs_by answer → IsLife tapes read_from began' given' emitted' after
     life_steps_now input origin answer after answered own began' given' emitted' e f g =

@@ -73,7 +73,7 @@ ProcessesAreFarm {T} tapes = (n : ℕ) (careers : ℕ → Career T) (steps : Lis
 
 -- One run's part of that: a run of `wf_career` up to the node as it is, from the bytes that were read of the tape from which it was
 -- opened, which are its content if it is durable. Its items are these steps, which hear only their own messages.
-pub record IsPart {T : Type 0} (tapes : Tape T) (read_from : List (T × ℕ)) (began : List (Node T × ℕ)) (node : Node T) : Type 0 where
+pub record IsRunPart {T : Type 0} (tapes : Tape T) (read_from : List (T × ℕ)) (began : List (Node T × ℕ)) (node : Node T) : Type 0 where
   pub run : Run T
   pub origins : List Origin
   pub tape : T
@@ -89,11 +89,11 @@ pub record IsPart {T : Type 0} (tapes : Tape T) (read_from : List (T × ℕ)) (b
 -- What a process promises after each call is its part.
 abbrev pub LifeIsPart : {T : Type 0} → Tape T → Type 0
 LifeIsPart {T} tapes = (read_from : List (T × ℕ)) (began : List (Node T × ℕ)) (given : List (Message × Origin)) (emitted : List Message) (node : Node T) →
-    IsLife tapes read_from began given emitted node → IsPart tapes read_from began node
+    IsLife tapes read_from began given emitted node → IsRunPart tapes read_from began node
 
 -- Where the tape is durable and was empty, that is the first run of a process of `wf_career`.
 abbrev pub PartIsFirst : {T : Type 0} → Tape T → Type 0
-PartIsFirst {T} tapes = (read_from : List (T × ℕ)) (began : List (Node T × ℕ)) (node : Node T) (part : IsPart tapes read_from began node) → tapes.durable → tapes.content part.tape ≡ [] →
+PartIsFirst {T} tapes = (read_from : List (T × ℕ)) (began : List (Node T × ℕ)) (node : Node T) (part : IsRunPart tapes read_from began node) → tapes.durable → tapes.content part.tape ≡ [] →
     IsCareer tapes node.n node.id (record { ended = []; now = Some part.run })
 
 -- Runs one after the other hear only their own messages, if each of them does.

@@ -105,13 +105,13 @@ pub record IsOpenedReceiver (before after : Link) : Type 0 where
   pub outgoing : IsSameOutgoing before after
 
 -- The receiver took the piece and returned these messages, which wait now; what waited before is dropped.
-pub record IsTaken (piece : List ℕ) (messages : Vec code.Message Global) (before after : Link) : Type 0 where
+pub record IsPieceTaken (piece : List ℕ) (messages : Vec code.Message Global) (before after : Link) : Type 0 where
   pub takes : IsReceived before.receiver piece (map view messages.items) after.receiver
   pub arrived : arrived after ≡ messages.items
   pub outgoing : IsSameOutgoing before after
 
 -- The receiver closed with the error, or was closed with it.
-pub record IsBroken (piece : List ℕ) (fault : DecodeFault) (before after : Link) : Type 0 where
+pub record IsLinkBroken (piece : List ℕ) (fault : DecodeFault) (before after : Link) : Type 0 where
   pub closes : IsClosed before.receiver piece fault after.receiver
   pub arrived : arrived after ≡ arrived before
   pub outgoing : IsSameOutgoing before after
@@ -119,8 +119,8 @@ pub record IsBroken (piece : List ℕ) (fault : DecodeFault) (before after : Lin
 -- one of these, with the log of what came, which has the messages with the peer that they came from
 abbrev pub TakesIn : ℕ → List ℕ → Link → List (Vec code.Message Global × ℕ) → Result ℕ DecodeFault → Link → List (Vec code.Message Global × ℕ) → Type 0
 TakesIn peer piece before came (Ok count) after came_after =
-    (messages : Vec code.Message Global) × IsTaken piece messages before after × (count ≡ length messages.items) × (came_after ≡ came ++ (messages, peer) ∷ [])
-TakesIn peer piece before came (Err fault) after came_after = IsBroken piece fault before after × (came_after ≡ came)
+    (messages : Vec code.Message Global) × IsPieceTaken piece messages before after × (count ≡ length messages.items) × (came_after ≡ came ++ (messages, peer) ∷ [])
+TakesIn peer piece before came (Err fault) after came_after = IsLinkBroken piece fault before after × (came_after ≡ came)
 
 -- the first message that waited was taken out
 pub record IsPopped (m : code.Message) (before after : Link) : Type 0 where

@@ -4,7 +4,7 @@ use Rattle.std.specs.declared.alloc.Global.{Global}
 use Rattle.wf_codec.specs.Message.{view}
 use Rattle.wf_codec.specs.declared.message.Message.{Message}
 use Rattle.wf_career.specs.Run.{Input, given_to}
-use Rattle.wf_edge.specs.StepResult.{IsAnswer}
+use Rattle.wf_edge.specs.StepResult.{IsStepResult}
 use Rattle.wf_edge.specs.RequestEffect.{IsEnding, IsOutcome, MovesOnce}
 use Rattle.wf_edge.specs.declared.outcome.Outcome.{Outcome}
 use Rattle.wf_delivery.specs.Reachability.{outputs_by}
@@ -36,7 +36,7 @@ abbrev pub waiting_in : {T : Type 0} {tapes : Tape T} → Process T tapes → Li
 waiting_in process = process.backlog.messages.items
 
 -- Its node was just opened: nothing was given to it or returned by it, nothing waits, and there are no connections.
-pub record IsBegun {T : Type 0} {tapes : Tape T} (process : Process T tapes) : Type 0 where
+pub record IsJustOpened {T : Type 0} {tapes : Tape T} (process : Process T tapes) : Type 0 where
   pub began : process.actor.began.items ≡ (process.actor.node, 0) ∷ []
   pub given : process.actor.given.items ≡ []
   pub emitted : emitted_by process ≡ []
@@ -131,7 +131,7 @@ module _ {T : Type 0} (tapes : Tape T) where
   -- The node was given the input, which comes from there, and its messages went to the target.
   pub record IsActed {U : Type 0} (input : Input) (origin : Origin) (target : Target) (before : Process T tapes) (result : Result U NodeFault) (after : Process T tapes) : Type 0 where
     pub answer : Result (Vec Message Global) NodeFault
-    pub steps : IsAnswer tapes (node.view input) before.actor.node answer after.actor.node
+    pub steps : IsStepResult tapes (node.view input) before.actor.node answer after.actor.node
     pub result_is : HaveOneEnd answer result
     pub emitted : emitted_by after ≡ emitted_by before ++ outputs_by answer
     pub given : after.actor.given.items ≡ before.actor.given.items ++ all_from origin (given_to input)

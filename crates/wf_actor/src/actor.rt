@@ -37,12 +37,12 @@ pub struct Actor<T: Tape> {
 }
 
 impl<T: Tape> Actor<T> {
-    ghost use Rattle.std.specs.Prelude.{◌++◌, ◌<◌, ◌≤◌, ◌≢◌, ℕ, false, List, IfOk, IfErr};
+    ghost use Rattle.std.specs.Prelude.{◌++◌, ◌<◌, ◌≤◌, ◌≢◌, false, List, IfOk, IfErr};
     ghost use Rattle.wf_actor.specs.Life.{all_from, AreOwnAmong, IsOpenedFrom};
     ghost use Rattle.wf_actor.specs.Start.{IsOpened};
     ghost use Rattle.wf_def.specs.Definition.{Definition};
     ghost use Rattle.wf_career.specs.Run.{given_to};
-    ghost use Rattle.wf_edge.specs.StepResult.{IsAnswer};
+    ghost use Rattle.wf_edge.specs.StepResult.{IsStepResult};
     ghost use Rattle.wf_edge.specs.Receipt.{CountsReceiving};
     ghost use Rattle.wf_edge.specs.Completion.{CountsCompleting};
     ghost use Rattle.wf_edge.specs.RequestEffect.{IsEnding, IsOutcome, MovesOnce};
@@ -137,7 +137,7 @@ impl<T: Tape> Actor<T> {
         origin: Origin,
     ) -> Result<Vec<Message>, NodeFault>
         requires { ∥ AreOwnAmong (logged self.old.emitted.items) origin (given_to input) ∥₁ }
-        ensures answer { IsAnswer T.Tape (view input) self.old.node result self.new.node }
+        ensures answer { IsStepResult T.Tape (view input) self.old.node result self.new.node }
         ensures read_from { self.new.read_from.items ≡ self.old.read_from.items }
         ensures began { self.new.began.items ≡ self.old.began.items }
         ensures given { self.new.given.items ≡

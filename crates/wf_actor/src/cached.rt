@@ -2,7 +2,7 @@
 
 ghost use Rattle.std.specs.Prelude.{◌≡◌, List};
 ghost use Rattle.wf_def.specs.Definition.{Definition};
-ghost use Rattle.wf_edge.specs.StepResult.{IsAnswer};
+ghost use Rattle.wf_edge.specs.StepResult.{IsStepResult};
 ghost use Rattle.wf_edge.specs.Receipt.{CountsReceiving};
 ghost use Rattle.wf_edge.specs.Completion.{CountsCompleting};
 ghost use Rattle.wf_edge.specs.RequestEffect.{IsEnding, IsOutcome, MovesOnce};
@@ -67,7 +67,7 @@ impl<T: Tape> CachedNode<T> {
     /// The node's step.
     #[tactic(auto, using(crate::proofs::Growth::still_kept))]
     pub(crate) fn step(&mut self, alloc: Global, input: Input) -> Result<Vec<Message>, NodeFault>
-        ensures { IsAnswer T.Tape (view input) self.old result self.new }
+        ensures { IsStepResult T.Tape (view input) self.old result self.new }
     {
         step(alloc, &mut self.node, input)
     }
@@ -95,7 +95,7 @@ impl<T: Tape> CachedNode<T> {
 
 /// The node's step.
 fn step<T: Tape>(alloc: Global, node: &mut Node<T>, input: Input) -> Result<Vec<Message>, NodeFault>
-    ensures { IsAnswer T.Tape (view input) node.old result node.new }
+    ensures { IsStepResult T.Tape (view input) node.old result node.new }
 {
     node.step(alloc, input)
 }

@@ -1,6 +1,6 @@
 //! The two connections with a peer.
 
-ghost use Rattle.std.specs.Prelude.{◌≡◌, [], length, map, IfOk};
+ghost use Rattle.std.specs.Prelude.{◌≡◌, length, map, IfOk};
 ghost use Rattle.wf_codec.specs.Message.{view};
 ghost use Rattle.wf_actor.specs.Link.{count_dropped, posted_after, ArePosted, AreUnlinked};
 ghost use Rattle.wf_actor.specs.Offer.{IsPutOr};

@@ -10,14 +10,12 @@ use crate::parts::{ProcessParts, make_room, send};
 use crate::reopening::ReopenFault;
 use crate::target::{Target, reply_target};
 use std::alloc::{AllocError, Global};
-use wf_ballot::{NodeId, Seq};
+use wf_ballot::NodeId;
 use wf_canon::Canon;
 use wf_codec::Message;
 use wf_journal::OpenFault;
-use wf_learner::History;
 use wf_node::{Input, Node, NodeFault};
 use wf_past::Past;
-use wf_proposer::ProposalState;
 use wf_tape::Tape;
 use wf_wms::Cache;
 
@@ -44,9 +42,9 @@ pub struct Process<T: Tape> {
 }
 
 impl<T: Tape> Process<T> {
-    ghost use Rattle.std.specs.Prelude.{◌≢◌, ◌++◌, ◌∷◌, [], List, None, IfErr, IfOk, IfSome, OnErr, OnOk};
+    ghost use Rattle.std.specs.Prelude.{◌≢◌, ◌++◌, ◌∷◌, [], None, IfErr, IfOk, IfSome};
     ghost use Rattle.wf_actor.specs.Start.{IsOpened};
-    ghost use Rattle.wf_actor.specs.Process.{waiting_in, ReceivesOwn, IsActed, IsBegun, IsReceived, IsOwnPopped};
+    ghost use Rattle.wf_actor.specs.Process.{waiting_in, ReceivesOwn, IsActed, IsJustOpened, IsReceived, IsOwnPopped};
     ghost use Rattle.wf_actor.specs.Life.{AreOwnAmong, IsLife};
     ghost use Rattle.wf_actor.specs.Sent.{AreCome};
     ghost use Rattle.wf_actor.specs.declared.target.Target.TheVariants as target;
@@ -59,7 +57,6 @@ impl<T: Tape> Process<T> {
     ghost use Rattle.wf_model.specs.declared.action.Action.TheVariants as action;
     ghost use Rattle.wf_node.specs.OpenedNode.{IsWhyBad};
     ghost use Rattle.wf_node.specs.Node.{volatile_of};
-    ghost use Rattle.wf_proposer.specs.ProposalState.{proposal_state_of};
     ghost use Rattle.wf_tape.specs.Change.{Stays};
     ghost use Rattle.wf_wms.specs.CachedPictures.{AllCached};
 
@@ -79,7 +76,7 @@ impl<T: Tape> Process<T> {
         ensures opened { IfOk result (λ process. IsOpened T.Tape tape id n process.actor.node) }
         ensures read_from { IfOk result (λ process.
             process.actor.read_from.items ≡ (tape, 0) ∷ []) }
-        ensures begun { IfOk result (λ process. IsBegun process) }
+        ensures begun { IfOk result (λ process. IsJustOpened process) }
         ensures n { IfOk result (λ process. process.n ≡ n) }
         ensures ended { IfOk result (λ process. process.ended.items ≡ []) }
         ensures unchanged { T.durable →
@@ -115,7 +112,7 @@ impl<T: Tape> Process<T> {
         requires emitted { logged actor.emitted.items ≡ [] }
         ensures actor { result.actor ≡ actor }
         ensures n { result.n ≡ n }
-        ensures begun { IsBegun result }
+        ensures begun { IsJustOpened result }
         ensures ended { result.ended.items ≡ [] }
     {
         let ProcessParts { backlog, links } = parts;
@@ -284,7 +281,7 @@ impl<T: Tape> Process<T> {
 impl<T: Tape + Drop> Process<T> {
     ghost use Rattle.std.specs.Prelude.{◌++◌, ◌∷◌, [], false, IfErr, IfOk};
     ghost use Rattle.wf_actor.specs.Start.{IsOpened, IsWhyNotReopened};
-    ghost use Rattle.wf_actor.specs.Process.{IsBegun};
+    ghost use Rattle.wf_actor.specs.Process.{IsJustOpened};
     ghost use Rattle.wf_model.specs.VolatileState.{at_start};
     ghost use Rattle.wf_node.specs.Node.{stored_of, volatile_of};
     ghost use Rattle.wf_node.specs.OpenedNode.{IsRead};
@@ -306,7 +303,7 @@ impl<T: Tape + Drop> Process<T> {
         ensures same { IfOk result (λ process. process.actor.node ≡ node) }
         ensures read_from { IfOk result (λ process.
             process.actor.read_from.items ≡ (node.tape, 0) ∷ []) }
-        ensures begun { IfOk result (λ process. IsBegun process) }
+        ensures begun { IfOk result (λ process. IsJustOpened process) }
         ensures n { IfOk result (λ process. process.n ≡ node.n) }
         ensures ended { IfOk result (λ process. process.ended.items ≡ []) }
     {
@@ -327,7 +324,7 @@ impl<T: Tape + Drop> Process<T> {
             IsOpened T.Tape tape self.now.actor.node.id self.now.n next.actor.node) }
         ensures stored { IfOk result (λ next. HasStoredAs self.now.actor.node next.actor.node) }
         ensures read_from { IfOk result (λ next. next.actor.read_from.items ≡ (tape, 0) ∷ []) }
-        ensures begun { IfOk result (λ next. IsBegun next) }
+        ensures begun { IfOk result (λ next. IsJustOpened next) }
         ensures n { IfOk result (λ next. next.n ≡ self.now.n) }
         ensures ended { IfOk result (λ next.
             next.ended.items ≡ self.now.ended.items ++ (self.now.actor, 0) ∷ []) }
@@ -344,10 +341,10 @@ impl<T: Tape + Drop> Process<T> {
 
     /// The process that was just opened as this one's next run, if its node has stored what this one's has.
     fn follow(&self, next: Process<T>) -> Result<Process<T>, ReopenFault>
-        requires begun { IsBegun next }
+        requires begun { IsJustOpened next }
         ensures stored { IfOk result (λ later. HasStoredAs self.now.actor.node later.actor.node) }
         ensures actor { IfOk result (λ later. later.actor ≡ next.actor) }
-        ensures begun { IfOk result (λ later. IsBegun later) }
+        ensures begun { IfOk result (λ later. IsJustOpened later) }
         ensures n { IfOk result (λ later. later.n ≡ next.n) }
         ensures ended { IfOk result (λ later.
             later.ended.items ≡ self.now.ended.items ++ (self.now.actor, 0) ∷ []) }

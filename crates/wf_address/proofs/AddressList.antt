@@ -7,7 +7,7 @@ use Rattle.std.proofs.Math.Seq.{take-length}
 use Rattle.std.proofs.lemmas.List.{length-map}
 use Rattle.std.specs.Net.Grammar.{IsSocketText}
 use Rattle.std.specs.declared.net.socket_addr.SocketAddr.{SocketAddr}
-use Rattle.wf_address.specs.Address.{AreAddresses, IsBadAt, IsFirstBad, IsNoAddress, SpellsAt, texts, words_of, IsListFault}
+use Rattle.wf_address.specs.Address.{AreAddresses, IsBadWordAt, IsFirstBad, IsNoAddress, SpellsAt, texts, words_of, IsListFault}
 use Rattle.wf_address.specs.declared.list.ListFault.{ListFault}
 
 -- the word of a slice at an index
@@ -42,7 +42,7 @@ all_taken words addresses count is are =
     subst (λ (t : List (List ℕ)). AreAddresses t addresses) (take-length (texts words))
     (subst (λ (n : ℕ). AreAddresses (take n (texts words)) addresses) (is ∙ sym (length-map words (λ w. w.now))) are)
 
-pub first_bad : (words : List (List ℕ)) (addresses : List SocketAddr) (index : ℕ) → AreAddresses (take index words) addresses → IsBadAt words index → IsFirstBad words index
+pub first_bad : (words : List (List ℕ)) (addresses : List SocketAddr) (index : ℕ) → AreAddresses (take index words) addresses → IsBadWordAt words index → IsFirstBad words index
 first_bad words addresses index are bad = record { bad = bad; addresses = addresses; earlier = are }
 
 pub as_many : (words : List (List ℕ)) (addresses : List SocketAddr) → AreAddresses words addresses → length addresses ≡ length words
@@ -54,7 +54,7 @@ as_many (w ∷ words) (a ∷ addresses) are = let rest = as_many words addresses
 
 -- a word that spells no address, at an index or as an option's value
 pub bad_if_none : (found : Option SocketAddr) (words : List (List ℕ)) (index : ℕ) (text : List ℕ) → slice_get words index ≡ Some text →
-    IfNone found (IsNoAddress text) → IfNone found (IsBadAt words index)
+    IfNone found (IsNoAddress text) → IfNone found (IsBadWordAt words index)
 bad_if_none None words index text is bad = (text, is, bad)
 bad_if_none (Some address) words index text is bad = tt
 

@@ -30,12 +30,12 @@ IsNoAddress word = (address : SocketAddr) → ¬ (IsSocketText word address)
 abbrev pub SpellsAt : List (List ℕ) → ℕ → SocketAddr → Type 0
 SpellsAt words index address = (word : List ℕ) × (slice_get words index ≡ Some word) × IsSocketText word address
 
-abbrev pub IsBadAt : List (List ℕ) → ℕ → Type 0
-IsBadAt words index = (word : List ℕ) × (slice_get words index ≡ Some word) × IsNoAddress word
+abbrev pub IsBadWordAt : List (List ℕ) → ℕ → Type 0
+IsBadWordAt words index = (word : List ℕ) × (slice_get words index ≡ Some word) × IsNoAddress word
 
 -- The word at this index is the first that spells none.
 pub record IsFirstBad (words : List (List ℕ)) (index : ℕ) : Type 0 where
-  pub bad : IsBadAt words index
+  pub bad : IsBadWordAt words index
   pub addresses : List SocketAddr
   pub earlier : AreAddresses (take index words) addresses
 

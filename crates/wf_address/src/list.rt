@@ -1,6 +1,6 @@
 //! A list of addresses.
 ghost use Rattle.std.specs.Prelude.{◌≡◌, ◌≤◌, ◌<◌, IfErr, IfNone, IfOk, IfSome, length};
-ghost use Rattle.wf_address.specs.Address.{AreAddresses, IsBadAt, SpellsAt, texts, words_of, IsListFault};
+ghost use Rattle.wf_address.specs.Address.{AreAddresses, IsBadWordAt, SpellsAt, texts, words_of, IsListFault};
 
 use crate::word::address;
 use std::alloc::{AllocError, Global};
@@ -74,7 +74,7 @@ fn all_addresses(alloc: Global, words: &[&str]) -> Result<Vec<SocketAddr>, ListF
 fn address_at(words: &[&str], index: usize) -> Option<SocketAddr>
     requires { index < length words.now }
     ensures some { IfSome result (SpellsAt (texts words.now) index) }
-    ensures none { IfNone result (IsBadAt (texts words.now) index) }
+    ensures none { IfNone result (IsBadWordAt (texts words.now) index) }
 {
     address(words[index])
 }

@@ -4,7 +4,7 @@ use Rattle.std.specs.Prelude.{Option, Some, None}
 use Rattle.std.proofs.lemmas.List.{length-set, length-replicate}
 use Rattle.std.proofs.lemmas.Option.{slice_get_within}
 use Rattle.wf_ballot.specs.Ballot.{Ballot}
-use Rattle.wf_answers.specs.Senders.{AreNodes, OnlyNodesAnswer}
+use Rattle.wf_answers.specs.Senders.{AreSentByNodes, OnlyNodesAnswer}
 use Rattle.wf_safety.specs.Theorems.{IsBound, KeptPromises, KeptPromisesIn}
 use Rattle.wf_model.specs.DurableState.{DurableState, nothing_stored}
 use Rattle.wf_model.specs.VolatileState.{VolatileState, at_start}
@@ -66,7 +66,7 @@ module _ {V : Type 0} where
   is_node : (n : ℕ) (w : World V) → length w.nodes ≡ n → (i : ℕ) → (b : Ballot) → IsBound w i b → i < n
   is_node n w size i b bound = subst (λ k. i < k) size (slice_get_within w.nodes i _ bound.node.is_there)
 
-  are_nodes : (n : ℕ) (w : World V) → length w.nodes ≡ n → KeptPromisesIn w → AreNodes n w
+  are_nodes : (n : ℕ) (w : World V) → length w.nodes ≡ n → KeptPromisesIn w → AreSentByNodes n w
   are_nodes n w size theorem = record {
     promised = λ i s b votes sent. is_node n w size i b (theorem.promised i s b votes sent);
     reports = λ i base s b vote reports. is_node n w size i b (theorem.promised i base b reports.votes reports.stated);

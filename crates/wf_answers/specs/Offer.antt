@@ -138,7 +138,7 @@ abbrev pub is_pixels : ℕ → List ℕ → Bool
 is_pixels most text = list_all is_ascii_digit text && (nat_le 1 (number_of_digits text) && nat_le (number_of_digits text) most)
 
 -- each check takes what the offer has, and rejects what it hasn't; an absent STYLES passes
-pub record IsTaken (d : Definition) (o : Offer) : Type 0 where
+pub record TakesOffer (d : Definition) (o : Offer) : Type 0 where
   pub format : (text : List ℕ) → is_ok (check_format (Some text)) ≡ bytes_eq text o.format
   pub system : (text : List ℕ) → is_ok (axes_in d.projection (Some text)) ≡ is_system o text
   pub layers : (names : List (List ℕ)) → is_ok (check_layers d names) ≡ are_layers o names
@@ -148,7 +148,7 @@ pub record IsTaken (d : Definition) (o : Offer) : Type 0 where
   pub height : (name : Parameter) (text : List ℕ) → is_ok (size_in name (Some text)) ≡ is_pixels o.most_height text
 
 abbrev pub EachOfferIsTaken : Type 0
-EachOfferIsTaken = (d : Definition) → IsTaken d (offer d)
+EachOfferIsTaken = (d : Definition) → TakesOffer d (offer d)
 
 -- ---- a whole request
 

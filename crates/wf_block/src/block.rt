@@ -6,6 +6,7 @@ ghost use Rattle.wf_block.specs.Steps.{fill};
 use crate::fault::MapFault;
 use crate::keyword::is_end;
 use crate::parser::Parser;
+use crate::place::Block;
 use std::mem::replace;
 use wf_token::Token;
 
@@ -40,9 +41,27 @@ pub trait Slots {
         ensures holds { OnOk result (Holds self.new) };
 }
 
+/// Reads keywords up to the END of a block of this kind and stores their arguments.
+pub fn fill_block<S: Slots>(
+    parser: &mut Parser<'_>,
+    block: Block,
+    slots: &mut S,
+) -> Result<(), MapFault>
+    requires holds { S.Holds slots.old }
+    ensures read { Gives (λ _. (S.settings slots.new, parser.new)) result
+        (fill (S.put (S.within slots.old)) (length parser.old) (S.settings slots.old) parser.old) }
+    ensures within { OnOk result (S.within slots.new ≡ S.within slots.old) }
+    ensures holds { OnOk result (S.Holds slots.new) }
+{
+    let outer = parser.enter(block);
+    fill_keywords(parser, slots)?;
+    parser.leave(outer);
+    Ok(())
+}
+
 /// Reads keywords up to the block's END and stores their arguments.
 #[tactic(auto, using(crate::proofs::Blocks::fill_step, crate::proofs::Blocks::fill_past))]
-pub fn fill_block<S: Slots>(parser: &mut Parser<'_>, slots: &mut S) -> Result<(), MapFault>
+fn fill_keywords<S: Slots>(parser: &mut Parser<'_>, slots: &mut S) -> Result<(), MapFault>
     requires holds { S.Holds slots.old }
     ensures read { Gives (λ _. (S.settings slots.new, parser.new)) result
         (fill (S.put (S.within slots.old)) (length parser.old) (S.settings slots.old) parser.old) }
@@ -50,7 +69,7 @@ pub fn fill_block<S: Slots>(parser: &mut Parser<'_>, slots: &mut S) -> Result<()
     ensures holds { OnOk result (S.Holds slots.new) }
 {
     for _ in 0..parser.len() {
-        let word = parser.word()?;
+        let word = parser.keyword()?;
         if is_end(word.text) {
             return Ok(());
         }

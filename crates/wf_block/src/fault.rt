@@ -1,4 +1,7 @@
 //! Why bytes aren't a mapfile.
+ghost use Rattle.std.specs.Prelude.{◌≡◌};
+ghost use Rattle.wf_block.specs.Faults.{byte_offset, code};
+
 use std::alloc::{AllocError, AllocFailed};
 use std::error::Error;
 use std::fmt;
@@ -34,8 +37,11 @@ pub enum MapFault {
 }
 
 impl MapFault {
-    /// The code of the error.
-    fn code(self) -> &'static str {
+    /// The number of the error, such as M5.
+    #[tactic(auto, unfolding(crate::specs::Faults::code))]
+    pub fn code(self) -> &'static str
+        ensures { result.now ≡ code self }
+    {
         match self {
             MapFault::Memory => "M1",
             MapFault::TooLong => "M2",
@@ -53,7 +59,10 @@ impl MapFault {
     }
 
     /// The byte offset of the error, if it has one.
-    fn byte_offset(self) -> Option<usize> {
+    #[tactic(auto, unfolding(crate::specs::Faults::byte_offset))]
+    pub fn byte_offset(self) -> Option<usize>
+        ensures { result ≡ byte_offset self }
+    {
         match self {
             MapFault::NotUtf8(byte_offset)
             | MapFault::BadToken(byte_offset)

@@ -8,6 +8,7 @@ ghost use Rattle.wf_block.specs.Grammar.{argument, end, number, text, value_list
 
 use crate::fault::MapFault;
 use crate::keyword::is_end;
+use crate::place::{Block, Place};
 use std::alloc::Global;
 use std::marker::Model;
 use wf_text::{Micro, NumberFault, Text, TextFault, ValueList, Whole, check_list, check_text};
@@ -20,6 +21,7 @@ pub struct Parser<'a> {
     tokens: &'a [Token<'a>],
     at: usize,
     end: usize,
+    place: Place,
 }
 
 impl<'a> Model for Parser<'a> {
@@ -43,6 +45,7 @@ impl<'a> Parser<'a> {
             tokens,
             at: 0,
             end,
+            place: Place::front(),
         }
     }
 
@@ -90,6 +93,56 @@ impl<'a> Parser<'a> {
         }
     }
 
+    /// The byte offset of the token that was read last.
+    fn last(&self) -> Option<usize> {
+        if self.at == 0 {
+            return None;
+        }
+        Some(self.tokens[self.at - 1].byte_offset)
+    }
+
+    /// Where the reader is.
+    pub fn place(&self) -> Place {
+        let mut place = self.place;
+        place.last = self.last();
+        place
+    }
+
+    /// Enters a block, behind the keyword that begins it, and returns where the reader was.
+    pub fn enter(&mut self, block: Block) -> Place
+        ensures { self.new ≡ self.old }
+    {
+        let outer = self.place;
+        self.place.block = Some(block);
+        self.place.begin = self.last().unwrap_or(0);
+        self.place.keyword = None;
+        outer
+    }
+
+    /// Leaves a block, behind its END, for where the reader was before it.
+    pub fn leave(&mut self, outer: Place)
+        ensures { self.new ≡ self.old }
+    {
+        let ended = self.place.block;
+        self.place = outer;
+        self.place.ended = ended;
+        self.place.lacking = None;
+    }
+
+    /// Says which keyword the block that ended last requires and doesn't have.
+    pub fn lacks(&mut self, keyword: Option<&'static str>)
+        ensures { self.new ≡ self.old }
+    {
+        self.place.lacking = keyword;
+    }
+
+    /// Says at or behind which keyword, or what stands for one, the reader is.
+    pub fn at_keyword(&mut self, byte_offset: Option<usize>)
+        ensures { self.new ≡ self.old }
+    {
+        self.place.keyword = byte_offset;
+    }
+
     /// The error of a file that ends too early.
     pub fn missing_end(&self) -> MapFault
         ensures { is_memory result ≡ false }
@@ -128,6 +181,16 @@ impl<'a> Parser<'a> {
             )),
             TokenKind::Word => Ok(token),
         }
+    }
+
+    /// Reads a keyword of a block, or its END.
+    pub fn keyword(&mut self) -> Result<Token<'a>, MapFault>
+        ensures { Gives (λ t. (t.text.now, self.new)) result (word self.old) }
+    {
+        self.at_keyword(None);
+        let word = self.word()?;
+        self.at_keyword(Some(word.byte_offset));
+        Ok(word)
     }
 
     /// Reads the END of a block.

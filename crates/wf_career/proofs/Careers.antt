@@ -10,7 +10,7 @@ use Rattle.wf_node.specs.Images.{StandsFor}
 use Rattle.wf_node.specs.Input.{view}
 use Rattle.wf_node.specs.Node.{Node, stored_of}
 use Rattle.wf_node.specs.Step.{transition_of, stored_next}
-use Rattle.wf_delivery.specs.Delivery.{IsNodeBy, IsNode, AnyPart}
+use Rattle.wf_delivery.specs.Delivery.{IsNodeBy, ShowsNode, AnyPart}
 use Rattle.wf_tape.specs.declared.tape.Tape.{Ghosts as Tape}
 use Rattle.wf_career.specs.Run.{Input, Act, Run, last_of, last, End, Between, Within, Failed, FailedAt, HasLeft, AreDone, IsRun}
 use Rattle.wf_career.specs.Career.{Ended, IsEnded, AreRuns, values_after, values_of, Item, items_by, items_at, items_in}
@@ -147,7 +147,7 @@ pub record Runs {T : Type 0} (n i : ℕ) (stored : DurableState Definition) (fro
   pub node : world.Node Definition
   pub reachable : Reachable n i (down stored) (items_in i ended now) node
   pub grow : Grow from (values_of ended now) node.stored.history
-  pub runs : (run : Run T) → now ≡ Some run → IsNode (AnyPart 0) (last run) node
+  pub runs : (run : Run T) → now ≡ Some run → ShowsNode (AnyPart 0) (last run) node
   pub stopped : now ≡ None → node.volatile ≡ None
 
 module _ {T : Type 0} (tapes : Tape T) (n i : ℕ) where
@@ -167,7 +167,7 @@ module _ {T : Type 0} (tapes : Tape T) (n i : ℕ) where
               (acts_grow tapes run.first run.acts [] (shown part (last run)).stored.history is.done
               (subst (λ (s : DurableState Definition). IsGrown (last run).parts.history s.history) (sym (stored_by (last run) part refl (last run).halted)) (grown_itself (last run).parts.history))),
         );
-        runs = λ other it. subst (λ (r : Run T). IsNode (AnyPart 0) (last r) (shown part (last run))) (same_Some run other it) (node_by (last run) part refl (last run).halted);
+        runs = λ other it. subst (λ (r : Run T). ShowsNode (AnyPart 0) (last r) (shown part (last run))) (same_Some run other it) (node_by (last run) part refl (last run).halted);
         stopped = λ none. absurd (none-some run (sym none));
       }
 

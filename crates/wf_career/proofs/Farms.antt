@@ -15,12 +15,12 @@ use Rattle.wf_journal.specs.Records.{AreReadOneWay, IsReadAsNone}
 use Rattle.wf_node.specs.Growth.{IsGrown, grown_itself}
 use Rattle.wf_node.specs.Input.{view}
 use Rattle.wf_node.specs.Node.{Node}
-use Rattle.wf_delivery.specs.Delivery.{AnyPart, IsNode}
+use Rattle.wf_delivery.specs.Delivery.{AnyPart, ShowsNode}
 use Rattle.wf_tape.specs.declared.tape.Tape.{Ghosts as Tape}
 use Rattle.wf_trace.specs.Deed.{new_node, Stops}
 use Rattle.wf_trace.specs.Trace.{Entry, of_process, IsLife, node_at, IsInputOf}
 use Rattle.wf_trace.specs.Order as order
-use Rattle.wf_trace.specs.Order.{seen, AreOf, AreTaken, AreLives, AreOneTrace, LivesAreOneTrace}
+use Rattle.wf_trace.specs.Order.{seen, AreOf, AreCausal, AreLives, AreOneTrace, LivesAreOneTrace}
 use Rattle.wf_trace.specs.Theorems as trace_theorems
 use Rattle.wf_trace.specs.Theorems.{IsReachable, TraceIsRun, published_at}
 use Rattle.wf_career.specs.Run.{Input, Run, last}
@@ -78,12 +78,12 @@ input_view sent action.Retry is = tt
 input_view sent action.CatchUp is = tt
 input_view sent (action.Deliver m) is = in_view m sent is
 
-taken_model : (n : ℕ) (sent : List Message) (items : List Item) → AreInTurn n sent items → AreTaken n (map message.view sent) (map model_item items)
+taken_model : (n : ℕ) (sent : List Message) (items : List Item) → AreInTurn n sent items → AreCausal n (map message.view sent) (map model_item items)
 taken_model n sent [] are = tt
 taken_model n sent (item ∷ items) are = (
   are.0,
   input_view sent item.takes are.1,
-  subst (λ ms. AreTaken n ms (map model_item items)) (map-append message.view sent item.outputs) (taken_model n (sent ++ item.outputs) items are.2),
+  subst (λ ms. AreCausal n ms (map model_item items)) (map-append message.view sent item.outputs) (taken_model n (sent ++ item.outputs) items are.2),
 )
 
 -- ---- the life of each process
@@ -157,7 +157,7 @@ module _ {T : Type 0} (one : AreReadOneWay) (none : IsReadAsNone) (tapes : Tape 
 
     -- ---- what is known of the node of each process
 
-    runs_by : (i : ℕ) (d : (i < n) ⊎ (n ≤ i)) → i < n → (run : Run T) → (careers i).now ≡ Some run → IsNode (AnyPart i) (last run) (node_by i d)
+    runs_by : (i : ℕ) (d : (i < n) ⊎ (n ≤ i)) → i < n → (run : Run T) → (careers i).now ≡ Some run → ShowsNode (AnyPart i) (last run) (node_by i d)
     unfolding node_by
     runs_by i (inl it) is_member run now = (at_member i it).runs run now
     runs_by i (inr beyond) is_member run now = absurd (none_beyond i is_member beyond)

@@ -13,7 +13,7 @@ use Rattle.wf_tape.specs.declared.tape.Tape.{Ghosts as Tape}
 use Rattle.wf_wms.specs.Answer.{AskedMapsAreAnsweredAlike, EachQueryHasOneAnswer}
 use Rattle.wf_career.specs.Career.{Career}
 use Rattle.wf_career.specs.Theorems.{HasOneHistory, OneHistory}
-use Rattle.wf_career.specs.Replica.{after_learning, IsServed, OfNode, Empty, Learned, OneServed, ServedAgree, ServedAnswer, ServedMapAnswer}
+use Rattle.wf_career.specs.Replica.{after_learning, IsListOfFarm, OfNode, Empty, Learned, OneServed, ServedAgree, ServedAnswer, ServedMapAnswer}
 use Rattle.wf_career.proofs.Lists.{definition_longer, one_definition}
 use Rattle.wf_career.proofs.OneAnswer.{one_answer, one_map_answer}
 
@@ -93,7 +93,7 @@ received_begins history list source asked (Ask s) begins from is_in = begins
 -- ---- each list
 
 module _ {T : Type 0} (n : ℕ) (careers : ℕ → Career T) (one : HasOneHistory n careers) where
-  served_begins : (list : List Definition) → IsServed n careers list → IsBeginning list one.history
+  served_begins : (list : List Definition) → IsListOfFarm n careers list → IsBeginning list one.history
   served_begins list (OfNode other node held same) = subst (λ xs. IsBeginning xs one.history) (sym same) (one.each node held)
   served_begins list (Empty other none) = subst (λ xs. IsBeginning xs one.history) (sym none) (one.history, refl)
   served_begins list (Learned before source other asked received was from is_in next) =

@@ -29,7 +29,7 @@ use Rattle.wf_career.specs.RunTheorems.{last_more}
 use Rattle.wf_career.specs.Career.{Ended, Career, AreRuns, Item, items_of, items_by, items_in, IsOneOf, IsFarm}
 use Rattle.wf_career.specs.Theorems.{outputs_in}
 use Rattle.wf_career.specs.Continuation.{with_career, left_by, left}
-use Rattle.wf_career.specs.Processes.{IsNow, AreProcesses, AreOpened, ThreeProcesses}
+use Rattle.wf_career.specs.Processes.{IsNow, AreRunning, AreOpenedEmpty, ThreeProcesses}
 use Rattle.wf_career.proofs.Careers.{stand_for_nothing, stand_once}
 use Rattle.wf_career.proofs.Continuation.{own_career, other_career, start_goes_on, step_goes_on, end_goes_on}
 
@@ -62,7 +62,7 @@ module _ {T : Type 0} (tapes : Tape T) where
   unfolding outputs_in
   no_outputs = refl
 
-  pub all_started : (nodes : List (Node T)) → AreOpened nodes → AreProcesses tapes (length nodes) nodes []
+  pub all_started : (nodes : List (Node T)) → AreOpenedEmpty nodes → AreRunning tapes (length nodes) nodes []
   all_started nodes opened = record {
     careers = λ i. record { ended = []; now = now_of (slice_get nodes i) };
     items = [];
@@ -87,7 +87,7 @@ last_first : {T : Type 0} (node : Node T) → last (record { first = node; acts 
 unfolding last_of
 last_first node = refl
 
-module _ {T : Type 0} (tapes : Tape T) (n : ℕ) (nodes : List (Node T)) (sent : List Message) (are : AreProcesses tapes n nodes sent) (i : ℕ) (node : Node T) (at : slice_get nodes i ≡ Some node) where
+module _ {T : Type 0} (tapes : Tape T) (n : ℕ) (nodes : List (Node T)) (sent : List Message) (are : AreRunning tapes n nodes sent) (i : ℕ) (node : Node T) (at : slice_get nodes i ≡ Some node) where
   is_member : i < n
   is_member = subst (λ k. i < k) are.as_many (slice_get_within nodes i node at)
 
@@ -105,7 +105,7 @@ module _ {T : Type 0} (tapes : Tape T) (n : ℕ) (nodes : List (Node T)) (sent :
         subst (λ (c : Career T). IsNow c x) (sym (other_career careers i career j differs)) (elsewhere differs (sym (get_set_other nodes i j after differs) ∙ there))
   ]
 
-  pub one_acts : (act : Act T) → IsAct tapes node act → IsOneOf sent act.input → AreProcesses tapes n (slice_set nodes i act.after) (sent ++ act.outputs)
+  pub one_acts : (act : Act T) → IsAct tapes node act → IsOneOf sent act.input → AreRunning tapes n (slice_set nodes i act.after) (sent ++ act.outputs)
   one_acts act is received =
       let run = was.run in
       let career : Career T = record { ended = (are.careers i).ended; now = Some (record { first = run.first; acts = run.acts ++ act ∷ [] }) } in
@@ -127,7 +127,7 @@ module _ {T : Type 0} (tapes : Tape T) (n : ℕ) (nodes : List (Node T)) (sent :
   left_last bytes [] last_one = refl
   left_last bytes (first ∷ ended) last_one = left_last first.left ended last_one
 
-  pub one_restarts : (bytes : List ℕ) (again : Node T) → node.halted ≡ false → StandsFor (stored_of node) bytes → IsOpenedFrom n i bytes again → AreProcesses tapes n (slice_set nodes i again) sent
+  pub one_restarts : (bytes : List ℕ) (again : Node T) → node.halted ≡ false → StandsFor (stored_of node) bytes → IsOpenedFrom n i bytes again → AreRunning tapes n (slice_set nodes i again) sent
   one_restarts bytes again runs stands opened =
       let run = was.run in
       let ended : Career T = record { ended = (are.careers i).ended ++ record { run = run; end = Between; left = bytes } ∷ []; now = None } in
@@ -157,16 +157,16 @@ in_at m (first ∷ sent) zero at = inl (sym (same_Some first m at))
 in_at m (first ∷ sent) (suc k) at = inr (in_at m sent k at)
 
 module _ {T : Type 0} (tapes : Tape T) (n : ℕ) where
-  handed_on : (i k : ℕ) (lost : Bool) (nodes : List (Node T)) (sent : List Message) (nodes_after : List (Node T)) (sent_after : List Message) → AreProcesses tapes n nodes sent →
-      IsHanded tapes i k lost nodes sent nodes_after sent_after → AreProcesses tapes n nodes_after sent_after
+  handed_on : (i k : ℕ) (lost : Bool) (nodes : List (Node T)) (sent : List Message) (nodes_after : List (Node T)) (sent_after : List Message) → AreRunning tapes n nodes sent →
+      IsHanded tapes i k lost nodes sent nodes_after sent_after → AreRunning tapes n nodes_after sent_after
   handed_on i k lost nodes sent nodes_after sent_after are handed =
-      subst (λ ms. AreProcesses tapes n nodes_after ms) (sym handed.sent_are)
-      (subst (λ ns. AreProcesses tapes n ns (sent ++ handed.outputs)) (sym handed.nodes_are)
+      subst (λ ms. AreRunning tapes n nodes_after ms) (sym handed.sent_are)
+      (subst (λ ns. AreRunning tapes n ns (sent ++ handed.outputs)) (sym handed.nodes_are)
       (one_acts tapes n nodes sent are i handed.node handed.at (record { input = action.Deliver handed.handed; outputs = handed.outputs; after = handed.after })
       (record { lost = lost; takes = handed.takes }) (in_at handed.handed sent k handed.there)))
 
-  all_handed : (nodes : List (Node T)) (messages : List Message) (p : PumpProgress) (lost : ℕ) (nodes_after : List (Node T)) (sent : List Message) → AreProcesses tapes n nodes messages →
-      AreHanded tapes nodes messages p lost nodes_after sent → AreProcesses tapes n nodes_after sent
+  all_handed : (nodes : List (Node T)) (messages : List Message) (p : PumpProgress) (lost : ℕ) (nodes_after : List (Node T)) (sent : List Message) → AreRunning tapes n nodes messages →
+      AreHanded tapes nodes messages p lost nodes_after sent → AreRunning tapes n nodes_after sent
   all_handed nodes messages p lost nodes_after sent are First = are
   all_handed nodes messages p lost nodes_after sent are (Next q count loses middle after outputs more before one) =
       handed_on q.some q.whole loses middle outputs after more (all_handed nodes messages q count middle outputs are before) one
@@ -174,11 +174,11 @@ module _ {T : Type 0} (tapes : Tape T) (n : ℕ) where
 -- ---- the example
 
 module _ {T : Type 0} (one : AreReadOneWay) (none : IsReadAsNone) (tapes : Tape T) (answered : StepIsAnswered tapes) (published : PublishedOnAll tapes) where
-  in_turn : (nodes : List (Node T)) → AreOpened nodes → StandInTurn nodes
+  in_turn : (nodes : List (Node T)) → AreOpenedEmpty nodes → StandInTurn nodes
   unfolding StandAmong
   in_turn nodes opened = λ i node at. let is = opened i node at in (is.id, is.among)
 
-  fresh : (nodes : List (Node T)) → AreOpened nodes → AreFresh nodes
+  fresh : (nodes : List (Node T)) → AreOpenedEmpty nodes → AreFresh nodes
   unfolding AreFresh
   fresh nodes opened = λ i node at.
       let is = opened i node at in
@@ -215,10 +215,10 @@ module _ {T : Type 0} (one : AreReadOneWay) (none : IsReadAsNone) (tapes : Tape 
   pub three_processes : ThreeProcesses tapes
   three_processes = λ nodes after i k before proposed stopped again d outputs done bytes three opened at step handed runs there stands reopened.
       let is_opened = opened i before at in
-      let start : AreProcesses tapes 3 nodes [] = subst (λ m. AreProcesses tapes m nodes []) three (all_started tapes nodes opened) in
-      let proposal : AreProcesses tapes 3 (slice_set nodes i proposed) outputs.items =
+      let start : AreRunning tapes 3 nodes [] = subst (λ m. AreRunning tapes m nodes []) three (all_started tapes nodes opened) in
+      let proposal : AreRunning tapes 3 (slice_set nodes i proposed) outputs.items =
       one_acts tapes 3 nodes [] start i before at (record { input = action.Propose d; outputs = outputs.items; after = proposed }) (proposes before proposed d outputs is_opened.runs step) tt in
-      let delivered : AreProcesses tapes 3 after handed.sent = all_handed tapes 3 (slice_set nodes i proposed) outputs.items handed.come 0 after handed.sent proposal handed.handed in
+      let delivered : AreRunning tapes 3 after handed.sent = all_handed tapes 3 (slice_set nodes i proposed) outputs.items handed.come 0 after handed.sent proposal handed.handed in
       let all = published nodes after i before proposed d outputs done three (in_turn nodes opened) (fresh nodes opened) at step handed runs in
       record {
         sent = handed.sent;

@@ -32,10 +32,10 @@ ComparisonLeaves {T} tapes = (n i : ℕ) (bytes left : List ℕ) (run : Run T) (
     IsOpenedFrom n i left next → HasStoredAs (last run) next → HasLeftFailed run left
 
 -- Where its tape has failed: within the step of some input.
-pub record HasFailed {T : Type 0} (tapes : Tape T) (run : Run T) : Type 0 where
+pub record HasTapeFailed {T : Type 0} (tapes : Tape T) (run : Run T) : Type 0 where
   pub input : Input
   pub failed : FailedAt run.first run.acts input
   pub leaves : (image : List ℕ) → tapes.images (last run).tape image → HasLeft run (Failed input) image
 
 abbrev pub LeavesFailed : {T : Type 0} → Tape T → Type 0
-LeavesFailed {T} tapes = tapes.durable → (n i : ℕ) (bytes : List ℕ) (run : Run T) → IsRun tapes n i bytes run → (last run).halted ≡ true → HasFailed tapes run
+LeavesFailed {T} tapes = tapes.durable → (n i : ℕ) (bytes : List ℕ) (run : Run T) → IsRun tapes n i bytes run → (last run).halted ≡ true → HasTapeFailed tapes run

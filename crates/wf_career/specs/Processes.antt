@@ -23,7 +23,7 @@ pub record IsNow {T : Type 0} (career : Career T) (node : Node T) : Type 0 where
   pub at : last run ≡ node
 
 -- n processes run, their nodes are these, and these messages were returned
-pub record AreProcesses {T : Type 0} (tapes : Tape T) (n : ℕ) (nodes : List (Node T)) (sent : List Message) : Type 0 where
+pub record AreRunning {T : Type 0} (tapes : Tape T) (n : ℕ) (nodes : List (Node T)) (sent : List Message) : Type 0 where
   pub careers : ℕ → Career T
   pub items : List Item
   pub farm : IsFarm tapes n careers items
@@ -32,19 +32,19 @@ pub record AreProcesses {T : Type 0} (tapes : Tape T) (n : ℕ) (nodes : List (N
   pub now : (i : ℕ) (node : Node T) → slice_get nodes i ≡ Some node → IsNow (careers i) node
 
 -- each of the nodes was opened from an empty tape, as the node of its index
-abbrev pub AreOpened : {T : Type 0} → List (Node T) → Type 0
-AreOpened {T} nodes = (i : ℕ) (node : Node T) → slice_get nodes i ≡ Some node → IsOpenedFrom (length nodes) i [] node
+abbrev pub AreOpenedEmpty : {T : Type 0} → List (Node T) → Type 0
+AreOpenedEmpty {T} nodes = (i : ℕ) (node : Node T) → slice_get nodes i ≡ Some node → IsOpenedFrom (length nodes) i [] node
 
 -- the processes are a farm, and each has published exactly this
 pub record HavePublished {T : Type 0} (tapes : Tape T) (nodes : List (Node T)) (d : Definition) : Type 0 where
   pub sent : List Message
-  pub processes : AreProcesses tapes 3 nodes sent
+  pub processes : AreRunning tapes 3 nodes sent
   pub published : AllPublish nodes d
 
 -- One of three processes proposed a map, the messages were delivered to all until none was left, and no delivery was lost. Then one was
 -- opened again, from bytes that stand for what it had stored.
 abbrev pub ThreeProcesses : {T : Type 0} → Tape T → Type 0
 ThreeProcesses {T} tapes = (nodes after : List (Node T)) (i k : ℕ) (before proposed stopped again : Node T) (d : Definition) (outputs : Vec Message Global) (done : ℕ) (left : List ℕ) →
-    length nodes ≡ 3 → AreOpened nodes → slice_get nodes i ≡ Some before → IsStep tapes before (table.Propose d) (Ok outputs) proposed →
+    length nodes ≡ 3 → AreOpenedEmpty nodes → slice_get nodes i ≡ Some before → IsStep tapes before (table.Propose d) (Ok outputs) proposed →
     AreHandedOut tapes (slice_set nodes i proposed) outputs.items done 0 false after → NoneHalted after →
     slice_get after k ≡ Some stopped → StandsFor (stored_of stopped) left → IsOpenedFrom 3 k left again → HavePublished tapes (slice_set after k again) d

@@ -36,16 +36,16 @@ IsNews list (Ask s) = ⊥
 -- The lists that the processes of a farm, and any replicas of it, ever have: what a node has published at some moment; the empty list of a
 -- replica that is new, or has lost its list; and what a replica has after it has heard one of the messages by which such a list
 -- answers the question for what is chosen from some sequence on. The message may have come late, repeatedly or out of order.
-pub data IsServed {T : Type 0} (n : ℕ) (careers : ℕ → Career T) : List Definition → Type 0 where
-  OfNode : (list : List Definition) (node : Node T) → IsHeld n careers node → list ≡ node.parts.history → IsServed n careers list
-  Empty : (list : List Definition) → list ≡ [] → IsServed n careers list
-  Learned : (before source list : List Definition) (asked : ℕ) (received : Message Definition) → IsServed n careers before → IsServed n careers source →
-      IsIn received (reports_from source asked most_reports) → list ≡ after_learning before received → IsServed n careers list
+pub data IsListOfFarm {T : Type 0} (n : ℕ) (careers : ℕ → Career T) : List Definition → Type 0 where
+  OfNode : (list : List Definition) (node : Node T) → IsHeld n careers node → list ≡ node.parts.history → IsListOfFarm n careers list
+  Empty : (list : List Definition) → list ≡ [] → IsListOfFarm n careers list
+  Learned : (before source list : List Definition) (asked : ℕ) (received : Message Definition) → IsListOfFarm n careers before → IsListOfFarm n careers source →
+      IsIn received (reports_from source asked most_reports) → list ≡ after_learning before received → IsListOfFarm n careers list
 
 -- There is one history, and each of these lists is a beginning of it.
 pub record HasOneServed {T : Type 0} (n : ℕ) (careers : ℕ → Career T) : Type 0 where
   pub history : List Definition
-  pub each : (list : List Definition) → IsServed n careers list → IsBeginning list history
+  pub each : (list : List Definition) → IsListOfFarm n careers list → IsBeginning list history
 
 abbrev pub OneServed : {T : Type 0} → Tape T → Type 0
 OneServed {T} tapes = (n : ℕ) (careers : ℕ → Career T) (items : List Item) → IsFarm tapes n careers items → HasOneServed n careers
@@ -53,18 +53,18 @@ OneServed {T} tapes = (n : ℕ) (careers : ℕ → Career T) (items : List Item)
 -- No two of these lists, of nodes or replicas, have different definitions under one sequence.
 abbrev pub ServedAgree : {T : Type 0} → Tape T → Type 0
 ServedAgree {T} tapes = (n : ℕ) (careers : ℕ → Career T) (items : List Item) → IsFarm tapes n careers items →
-    (list other : List Definition) → IsServed n careers list → IsServed n careers other → (s : ℕ) (c d : Definition) →
+    (list other : List Definition) → IsListOfFarm n careers list → IsListOfFarm n careers other → (s : ℕ) (c d : Definition) →
     definition_at list s ≡ Some c → definition_at other s ≡ Some d → c ≡ d
 
 -- Two of them, as long as one another, have one answer to a query of the web map service: the same kind, media type and bytes.
 abbrev pub ServedAnswer : {T : Type 0} → Tape T → Type 0
 ServedAnswer {T} tapes = (n : ℕ) (careers : ℕ → Career T) (items : List Item) → IsFarm tapes n careers items →
-    (list other : List Definition) → IsServed n careers list → IsServed n careers other → (s : ℕ) (query : List ℕ) (answer another : AnswerValue) →
+    (list other : List Definition) → IsListOfFarm n careers list → IsListOfFarm n careers other → (s : ℕ) (query : List ℕ) (answer another : AnswerValue) →
     length list ≡ s → length other ≡ s → IsAnswerOf s list query answer → IsAnswerOf s other query another → another ≡ answer
 
 -- So have two that a query asks for the same map, however long either is.
 abbrev pub ServedMapAnswer : {T : Type 0} → Tape T → Type 0
 ServedMapAnswer {T} tapes = (n : ℕ) (careers : ℕ → Career T) (items : List Item) → IsFarm tapes n careers items →
-    (list other : List Definition) → IsServed n careers list → IsServed n careers other → (s t m : ℕ) (query : List ℕ) (answer another : AnswerValue) →
+    (list other : List Definition) → IsListOfFarm n careers list → IsListOfFarm n careers other → (s t m : ℕ) (query : List ℕ) (answer another : AnswerValue) →
     AsksForMap m s query → AsksForMap m t query → length list ≡ s → length other ≡ t →
     IsAnswerOf s list query answer → IsAnswerOf t other query another → another ≡ answer

@@ -1,6 +1,6 @@
 -- What one question changes: its asker alone, which comes on.
 use Rattle.std.proofs.Common.{◌≡◌, ◌⊎◌, ◌<◌, ◌≤◌, ◌+◌, ◌||◌, ℕ, zero, suc, Bool, true, false, List, [], map, length, slice_get, slice_set, Some, refl, sym, ap, subst, ◌∙◌, inl, inr, arith}
-use Rattle.wf_catch_up.proofs.Common.{cases_eq, false≢true, same_Some, last_sequence, Message, most_reports, reports_from, Node, NodeHost, Running, BringsOn, EndsUp, FirstEndUp, HasReceived, HasMost, ReceivesAt, IsAnswerTo, IsBehind, IsLevelAt, IsQuestion, OneChanges, lacks, lacks_by, rank, rank_at, nodes_of, nodes_get, nodes_set, get_set_other, set_same, set_there}
+use Rattle.wf_catch_up.proofs.Common.{cases_eq, false≢true, same_Some, last_sequence, Message, most_reports, reports_from, Node, NodeHost, Running, BringsOn, EndsUp, FirstEndUp, HasReceived, HasMost, ReceivesAt, AreAnswersTo, IsBehind, IsLevelAt, IsQuestion, OneChanges, lacks, lacks_by, rank, rank_at, nodes_of, nodes_get, nodes_set, get_set_other, set_same, set_there}
 use Rattle.wf_codec.specs.Message as message
 use Rattle.wf_codec.specs.declared.message.Message.TheVariants as code
 use Rattle.wf_catch_up.proofs.Asked.{answers_ask, asks_next, loses_ask}
@@ -189,7 +189,7 @@ module _ {T : Type 0} (tapes : Tape T) (hosts : List (NodeHost T)) (asked asker 
         on = behind;
       }
 
-  pub asked_answered : (answer : List Message) (lost : Bool) (after : List (NodeHost T)) → IsAnswerTo nodes asked asker answer → ReceivesAt tapes asker answer lost hosts after → IsAsked lost (nodes_of after)
+  pub asked_answered : (answer : List Message) (lost : Bool) (after : List (NodeHost T)) → AreAnswersTo nodes asked asker answer → ReceivesAt tapes asker answer lost hosts after → IsAsked lost (nodes_of after)
   asked_answered answer lost after is receives =
       let before = receives.before in
       let at : slice_get nodes asker ≡ Some before = nodes_get hosts asker (Running before) receives.at in
@@ -223,5 +223,5 @@ module _ {T : Type 0} (hosts : List (NodeHost T)) (asked asker : ℕ) (behind : 
   pub fewer_published : length node.parts.history < length other.parts.history
   fewer_published = omega (arith, behind.1, other_rank, node_rank)
 
-  pub answer_to : (answer : List Message) → map message.view answer ≡ reports_from other.parts.history (length node.parts.history + 1) most_reports → IsAnswerTo (nodes_of hosts) asked asker answer
+  pub answer_to : (answer : List Message) → map message.view answer ≡ reports_from other.parts.history (length node.parts.history + 1) most_reports → AreAnswersTo (nodes_of hosts) asked asker answer
   answer_to answer is = record { before = node; other = other; asker_at = asker_is; asked_at = asked_is; answer_is = is }

@@ -104,7 +104,7 @@ module _ {T : Type 0} (tapes : Tape T) where
 -- ---- for the crate's own contracts
 
 -- The messages answer the question of the asker: at most eight definitions, from the one after its last one on.
-pub record IsAnswerTo {T : Type 0} (nodes : List (Node T)) (asked asker : ℕ) (answer : List Message) : Type 0 where
+pub record AreAnswersTo {T : Type 0} (nodes : List (Node T)) (asked asker : ℕ) (answer : List Message) : Type 0 where
   pub before : Node T
   pub other : Node T
   pub asker_at : slice_get nodes asker ≡ Some before

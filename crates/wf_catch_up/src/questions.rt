@@ -4,7 +4,7 @@ ghost use Rattle.std.specs.Prelude.{◌≡◌, ◌⊎◌, ◌<◌, ◌≤◌, �
 ghost use Rattle.wf_ballot.specs.Sequence.{last_sequence};
 ghost use Rattle.wf_codec.specs.Message.{view};
 ghost use Rattle.wf_model.specs.Table.{most_reports, reports_from};
-ghost use Rattle.wf_catch_up.specs.CatchUp.{AreCaughtUp, BringsOn, CatchUpIsReachable, EndsUp, FirstEndUp, HasReceived, HasMost, HaveAsked, HaveCaughtUp, ReceivesAt, IsAnswerTo, IsBehind, IsQuestion, IsTaken, LevelRests, OneChanges, StandLevel, rank, rank_at};
+ghost use Rattle.wf_catch_up.specs.CatchUp.{AreCaughtUp, BringsOn, CatchUpIsReachable, EndsUp, FirstEndUp, HasReceived, HasMost, HaveAsked, HaveCaughtUp, ReceivesAt, AreAnswersTo, IsBehind, IsQuestion, IsTaken, LevelRests, OneChanges, StandLevel, rank, rank_at};
 ghost use Rattle.wf_delivery.specs.NodeInput.{IsSturdy};
 ghost use Rattle.wf_delivery.specs.Reachability.{AreReachableFrom};
 ghost use Rattle.wf_farm.specs.Nodes.{KeepEntries, KeepHosts, RunsAt, node_in, nodes_in, nodes_of};
@@ -227,7 +227,7 @@ fn answer_at<T: Tape>(
 ) -> Result<Vec<Message>, AllocError>
     requires behind { IsBehind (nodes_of hosts.now) asked asker }
     ensures answer { IfOk result (λ answer.
-        IsAnswerTo (nodes_of hosts.now) asked asker answer.items) }
+        AreAnswersTo (nodes_of hosts.now) asked asker answer.items) }
     ensures most { rank_at (nodes_of hosts.now) asked ≤ last_sequence + 1 }
 {
     let NodeHost::Running(node) = &hosts[asker] else {

@@ -1,2 +1,2 @@
+mod Messages
 mod Reports
-mod Taken

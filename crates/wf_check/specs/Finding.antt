@@ -1,5 +1,6 @@
 -- What is found in a file that isn't a map to publish, and where.
 use Rattle.std.specs.Prelude.{◌≡◌, ℕ, ◌+◌, ◌++◌, ◌<◌, ◌≤◌, false, codes, decimal, List, length, min, take, drop, Option, Some, None, IfSome}
+use Rattle.wf_block.specs.Faults as Faults
 use Rattle.wf_block.specs.ReadContract.{is_memory}
 use Rattle.wf_block.specs.declared.fault.MapFault.{MapFault}
 use Rattle.wf_block.specs.declared.fault.MapFault.TheVariants as faults
@@ -8,6 +9,7 @@ use Rattle.wf_mapfile.specs.Meaning.{Means, longest_mapfile}
 use Rattle.wf_mapfile.specs.Rejection.{HasError}
 use Rattle.wf_spelling.specs.Canon.{canon, most_canon_bytes}
 use Rattle.wf_token.specs.Token.{without_mark}
+use Rattle.wf_check.specs.Message.{IsMessage}
 use Rattle.wf_check.specs.NumberedLine.{characters, first_line, last_line, line_number}
 use Rattle.wf_check.specs.declared.fault.CheckFault.{CheckFault}
 use Rattle.wf_check.specs.declared.fault.CheckFault.TheVariants.{Map, TooBig}
@@ -30,18 +32,8 @@ NoneIsBoth = (bytes : List ℕ) (fault : CheckFault) → IsWhy bytes fault → �
 -- The byte offset of an error, if it has one. That of a file that is too long is the first byte
 -- over the limit.
 unfoldable pub offset_of : MapFault → Option ℕ
-offset_of faults.Memory = None
 offset_of faults.TooLong = Some longest_mapfile
-offset_of (faults.NotUtf8 offset) = Some offset
-offset_of (faults.BadToken offset) = Some offset
-offset_of (faults.UnexpectedWord offset) = Some offset
-offset_of (faults.MissingEnd offset) = Some offset
-offset_of (faults.BadNumber offset) = Some offset
-offset_of (faults.OutOfRange offset) = Some offset
-offset_of faults.Missing = None
-offset_of (faults.Repeated offset) = Some offset
-offset_of faults.TooMany = None
-offset_of (faults.Trailing offset) = Some offset
+offset_of fault = Faults.byte_offset fault
 
 -- The offset is the error's, if it has one within the file.
 abbrev pub IsOffsetOf : List ℕ → CheckFault → ℕ → Type 0
@@ -68,14 +60,25 @@ pub record IsFinding (bytes : List ℕ) (finding : Finding) : Type 0 where
   pub still : HasStill bytes finding.fault finding.reach
   pub line : IsLineOf bytes finding.offset finding.line
 
--- a line and a column, and something after them
-abbrev pub headed : ℕ → ℕ → List ℕ → List ℕ
-headed number column rest = codes "line " ++ decimal number ++ codes ", column " ++ decimal column ++ codes ": " ++ rest
+-- the number of an error, with its offset if it has one
+abbrev pub at : List ℕ → Option ℕ → List ℕ
+at number None = number
+at number (Some offset) = number ++ codes " at " ++ decimal offset
 
--- The text is a report of the finding: its line and its column, from 1 in characters, and something
--- after them.
+abbrev pub fault_text : CheckFault → List ℕ
+fault_text (Map fault) = at (Faults.code fault) (Faults.byte_offset fault)
+fault_text TooBig = codes "K1"
+
+-- a line and a column, an error, the picture of a line and a message
+abbrev pub reported : ℕ → ℕ → List ℕ → List ℕ → List ℕ → List ℕ
+reported number column fault picture message =
+    codes "line " ++ decimal number ++ codes ", column " ++ decimal column ++ codes ": " ++ fault ++ codes "\n" ++ picture ++ message ++ codes "\n"
+
+-- The text is a report of the finding: its line and its column, from 1 in characters, its error, a picture of the line and the
+-- message.
 abbrev pub IsReport : Finding → List ℕ → Type 0
-IsReport finding text = (rest : List ℕ) × (text ≡ headed finding.line.number (characters finding.line.before.now + 1) rest)
+IsReport finding text = (picture message : List ℕ) × IsMessage finding message
+    × (text ≡ reported finding.line.number (characters finding.line.before.now + 1) (fault_text finding.fault) picture message)
 
 -- The text is a report, in a format, of a finding of the bytes with this error.
 abbrev pub IsReportOf : (Finding → List ℕ → Type 0) → List ℕ → CheckFault → List ℕ → Type 0

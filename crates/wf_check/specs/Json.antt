@@ -2,7 +2,8 @@
 use Rattle.std.specs.Prelude.{◌≡◌, ℕ, ◌+◌, ◌++◌, List, Some, codes}
 use Rattle.serde_json.specs.Data.{Data, number, unsigned, string, object, member, no_members}
 use Rattle.serde_json.specs.Read.{read}
-use Rattle.wf_block.specs.declared.fault.MapFault.TheVariants as faults
+use Rattle.wf_block.specs.Faults as faults
+use Rattle.wf_check.specs.Message.{IsMessage}
 use Rattle.wf_check.specs.NumberedLine.{characters}
 use Rattle.wf_check.specs.declared.fault.CheckFault.{CheckFault}
 use Rattle.wf_check.specs.declared.fault.CheckFault.TheVariants.{Map, TooBig}
@@ -10,18 +11,7 @@ use Rattle.wf_check.specs.declared.finding.Finding.{Finding}
 
 -- the number of an error
 unfoldable pub code : CheckFault → List ℕ
-code (Map faults.Memory) = codes "M1"
-code (Map faults.TooLong) = codes "M2"
-code (Map (faults.NotUtf8 offset)) = codes "M3"
-code (Map (faults.BadToken offset)) = codes "M4"
-code (Map (faults.UnexpectedWord offset)) = codes "M5"
-code (Map (faults.MissingEnd offset)) = codes "M6"
-code (Map (faults.BadNumber offset)) = codes "M7"
-code (Map (faults.OutOfRange offset)) = codes "M8"
-code (Map faults.Missing) = codes "M9"
-code (Map (faults.Repeated offset)) = codes "M10"
-code (Map faults.TooMany) = codes "M11"
-code (Map (faults.Trailing offset)) = codes "M12"
+code (Map fault) = faults.code fault
 code TooBig = codes "K1"
 
 -- the members of the object, in the order of their keys
@@ -36,6 +26,6 @@ as_data finding message = object (member (codes "column") (number (unsigned (cha
 abbrev pub IsLineOfJson : Data → List ℕ → Type 0
 IsLineOfJson value text = (json : List ℕ) × (text ≡ json ++ codes "\n") × (read json ≡ Some value)
 
--- The text is the finding as JSON, with a message.
+-- The text is the finding as JSON, with its message.
 abbrev pub IsJsonReport : Finding → List ℕ → Type 0
-IsJsonReport finding text = (message : List ℕ) × IsLineOfJson (as_data finding message) text
+IsJsonReport finding text = (message : List ℕ) × IsMessage finding message × IsLineOfJson (as_data finding message) text

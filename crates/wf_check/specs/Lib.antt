@@ -1,4 +1,4 @@
 pub mod NumberedLine
 pub mod Finding
-pub mod Keywords
+pub mod Message
 pub mod Json

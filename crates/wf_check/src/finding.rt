@@ -2,6 +2,7 @@
 
 use crate::fault::CheckFault;
 use crate::line::NumberedLine;
+use wf_block::Place;
 
 /// The first error of a file, with its place.
 #[derive(Clone, Copy)]
@@ -14,6 +15,8 @@ pub struct Finding<'a> {
     pub offset: usize,
     /// How many bytes of the file it takes: cut there, the file has this error too.
     pub reach: usize,
+    /// Where the reader found it; the front of the file for K1.
+    pub place: Place,
     /// The line, cut at the offset.
     pub line: NumberedLine<'a>,
 }

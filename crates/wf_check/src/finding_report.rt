@@ -1,75 +1,93 @@
 //! A finding as text.
-ghost use Rattle.std.specs.Prelude.{◌≡◌, ◌++◌, IfOk, OnOk};
+ghost use Rattle.std.specs.Prelude.{◌≡◌, IfOk, Some};
 ghost use Rattle.std.specs.String.{string_bytes};
-ghost use Rattle.wf_check.specs.Finding.{IsReport, headed};
+ghost use Rattle.wf_check.specs.Finding.{IsReport, at, fault_text, reported};
+ghost use Rattle.wf_check.specs.Message.{IsMessage};
 
-use crate::excess::explain_excess;
 use crate::fault::CheckFault;
 use crate::finding::Finding;
 use crate::line::NumberedLine;
-use crate::sentence::sentence;
+use crate::message::message;
 use crate::shown::{Shown, first_part, last_part};
 use std::alloc::{AllocError, Global};
 use std::fmt;
-use std::fmt::Write;
 
 /// The report of a finding: its line and column with the error's number, the line with a mark under
 /// the offset, and what was found there and is allowed there. Of a canonical text that is too long
 /// also what each layer has of it. The only error is allocation failure.
-#[tactic(auto, using(crate::proofs::Reports::reported))]
 pub fn report(alloc: Global, finding: &Finding<'_>) -> Result<String, AllocError>
+    ensures { IfOk result (λ text. IsReport finding.now (string_bytes text)) }
+{
+    let message = message(alloc, finding)?;
+    let text = report_with(alloc, finding, message.as_str());
+    drop(message);
+    text
+}
+
+/// The report of a finding with this message.
+fn report_with(alloc: Global, finding: &Finding<'_>, message: &str) -> Result<String, AllocError>
+    requires { IsMessage finding.now message.now }
     ensures { IfOk result (λ text. IsReport finding.now (string_bytes text)) }
 {
     let number = finding.line.number;
     let column = finding.line.column();
-    let rest = rest_of_report(alloc, finding)?;
-    let text = behind_heading(alloc, number, column, rest.as_str());
-    drop(rest);
+    let fault = fault_text(alloc, finding.fault)?;
+    let line = finding.line;
+    let picture = format!(in alloc; "{line}")?;
+    let text = reported(
+        alloc,
+        number,
+        column,
+        fault.as_str(),
+        picture.as_str(),
+        message,
+    );
+    drop(picture);
+    drop(fault);
     text
 }
 
-/// A line and a column, and something after them.
-fn behind_heading(
+/// A line and a column, an error, the picture of a line and a message.
+fn reported(
     alloc: Global,
     number: usize,
     column: usize,
-    rest: &str,
+    fault: &str,
+    picture: &str,
+    message: &str,
 ) -> Result<String, AllocError>
-    ensures { IfOk result (λ text. string_bytes text ≡ headed number column rest.now) }
+    ensures { IfOk result
+        (λ text. string_bytes text ≡ reported number column fault.now picture.now message.now) }
 {
-    let mut text = String::new(alloc);
-    match push_headed(&mut text, number, column, rest) {
-        Ok(()) => Ok(text),
-        Err(error) => {
-            drop(text);
-            Err(error)
-        }
+    match format!(in alloc; "line {number}, column {column}: {fault}\n{picture}{message}\n") {
+        Ok(text) => Ok(text),
+        Err(error) => Err(error),
     }
 }
 
-/// Appends a line and a column, and something after them.
-fn push_headed(out: &mut String, number: usize, column: usize, rest: &str) -> Result<(), AllocError>
-    ensures { OnOk result
-        (string_bytes out.new ≡ string_bytes out.old ++ headed number column rest.now) }
+/// The number of an error, with its offset if it has one.
+fn fault_text(alloc: Global, fault: CheckFault) -> Result<String, AllocError>
+    ensures { IfOk result (λ text. string_bytes text ≡ fault_text fault) }
 {
-    write!(out, "line {number}, column {column}: {rest}")
+    match fault {
+        CheckFault::Map(fault) => {
+            let code = fault.code();
+            match fault.byte_offset() {
+                Some(offset) => text_at(alloc, code, offset),
+                None => format!(in alloc; "{code}"),
+            }
+        }
+        CheckFault::TooBig => format!(in alloc; "K1"),
+    }
 }
 
-/// The report of a finding behind its line and column.
-fn rest_of_report(alloc: Global, finding: &Finding<'_>) -> Result<String, AllocError> {
-    let fault = finding.fault;
-    let line = finding.line;
-    let message = message(alloc, finding)?;
-    let rest = format!(in alloc; "{fault}\n{line}{message}\n");
-    drop(message);
-    rest
-}
-
-/// What was found and what is allowed there.
-pub(crate) fn message(alloc: Global, finding: &Finding<'_>) -> Result<String, AllocError> {
-    match finding.fault {
-        CheckFault::Map(fault) => sentence(alloc, finding.file, fault, finding.offset),
-        CheckFault::TooBig => explain_excess(alloc, finding.file),
+/// The number of an error with its offset.
+fn text_at(alloc: Global, code: &str, offset: usize) -> Result<String, AllocError>
+    ensures { IfOk result (λ text. string_bytes text ≡ at code.now (Some offset)) }
+{
+    match format!(in alloc; "{code} at {offset}") {
+        Ok(text) => Ok(text),
+        Err(error) => Err(error),
     }
 }
 

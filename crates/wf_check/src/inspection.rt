@@ -1,5 +1,6 @@
 //! The check of a file.
-ghost use Rattle.std.specs.Prelude.{◌≡◌, ◌<◌, ◌≤◌, length, min, IfNone, IfOk, IfSome, OnSome};
+ghost use Rattle.std.specs.Prelude.{◌≡◌, ◌<◌, ◌≤◌, false, length, min, IfNone, IfOk, IfSome, OnSome};
+ghost use Rattle.wf_block.specs.ReadContract.{is_memory};
 ghost use Rattle.wf_check.specs.Finding.{HasStill, IsFinding, IsOffsetOf, IsPublishable, IsWhy};
 ghost use Rattle.wf_check.specs.Finding.{NoneIsBoth, offset_of};
 ghost use Rattle.wf_mapfile.specs.Rejection.{HasError};
@@ -8,11 +9,11 @@ ghost use Rattle.wf_spelling.specs.Canon.{canon, most_canon_bytes};
 use crate::fault::CheckFault;
 use crate::finding::Finding;
 use crate::line::NumberedLine;
-use crate::place::{Place, place_of, place_of_excess};
+use crate::place::{Spot, spot_of, spot_of_excess};
 use std::alloc::{AllocError, Global};
-use wf_block::MapFault;
+use wf_block::{MapFault, Place};
 use wf_def::MapDef;
-use wf_mapfile::{MOST_MAPFILE_BYTES, read};
+use wf_mapfile::{MOST_MAPFILE_BYTES, Rejection, read_with_place};
 use wf_spelling::{CanonFault, text_of};
 
 /// Checks a file: `None` if it is a map whose canonical text is within the limit, so that a farm
@@ -22,19 +23,33 @@ pub fn check<'a>(alloc: Global, bytes: &'a [u8]) -> Result<Option<Finding<'a>>, 
     ensures fine { IfOk result (λ found. IfNone found (IsPublishable bytes.now)) }
     ensures found { IfOk result (λ found. IfSome found (IsFinding bytes.now)) }
 {
-    match read(alloc, bytes) {
+    match read_with_place(alloc, bytes) {
         Ok(map) => {
-            let place = place_if_long(alloc, bytes, &map);
+            let spot = spot_if_long(alloc, bytes, &map);
             drop(map);
-            match place? {
+            match spot? {
                 None => Ok(None),
-                Some(place) => Ok(Some(finding(bytes, CheckFault::TooBig, place))),
+                Some(spot) => Ok(Some(finding(bytes, CheckFault::TooBig, Place::front(), spot))),
             }
         }
-        Err(MapFault::Memory) => Err(AllocError),
-        Err(fault) => {
-            let place = place_of_fault(alloc, bytes, fault)?;
-            Ok(Some(finding(bytes, CheckFault::Map(fault), place)))
+        Err(rejection) => Ok(Some(found(alloc, bytes, rejection)?)),
+    }
+}
+
+/// The finding of an error of the reader.
+fn found<'a>(
+    alloc: Global,
+    bytes: &'a [u8],
+    rejection: Rejection,
+) -> Result<Finding<'a>, AllocError>
+    requires { is_memory rejection.fault ≡ false → HasError bytes.now rejection.fault }
+    ensures { IfOk result (IsFinding bytes.now) }
+{
+    match rejection.fault {
+        MapFault::Memory => Err(AllocError),
+        fault => {
+            let spot = spot_of_fault(alloc, bytes, rejection)?;
+            Ok(finding(bytes, CheckFault::Map(fault), rejection.place, spot))
         }
     }
 }
@@ -45,53 +60,54 @@ pub fn no_map_with_an_error_is_publishable()
 {}
 
 /// The place at which a map's canonical text passes its limit, if it does.
-fn place_if_long(alloc: Global, bytes: &[u8], map: &MapDef) -> Result<Option<Place>, AllocError>
+fn spot_if_long(alloc: Global, bytes: &[u8], map: &MapDef) -> Result<Option<Spot>, AllocError>
     ensures fine { IfOk result
-        (λ place. IfNone place (length (canon map.now) ≤ most_canon_bytes)) }
+        (λ spot. IfNone spot (length (canon map.now) ≤ most_canon_bytes)) }
     ensures big { IfOk result
-        (λ place. OnSome place (most_canon_bytes < length (canon map.now))) }
-    ensures reach { IfOk result (λ place. IfSome place (λ p. p.reach ≡ length bytes.now)) }
+        (λ spot. OnSome spot (most_canon_bytes < length (canon map.now))) }
+    ensures reach { IfOk result (λ spot. IfSome spot (λ p. p.reach ≡ length bytes.now)) }
 {
     match text_of(alloc, map, 0) {
         Ok(text) => {
             drop(text);
             Ok(None)
         }
-        Err(CanonFault::TooBig) => Ok(Some(place_of_excess(alloc, bytes, map)?)),
+        Err(CanonFault::TooBig) => Ok(Some(spot_of_excess(alloc, bytes, map)?)),
         Err(_) => Err(AllocError),
     }
 }
 
 /// The place of an error of the reader.
-fn place_of_fault(alloc: Global, bytes: &[u8], fault: MapFault) -> Result<Place, AllocError>
-    requires { HasError bytes.now fault }
-    ensures offset { IfOk result (λ place.
-        IsOffsetOf bytes.now (CheckFault.Map fault) (min place.offset (length bytes.now))) }
+fn spot_of_fault(alloc: Global, bytes: &[u8], rejection: Rejection) -> Result<Spot, AllocError>
+    requires { HasError bytes.now rejection.fault }
+    ensures offset { IfOk result (λ spot. IsOffsetOf
+        bytes.now (CheckFault.Map rejection.fault) (min spot.offset (length bytes.now))) }
     ensures still { IfOk result
-        (λ place. HasStill bytes.now (CheckFault.Map fault) place.reach) }
+        (λ spot. HasStill bytes.now (CheckFault.Map rejection.fault) spot.reach) }
 {
-    match offset_of(fault) {
-        Some(offset) => Ok(Place {
+    match offset_of(rejection.fault) {
+        Some(offset) => Ok(Spot {
             offset,
             reach: bytes.len(),
         }),
-        None => place_of(alloc, bytes, fault),
+        None => spot_of(alloc, bytes, rejection),
     }
 }
 
 /// The finding of an error at a place, or at the end of a file that ends before.
-fn finding<'a>(bytes: &'a [u8], fault: CheckFault, place: Place) -> Finding<'a>
+fn finding<'a>(bytes: &'a [u8], fault: CheckFault, place: Place, spot: Spot) -> Finding<'a>
     requires why { IsWhy bytes.now fault }
-    requires offset { IsOffsetOf bytes.now fault (min place.offset (length bytes.now)) }
-    requires still { HasStill bytes.now fault place.reach }
+    requires offset { IsOffsetOf bytes.now fault (min spot.offset (length bytes.now)) }
+    requires still { HasStill bytes.now fault spot.reach }
     ensures { IsFinding bytes.now result }
 {
-    let offset = place.offset.min(bytes.len());
+    let offset = spot.offset.min(bytes.len());
     Finding {
         fault,
         file: bytes,
         offset,
-        reach: place.reach,
+        reach: spot.reach,
+        place,
         line: NumberedLine::at(bytes, offset),
     }
 }
@@ -102,15 +118,7 @@ fn offset_of(fault: MapFault) -> Option<usize>
     ensures { result ≡ offset_of fault }
 {
     match fault {
-        MapFault::NotUtf8(offset)
-        | MapFault::BadToken(offset)
-        | MapFault::UnexpectedWord(offset)
-        | MapFault::MissingEnd(offset)
-        | MapFault::BadNumber(offset)
-        | MapFault::OutOfRange(offset)
-        | MapFault::Repeated(offset)
-        | MapFault::Trailing(offset) => Some(offset),
         MapFault::TooLong => Some(MOST_MAPFILE_BYTES),
-        MapFault::Memory | MapFault::Missing | MapFault::TooMany => None,
+        _ => fault.byte_offset(),
     }
 }

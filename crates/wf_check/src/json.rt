@@ -6,10 +6,9 @@ ghost use Rattle.wf_check.specs.Json.{IsJsonReport, IsLineOfJson, as_data, code}
 
 use crate::fault::CheckFault;
 use crate::finding::Finding;
-use crate::finding_report::message;
+use crate::message::message;
 use serde_json::{Value, json};
 use std::alloc::{AllocError, Global};
-use wf_block::MapFault;
 
 /// A finding as one line of JSON (RFC 8259), for editors: an object of its `line` and `column`, from
 /// 1, columns in characters; its byte `offset`, from 0; its `error`, such as M5; and the `message`,
@@ -61,18 +60,7 @@ fn code(fault: CheckFault) -> &'static str
     ensures { result.now ≡ code fault }
 {
     match fault {
-        CheckFault::Map(MapFault::Memory) => "M1",
-        CheckFault::Map(MapFault::TooLong) => "M2",
-        CheckFault::Map(MapFault::NotUtf8(_)) => "M3",
-        CheckFault::Map(MapFault::BadToken(_)) => "M4",
-        CheckFault::Map(MapFault::UnexpectedWord(_)) => "M5",
-        CheckFault::Map(MapFault::MissingEnd(_)) => "M6",
-        CheckFault::Map(MapFault::BadNumber(_)) => "M7",
-        CheckFault::Map(MapFault::OutOfRange(_)) => "M8",
-        CheckFault::Map(MapFault::Missing) => "M9",
-        CheckFault::Map(MapFault::Repeated(_)) => "M10",
-        CheckFault::Map(MapFault::TooMany) => "M11",
-        CheckFault::Map(MapFault::Trailing(_)) => "M12",
+        CheckFault::Map(fault) => fault.code(),
         CheckFault::TooBig => "K1",
     }
 }

@@ -8,32 +8,35 @@
 //! is within the limit, so that a farm publishes it. A finding's error is the reader's, or K1 where
 //! the canonical text is too long; its offset is the error's, and its line and column are those of the
 //! offset (`specs/NumberedLine.antt`, `specs/Finding.antt`). M9 and M11 have no offset: the file cut at
-//! the finding's reach has the error too. The keywords of a block that a report names are those of its
-//! reader, each with what the reader takes (`specs/Keywords.antt`). Tested and not proved: that M9 and
-//! M11 come with the last token before the reach, the place of K1, the sentence of a report and the
-//! numbers in it. Not here: whether the map is a good one.
+//! the finding's reach has the error too. A report has the finding's line, column and error, and a
+//! message (`specs/Message.antt`): in a block between its keywords it names exactly those of the
+//! block's reader (`keywords_of` of wf_mapfile). As JSON it is a line of exactly the object that
+//! `specs/Json.antt` says, with such a message. Tested and not proved: that M9 and M11 come with the
+//! last token before the reach, where in the file the layer or feature of K1 begins, and the rest of
+//! a message. Not here: whether the map is a good one.
 //!
-//! A report as JSON is a line of exactly the object that `specs/Json.antt` says.
+//! Where an error is, in which block and at which keyword, is the reader's (`Place` of wf_block), and
+//! the bytes of a canonical text are the writer's count (wf_spelling).
 //!
 //! Modules: `inspection` is the check, `finding` and `fault` are what it finds; `line` finds the line
-//! of an offset, `place` the place of an error without one. `finding_report` is a finding's text, with
-//! `sentence`, `excess` (of K1) and `shown`; `json` is the line of JSON. `grammar` has the keywords of each block, `outline` the
-//! items of a file's blocks, `size` the length of a canonical text that is too long.
+//! of an offset, `place` the place of an error without one. `finding_report` is a finding's text,
+//! `json` the line of JSON; `message` with `bad_token`, `excess` (of K1)
+//! and `shown`. `skim` has what begins and ends in a file, by the keywords of each
+//! block (wf_mapfile).
 #![tactic(auto)]
 
+mod bad_token;
 mod excess;
 mod fault;
 mod finding;
 mod finding_report;
-mod grammar;
 mod inspection;
 mod json;
 mod line;
-mod outline;
+mod message;
 mod place;
-mod sentence;
 mod shown;
-mod size;
+mod skim;
 
 pub use fault::CheckFault;
 pub use finding::Finding;
@@ -41,4 +44,4 @@ pub use finding_report::report;
 pub use inspection::{check, no_map_with_an_error_is_publishable};
 pub use json::report_as_json;
 pub use line::NumberedLine;
-pub use sentence::MOST_COUNTED_BYTES;
+pub use message::MOST_COUNTED_BYTES;

@@ -1,6 +1,6 @@
 //! The line of a file in which a byte offset stands.
 ghost use Rattle.std.specs.Prelude.{◌≡◌, ◌+◌, ◌≤◌, drop, length, take};
-ghost use Rattle.std.specs.List.{count_by, prefix_len, suffix_len};
+ghost use Rattle.std.specs.List.{prefix_len, suffix_len};
 ghost use Rattle.wf_check.specs.NumberedLine.{characters, first_line, is_feed, last_line, line_number, starts_character, stays_in_line};
 ghost use Rattle.wf_token.specs.Token.{without_mark};
 

@@ -2,97 +2,55 @@
 ghost use Rattle.std.specs.Prelude.{◌≡◌, ◌≤◌, IfOk, length, take, true};
 ghost use Rattle.wf_mapfile.specs.Rejection.{HasError};
 
-use crate::grammar::Block;
-use crate::outline::{Item, Outline};
-use crate::size::{END, feature_length, features_length, heading_length, layer_length};
+use crate::skim::{ShortShape, block_at, events_of, nth, short_shape};
 use std::alloc::{AllocError, Global};
-use wf_block::MapFault;
+use wf_block::{Block, MapFault, Place};
 use wf_def::MapDef;
-use wf_mapfile::read;
-use wf_spelling::MOST_CANON_BYTES;
+use wf_mapfile::{Rejection, read};
+use wf_spelling::{Excess, first_excess};
 use wf_token::{Token, TokenKind, tokenize};
 
-/// The place of an error.
+/// A place in a file.
 #[derive(Clone, Copy)]
-pub(crate) struct Place {
+pub(crate) struct Spot {
     /// The byte offset.
     pub(crate) offset: usize,
     /// How many bytes of the file have the error too.
     pub(crate) reach: usize,
 }
 
-/// The place of M9 and M11: the last token that the reader takes before it reports the error. If a
-/// shape has too few points for its layer, that is the END of the layer, and the place is the END
-/// of the shape.
-pub(crate) fn place_of(alloc: Global, bytes: &[u8], fault: MapFault) -> Result<Place, AllocError>
-    requires { HasError bytes.now fault }
-    ensures within { IfOk result (λ place. place.reach ≤ length bytes.now) }
-    ensures cut { IfOk result (λ place. HasError (take place.reach bytes.now) fault) }
+/// The place of M9 and M11: the token that the reader read last. If a shape has too few points for
+/// its layer, that is the END of the layer, and the place is the END of the shape.
+pub(crate) fn spot_of(alloc: Global, bytes: &[u8], rejection: Rejection) -> Result<Spot, AllocError>
+    requires { HasError bytes.now rejection.fault }
+    ensures within { IfOk result (λ spot. spot.reach ≤ length bytes.now) }
+    ensures cut { IfOk result (λ spot. HasError (take spot.reach bytes.now) rejection.fault) }
 {
+    let place = rejection.place;
     let lexed = tokenize(alloc, bytes)?;
-    let place = place_among(alloc, bytes, lexed.tokens.as_slice(), fault);
+    let end = end_of(token_at(lexed.tokens.as_slice(), place.last)).min(bytes.len());
+    let shape = short_shape_of(alloc, lexed.tokens.as_slice(), place);
     drop(lexed);
-    place
-}
-
-/// The place of M9 and M11 in a file of these tokens.
-fn place_among(
-    alloc: Global,
-    bytes: &[u8],
-    tokens: &[Token<'_>],
-    fault: MapFault,
-) -> Result<Place, AllocError>
-    requires { HasError bytes.now fault }
-    ensures within { IfOk result (λ place. place.reach ≤ length bytes.now) }
-    ensures cut { IfOk result (λ place. HasError (take place.reach bytes.now) fault) }
-{
-    let (count, reach) = rejected_beginning(alloc, bytes, tokens, fault)?;
-    let offset = match tokens.get(count) {
-        Some(token) => few_points(alloc, tokens, *token)?.unwrap_or(token.byte_offset),
-        None => bytes.len(),
+    let offset = match shape? {
+        Some(shape) => shape.end,
+        None => place.last.unwrap_or(bytes.len()),
     };
-    Ok(Place { offset, reach })
+    let reach = reach_of(alloc, bytes, end, rejection.fault)?;
+    Ok(Spot { offset, reach })
 }
 
-/// The shortest beginning of a file, cut behind a token, that the reader rejects with an error: the
-/// number of tokens before that token, and the beginning's length. All of the file, if the reader
-/// rejects no shorter one so.
-fn rejected_beginning(
-    alloc: Global,
-    bytes: &[u8],
-    tokens: &[Token<'_>],
-    fault: MapFault,
-) -> Result<(usize, usize), AllocError>
-    requires { HasError bytes.now fault }
-    ensures within { IfOk result (λ found. found.1 ≤ length bytes.now) }
-    ensures cut { IfOk result (λ found. HasError (take found.1 bytes.now) fault) }
+/// How many bytes of a file have its error too: those up to an offset, or all.
+fn reach_of(alloc: Global, bytes: &[u8], end: usize, fault: MapFault) -> Result<usize, AllocError>
+    requires error { HasError bytes.now fault }
+    requires end { end ≤ length bytes.now }
+    ensures within { IfOk result (λ reach. reach ≤ length bytes.now) }
+    ensures cut { IfOk result (λ reach. HasError (take reach bytes.now) fault) }
 {
-    let mut low = 0;
-    let mut high = tokens.len();
-    let mut reach = bytes.len();
-    while low < high {
-        let middle = low + (high - low) / 2;
-        let end = behind(tokens[middle]).min(reach);
-        if is_rejected(alloc, bytes.split_at(end).0, fault)? {
-            high = middle;
-            reach = end;
-        } else {
-            low = middle + 1;
-        }
+    if is_rejected(alloc, bytes.split_at(end).0, fault)? {
+        Ok(end)
+    } else {
+        Ok(bytes.len())
     }
-    Ok((high, reach))
-}
-
-/// The offset behind a token.
-fn behind(token: Token<'_>) -> usize {
-    let quotes = match token.kind {
-        TokenKind::Word => 0usize,
-        TokenKind::Quoted | TokenKind::Braced => 2,
-    };
-    token
-        .byte_offset
-        .saturating_add(token.text.len())
-        .saturating_add(quotes)
 }
 
 /// Whether the reader rejects bytes with an error, which is M9 or M11.
@@ -111,78 +69,68 @@ fn is_rejected(alloc: Global, bytes: &[u8], fault: MapFault) -> Result<bool, All
     }
 }
 
-/// The END of the first shape that has too few points for the layer that ends at a token, if that
-/// layer has such a shape.
-fn few_points(
+/// The offset behind a token; the greatest if there is none.
+fn end_of(token: Option<Token<'_>>) -> usize {
+    let Some(token) = token else {
+        return usize::MAX;
+    };
+    let quotes = match token.kind {
+        TokenKind::Word => 0usize,
+        TokenKind::Quoted | TokenKind::Braced => 2,
+    };
+    let behind = token.byte_offset.saturating_add(token.text.len());
+    behind.saturating_add(quotes)
+}
+
+/// The token at an offset.
+pub(crate) fn token_at<'a>(tokens: &[Token<'a>], offset: Option<usize>) -> Option<Token<'a>> {
+    let offset = offset?;
+    tokens
+        .iter()
+        .find(|token| token.byte_offset == offset)
+        .copied()
+}
+
+/// The first shape with too few points, where M9 is for one: the layer that ended last has all
+/// keywords that it needs.
+pub(crate) fn short_shape_of(
     alloc: Global,
     tokens: &[Token<'_>],
-    token: Token<'_>,
-) -> Result<Option<usize>, AllocError> {
-    let outline = Outline::before(alloc, tokens, token.byte_offset.saturating_add(1))?;
-    let shape = match outline.ending_at(token.byte_offset) {
-        Some(layer) => outline.few_points(layer),
-        None => None,
-    };
-    drop(outline);
-    Ok(shape)
+    place: Place,
+) -> Result<Option<ShortShape>, AllocError> {
+    match (place.ended, place.lacking, place.keyword) {
+        (Some(Block::Layer), None, Some(layer)) => {
+            let events = events_of(alloc, tokens)?;
+            let shape = short_shape(block_at(events.as_slice(), Block::Layer, layer), tokens);
+            drop(events);
+            Ok(shape)
+        }
+        _ => Ok(None),
+    }
 }
 
 /// The place of K1: the first layer or feature that ends behind the limit of the map's canonical
 /// text, or the end of the file.
-pub(crate) fn place_of_excess(
-    alloc: Global,
-    bytes: &[u8],
-    map: &MapDef,
-) -> Result<Place, AllocError>
-    ensures { IfOk result (λ place. place.reach ≡ length bytes.now) }
+pub(crate) fn spot_of_excess(alloc: Global, bytes: &[u8], map: &MapDef) -> Result<Spot, AllocError>
+    ensures { IfOk result (λ spot. spot.reach ≡ length bytes.now) }
 {
-    let lexed = tokenize(alloc, bytes)?;
-    let outline = Outline::before(alloc, lexed.tokens.as_slice(), bytes.len());
-    drop(lexed);
-    let outline = outline?;
-    let item = item_of_excess(&outline, map);
-    drop(outline);
-    let offset = match item {
-        Some(item) => item.token.byte_offset,
-        None => bytes.len(),
+    let reach = bytes.len();
+    let offset = match first_excess(alloc, map) {
+        Some(excess) => begin_of(alloc, bytes, excess)?.unwrap_or(reach),
+        None => reach,
     };
-    Ok(Place {
-        offset,
-        reach: bytes.len(),
-    })
+    Ok(Spot { offset, reach })
 }
 
-/// The item that begins the first layer or feature that ends behind the limit of the map's
-/// canonical text.
-fn item_of_excess<'a>(outline: &Outline<'a>, map: &MapDef) -> Option<Item<'a>> {
-    let (layer, feature) = first_excess(map)?;
-    let layer = outline.nth(layer, Block::Layer, 0)?;
-    match feature {
-        None => outline.item(layer),
-        Some(feature) => outline.item(outline.nth(feature, Block::Feature, layer)?),
-    }
-}
-
-/// The first layer, or feature of a layer, that ends behind the limit of the map's canonical text.
-fn first_excess(map: &MapDef) -> Option<(usize, Option<usize>)> {
-    let mut length = heading_length(map);
-    for index in 0..map.layer_count() {
-        let (name, layer) = map.layer(index);
-        let features = layer.features();
-        let behind = length.saturating_add(layer_length(name, layer));
-        let mut end = behind
-            .saturating_sub(features_length(features))
-            .saturating_sub(END);
-        if end > MOST_CANON_BYTES {
-            return Some((index, None));
-        }
-        for number in 0..features.len() {
-            end = end.saturating_add(feature_length(&features[number]));
-            if end > MOST_CANON_BYTES {
-                return Some((index, Some(number)));
-            }
-        }
-        length = behind;
-    }
-    None
+/// The byte offset at which a layer or a feature of a file begins.
+fn begin_of(alloc: Global, bytes: &[u8], excess: Excess) -> Result<Option<usize>, AllocError> {
+    let lexed = tokenize(alloc, bytes)?;
+    let found = events_of(alloc, lexed.tokens.as_slice())?;
+    let events = found.as_slice();
+    let layer = nth(events, 0, Block::Layer, excess.layer);
+    let begin = match (layer, excess.feature) {
+        (Some(layer), Some(feature)) => nth(events, layer.index, Block::Feature, feature),
+        _ => layer,
+    };
+    Ok(begin.map(|event| event.offset))
 }

@@ -3,6 +3,7 @@
 ghost use Rattle.std.specs.Prelude.{◌≡◌, ◌<◌, ◌≤◌, ℕ, drop, length, take, IfSome};
 
 use std::fmt;
+use wf_token::{Token, TokenKind};
 
 /// The most bytes of a line that are shown on each side of an offset.
 const MOST_BESIDE: usize = 50;
@@ -112,4 +113,29 @@ pub(crate) fn first_part(after: &[u8]) -> &[u8]
         end -= 1;
     }
     after.split_at(end).0
+}
+
+/// A token as it stands in a file, at most 50 bytes of it, or the end of the file.
+#[derive(Clone, Copy)]
+pub(crate) struct Quote<'a>(pub(crate) Option<Token<'a>>);
+
+impl fmt::Display for Quote<'_> {
+    fn fmt<W: fmt::Write>(&self, f: &mut fmt::Formatter<W>) -> fmt::Result {
+        let Quote(token) = *self;
+        let Some(token) = token else {
+            return write!(f, "the end of the file");
+        };
+        let part = first_part(token.text);
+        let more = if part.len() < token.text.len() {
+            "..."
+        } else {
+            ""
+        };
+        let text = Shown::Text(part);
+        match token.kind {
+            TokenKind::Word => write!(f, "{text}{more}"),
+            TokenKind::Quoted => write!(f, "\"{text}{more}\""),
+            TokenKind::Braced => write!(f, "{{{text}{more}}}"),
+        }
+    }
 }

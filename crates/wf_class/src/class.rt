@@ -8,7 +8,7 @@ use crate::label::read_label;
 use crate::slots::{ClassOnce, ClassSlots};
 use crate::style::read_style;
 use std::alloc::{AllocError, Global};
-use wf_block::{MapFault, Parser, Slots, fill_block, is_name, once, text_or_empty};
+use wf_block::{Block, MapFault, Parser, Slots, fill_block, is_name, once, text_or_empty};
 use wf_def::{Class, Expression, Styles};
 use wf_token::{Token, TokenKind, is_slash};
 
@@ -103,7 +103,7 @@ pub fn read_class(parser: &mut Parser<'_>) -> Result<Class, MapFault>
     ensures { Gives (λ c. (c, parser.new)) result (class parser.old) }
 {
     let mut slots = ClassSlots::new(parser.alloc());
-    fill_block(parser, &mut slots)?;
+    fill_block(parser, Block::Class, &mut slots)?;
     Ok(slots.fill(parser.alloc())?)
 }
 

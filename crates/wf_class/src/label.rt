@@ -1,11 +1,11 @@
 //! LABEL: how a feature's text is drawn.
-ghost use Rattle.std.specs.Prelude.{◌≡◌, None};
+ghost use Rattle.std.specs.Prelude.{◌≡◌};
 ghost use Rattle.wf_class.specs.Label.{label, label_kind, label_of, label_position, label_size, truth};
 ghost use Rattle.wf_block.specs.ReadContract.{Gives};
 
 use crate::color::read_color;
 use crate::slots::LabelSlots;
-use wf_block::{MapFault, Parser, Slots, fill_block, is_name, once, or_least};
+use wf_block::{Block, MapFault, Parser, Slots, fill_block, is_name, once, or_least};
 use wf_def::{Color, Label, LabelPosition, LabelSize, MOST_BUFFER, MOST_PRIORITY};
 use wf_token::Token;
 
@@ -78,7 +78,7 @@ pub fn read_label(parser: &mut Parser<'_>) -> Result<Label, MapFault>
     ensures { Gives (λ l. (l, parser.new)) result (label parser.old) }
 {
     let mut slots = LabelSlots::default();
-    fill_block(parser, &mut slots)?;
+    fill_block(parser, Block::Label, &mut slots)?;
     Ok(slots.fill())
 }
 

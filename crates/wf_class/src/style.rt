@@ -5,7 +5,7 @@ ghost use Rattle.wf_class.specs.Style.{style, style_of};
 
 use crate::color::read_color;
 use crate::slots::StyleSlots;
-use wf_block::{MapFault, Parser, Slots, fill_block, is_name, once, or_least};
+use wf_block::{Block, MapFault, Parser, Slots, fill_block, is_name, once, or_least};
 use wf_def::{MOST_SIZE, MOST_WIDTH, Style};
 use wf_token::Token;
 
@@ -63,6 +63,6 @@ pub fn read_style(parser: &mut Parser<'_>) -> Result<Style, MapFault>
     ensures { Gives (λ s. (s, parser.new)) result (style parser.old) }
 {
     let mut slots = StyleSlots::default();
-    fill_block(parser, &mut slots)?;
+    fill_block(parser, Block::Style, &mut slots)?;
     Ok(slots.fill())
 }

@@ -29,8 +29,8 @@ is_asking Taking = false
 is_asking Lingering = false
 
 -- a phase began
-abbrev pub Begins : ClientPhase → ℕ → Client → Client → Type 0
-Begins phase now old new = new ≡ record old { phase = phase; since = now }
+abbrev pub PhaseBegins : ClientPhase → ℕ → Client → Client → Type 0
+PhaseBegins phase now old new = new ≡ record old { phase = phase; since = now }
 
 -- the bytes of its request and of its answer
 abbrev pub weight_of : Client → ℕ

@@ -1,5 +1,5 @@
 //! A reader of what has come of a request.
-ghost use Rattle.std.specs.Prelude.{◌≡◌, false, length, min, take, drop};
+ghost use Rattle.std.specs.Prelude.{◌≡◌, length, min, take, drop};
 
 use std::io;
 use std::io::ErrorKind;

@@ -1,6 +1,6 @@
 //! A client, and its phase.
-ghost use Rattle.std.specs.Prelude.{◌≡◌, ◌≤◌, ◌+◌, ◌↔◌, [], false, length, IsTrue};
-ghost use Rattle.wf_client.specs.Client.{Begins, IsOver, is_asking, limit_of, weight_of};
+ghost use Rattle.std.specs.Prelude.{◌≡◌, ◌↔◌, [], false, IsTrue};
+ghost use Rattle.wf_client.specs.Client.{PhaseBegins, IsOver, is_asking, limit_of, weight_of};
 
 use crate::limits::{ANSWER_MILLIS, LINGER_MILLIS, REQUEST_MILLIS};
 use crate::partial_request::Incoming;
@@ -75,7 +75,7 @@ impl Client {
 
     /// The next phase begins now.
     pub fn begin(&mut self, phase: ClientPhase, now: u64)
-        ensures { Begins phase now self.old self.new }
+        ensures { PhaseBegins phase now self.old self.new }
     {
         self.phase = phase;
         self.since = now;

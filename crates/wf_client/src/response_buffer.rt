@@ -1,5 +1,5 @@
 //! An answer, and how much of it was taken.
-ghost use Rattle.std.specs.Prelude.{◌≡◌, ◌≤◌, ◌<◌, ◌+◌, ◌-◌, ◌↔◌, [], drop, length, IsTrue};
+ghost use Rattle.std.specs.Prelude.{◌≡◌, ◌≤◌, ◌<◌, ◌+◌, ◌-◌, ◌↔◌, [], length, IsTrue};
 ghost use Rattle.wf_client.specs.ResponseBuffer.{FailsOnce, rest_of, IsAdvanced};
 
 use std::alloc::Global;

@@ -6,7 +6,7 @@ use Rattle.wf_spelling.specs.Canon.{canon, line, most_canon_bytes}
 use Rattle.wf_canon.specs.TextMeaning.{OneTextOneMap}
 use Rattle.wf_ballot.specs.Ballot.{Ballot}
 use Rattle.wf_frame.specs.Field.{FieldValue}
-use Rattle.wf_frame.specs.Report.{IsText, IsVoteOf, AreVotesOf, vote_with, votes_with, votes_definitions}
+use Rattle.wf_frame.specs.Report.{IsBoundedText, IsVoteOf, AreVotesOf, vote_with, votes_with, votes_definitions}
 use Rattle.wf_frame.specs.Row.{RowEnd, NoEnd, TextEnd, VotesEnd, end_with, end_definitions, IsEndOf, AreInRange, IsRowOf, Row, row_bytes, row_layout, layout_of, read_row}
 use Rattle.wf_frame.specs.RowTheorems.{row_fits, row_read}
 use Rattle.wf_frame.specs.Frame.{HasBody}
@@ -21,28 +21,28 @@ not_empty : (d : Definition) → 1 ≤ length (canon d)
 unfolding canon line
 not_empty d = omega arith
 
-canon_is_text : (d : Definition) → HasText d → IsText most_canon_bytes (canon d)
+canon_is_text : (d : Definition) → HasText d → IsBoundedText most_canon_bytes (canon d)
 canon_is_text d has = record { least = not_empty d; within = has.short }
 
-vote_is_text : (v : Option (Vote Definition)) → IsVoteOf HasText v → IsVoteOf (IsText most_canon_bytes) (vote_with canon v)
+vote_is_text : (v : Option (Vote Definition)) → IsVoteOf HasText v → IsVoteOf (IsBoundedText most_canon_bytes) (vote_with canon v)
 vote_is_text None p = p
 vote_is_text (Some v) p = (p.0, canon_is_text v.definition p.1)
 
-votes_are_texts : (votes : List (Option (Vote Definition))) → AreVotesOf HasText votes → AreVotesOf (IsText most_canon_bytes) (votes_with canon votes)
+votes_are_texts : (votes : List (Option (Vote Definition))) → AreVotesOf HasText votes → AreVotesOf (IsBoundedText most_canon_bytes) (votes_with canon votes)
 votes_are_texts [] p = tt
 votes_are_texts (vote ∷ votes) p = (vote_is_text vote p.0, votes_are_texts votes p.1)
 
-end_is_text : (end : RowEnd Definition) → IsEndOf HasText end → IsEndOf (IsText most_canon_bytes) (end_with canon end)
+end_is_text : (end : RowEnd Definition) → IsEndOf HasText end → IsEndOf (IsBoundedText most_canon_bytes) (end_with canon end)
 end_is_text NoEnd p = tt
 end_is_text (TextEnd d) p = canon_is_text d p
 end_is_text (VotesEnd s b votes) p = (p.0, p.1, length-map votes (vote_with canon) ∙ p.2, votes_are_texts votes p.3)
 
-fields_fit : (values : List FieldValue) (end : RowEnd Definition) → AreInRange HasText values end → AreInRange (IsText most_canon_bytes) values (end_with canon end)
+fields_fit : (values : List FieldValue) (end : RowEnd Definition) → AreInRange HasText values end → AreInRange (IsBoundedText most_canon_bytes) values (end_with canon end)
 fields_fit [] end p = end_is_text end p
 fields_fit (v ∷ values) end p = (p.0, fields_fit values end p.1)
 
 -- a message's texts are texts
-texts_fit : (m : Message Definition) → IsMessage m → IsRowOf (IsText most_canon_bytes) (texts m)
+texts_fit : (m : Message Definition) → IsMessage m → IsRowOf (IsBoundedText most_canon_bytes) (texts m)
 texts_fit m is = fields_fit (row m).fields (row m).ending is
 
 -- a message's fields are those of its kind

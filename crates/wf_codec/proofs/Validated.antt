@@ -23,7 +23,7 @@ use Rattle.wf_codec.specs.Message.{texts, HasDefinition, IsMessage}
 use Rattle.wf_codec.specs.Encoding.{message_version, header_length, format, text_spelling, spelling, Spells}
 use Rattle.wf_codec.specs.FormatTheorems.{is_format}
 use Rattle.wf_codec.specs.Stages.{decode_fault, ReadsAs}
-use Rattle.wf_codec.specs.Theorem.{OneSpelling, NoneBeginsAnother, NoneIsEmpty, BeginsWith, BeginsWithNone, NeverBegins, IsRejection, IsUnfinished, IsReadAs, IsValidated}
+use Rattle.wf_codec.specs.Theorem.{OneSpelling, NoneBeginsAnother, NoneIsEmpty, BeginsWith, BeginsWithNone, NeverBegins, IsLastingFault, IsUnfinished, IsReadAs, IsValidated}
 use Rattle.wf_codec.proofs.Texts.{texts_apart, text_is_definition, not_bad, row_of_message, body_of_message}
 use Rattle.wf_codec.proofs.Encoded.{length-text_spelling}
 
@@ -133,10 +133,10 @@ whole_is_read one_map view result bytes validated m spelled after spells e =
     let count : header_length + length (row_bytes (texts m)) ≡ length spelled = sym (length-text_spelling (texts m)) ∙ ap length (sym spells.spelled) in
     subst (λ (k : ℕ). IsReadAs view result m k) count (read_by one_map view result m (header_length + length (row_bytes (texts m))) spells.is_message reads cut.1)
 
-rejection_not_short : (e : DecodeFault) → IsRejection e → e ≡ Short → ⊥
-rejection_not_short e rejection short = subst IsRejection short rejection
+rejection_not_short : (e : DecodeFault) → IsLastingFault e → e ≡ Short → ⊥
+rejection_not_short e rejection short = subst IsLastingFault short rejection
 
-never_rejected : {X : Type 0} (view : X → Message Definition) (e : DecodeFault) (m : Message Definition) → IsRejection e → IsMessage m → ReadsAs (λ (x : X × ℕ). view x.0) (Err e) (Some (texts m)) → ⊥
+never_rejected : {X : Type 0} (view : X → Message Definition) (e : DecodeFault) (m : Message Definition) → IsLastingFault e → IsMessage m → ReadsAs (λ (x : X × ℕ). view x.0) (Err e) (Some (texts m)) → ⊥
 never_rejected view Short m rejection is_message reads = reads
 never_rejected view BadVersion m rejection is_message reads = reads
 never_rejected view BadKind m rejection is_message reads = reads
@@ -145,7 +145,7 @@ never_rejected view NotCanonical m rejection is_message reads = not_bad m is_mes
 never_rejected view TooLong m rejection is_message reads = reads
 never_rejected view Memory m rejection is_message reads = rejection
 
-fault_not_short : (e : DecodeFault) (fault : FrameFault) → IsRejection e → e ≡ decode_fault fault → fault ≡ frames.Short → ⊥
+fault_not_short : (e : DecodeFault) (fault : FrameFault) → IsLastingFault e → e ≡ decode_fault fault → fault ≡ frames.Short → ⊥
 fault_not_short e fault rejection same short = rejection_not_short e rejection (same ∙ ap decode_fault short)
 
 abbrev error : {X : Type 0} → DecodeFault → Result X DecodeFault
@@ -156,7 +156,7 @@ err_same d e same = cc
 
 -- A frame that is split off bytes is split off longer bytes too; if it is rejected, longer bytes are rejected too.
 rejected_by : {X : Type 0} (view : X → Message Definition) (e : DecodeFault) (bytes : List ℕ) (r : Result Found FrameFault) → frame_front format bytes ≡ r → AreBytes bytes →
-    IsValidated view (Err e) r → IsRejection e → NeverBegins bytes
+    IsValidated view (Err e) r → IsLastingFault e → NeverBegins bytes
 rejected_by {X} view e bytes (Err fault) is fits validated rejection more m spelled after spells same =
     let fault_is : e ≡ decode_fault fault = err_same {X = X × ℕ} e (decode_fault fault) validated in
     let on = frame_theorems.frame_goes_on format bytes more fault is (fault_not_short e fault rejection fault_is) in
@@ -174,7 +174,7 @@ rejected_by {X} view e bytes (Ok found) is fits validated rejection more m spell
 
 -- rejected bytes never begin with a message, whatever follows
 pub refused : {X : Type 0} (view : X → Message Definition) (result : Result (X × ℕ) DecodeFault) (bytes : List ℕ) → AreBytes bytes → IsValidated view result (frame_front format bytes) →
-    IfErr result (λ e. IsRejection e → NeverBegins bytes)
+    IfErr result (λ e. IsLastingFault e → NeverBegins bytes)
 refused view (Ok x) bytes fits validated = tt
 refused view (Err e) bytes fits validated = rejected_by view e bytes (frame_front format bytes) refl fits validated
 

@@ -47,10 +47,10 @@ abbrev pub NeverBegins : List ℕ → Type 0
 NeverBegins bytes = (more : List ℕ) → BeginsWithNone (bytes ++ more)
 
 -- errors that remain whatever bytes follow
-abbrev pub IsRejection : DecodeFault → Type 0
-IsRejection Short = ⊥
-IsRejection Memory = ⊥
-IsRejection fault = Unit {0}
+abbrev pub IsLastingFault : DecodeFault → Type 0
+IsLastingFault Short = ⊥
+IsLastingFault Memory = ⊥
+IsLastingFault fault = Unit {0}
 
 -- Part of a message, without an error in its version, its kind and its length as far as they are there; the length is checked
 -- once its four bytes are there.

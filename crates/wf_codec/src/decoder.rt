@@ -7,7 +7,7 @@ ghost use Rattle.wf_frame.specs.Report.{front_text, front_vote, votes_of, votes_
 ghost use Rattle.wf_frame.specs.Frame.{frame_front};
 ghost use Rattle.wf_codec.specs.Encoding.{Spells, format};
 ghost use Rattle.wf_codec.specs.Stages.{decode_fault, ReadsVote, ReadsVotes, ReadsReport, ReadsText};
-ghost use Rattle.wf_codec.specs.Theorem.{BeginsWith, BeginsWithNone, NeverBegins, IsRejection, IsUnfinished, IsReadAs, IsValidated};
+ghost use Rattle.wf_codec.specs.Theorem.{BeginsWith, BeginsWithNone, NeverBegins, IsLastingFault, IsUnfinished, IsReadAs, IsValidated};
 
 use crate::fault::DecodeFault;
 use crate::format::{HEADER_BYTES, MessageFormat};
@@ -39,7 +39,7 @@ pub fn decode(alloc: Global, bytes: &[u8]) -> Result<(Message, usize), DecodeFau
     ensures count { IfOk result (λ x. (1 ≤ x.1) × (x.1 ≤ length bytes.now)) }
 
     // Rejected bytes never become a message, whatever follows.
-    ensures refused { IfErr result (λ e. IsRejection e → NeverBegins bytes.now) }
+    ensures refused { IfErr result (λ e. IsLastingFault e → NeverBegins bytes.now) }
 
     ensures short { IsErrOf result DecodeFault.Short ↔ IsUnfinished bytes.now }
     ensures none_yet { IsErrOf result DecodeFault.Short → BeginsWithNone bytes.now }

@@ -29,14 +29,14 @@ pub use Rattle.wf_node.specs.OpenedNode.{IsFoldOf}
 pub use Rattle.wf_node.specs.Step.{IsTransition, IsSameNode, IsStep, step_rejection_at, transition_of}
 pub use Rattle.wf_node.specs.TapeWrites.{bytes_of}
 pub use Rattle.wf_node.specs.declared.fault.NodeFault.{NodeFault}
-pub use Rattle.wf_tape.specs.MemoryTape.{IsImageOf}
+pub use Rattle.wf_tape.specs.MemoryTape.{IsImageNow}
 pub use Rattle.wf_tape.specs.Tape.{IsExtended, IsUnchanged}
 pub use Rattle.wf_delivery.specs.Delivery.{AnyPart, AreChanged, AreDelivered, AreHandedOut, AreNodes, Changed, First, HaveCome, IsDelivered, IsDelivery, IsGiven, IsHanded, IsNodeBy, IsOne, IsReachableByDeliveries, Next, Refines, StandFor, StandInTurn, Unchanged}
-unfoldable pub use Rattle.wf_delivery.specs.Delivery.{AreDeliveries, KeepHalted, ReachByDeliveries, MayLeave, StandAmong, TakeOne}
+unfoldable pub use Rattle.wf_delivery.specs.Delivery.{AreDeliveries, KeepHalted, ReachByDeliveries, MayLeaveOfEach, StandAmong, TakeOne}
 pub use Rattle.wf_delivery.specs.DeliveryTheorems.{each_grows_itself, halted_itself, halted_twice, keeps_turn, keeps_turn_itself, keeps_turn_twice}
 pub use Rattle.wf_delivery.specs.SturdyTheorems.{any_sturdy, still_runs}
 pub use Rattle.wf_delivery.specs.NodeInput.{Answers, MayBeLost, Takes, is_halt, is_memory, reports_halt}
-pub use Rattle.wf_delivery.specs.Reachability.{AreReachable, AreReachableSending, BothAreOutput, DeliveriesAreReachable, FreshAreReachable, FreshOnTape, IsFresh, IsOwn, IsReachableFrom, IsReachableWith, NothingIsOutput, NothingIsReachable, ReachableIsTransitive, ReachableOnTape, ReachableStaysReachable, StepIsReachable, UnheardIsReachable, fresh_node, outputs_by}
+pub use Rattle.wf_delivery.specs.Reachability.{AreReachable, AreReachableSending, BothAreOutput, DeliveriesAreReachable, FreshAreReachable, FreshOnTape, IsFresh, IsOwnInput, IsReachableFrom, IsReachableWith, NothingIsOutput, NothingIsReachable, ReachableIsTransitive, ReachableOnTape, ReachableStaysReachable, StepIsReachable, UnheardIsReachable, fresh_node, outputs_by}
 unfoldable pub use Rattle.wf_delivery.specs.Reachability.{AreFresh, HaveOneAnswer, HaveOneHistory, HaveOneMapAnswer, ReachSending, Reach}
 pub use Rattle.wf_delivery.specs.IndexTheorems.{get_set_other, get_set_same, set_same, set_there}
 pub use Rattle.wf_delivery.specs.Progress.{AreCounted, begun, counted, most_deliveries, next}

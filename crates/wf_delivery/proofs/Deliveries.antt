@@ -1,6 +1,6 @@
 -- A step of one of the nodes that a caller holds is an event of the world that they are; so is a delivery, and so are many.
 use Rattle.std.proofs.Common.{◌≡◌, ◌≢◌, ◌⊎◌, ℕ, ◌+◌, ◌≤◌, nat_lt, Bool, true, false, List, [], ◌∷◌, ◌++◌, map, length, slice_get, slice_set, Option, Some, None, Result, Ok, Err, IfOk, IfErr, OnOk, refl, sym, ap, subst, ◌∙◌, inl, inr, arith, length-append, length-set, Vec}
-use Rattle.wf_delivery.proofs.Common.{both_ways, cases_eq, false≢true, nat_tests, append-nil, length-map, map-append, same_Some, Ballot, Message, Definition, definition_eq, IsBeginning, DurableState, Record, published, with_record, Action, Input, StepRejection, most_reports, store, World, Event, Turn, deliver, Torn, Before, After, input_of, turn_of, turn, stored_after, kept_part, after_turn, after_torn, with_node, happens, steps, IsGrown, grown_itself, transition_grown, same_grown, EachStandsFor, Node, stored_of, volatile_of, transition_of, step_rejection_at, IsTransition, IsSameNode, bytes_of, NodeFault, IsExtended, IsUnchanged, PumpProgress, Answers, MayBeLost, Takes, is_halt, is_memory, reports_halt, AnyPart, StandFor, IsNodeBy, AreNodes, Refines, StandAmong, StandInTurn, MayLeave, IsDelivery, AreDeliveries, IsReachableByDeliveries, ReachByDeliveries, TakeOne, KeepHalted, IsOne, IsGiven, IsHanded, First, Next, AreHandedOut, HaveCome, IsDelivered, AreCounted, counted, next, still_runs, halted_itself, halted_twice, keeps_turn, keeps_turn_itself, keeps_turn_twice, get_set_same, get_set_other, set_there, AreChanged, Changed, Unchanged}
+use Rattle.wf_delivery.proofs.Common.{both_ways, cases_eq, false≢true, nat_tests, append-nil, length-map, map-append, same_Some, Ballot, Message, Definition, definition_eq, IsBeginning, DurableState, Record, published, with_record, Action, Input, StepRejection, most_reports, store, World, Event, Turn, deliver, Torn, Before, After, input_of, turn_of, turn, stored_after, kept_part, after_turn, after_torn, with_node, happens, steps, IsGrown, grown_itself, transition_grown, same_grown, EachStandsFor, Node, stored_of, volatile_of, transition_of, step_rejection_at, IsTransition, IsSameNode, bytes_of, NodeFault, IsExtended, IsUnchanged, PumpProgress, Answers, MayBeLost, Takes, is_halt, is_memory, reports_halt, AnyPart, StandFor, IsNodeBy, AreNodes, Refines, StandAmong, StandInTurn, MayLeaveOfEach, IsDelivery, AreDeliveries, IsReachableByDeliveries, ReachByDeliveries, TakeOne, KeepHalted, IsOne, IsGiven, IsHanded, First, Next, AreHandedOut, HaveCome, IsDelivered, AreCounted, counted, next, still_runs, halted_itself, halted_twice, keeps_turn, keeps_turn_itself, keeps_turn_twice, get_set_same, get_set_other, set_there, AreChanged, Changed, Unchanged}
 use Rattle.wf_codec.specs.Message as message
 use Rattle.wf_model.specs.Fits.{TransitionsAreShort}
 use Rattle.wf_model.specs.DurableState as part
@@ -10,7 +10,7 @@ use Rattle.wf_model.specs.World.{Kept}
 use Rattle.wf_node.specs.Fault as fault
 use Rattle.wf_node.specs.declared.fault.NodeFault.TheVariants as fault_case
 use Rattle.wf_delivery.specs.NodeInput as giving
-use Rattle.wf_delivery.specs.Delivery.{IsNode, IsEnd}
+use Rattle.wf_delivery.specs.Delivery.{ShowsNode, IsDeliveryEnd}
 use Rattle.wf_delivery.proofs.DeliveryCount.{done_on, none_begun}
 use Rattle.wf_delivery.proofs.Runs.{sent_message, steps_more}
 use Rattle.wf_delivery.proofs.Stored.{node_eq, node_of}
@@ -183,25 +183,25 @@ module _ {T : Type 0} where
   goes_of node input goes = turn_goes definition_eq node.n node.id (stored_of node) (volatile_of node) input goes
 
   module _ (stands : DurableState Definition → Type 0) where
-    pub is_running : (node : Node T) (x : world.Node Definition) → node.halted ≡ false → IsNode stands node x → x ≡ shown_of node
+    pub is_running : (node : Node T) (x : world.Node Definition) → node.halted ≡ false → ShowsNode stands node x → x ≡ shown_of node
     is_running node x runs is = subst (λ b. IsNodeBy b stands node x) runs is
 
-    pub running_is : (node : Node T) (x : world.Node Definition) → node.halted ≡ false → x ≡ shown_of node → IsNode stands node x
+    pub running_is : (node : Node T) (x : world.Node Definition) → node.halted ≡ false → x ≡ shown_of node → ShowsNode stands node x
     running_is node x runs is = subst (λ b. IsNodeBy b stands node x) (sym runs) is
 
     -- A node that is unchanged but for its tape, and runs.
-    spared_is : (node after : Node T) (x : world.Node Definition) → node.halted ≡ false → after.halted ≡ false → IsSameNode node after → IsNode stands node x → IsNode stands after x
+    spared_is : (node after : Node T) (x : world.Node Definition) → node.halted ≡ false → after.halted ≡ false → IsSameNode node after → ShowsNode stands node x → ShowsNode stands after x
     spared_is node after x runs runs_after same is =
         running_is after x runs_after (is_running node x runs is ∙ node_eq _ _ _ _ (sym (ap stored_of same)) (ap Some (sym (ap volatile_of same))))
 
     -- a node after its turn
-    stepped_is : (node after : Node T) (input : Input Definition) (outputs : List Message) → IsTransition node (transition_of node input) outputs after → IsNode stands after (node_of (stored_after (the_turn node input)) (Some (transition_of node input).volatile))
+    stepped_is : (node after : Node T) (input : Input Definition) (outputs : List Message) → IsTransition node (transition_of node input) outputs after → ShowsNode stands after (node_of (stored_after (the_turn node input)) (Some (transition_of node input).volatile))
     unfolding stored_after
     stepped_is node after input outputs is = running_is after _ is.running (node_eq _ _ _ _ (sym is.stored) (ap Some (sym is.volatile)))
 
     -- A node whose tape failed: the list that it reports as published is a prefix of what it stored before, and so of what it may
     -- have stored.
-    failed_is : (node after : Node T) (stored : DurableState Definition) → after.halted ≡ true → IsSameNode node after → IsBeginning (stored_of node).history stored.history → stands stored → IsNode stands after (node_of stored None)
+    failed_is : (node after : Node T) (stored : DurableState Definition) → after.halted ≡ true → IsSameNode node after → IsBeginning (stored_of node).history stored.history → stands stored → ShowsNode stands after (node_of stored None)
     failed_is node after stored halts same begins has =
         subst (λ b. IsNodeBy b stands after (node_of stored None)) (sym halts)
         (refl, subst (λ (ds : List Definition). IsBeginning ds stored.history) (sym (ap (λ (y : Node T). y.parts.history) same)) begins, has)
@@ -216,7 +216,7 @@ pub data IsActed {T : Type 0} (stands : ℕ → DurableState Definition → Type
 
 module _ {T : Type 0} (stands : ℕ → DurableState Definition → Type 0) (nodes : List (Node T)) where
   -- node i is now another node of the model
-  set_nodes : (xs : List (world.Node Definition)) (i : ℕ) (node after : Node T) (x : world.Node Definition) → slice_get nodes i ≡ Some node → AreNodes stands nodes xs → IsNode (stands i) after x →
+  set_nodes : (xs : List (world.Node Definition)) (i : ℕ) (node after : Node T) (x : world.Node Definition) → slice_get nodes i ≡ Some node → AreNodes stands nodes xs → ShowsNode (stands i) after x →
       AreNodes stands (slice_set nodes i after) (slice_set xs i x)
   set_nodes xs i node after x at are is = record {
     as_many = length-set xs i x ∙ are.as_many ∙ sym (length-set nodes i after);
@@ -226,7 +226,7 @@ module _ {T : Type 0} (stands : ℕ → DurableState Definition → Type 0) (nod
           let it : after ≡ n = get_set_same nodes i after node n at (subst (λ k. slice_get (slice_set nodes i after) k ≡ Some n) same e) in (
             x,
             subst (λ k. slice_get (slice_set xs i x) k ≡ Some x) (sym same) (set_there xs i x here.0 here.1),
-            subst (λ k. IsNode (stands k) n x) (sym same) (subst (λ m. IsNode (stands i) m x) it is),
+            subst (λ k. ShowsNode (stands k) n x) (sym same) (subst (λ m. ShowsNode (stands i) m x) it is),
           )
       | inr differs ↦
           let there = are.node_is j n (sym (get_set_other nodes i j after differs) ∙ e) in
@@ -236,7 +236,7 @@ module _ {T : Type 0} (stands : ℕ → DurableState Definition → Type 0) (nod
 
   -- A node is replaced by one that is the same node of the model.
   set_same_nodes : (xs : List (world.Node Definition)) (i : ℕ) (node after : Node T) → slice_get nodes i ≡ Some node → AreNodes stands nodes xs →
-      ((x : world.Node Definition) → IsNode (stands i) node x → IsNode (stands i) after x) → AreNodes stands (slice_set nodes i after) xs
+      ((x : world.Node Definition) → ShowsNode (stands i) node x → ShowsNode (stands i) after x) → AreNodes stands (slice_set nodes i after) xs
   set_same_nodes xs i node after at are keeps = record {
     as_many = are.as_many ∙ sym (length-set nodes i after);
     node_is = λ j n e. elim (cases_eq j i) [
@@ -245,7 +245,7 @@ module _ {T : Type 0} (stands : ℕ → DurableState Definition → Type 0) (nod
           let it : after ≡ n = get_set_same nodes i after node n at (subst (λ k. slice_get (slice_set nodes i after) k ≡ Some n) same e) in (
             here.0,
             subst (λ k. slice_get xs k ≡ Some here.0) (sym same) here.1,
-            subst (λ k. IsNode (stands k) n here.0) (sym same) (subst (λ m. IsNode (stands i) m here.0) it (keeps here.0 here.2)),
+            subst (λ k. ShowsNode (stands k) n here.0) (sym same) (subst (λ m. ShowsNode (stands i) m here.0) it (keeps here.0 here.2)),
           )
       | inr differs ↦ are.node_is j n (sym (get_set_other nodes i j after differs) ∙ e)
     ];
@@ -269,7 +269,7 @@ module _ {T : Type 0} (stands : ℕ → DurableState Definition → Type 0) (nod
         ∙ goes_of node input goes
 
     -- Nothing is sent, and the node is the same node of the model.
-    keeps_shown : (w : World Definition) → ((x : world.Node Definition) → IsNode (stands i) node x → IsNode (stands i) after x) → Refines stands nodes sent w → Refines stands (slice_set nodes i after) sent w
+    keeps_shown : (w : World Definition) → ((x : world.Node Definition) → ShowsNode (stands i) node x → ShowsNode (stands i) after x) → Refines stands nodes sent w → Refines stands (slice_set nodes i after) sent w
     keeps_shown w keeps refines = record { nodes_are = set_same_nodes w.nodes i node after at refines.nodes_are keeps; messages = refines.messages }
 
     pub steps_shown : (w : World Definition) (outputs : List Message) → node.halted ≡ false → step_rejection_at node input ≡ None → IsTransition node (transition_of node input) outputs after → Refines stands nodes sent w →
@@ -297,7 +297,7 @@ module _ {T : Type 0} (stands : ℕ → DurableState Definition → Type 0) (nod
         })
 
     unchanged_shown : (w : World Definition) (outputs : List Message) → after ≡ node → outputs ≡ [] → Refines stands nodes sent w → IsActed stands i action w (slice_set nodes i after) (sent ++ outputs)
-    unchanged_shown w outputs same quiet refines = Stays (nothing_more quiet (keeps_shown w (λ x is. subst (λ n. IsNode (stands i) n x) (sym same) is) refines))
+    unchanged_shown w outputs same quiet refines = Stays (nothing_more quiet (keeps_shown w (λ x is. subst (λ n. ShowsNode (stands i) n x) (sym same) is) refines))
 
     fails_shown : (w : World Definition) (outputs : List Message) → node.halted ≡ false → step_rejection_at node input ≡ None → after.halted ≡ true → IsSameNode node after → outputs ≡ [] →
         stands i (stored_of node) ⊎ stands i (store (stored_of node) (transition_of node input).entry) → Refines stands nodes sent w → IsActed stands i action w (slice_set nodes i after) (sent ++ outputs)
@@ -354,9 +354,9 @@ module _ {T : Type 0} (nodes : List (Node T)) (i : ℕ) (node after : Node T) (a
   ]
 
 -- what may be left of a failed node's tape, at its index
-pub left_here : {T : Type 0} (tapes : Tape T) (nodes : List (Node T)) (left : ℕ → List ℕ) (i : ℕ) (node after : Node T) → slice_get nodes i ≡ Some node → MayLeave tapes (slice_set nodes i after) left →
+pub left_here : {T : Type 0} (tapes : Tape T) (nodes : List (Node T)) (left : ℕ → List ℕ) (i : ℕ) (node after : Node T) → slice_get nodes i ≡ Some node → MayLeaveOfEach tapes (slice_set nodes i after) left →
     after.halted ≡ true → tapes.images after.tape (left i)
-unfolding MayLeave
+unfolding MayLeaveOfEach
 left_here tapes nodes left i node after at may halts = may i after (set_there nodes i after node at) halts
 
 -- ---- one delivery
@@ -434,8 +434,8 @@ module _ {T : Type 0} (stands : ℕ → DurableState Definition → Type 0) (don
       reachable_on stands w done middle after outputs more reachable (takes (steps definition_eq w reachable.events) reachable.refines)
 
 -- Bytes that may be left of the tapes that failed could have been left before a delivery: such a tape is unchanged.
-pub left_before : {T : Type 0} (tapes : Tape T) (nodes after : List (Node T)) (left : ℕ → List ℕ) → KeepHalted nodes after → MayLeave tapes after left → MayLeave tapes nodes left
-unfolding MayLeave KeepHalted
+pub left_before : {T : Type 0} (tapes : Tape T) (nodes after : List (Node T)) (left : ℕ → List ℕ) → KeepHalted nodes after → MayLeaveOfEach tapes after left → MayLeaveOfEach tapes nodes left
+unfolding MayLeaveOfEach KeepHalted
 left_before tapes nodes after left keeps may = λ i node at halted. may i node (keeps i node at halted) halted
 
 -- ---- the rounds
@@ -476,7 +476,7 @@ module _ {T : Type 0} (tapes : Tape T) (nodes : List (Node T)) (messages : List 
       most = counts.most;
     }
 
-    end_by : (left : Bool) → nat_lt p.whole (length more) ≡ left → IsEnd left p more
+    end_by : (left : Bool) → nat_lt p.whole (length more) ≡ left → IsDeliveryEnd left p more
     end_by true is = grind (arith, nat_tests)
     end_by false is =
         let all : length more ≤ p.whole = grind (arith, nat_tests) in
@@ -489,7 +489,7 @@ module _ {T : Type 0} (tapes : Tape T) (nodes : List (Node T)) (messages : List 
       sent = more;
       handed = come.order;
       count = refl;
-      ended = subst (λ b. IsEnd b p more) (sym (is ∙ ap (nat_lt p.whole) all)) (end_by (nat_lt p.whole (length more)) refl);
+      ended = subst (λ b. IsDeliveryEnd b p more) (sym (is ∙ ap (nat_lt p.whole) all)) (end_by (nat_lt p.whole (length more)) refl);
     }
 
 -- ---- entries that were changed one after the other

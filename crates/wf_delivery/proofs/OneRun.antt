@@ -1,6 +1,6 @@
 -- What happens to nodes that a caller holds, step by step, is one run of the model; and nodes that the start leads to agree.
 use Rattle.std.proofs.Common.{◌≡◌, ◌⊎◌, ℕ, zero, suc, Bool, true, false, List, [], ◌∷◌, ◌++◌, map, length, replicate, slice_get, slice_set, Some, Result, Ok, Err, IfOk, IfErr, refl, sym, ap, subst, ◌∙◌, inl, append_assoc, Vec}
-use Rattle.wf_delivery.proofs.Common.{Global, both_ways, append-nil, map-append, none-some, Message, Definition, empty_map, definition_eq, sent_before, raised, IsBeginning, history_of, history, definition, steps_in_turn, DurableState, definition_at, Action, Input, store, World, Event, Act, Torn, input_of, turn, after_turn, happens, steps, start, after, EachStandsFor, Node, stored_of, transition_of, IsStep, NodeFault, AnyPart, StandFor, AreNodes, Refines, StandInTurn, IsReachableByDeliveries, ReachByDeliveries, AreDelivered, Answers, Takes, is_memory, halted_itself, halted_twice, keeps_turn, keeps_turn_itself, keeps_turn_twice, IsReachableWith, IsReachableFrom, ReachSending, Reach, AreReachableSending, AreReachable, AreFresh, HaveOneHistory, IsOwn, outputs_by, StepIsReachable, DeliveriesAreReachable, NothingIsReachable, NothingIsOutput, ReachableIsTransitive, BothAreOutput, UnheardIsReachable, ReachableStaysReachable, ReachableOnTape, FreshAreReachable, FreshOnTape, fresh_node}
+use Rattle.wf_delivery.proofs.Common.{Global, both_ways, append-nil, map-append, none-some, Message, Definition, empty_map, definition_eq, sent_before, raised, IsBeginning, history_of, history, definition, steps_in_turn, DurableState, definition_at, Action, Input, store, World, Event, Act, Torn, input_of, turn, after_turn, happens, steps, start, after, EachStandsFor, Node, stored_of, transition_of, IsStep, NodeFault, AnyPart, StandFor, AreNodes, Refines, StandInTurn, IsReachableByDeliveries, ReachByDeliveries, AreDelivered, Answers, Takes, is_memory, halted_itself, halted_twice, keeps_turn, keeps_turn_itself, keeps_turn_twice, IsReachableWith, IsReachableFrom, ReachSending, Reach, AreReachableSending, AreReachable, AreFresh, HaveOneHistory, IsOwnInput, outputs_by, StepIsReachable, DeliveriesAreReachable, NothingIsReachable, NothingIsOutput, ReachableIsTransitive, BothAreOutput, UnheardIsReachable, ReachableStaysReachable, ReachableOnTape, FreshAreReachable, FreshOnTape, fresh_node}
 use Rattle.std.proofs.Math.ListN.{length-replicate}
 use Rattle.wf_codec.specs.Message as message
 use Rattle.wf_model.specs.Message as model
@@ -23,7 +23,7 @@ record IsAsked (input : Input Definition) : Type 0 where
   action : Action Definition ℕ
   given : (sent : List (model.Message Definition)) → input_of sent action ≡ Some input
 
-asked : (input : Input Definition) → IsOwn input → IsAsked input
+asked : (input : Input Definition) → IsOwnInput input → IsAsked input
 unfolding input_of
 asked (table.Propose d) own = record { action = table.Propose d; given = λ sent. refl }
 asked table.Retry own = record { action = table.Retry; given = λ sent. refl }
@@ -54,7 +54,7 @@ module _ {T : Type 0} (stands : ℕ → DurableState Definition → Type 0) (w :
   asked_once i input is (Tears kept refines) = torn_event i is.action kept refines
 
 module _ {T : Type 0} (tapes : Tape T) (nodes : List (Node T)) (i : ℕ) (node after : Node T) (input : Input Definition) (outputs : List Message)
-    (at : slice_get nodes i ≡ Some node) (turns : StandInTurn nodes) (own : IsOwn input) where
+    (at : slice_get nodes i ≡ Some node) (turns : StandInTurn nodes) (own : IsOwnInput input) where
   takes_reaches : (stands : ℕ → DurableState Definition → Type 0) (lost : Bool) → Takes tapes lost input node after outputs →
       (after.halted ≡ true → (tapes.durable → EachStandsFor (stored_of node) (store (stored_of node) (transition_of node input).entry) (tapes.images after.tape)) → stands i (stored_of node) ⊎ stands i (store (stored_of node) (transition_of node input).entry)) →
       ReachSending stands nodes outputs (slice_set nodes i after)

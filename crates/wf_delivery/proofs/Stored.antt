@@ -1,6 +1,6 @@
 -- What a tape stands for, and a node in memory that is closed, and opened again.
 use Rattle.std.proofs.Common.{◌≡◌, ℕ, Bool, true, false, List, [], take, drop, Option, Some, refl, sym, ap, subst, ◌∙◌}
-use Rattle.wf_delivery.proofs.Common.{append-nil, take-append-drop, same_Some, Definition, DurableState, fold, fold_from, nothing_stored, VolatileState, at_start, AllStandFor, StandsFor, Node, stored_of, volatile_of, IsFoldOf, Follows, ReadsSame, IsImageOf, AreReadOneWay, IsFresh, HasStoredAgain, IsReopened}
+use Rattle.wf_delivery.proofs.Common.{append-nil, take-append-drop, same_Some, Definition, DurableState, fold, fold_from, nothing_stored, VolatileState, at_start, AllStandFor, StandsFor, Node, stored_of, volatile_of, IsFoldOf, Follows, ReadsSame, IsImageNow, AreReadOneWay, IsFresh, HasStoredAgain, IsReopened}
 use Rattle.wf_canon.proofs.MeaningTheorem.{one_definition}
 use Rattle.wf_journal.proofs.Lists.{one_reading, reads_only}
 use Rattle.wf_model.specs.World as world
@@ -31,11 +31,11 @@ pub begins_taken : (n : ℕ) (bytes : List ℕ) → IsBeginning (take n bytes) b
 begins_taken n bytes = (drop n bytes, sym (take-append-drop n bytes))
 
 -- the whole contents of a tape are an image of it
-pub content_is_image : (kept : tape.TapeValue) → IsImageOf kept kept.bytes
+pub content_is_image : (kept : tape.TapeValue) → IsImageNow kept kept.bytes
 content_is_image kept = (begins_itself kept.bytes, begins_taken kept.synced kept.bytes)
 
 -- A tape that is returned stands for what it stood for.
-pub still_stands : (kept left : tape.TapeValue) (stored : DurableState Definition) → Follows ReadsSame (IsImageOf kept) (IsImageOf left) → AllStandFor stored (IsImageOf kept) → AllStandFor stored (IsImageOf left)
+pub still_stands : (kept left : tape.TapeValue) (stored : DurableState Definition) → Follows ReadsSame (IsImageNow kept) (IsImageNow left) → AllStandFor stored (IsImageNow kept) → AllStandFor stored (IsImageNow left)
 still_stands kept left stored follows stands = λ image there.
     let earlier = follows image there in
     let stood = stands earlier.0 earlier.1 in
@@ -47,7 +47,7 @@ still_stands kept left stored follows stands = λ image there.
 found_again : (again : Node tape.TapeValue) (kept : tape.TapeValue) → IsFoldOf (stored_of again) kept.bytes → StandsFor (stored_of again) kept.bytes
 found_again again kept fold_of = record { records = fold_of.records; reads = (fold_of.rest, fold_of.tape.reads); folds = fold_of.folds }
 
-module _ (node again : Node tape.TapeValue) (kept : tape.TapeValue) (same : kept ≡ node.tape) (stands : node.halted ≡ false → AllStandFor (stored_of node) (IsImageOf kept)) where
+module _ (node again : Node tape.TapeValue) (kept : tape.TapeValue) (same : kept ≡ node.tape) (stands : node.halted ≡ false → AllStandFor (stored_of node) (IsImageNow kept)) where
   stored_by : (halted : Bool) → node.halted ≡ halted → StandsFor (stored_of again) kept.bytes → HasStoredAgain halted node.tape.bytes node again
   stored_by false is found = one_stand kept.bytes (stored_of again) (stored_of node) found (stands is kept.bytes (content_is_image kept))
   stored_by true is found = subst (λ (k : tape.TapeValue). StandsFor (stored_of again) k.bytes) same found

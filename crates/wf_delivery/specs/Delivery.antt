@@ -26,13 +26,13 @@ abbrev pub IsNodeBy : {T : Type 0} → Bool → (DurableState Definition → Typ
 IsNodeBy false stands node shown = shown ≡ record { stored = stored_of node; volatile = Some (volatile_of node) }
 IsNodeBy true stands node shown = (shown.volatile ≡ None) × IsBeginning node.parts.history shown.stored.history × stands shown.stored
 
-abbrev pub IsNode : {T : Type 0} → (DurableState Definition → Type 0) → Node T → world.Node Definition → Type 0
-IsNode stands node shown = IsNodeBy node.halted stands node shown
+abbrev pub ShowsNode : {T : Type 0} → (DurableState Definition → Type 0) → Node T → world.Node Definition → Type 0
+ShowsNode stands node shown = IsNodeBy node.halted stands node shown
 
 -- node by node, these nodes of the model
 pub record AreNodes {T : Type 0} (stands : ℕ → DurableState Definition → Type 0) (nodes : List (Node T)) (shown : List (world.Node Definition)) : Type 0 where
   pub as_many : length shown ≡ length nodes
-  pub node_is : (i : ℕ) (node : Node T) → slice_get nodes i ≡ Some node → (x : world.Node Definition) × (slice_get shown i ≡ Some x) × IsNode (stands i) node x
+  pub node_is : (i : ℕ) (node : Node T) → slice_get nodes i ≡ Some node → (x : world.Node Definition) × (slice_get shown i ≡ Some x) × ShowsNode (stands i) node x
 
 -- The nodes and the messages are this world.
 pub record Refines {T : Type 0} (stands : ℕ → DurableState Definition → Type 0) (nodes : List (Node T)) (sent : List Message) (w : World Definition) : Type 0 where
@@ -48,8 +48,8 @@ abbrev pub StandInTurn : {T : Type 0} → List (Node T) → Type 0
 StandInTurn nodes = StandAmong (length nodes) nodes
 
 -- these bytes are what a crash may leave of the tape of each node whose tape failed
-unfoldable pub MayLeave : {T : Type 0} → Tape T → List (Node T) → (ℕ → List ℕ) → Type 0
-MayLeave {T} tapes nodes left = (i : ℕ) (node : Node T) → slice_get nodes i ≡ Some node → node.halted ≡ true → tapes.images node.tape (left i)
+unfoldable pub MayLeaveOfEach : {T : Type 0} → Tape T → List (Node T) → (ℕ → List ℕ) → Type 0
+MayLeaveOfEach {T} tapes nodes left = (i : ℕ) (node : Node T) → slice_get nodes i ≡ Some node → node.halted ≡ true → tapes.images node.tape (left i)
 
 -- ---- the deliveries
 
@@ -89,9 +89,9 @@ pub record AreDelivered {T : Type 0} (stands : ℕ → DurableState Definition �
 -- ---- the progress of the deliveries
 
 -- How the deliveries ended: each message sent by then was delivered to each node; or they stopped, and some were left.
-abbrev pub IsEnd : Bool → PumpProgress → List Message → Type 0
-IsEnd false p sent = (p.some ≡ 0) × (p.whole ≡ length sent)
-IsEnd true p sent = p.whole < length sent
+abbrev pub IsDeliveryEnd : Bool → PumpProgress → List Message → Type 0
+IsDeliveryEnd false p sent = (p.some ≡ 0) × (p.whole ≡ length sent)
+IsDeliveryEnd true p sent = p.whole < length sent
 
 module _ {T : Type 0} (tapes : Tape T) where
   -- Message k was delivered to node i, and the node's messages were sent; or an allocation failed, and the delivery was lost.
@@ -120,7 +120,7 @@ module _ {T : Type 0} (tapes : Tape T) where
     pub sent : List Message
     pub handed : AreHanded nodes messages come lost nodes_after sent
     pub count : come.done ≡ done
-    pub ended : IsEnd stopped come sent
+    pub ended : IsDeliveryEnd stopped come sent
 
 -- ---- one delivery, and what it leaves unchanged
 
@@ -152,14 +152,14 @@ module _ {T : Type 0} (tapes : Tape T) where
   -- for the crate's own contracts: one delivery to one of the nodes, or none
   pub record IsOne (nodes : List (Node T)) (sent : List Message) (nodes_after : List (Node T)) (sent_after : List Message) : Type 0 where
     pub any : TakeOne AnyPart nodes sent nodes_after sent_after
-    pub on_tape : tapes.durable → (left : ℕ → List ℕ) → MayLeave tapes nodes_after left → TakeOne (StandFor left) nodes sent nodes_after sent_after
+    pub on_tape : tapes.durable → (left : ℕ → List ℕ) → MayLeaveOfEach tapes nodes_after left → TakeOne (StandFor left) nodes sent nodes_after sent_after
     pub halted : KeepHalted nodes nodes_after
     pub turn : KeepTurn nodes nodes_after
 
   -- the result of the deliveries: `done` were made
   pub record IsDelivered (nodes : List (Node T)) (messages : List Message) (done : ℕ) (nodes_after : List (Node T)) : Type 0 where
     pub any : AreDelivered AnyPart done nodes messages nodes_after
-    pub on_tape : tapes.durable → (left : ℕ → List ℕ) → MayLeave tapes nodes_after left → AreDelivered (StandFor left) done nodes messages nodes_after
+    pub on_tape : tapes.durable → (left : ℕ → List ℕ) → MayLeaveOfEach tapes nodes_after left → AreDelivered (StandFor left) done nodes messages nodes_after
     pub halted : KeepHalted nodes nodes_after
     pub turn : KeepTurn nodes nodes_after
     pub most : done ≤ most_deliveries
@@ -172,7 +172,7 @@ module _ {T : Type 0} (tapes : Tape T) where
   -- for the crate's own contracts: the deliveries have come this far
   pub record HaveCome (nodes : List (Node T)) (messages : List Message) (p : PumpProgress) (lost : ℕ) (nodes_after : List (Node T)) (sent : List Message) : Type 0 where
     pub any : ReachByDeliveries AnyPart p.done nodes messages nodes_after sent
-    pub on_tape : tapes.durable → (left : ℕ → List ℕ) → MayLeave tapes nodes_after left → ReachByDeliveries (StandFor left) p.done nodes messages nodes_after sent
+    pub on_tape : tapes.durable → (left : ℕ → List ℕ) → MayLeaveOfEach tapes nodes_after left → ReachByDeliveries (StandFor left) p.done nodes messages nodes_after sent
     pub halted : KeepHalted nodes nodes_after
     pub turn : KeepTurn nodes nodes_after
     pub order : AreHanded tapes nodes messages p lost nodes_after sent

@@ -4,7 +4,7 @@ use Rattle.std.specs.Prelude.{◌≡◌, ℕ, true, false, ⊤, List, [], ◌++�
 use Rattle.wf_delivery.specs.Common.{Global, Message, Definition, definition_eq, DurableState, nothing_stored, definition_at, Input, at_start, World, Event, steps, after, Node, stored_of, volatile_of, IsStep, NodeFault, Halted, AnswerValue, AsksForMap, IsAnswerOf}
 use Rattle.wf_model.specs.Table as table
 use Rattle.wf_model.specs.World as world
-use Rattle.wf_delivery.specs.Delivery.{AnyPart, StandFor, Refines, StandInTurn, MayLeave, KeepHalted, KeepTurn, IsDelivered}
+use Rattle.wf_delivery.specs.Delivery.{AnyPart, StandFor, Refines, StandInTurn, MayLeaveOfEach, KeepHalted, KeepTurn, IsDelivered}
 use Rattle.wf_tape.specs.declared.tape.Tape.{Ghosts as Tape}
 
 -- ---- what leads from a world
@@ -36,14 +36,14 @@ module _ {T : Type 0} (tapes : Tape T) where
   -- each keeps its index and what it published.
   pub record AreReachableSending (nodes : List (Node T)) (outputs : List Message) (nodes_after : List (Node T)) : Type 0 where
     pub any : ReachSending AnyPart nodes outputs nodes_after
-    pub on_tape : tapes.durable → (left : ℕ → List ℕ) → MayLeave tapes nodes_after left → ReachSending (StandFor left) nodes outputs nodes_after
+    pub on_tape : tapes.durable → (left : ℕ → List ℕ) → MayLeaveOfEach tapes nodes_after left → ReachSending (StandFor left) nodes outputs nodes_after
     pub halted : KeepHalted nodes nodes_after
     pub turn : KeepTurn nodes nodes_after
 
   -- Some events lead to what the nodes are afterwards, whatever messages they send.
   pub record AreReachableFrom (nodes nodes_after : List (Node T)) : Type 0 where
     pub any : Reach AnyPart nodes nodes_after
-    pub on_tape : tapes.durable → (left : ℕ → List ℕ) → MayLeave tapes nodes_after left → Reach (StandFor left) nodes nodes_after
+    pub on_tape : tapes.durable → (left : ℕ → List ℕ) → MayLeaveOfEach tapes nodes_after left → Reach (StandFor left) nodes nodes_after
     pub halted : KeepHalted nodes nodes_after
     pub turn : KeepTurn nodes nodes_after
 
@@ -88,11 +88,11 @@ HaveOneMapAnswer {T} nodes = (i j s t m : ℕ) (node other : Node T) (query : Li
 -- ---- the theorems
 
 -- an input that the holder gives a node: any but a delivery
-abbrev pub IsOwn : Input Definition → Type 0
-IsOwn (table.Propose d) = ⊤
-IsOwn table.Retry = ⊤
-IsOwn table.CatchUp = ⊤
-IsOwn (table.Deliver m) = ⊥
+abbrev pub IsOwnInput : Input Definition → Type 0
+IsOwnInput (table.Propose d) = ⊤
+IsOwnInput table.Retry = ⊤
+IsOwnInput table.CatchUp = ⊤
+IsOwnInput (table.Deliver m) = ⊥
 
 -- the messages of a node that returns this: none if it rejects, or an allocation or its tape fails
 abbrev pub outputs_by : Result (Vec Message Global) NodeFault → List Message
@@ -103,7 +103,7 @@ outputs_by (Err why) = []
 -- rejects, and is unchanged.
 abbrev pub StepIsReachable : {T : Type 0} → Tape T → Type 0
 StepIsReachable {T} tapes = (nodes : List (Node T)) (i : ℕ) (before after : Node T) (input : Input Definition) (answer : Result (Vec Message Global) NodeFault) →
-    slice_get nodes i ≡ Some before → StandInTurn nodes → IsOwn input → (before.halted ≡ true → (answer ≡ Err Halted) × (after ≡ before)) →
+    slice_get nodes i ≡ Some before → StandInTurn nodes → IsOwnInput input → (before.halted ≡ true → (answer ≡ Err Halted) × (after ≡ before)) →
     (before.halted ≡ false → IsStep tapes before input answer after) → AreReachableSending tapes nodes (outputs_by answer) (slice_set nodes i after)
 
 -- Nodes to which sent messages are delivered are led on, however many were sent before.
@@ -136,7 +136,7 @@ abbrev pub ReachableStaysReachable : {T : Type 0} → Tape T → Type 0
 ReachableStaysReachable {T} tapes = (nodes after : List (Node T)) → AreReachable AnyPart nodes → AreReachableFrom tapes nodes after → AreReachable AnyPart after
 
 abbrev pub ReachableOnTape : {T : Type 0} → Tape T → Type 0
-ReachableOnTape {T} tapes = tapes.durable → (left : ℕ → List ℕ) (nodes after : List (Node T)) → MayLeave tapes after left →
+ReachableOnTape {T} tapes = tapes.durable → (left : ℕ → List ℕ) (nodes after : List (Node T)) → MayLeaveOfEach tapes after left →
     AreReachable (StandFor left) nodes → AreReachableFrom tapes nodes after → AreReachable (StandFor left) after
 
 -- Fresh nodes are the start, whatever bytes a crash leaves of the tapes that failed: none failed.

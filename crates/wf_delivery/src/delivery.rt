@@ -5,7 +5,7 @@ ghost use Rattle.wf_codec.specs.Message.{view as view_message};
 ghost use Rattle.wf_model.specs.Table.{most_reports, Deliver};
 ghost use Rattle.wf_node.specs.Input.{view};
 ghost use Rattle.wf_node.specs.Step.{TakesMemory};
-ghost use Rattle.wf_delivery.specs.Delivery.{AnyPart, AreChanged, AreDelivered, AreHandedOut, EachGrows, HaveCome, IsDelivered, IsGiven, KeepHalted, MayLeave, StandFor, StandInTurn};
+ghost use Rattle.wf_delivery.specs.Delivery.{AnyPart, AreChanged, AreDelivered, AreHandedOut, EachGrows, HaveCome, IsDelivered, IsGiven, KeepHalted, MayLeaveOfEach, StandFor, StandInTurn};
 ghost use Rattle.wf_delivery.specs.NodeInput.{Answers, IsCutWithin, IsSturdy, MayBeLost, Takes, is_halt, is_memory, reports_halt};
 ghost use Rattle.wf_delivery.specs.Progress.{AreCounted, most_deliveries};
 
@@ -44,7 +44,7 @@ pub struct Pumped {
 pub fn deliver_all<T: Tape>(alloc: Global, nodes: &mut [Node<T>], messages: Vec<Message>) -> Pumped
     requires in_turn { StandInTurn nodes.old }
     ensures delivered { AreDelivered AnyPart result.deliveries nodes.old messages.items nodes.new }
-    ensures on_tape { T.durable → (left : ℕ → List ℕ) → MayLeave T.Tape nodes.new left →
+    ensures on_tape { T.durable → (left : ℕ → List ℕ) → MayLeaveOfEach T.Tape nodes.new left →
         AreDelivered (StandFor left) result.deliveries nodes.old messages.items nodes.new }
     ensures handed { 0 < length nodes.old →
         AreHandedOut T.Tape nodes.old messages.items result.deliveries result.lost result.stopped

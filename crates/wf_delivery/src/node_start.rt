@@ -5,7 +5,7 @@ ghost use Rattle.wf_delivery.specs.Reachability.{IsFresh};
 ghost use Rattle.wf_delivery.specs.ReopenedNodes.{IsReopened};
 ghost use Rattle.wf_node.specs.Images.{AllStandFor};
 ghost use Rattle.wf_node.specs.Node.{stored_of};
-ghost use Rattle.wf_tape.specs.MemoryTape.{IsImageOf, NeverFails};
+ghost use Rattle.wf_tape.specs.MemoryTape.{IsImageNow, NeverFails};
 
 use std::alloc::{AllocError, Global};
 use wf_ballot::NodeId;
@@ -41,7 +41,7 @@ pub fn reopen(alloc: Global, node: Node<MemoryTape>, n: u8) -> Result<Node<Memor
     ensures id { IfOk result (λ again. again.id ≡ node.id) }
     ensures n { IfOk result (λ again. again.n ≡ n) }
     ensures kept { IfErr result (λ tape.
-        node.halted ≡ false → AllStandFor (stored_of node) (IsImageOf tape)) }
+        node.halted ≡ false → AllStandFor (stored_of node) (IsImageNow tape)) }
 {
     let id = node.id();
     match Node::open(alloc, node.close(), id, n) {

@@ -68,12 +68,12 @@ abbrev pub IsThere : Name → Folder → Type 0
 IsThere name folder = (file : File) × (file_at name folder ≡ Some file)
 
 -- the file that the call is about is there
-abbrev pub IsReady : Call → Folder → Type 0
-IsReady (Append name bytes) folder = IsThere name folder
-IsReady (Sync name) folder = IsThere name folder
-IsReady Rename folder = IsThere Second folder
-IsReady Read folder = IsThere Own folder
-IsReady call folder = Unit {0}
+abbrev pub HasItsFile : Call → Folder → Type 0
+HasItsFile (Append name bytes) folder = IsThere name folder
+HasItsFile (Sync name) folder = IsThere name folder
+HasItsFile Rename folder = IsThere Second folder
+HasItsFile Read folder = IsThere Own folder
+HasItsFile call folder = Unit {0}
 
 -- ---- calls that fail
 
@@ -89,7 +89,7 @@ IsCut call old new = new ≡ old
 
 -- What a call leaves: the folder before it, the error that was returned, if one was, and the folder after it.
 abbrev pub IsLeft : Call → Folder → Option DiskFault → Folder → Type 0
-IsLeft call old None new = IsReady call old × (new ≡ done call old)
+IsLeft call old None new = HasItsFile call old × (new ≡ done call old)
 IsLeft call old (Some Device) new = IsCut call old new
 IsLeft call old (Some Memory) new = new ≡ old
 

@@ -1,7 +1,7 @@
 -- Theorems about the moments of a disk in memory.
 use Rattle.std.specs.Prelude.{ℕ, ◌≤◌, List, [], ◌∷◌, length}
 use Rattle.std.proofs.Common.{inl, inr, le_refl, le_trans, le_of_lt, lt_irrefl, lt_of_lt_of_le}
-use Rattle.wf_disk.specs.Moments.{IsNow, AreNested}
+use Rattle.wf_disk.specs.Moments.{LeavesNow, AreNested}
 use Rattle.wf_disk.specs.Folder.{Folder, MayLeave}
 use Rattle.wf_disk.specs.MemoryDisk.{DiskValue, WasLeft, IsLeftSince, moment_of}
 
@@ -14,7 +14,7 @@ none_later (folder ∷ older) moment image late left = elim left [
   | inr before ↦ none_later older moment image (le_of_lt late) before
 ]
 
-pub memory_now : (disk : DiskValue) → IsNow (MayLeave disk.folder) (IsLeftSince disk (moment_of disk))
+pub memory_now : (disk : DiskValue) → LeavesNow (MayLeave disk.folder) (IsLeftSince disk (moment_of disk))
 unfolding WasLeft
 memory_now disk = record {
   counts = λ image is. inl (le_refl (length disk.past), is);

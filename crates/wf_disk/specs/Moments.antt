@@ -25,7 +25,7 @@ pub record Elapses (before now : ℕ) (past since : ℕ → List ℕ → Type 0)
   pub nothing_else : (moment : ℕ) (image : List ℕ) → moment ≤ before → since moment image → past moment image ⊎ since before image
 
 -- what a crash since this moment could have left is what one may leave now
-pub record IsNow (images since : List ℕ → Type 0) : Type 0 where
+pub record LeavesNow (images since : List ℕ → Type 0) : Type 0 where
   pub counts : (image : List ℕ) → images image → since image
   pub nothing_else : (image : List ℕ) → since image → images image
 

@@ -1,6 +1,6 @@
 ghost use Rattle.std.specs.Prelude.{◌≡◌, ℕ, List, Option, None, IfOk};
 ghost use Rattle.std.specs.declared.io.ErrorKind.{ErrorKind as ErrorKindValue};
-ghost use Rattle.wf_disk.specs.Moments.{Elapses, IsNow, AreNested, LeavesOldOrNew};
+ghost use Rattle.wf_disk.specs.Moments.{Elapses, LeavesNow, AreNested, LeavesOldOrNew};
 ghost use Rattle.wf_disk.specs.Folder.{Folder, MayLeave, bytes_in};
 ghost use Rattle.wf_disk.specs.Call.{Open, Make, Append, Sync, Rename, SyncNames, Read, IsLeft, IsCounted, IsNotMemory, error_of};
 
@@ -118,7 +118,7 @@ pub trait Disk {
 
     /// Since this moment there was no other.
     ghost is_now: { durable → (disk : Self) →
-        IsNow (MayLeave (folder disk)) (left_since disk (moment disk)) };
+        LeavesNow (MayLeave (folder disk)) (left_since disk (moment disk)) };
 
     /// What could have been left since a moment, could since an earlier one.
     ghost nested: { durable → (disk : Self) → AreNested (left_since disk) };

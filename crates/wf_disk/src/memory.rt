@@ -1,6 +1,6 @@
 //! A disk in memory.
 
-ghost use Rattle.std.specs.Prelude.{◌≡◌, ◌∷◌, ◌-◌, ◌≤◌, [], None, IfOk, OnOk, IsErrOf};
+ghost use Rattle.std.specs.Prelude.{◌≡◌, ◌∷◌, ◌-◌, ◌≤◌, [], None};
 ghost use Rattle.wf_disk.specs.Moments.{HasRisen};
 ghost use Rattle.wf_disk.specs.Folder.{IsCrashed};
 ghost use Rattle.wf_disk.specs.MemoryDisk.{cut_to, burn};
@@ -138,7 +138,6 @@ fn burn(call: usize, kept: usize) -> Option<usize>
 }
 
 impl Disk for MemoryDisk {
-    ghost use Rattle.wf_disk.specs.Folder.{MayLeave};
     ghost use Rattle.wf_disk.specs.MemoryDisk.{moment_of, IsLeftSince};
     ghost use Rattle.wf_disk.specs.MemoryMoments.{memory_now, memory_nested};
 

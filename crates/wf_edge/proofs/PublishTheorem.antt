@@ -18,7 +18,7 @@ use Rattle.wf_node.specs.Node.{Node}
 use Rattle.wf_node.specs.declared.fault.NodeFault.{NodeFault}
 use Rattle.wf_http.specs.Response.{Response}
 use Rattle.wf_edge.specs.Page.{accepted_page}
-use Rattle.wf_edge.specs.Publish.{IsMapOf, IsText, IsWhyNoMap, IsProposed, IsPublished, unwritten}
+use Rattle.wf_edge.specs.Publish.{IsMapOf, IsMapfileText, IsWhyNoMap, IsProposed, IsPublished, unwritten}
 use Rattle.wf_edge.specs.declared.publish_fault.PublishFault.{PublishFault}
 use Rattle.wf_edge.specs.declared.publish_fault.PublishFault.TheVariants as fault
 use Rattle.wf_tape.specs.declared.tape.Tape.{Ghosts as Tape}
@@ -47,13 +47,13 @@ same_fault why other is = cc
 
 -- a body whose error is allocation failure is a text
 is_text : (body : List ℕ) (utf8 : Bool) → is_utf8 body ≡ utf8 → (longest_mapfile < length body → map.Memory ≡ map.TooLong)
-    → (length body ≤ longest_mapfile → utf8 ≡ false → ⊥) → IsText body
+    → (length body ≤ longest_mapfile → utf8 ≡ false → ⊥) → IsMapfileText body
 is_text body utf8 is too_long not_utf8 = elim (cases_lt longest_mapfile (length body)) [
   | inl over ↦ let clash = too_long over in cc
   | inr within ↦ text utf8 is within (not_utf8 within)
 ]
   where
-    text : (utf8 : Bool) → is_utf8 body ≡ utf8 → length body ≤ longest_mapfile → (utf8 ≡ false → ⊥) → IsText body
+    text : (utf8 : Bool) → is_utf8 body ≡ utf8 → length body ≤ longest_mapfile → (utf8 ≡ false → ⊥) → IsMapfileText body
     text true is within not = record { within = within; utf8 = is }
     text false is within not = absurd (not refl)
 
@@ -74,12 +74,12 @@ why_unread body why reported is has too_long not_utf8 =
 
 -- a body that is a map is a text
 text_step : (body : List ℕ) (d : Definition) (meant : Option Definition) (within utf8 : Bool) → nat_le (length body) longest_mapfile ≡ within → is_utf8 body ≡ utf8
-    → cond (within && utf8) meant None ≡ Some d → IsText body
+    → cond (within && utf8) meant None ≡ Some d → IsMapfileText body
 text_step body d meant true true within utf8 means = record { within = leb-true (length body) longest_mapfile within; utf8 = utf8 }
 text_step body d meant true false within utf8 means = absurd (none-some d means)
 text_step body d meant false utf8 within is means = absurd (none-some d means)
 
-pub meant_text : (body : List ℕ) (d : Definition) → Means body d → IsText body
+pub meant_text : (body : List ℕ) (d : Definition) → Means body d → IsMapfileText body
 unfolding meaning
 meant_text body d means = text_step body d _ (nat_le (length body) longest_mapfile) (is_utf8 body) refl refl means
 

@@ -9,7 +9,7 @@ use Rattle.wf_http.specs.Head.{Head, Begins}
 use Rattle.wf_edge.specs.Route.{resolved}
 use Rattle.wf_stream.specs.KnownTheorems.{consumes_more}
 use Rattle.wf_stream.specs.Effects.{TakesUpTo}
-use Rattle.wf_http.specs.Body.{IsBody, IsBodyFault}
+use Rattle.wf_http.specs.Body.{IsRequestBody, IsBodyFault}
 use Rattle.wf_http.specs.Front.{Front, TakesFront, TakesHead, IsHeadFault}
 use Rattle.wf_edge.specs.Request.{TakesRequest, IsRequestFault, by_head, by_check, by_body, BeginsWith, body_bytes}
 use Rattle.wf_http.specs.declared.http_error.HttpError.{HttpError}
@@ -69,16 +69,16 @@ body_failed start old front asked bytes behind why taken asks count same failed 
     (subst (λ n. IsBodyFault (front.behind ++ left) n why) count (subst (λ b. IsBodyFault (b ++ left) bytes why) same held)))
 
 pub request_read : (start old : Option (List ℕ)) (front : Front) (asked : RequestedResource) (bytes : ℕ) (body : List ℕ) → TakesFront start old front
-    → Ok asked ≡ resolved front.head → bytes ≡ body_bytes asked → IfSome old (λ left. IsBody (front.behind ++ left) bytes body)
+    → Ok asked ≡ resolved front.head → bytes ≡ body_bytes asked → IfSome old (λ left. IsRequestBody (front.behind ++ left) bytes body)
     → IfSome start (λ input. BeginsWith input (record { head = front.head; asked = asked; body = body }))
 request_read start old front asked bytes body taken asks count held =
     input_begins start old front (λ input. BeginsWith input (record { head = front.head; asked = asked; body = body }))
-    (λ left. IsBody (front.behind ++ left) bytes body) taken held
+    (λ left. IsRequestBody (front.behind ++ left) bytes body) taken held
     (λ input left begins here. record {
       rest = front.behind ++ left;
       head = begins;
       asks = sym asks;
-      body = subst (λ n. IsBody (front.behind ++ left) n body) count here;
+      body = subst (λ n. IsRequestBody (front.behind ++ left) n body) count here;
     })
 
 -- ---- how much is taken

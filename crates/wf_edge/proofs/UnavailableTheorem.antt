@@ -17,8 +17,8 @@ use Rattle.wf_node.specs.declared.fault.NodeFault.TheVariants as node
 use Rattle.wf_edge.specs.ErrorResponse.{error_of_result, http_error_status, response_of, status_of}
 use Rattle.wf_edge.specs.Page.{accepted_page, bad_map_page, status_at, status_page}
 use Rattle.wf_edge.specs.Publish.{IsPublished}
-use Rattle.wf_edge.specs.RequestEffect.{Asks, Gives, GivesTo, ReportsPublish}
-use Rattle.wf_edge.specs.Unavailable.{MayBeUnavailable, OnlyTheseAreUnavailable, Publishes, by_body, by_map, by_service, by_step}
+use Rattle.wf_edge.specs.RequestEffect.{HasRequest, Gives, GivesTo, ReportsPublish}
+use Rattle.wf_edge.specs.Unavailable.{MayBeUnavailable, OnlyTheseAreUnavailable, BeginsWithPublish, by_body, by_map, by_service, by_step}
 use Rattle.wf_edge.specs.declared.error_response.ErrorResponse.{ErrorResponse}
 use Rattle.wf_edge.specs.declared.error_response.ErrorResponse.TheVariants as error_response
 use Rattle.wf_edge.specs.declared.publish_fault.PublishFault.{PublishFault}
@@ -59,7 +59,7 @@ module _ {T : Type 0} (A : Type 0) (tapes : Tape T) (input : List ℕ) (before a
 
   -- a publish
   of_publish : (request : Request) (bytes : ℕ) (done : Result (Response × Vec Message A) PublishFault) (answer : Result Response ErrorResponse) (sent : Vec Message A)
-      → Publishes input request.body → IsPublished tapes request.body before done after → ReportsPublish done answer sent
+      → BeginsWithPublish input request.body → IsPublished tapes request.body before done after → ReportsPublish done answer sent
       → (response_of answer).status ≡ 503 → Allowed
   of_publish request bytes (Ok done) answer sent asks becomes reports unavailable =
       accepted_page_is done.0 _ becomes.3 (status_is answer (Ok done.0) reports.0 unavailable)
@@ -89,7 +89,7 @@ module _ {T : Type 0} (A : Type 0) (tapes : Tape T) (input : List ℕ) (before a
       given.published given.reports unavailable
 
   -- a request, or that there is none
-  of_arrived : (arrived : Result Request RequestFault) (answer : Result Response ErrorResponse) (sent : Vec Message A) → Asks input arrived
+  of_arrived : (arrived : Result Request RequestFault) (answer : Result Response ErrorResponse) (sent : Vec Message A) → HasRequest input arrived
       → Gives tapes arrived before answer sent after → (response_of answer).status ≡ 503 → Allowed
   of_arrived (Ok request) answer sent asks given unavailable = of_request request.asked request answer sent refl asks given unavailable
   of_arrived (Err (fault.Rejected r)) answer sent asks given unavailable = no_rejection r (status_is answer (Err (error_response.Rejected r)) given.0 unavailable)

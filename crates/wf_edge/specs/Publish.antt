@@ -14,7 +14,7 @@ use Rattle.wf_model.specs.Table.{Propose}
 use Rattle.wf_node.specs.Node.{Node}
 use Rattle.wf_node.specs.declared.fault.NodeFault.{NodeFault}
 use Rattle.wf_http.specs.Response.{Response}
-use Rattle.wf_edge.specs.StepResult.{IsAnswer}
+use Rattle.wf_edge.specs.StepResult.{IsStepResult}
 use Rattle.wf_edge.specs.ErrorResponse.{error_of_result}
 use Rattle.wf_edge.specs.Page.{accepted_page, bad_map_page}
 use Rattle.wf_edge.specs.declared.error_response.ErrorResponse.{ErrorResponse}
@@ -29,20 +29,20 @@ pub record IsMapOf (body : List ℕ) (d : Definition) : Type 0 where
   pub short : length (canon d) ≤ most_canon_bytes
 
 -- The body has that error, allocation failure aside: all that the mapfile reader promises of it comes out here.
-pub record HasFault (body : List ℕ) (why : MapFault) : Type 0 where
+pub record HasPublishFault (body : List ℕ) (why : MapFault) : Type 0 where
   pub own : is_memory why ≡ false
   pub is : HasError body why
 
 -- the body is within the limit of a mapfile, and UTF-8; otherwise its error is found without allocating
-pub record IsText (body : List ℕ) : Type 0 where
+pub record IsMapfileText (body : List ℕ) : Type 0 where
   pub within : length body ≤ longest_mapfile
   pub utf8 : is_utf8 body ≡ true
 
 -- why a body has no map to propose: it has an error, or its canonical text is over the limit; or an allocation failed
 abbrev pub IsWhyNoMap : List ℕ → PublishFault → Type 0
-IsWhyNoMap body (fault.Map why) = HasFault body why
+IsWhyNoMap body (fault.Map why) = HasPublishFault body why
 IsWhyNoMap body fault.TooBig = (d : Definition) × Means body d × (most_canon_bytes < length (canon d))
-IsWhyNoMap body fault.Memory = IsText body
+IsWhyNoMap body fault.Memory = IsMapfileText body
 IsWhyNoMap body (fault.Node why) = ⊥
 
 -- the error reported if writing the canonical text of a definition fails
@@ -55,7 +55,7 @@ module _ {T A : Type 0} (tapes : Tape T) where
   -- The step Propose of the definition: where the node's leadership covers the next sequence, it stores nothing and asks for votes;
   -- otherwise it stores a new round and asks for promises.
   abbrev pub IsProposed : Node T → Definition → Result (Vec Message A) NodeFault → Node T → Type 0
-  IsProposed before d result after = IsAnswer tapes (Propose d) before result after
+  IsProposed before d result after = IsStepResult tapes (Propose d) before result after
 
   -- The result for the body. Accepted: the node made the step Propose, and these are its messages. A node's error is that step's.
   -- With any other error no step was made.

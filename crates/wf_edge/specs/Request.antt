@@ -1,7 +1,7 @@
 -- A request to a node: what is read of it, and why there is none.
 use Rattle.std.specs.Prelude.{◌≡◌, ◌≢◌, ◌≤◌, ◌<◌, ◌⊎◌, ℕ, List, [], length, Option, Ok, Err}
 use Rattle.std.specs.Io.KnownBytes.{Consumes}
-use Rattle.wf_http.specs.Body.{IsBody}
+use Rattle.wf_http.specs.Body.{IsRequestBody}
 use Rattle.wf_http.specs.Front.{IsHeadError, TakesHead}
 use Rattle.wf_http.specs.Head.{Head, Begins}
 use Rattle.wf_http.specs.declared.http_error.HttpError.{HttpError}
@@ -29,7 +29,7 @@ pub record BeginsWith (input : List ℕ) (request : Request) : Type 0 where
   pub rest : List ℕ
   pub head : Begins input request.head rest
   pub asks : resolved request.head ≡ Ok request.asked
-  pub body : IsBody rest (body_bytes request.asked) request.body
+  pub body : IsRequestBody rest (body_bytes request.asked) request.body
 
 -- a check on the head of the input fails
 pub record FailsCheck (input : List ℕ) (r : HttpError) : Type 0 where
@@ -49,7 +49,7 @@ pub record EndsInBody (input : List ℕ) (r : HttpError) : Type 0 where
   pub is : r ≡ http_error.BadRequest
 
 -- the head of the input asks for a body of at least one byte
-pub record HasBody (input : List ℕ) : Type 0 where
+pub record AsksForBody (input : List ℕ) : Type 0 where
   pub head : Head
   pub rest : List ℕ
   pub begins : Begins input head rest
@@ -68,7 +68,7 @@ abbrev pub IsRequestFault : List ℕ → RequestFault → Type 0
 IsRequestFault input fault.NoRequest = input ≡ []
 IsRequestFault input (fault.Rejected r) = IsRejected input r
 IsRequestFault input fault.ReadFailed = Unit {0}
-IsRequestFault input fault.Memory = HasBody input
+IsRequestFault input fault.Memory = AsksForBody input
 
 -- ---- how much of the input is taken
 

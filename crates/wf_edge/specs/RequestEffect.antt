@@ -32,9 +32,9 @@ use Rattle.wf_tape.specs.declared.tape.Tape.{Ghosts as Tape}
 -- ---- what the input asks for
 
 -- the input begins with that request, or there is none for that reason
-abbrev pub Asks : List ℕ → Result Request RequestFault → Type 0
-Asks input (Ok request) = BeginsWith input request
-Asks input (Err why) = IsRequestFault input why
+abbrev pub HasRequest : List ℕ → Result Request RequestFault → Type 0
+HasRequest input (Ok request) = BeginsWith input request
+HasRequest input (Err why) = IsRequestFault input why
 
 -- the request only reads: it isn't a publish
 abbrev pub IsReading : RequestedResource → Type 0
@@ -72,7 +72,7 @@ HandsOut (Ok messages) sent = sent ≡ messages
 HandsOut (Err why) sent = sent.items ≡ []
 
 -- A request that only reads was answered from a list of published maps and a status, and its response written.
-pub record IsRead {K : Type 0} (sinks : Sink K) (request : Request) (history : List Definition) (status : Status) (old new : K) (completion : Outcome) : Type 0 where
+pub record IsReadAnswered {K : Type 0} (sinks : Sink K) (request : Request) (history : List Definition) (status : Status) (old new : K) (completion : Outcome) : Type 0 where
   pub answer : Result Response ErrorResponse
   pub answers : Answers request.asked (query_of request.head.target) history status answer
   pub completes : Completes sinks (response_of answer) old new completion
@@ -102,7 +102,7 @@ module _ {T A : Type 0} (tapes : Tape T) where
   -- A response to the input, with its effect on the node and the messages that the node sends.
   pub record Responds (input : Option (List ℕ)) (before : Node T) (response : Response) (sent : Vec Message A) (after : Node T) : Type 0 where
     pub arrived : Result Request RequestFault
-    pub asks : IfSome input (λ bytes. Asks bytes arrived)
+    pub asks : IfSome input (λ bytes. HasRequest bytes arrived)
     pub answer : Result Response ErrorResponse
     pub gives : Gives arrived before answer sent after
     pub is : response ≡ response_of answer

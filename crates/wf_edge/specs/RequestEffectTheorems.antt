@@ -13,7 +13,7 @@ use Rattle.wf_edge.specs.Page.{status_at}
 use Rattle.wf_edge.specs.Publish.{IsPublished}
 use Rattle.wf_edge.specs.Completion.{IsCompleted, IsErrorCompleted, CountsCompleting}
 use Rattle.wf_edge.specs.Receipt.{CountsReceiving}
-use Rattle.wf_edge.specs.RequestEffect.{Answers, Asks, IsPublish, IsRead, ReportsPublish, GivesPublish, GivesTo, Gives, IsServed, MovesOnce, Stays, Proposes, IsOutcome}
+use Rattle.wf_edge.specs.RequestEffect.{Answers, HasRequest, IsPublish, IsReadAnswered, ReportsPublish, GivesPublish, GivesTo, Gives, IsServed, MovesOnce, Stays, Proposes, IsOutcome}
 use Rattle.wf_http.specs.declared.fault.RequestFault.{RequestFault}
 use Rattle.wf_http.specs.declared.fault.RequestFault.TheVariants as fault
 use Rattle.wf_edge.specs.declared.error_response.ErrorResponse.{ErrorResponse}
@@ -59,7 +59,7 @@ module _ {T A : Type 0} (tapes : Tape T) where
 
   -- a response that is written is the outcome
   completion_outcome : (input old new : Option (List ℕ)) (arrived : Result Request RequestFault) (before after : Node T) (answer : Result Response ErrorResponse)
-      (sent : Vec Message A) (completion : Outcome) → IfSome input (λ bytes. Asks bytes arrived) → Gives tapes arrived before answer sent after
+      (sent : Vec Message A) (completion : Outcome) → IfSome input (λ bytes. HasRequest bytes arrived) → Gives tapes arrived before answer sent after
       → IsCompleted (response_of answer) old new completion → IsOutcome tapes input old new before sent after completion
   completion_outcome input old new arrived before after answer sent (outcome.Sent status count) asks given written = record {
     response = response_of answer;
@@ -114,7 +114,7 @@ module _ {T A : Type 0} (tapes : Tape T) where
 
     -- what was answered from a node's list of published maps and its status was answered by the node, which sends nothing
     pub read_served : (request : Request) (old new : K) (node : Node T) (history : List Definition) (status : Status) (completion : Outcome)
-        → history ≡ node.parts.history → status ≡ status_at node → IsRead sinks request history status old new completion
+        → history ≡ node.parts.history → status ≡ status_at node → IsReadAnswered sinks request history status old new completion
         → (sent : Vec Message A) → sent.items ≡ [] → IsServed tapes sinks request old new node sent node completion
     read_served request old new node history status completion same is read =
         answer_given request.asked request old new node read.answer completion refl

@@ -10,7 +10,7 @@ use Rattle.wf_node.specs.declared.fault.NodeFault.TheVariants.{Halted, TapeFaile
 use Rattle.wf_tape.specs.declared.tape.Tape.{Ghosts as Tape}
 
 -- The contract of the step. A halted node rejects it, and is unchanged.
-pub record IsAnswer {T A : Type 0} (tapes : Tape T) (input : Input Definition) (before : Node T) (answer : Result (Vec Message A) NodeFault) (after : Node T) : Type 0 where
+pub record IsStepResult {T A : Type 0} (tapes : Tape T) (input : Input Definition) (before : Node T) (answer : Result (Vec Message A) NodeFault) (after : Node T) : Type 0 where
   pub refused : before.halted ≡ true → (answer ≡ Err Halted) × (after ≡ before)
   pub steps : before.halted ≡ false → IsStep tapes before input answer after
   -- a tape that won't fail still won't, and so it didn't

@@ -13,7 +13,7 @@ use Rattle.wf_node.specs.declared.fault.NodeFault.{NodeFault}
 use Rattle.wf_node.specs.declared.fault.NodeFault.TheVariants as fault
 use Rattle.wf_tape.specs.Tape.{IsUnchanged, IsExtended, HasRisen}
 use Rattle.wf_tape.specs.declared.tape.Tape.{Ghosts as Tape}
-use Rattle.wf_edge.specs.StepResult.{IsAnswer}
+use Rattle.wf_edge.specs.StepResult.{IsStepResult}
 
 module _ {T A : Type 0} (tapes : Tape T) (before after : Node T) (input : Input Definition) where
   not_halted : (answer : Result (Vec Message A) NodeFault) → (answer ≡ Err fault.Halted → before.halted ≡ true) → before.halted ≡ false → answer ≢ Err fault.Halted
@@ -46,7 +46,7 @@ module _ {T A : Type 0} (tapes : Tape T) (before after : Node T) (input : Input 
       → (tapes.durable → answer ≡ Err fault.TapeFailed → EachStandsFor (stored_of before) (stored_next before input) (tapes.images after.tape))
       → (tapes.never_fails before.tape → tapes.never_fails after.tape)
       → (tapes.never_fails before.tape → IfErr answer (λ why. why ≢ fault.TapeFailed))
-      → IsAnswer tapes input before answer after
+      → IsStepResult tapes input before answer after
   answered answer halted running refused transition on_tape grown unchanged same memory same_tape takes failed writes halts kept part torn sturdy sound = record {
     refused = λ is. (halted is, stays answer (halted is) unchanged);
     steps = λ is. record {

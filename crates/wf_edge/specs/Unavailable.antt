@@ -4,20 +4,20 @@
 use Rattle.std.specs.Prelude.{◌≡◌, ℕ, List, Some, Err, Vec}
 use Rattle.wf_codec.specs.declared.message.Message.{Message}
 use Rattle.wf_def.specs.Definition.{Definition}
-use Rattle.wf_edge.specs.Request.{Request, BeginsWith, HasBody}
+use Rattle.wf_edge.specs.Request.{Request, BeginsWith, AsksForBody}
 use Rattle.wf_http.specs.Response.{Response}
 use Rattle.wf_edge.specs.declared.resource.RequestedResource.TheVariants.{Publish}
 use Rattle.wf_node.specs.Node.{Node}
 use Rattle.wf_node.specs.declared.fault.NodeFault.{NodeFault}
 use Rattle.wf_edge.specs.Theorem.{AsksMapService}
 use Rattle.wf_edge.specs.ErrorResponse.{error_of_result}
-use Rattle.wf_edge.specs.Publish.{IsMapOf, IsProposed, IsText}
+use Rattle.wf_edge.specs.Publish.{IsMapOf, IsProposed, IsMapfileText}
 use Rattle.wf_edge.specs.RequestEffect.{Responds}
 use Rattle.wf_edge.specs.declared.error_response.ErrorResponse.TheVariants.{Unavailable}
 use Rattle.wf_tape.specs.declared.tape.Tape.{Ghosts as Tape}
 
 -- the input begins with a publish of that body
-pub record Publishes (input body : List ℕ) : Type 0 where
+pub record BeginsWithPublish (input body : List ℕ) : Type 0 where
   pub request : Request
   pub begins : BeginsWith input request
   pub bytes : ℕ
@@ -37,9 +37,9 @@ module _ {T : Type 0} (A : Type 0) (tapes : Tape T) where
   -- whose body is within the limit of a mapfile and UTF-8, so that it is read as a map; or one whose step fails.
   pub data MayBeUnavailable (input : List ℕ) (before after : Node T) : Type 0 where
     by_service : (query : List ℕ) → AsksMapService input query → MayBeUnavailable input before after
-    by_body : HasBody input → MayBeUnavailable input before after
-    by_map : (body : List ℕ) → Publishes input body → IsText body → MayBeUnavailable input before after
-    by_step : (body : List ℕ) → Publishes input body → FailsToPropose body before after → MayBeUnavailable input before after
+    by_body : AsksForBody input → MayBeUnavailable input before after
+    by_map : (body : List ℕ) → BeginsWithPublish input body → IsMapfileText body → MayBeUnavailable input before after
+    by_step : (body : List ℕ) → BeginsWithPublish input body → FailsToPropose body before after → MayBeUnavailable input before after
 
   -- no other request is answered with 503
   abbrev pub OnlyTheseAreUnavailable : Type 0

@@ -5,7 +5,7 @@ ghost use Rattle.wf_edge.specs.PictureCache.{Changes, IsReadBy};
 ghost use Rattle.wf_edge.specs.ResponseEnd.{Completes};
 ghost use Rattle.wf_edge.specs.ErrorResponse.{response_of};
 ghost use Rattle.wf_edge.specs.Page.{service_page, status_at, status_page, accepted_page, bad_map_page};
-ghost use Rattle.wf_edge.specs.RequestEffect.{Answers, IsRead, IsReading};
+ghost use Rattle.wf_edge.specs.RequestEffect.{Answers, IsReadAnswered, IsReading};
 
 use crate::completion::write_response;
 use crate::error_report::respond_to_error;
@@ -94,7 +94,7 @@ pub fn answer_get<K: Sink, P: Pictures>(
 ) -> Outcome
     requires reads { IsReading request.now.asked }
     requires cached { P.cached pictures.old history.now.definitions }
-    ensures read { IsRead K.Sink request.now history.now.definitions status
+    ensures read { IsReadAnswered K.Sink request.now history.now.definitions status
         sink.old sink.new result }
     ensures changed { IsReadBy P.changes K.Sink request.now history.now.definitions status
         sink.old sink.new pictures.old pictures.new result }

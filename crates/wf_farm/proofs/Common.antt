@@ -29,35 +29,35 @@ pub use Rattle.wf_node.specs.Node.{Node, stored_of, volatile_of}
 pub use Rattle.wf_node.specs.OpenedNode.{IsFoldOf}
 pub use Rattle.wf_node.specs.Step.{IsTransition, IsSameNode, entry_of, proposal_step_rejection, step_rejection_at, retry_step_rejection, transition_of, stored_next}
 pub use Rattle.wf_node.specs.declared.fault.NodeFault.{NodeFault}
-pub use Rattle.wf_tape.specs.MemoryTape.{IsImageOf, NeverFails, TapeValue, with_fuse}
-pub use Rattle.wf_farm.specs.Agreement.{HasStored, IsOneWorld, Publishes}
-unfoldable pub use Rattle.wf_farm.specs.Agreement.{HasOneHistory, HistoriesGrow}
+pub use Rattle.wf_tape.specs.MemoryTape.{IsImageNow, NeverFails, TapeValue, with_fuse}
+pub use Rattle.wf_farm.specs.Agreement.{HasDurableState, IsOneWorld, Publishes}
+unfoldable pub use Rattle.wf_farm.specs.Agreement.{HasNoTwoDefinitions, HistoriesGrow}
 pub use Rattle.wf_farm.specs.Allocation.{IsStopped, MayAllocateIn, is_stopped}
 unfoldable pub use Rattle.wf_farm.specs.Allocation.{MayAllocate, MayAllocateAt, TakesStep, may_allocate}
 pub use Rattle.wf_farm.specs.Carriage.{IsMemory, IsUndelivered, fault_after}
 unfoldable pub use Rattle.wf_farm.specs.Carriage.{ChangesByEvent, ChangesByStep}
 pub use Rattle.wf_farm.specs.Cluster.{Between, Happens, KeepMembers, ReportsWhy}
-unfoldable pub use Rattle.wf_farm.specs.Cluster.{AreMembers, Moves, StayShown, last_rejected}
+unfoldable pub use Rattle.wf_farm.specs.Cluster.{AreSoundHosts, Moves, StayShown, last_rejected}
 pub use Rattle.wf_delivery.specs.Delivery.{AnyPart, AreChanged, AreHandedOut, Changed, IsNodeBy, Refines, StandFor, StandInTurn, Unchanged}
-unfoldable pub use Rattle.wf_delivery.specs.Delivery.{MayLeave, NoneHalted, StandAmong}
+unfoldable pub use Rattle.wf_delivery.specs.Delivery.{MayLeaveOfEach, NoneHalted, StandAmong}
 pub use Rattle.wf_farm.specs.Event.{view}
 pub use Rattle.wf_delivery.specs.NodeInput.{IsSturdy, MayBeLost, Takes}
 pub use Rattle.wf_farm.specs.Exchange.{IsAsked, IsExchange}
 unfoldable pub use Rattle.wf_farm.specs.Exchange.{IsReadyFor, ReachabilityGoesOn}
-pub use Rattle.wf_farm.specs.Farm.{IsAtOnce, IsFarm, IsMemoryFarm, IsReachable, MemoryFarm, Runs, running_in, size}
+pub use Rattle.wf_farm.specs.Farm.{IsAtOnce, IsSoundFarm, IsMemoryFarm, IsReachable, MemoryFarm, Runs, running_in, size}
 pub use Rattle.wf_farm.specs.Fault.{reported}
-pub use Rattle.wf_farm.specs.Fused.{FailsWithin, GoesOn, HappensAs, HasFaredTo, HaveFared, HaveRun, IsArmed, IsHappened, IsStepOf, IsStepOfNode, IsStepOfWatched, IsWatchedStep, RunsOrTears, Stands, TearsAt, TearsOnly, ReportsLast, ReportsUnless, ReportsWhyUnlessTorn, crash_at, crash_within, torn_at, with_torn}
+pub use Rattle.wf_farm.specs.Fused.{FailsWithin, AddsEvent, HappensAs, HasFaredTo, HaveFared, HaveRun, IsArmed, IsHappened, IsStepOf, IsStepOfNode, IsStepOfWatched, IsWatchedStep, RunsOrTears, Stands, TearsAt, TearsOnly, ReportsLast, ReportsUnless, ReportsWhyUnlessTorn, crash_at, crash_within, torn_at, with_torn}
 unfoldable pub use Rattle.wf_farm.specs.Fused.{FailsOnly, NoneFails, step_of}
 pub use Rattle.wf_delivery.specs.Reachability.{AreReachable, AreReachableFrom, AreReachableSending, IsFresh, fresh_node}
 unfoldable pub use Rattle.wf_delivery.specs.Reachability.{Reach}
 pub use Rattle.wf_farm.specs.Nodes.{KeepEntries, KeepsEntry, KeepsHost, RunsAt, node_in, nodes_in, nodes_of}
 unfoldable pub use Rattle.wf_farm.specs.Nodes.{AllRun, KeepHosts}
 pub use Rattle.wf_farm.specs.NodesTheorems.{keep_set, keep_themselves, keep_twice, keeps_itself, length-nodes, nodes_back, nodes_get, nodes_set}
-pub use Rattle.wf_farm.specs.NodeHost.{IsChanged, IsMember, IsNode, KeepsSturdy, MemoryHost, Stops, rejection_in, tape_in, with_fuse_in}
-unfoldable pub use Rattle.wf_farm.specs.NodeHost.{KeepsMember, Restarts, Stays}
+pub use Rattle.wf_farm.specs.NodeHost.{IsChanged, IsHostOf, HostsNode, KeepsSturdy, MemoryHost, Stops, rejection_in, tape_in, with_fuse_in}
+unfoldable pub use Rattle.wf_farm.specs.NodeHost.{KeepsMember, Restarts, HostStays}
 pub use Rattle.wf_delivery.specs.IndexTheorems.{get_set_other, get_set_same, set_same, set_there, set_twice}
 pub use Rattle.wf_delivery.specs.Progress.{begun, most_deliveries, next}
-pub use Rattle.wf_farm.specs.PumpProgress.{IsEnd, IsForMemory, IsMade, MayEnd, outcome}
+pub use Rattle.wf_farm.specs.PumpProgress.{IsProgressEnd, IsForMemory, IsMade, MayEnd, outcome}
 pub use Rattle.wf_publication.specs.Rounds.{AreTargets}
 pub use Rattle.wf_farm.specs.Pump.{IsPumped, IsPumpedPart, Pumps, count}
 unfoldable pub use Rattle.wf_publication.specs.Rounds.{deliveries, rounds}

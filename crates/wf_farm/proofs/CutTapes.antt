@@ -1,7 +1,7 @@
 -- A tape that a crash within a step left, and the node that is opened from it: which durable state it has shows in the tape's
 -- length.
 use Rattle.std.proofs.Common.{◌≡◌, ℕ, ◌+◌, ◌<◌, true, false, List, [], ◌∷◌, ◌++◌, length, take, Option, Some, None, sym, ap, subst, ◌∙◌, arith, inl, inr, Bool, nat_lt, length-append, if◌then◌else◌}
-use Rattle.wf_farm.proofs.Common.{le-ltb, lt-ltb, append-nil, nil_from_length, take-take, take_all, same_Some, Definition, DurableState, Record, fold, ReadsOn, ReadsWith, IsFoldOf, Follows, IsSettled, ReadsSame, TapeValue, IsImageOf, AreRecords, BeginsWithNone, ReadsAs, Splits, length_of, IsCutTape, kept_beyond, stored_by}
+use Rattle.wf_farm.proofs.Common.{le-ltb, lt-ltb, append-nil, nil_from_length, take-take, take_all, same_Some, Definition, DurableState, Record, fold, ReadsOn, ReadsWith, IsFoldOf, Follows, IsSettled, ReadsSame, TapeValue, IsImageNow, AreRecords, BeginsWithNone, ReadsAs, Splits, length_of, IsCutTape, kept_beyond, stored_by}
 use Rattle.wf_ballot.specs.Field.{frame}
 use Rattle.wf_journal.specs.Encoding.{spelling, text_spelling}
 use Rattle.wf_journal.specs.EncodingTheorems.{length_of_encoding}
@@ -45,14 +45,14 @@ same_both a b a_begins b_begins =
     sym (a_begins.1 ∙ ap (λ (t : List ℕ). a ++ t) none ∙ append-nil a)
 
 -- What a crash leaves is an image of the tape.
-crash_is_image : (left : TapeValue) (keep : ℕ) → IsImageOf left (take (left.synced + keep) left.bytes)
+crash_is_image : (left : TapeValue) (keep : ℕ) → IsImageNow left (take (left.synced + keep) left.bytes)
 crash_is_image left keep = (
   begins_taken (left.synced + keep) left.bytes,
   subst (λ (t : List ℕ). IsBeginning t (take (left.synced + keep) left.bytes)) (take-take left.synced (left.synced + keep) left.bytes (omega arith)) (begins_taken left.synced (take (left.synced + keep) left.bytes)),
 )
 
 -- All bytes are synced: they are the only image.
-only_image : (kept : TapeValue) → kept.synced ≡ length kept.bytes → (image : List ℕ) → IsImageOf kept image → image ≡ kept.bytes
+only_image : (kept : TapeValue) → kept.synced ≡ length kept.bytes → (image : List ℕ) → IsImageNow kept image → image ≡ kept.bytes
 only_image kept all image is =
     let whole : take kept.synced kept.bytes ≡ kept.bytes = take_all kept.synced kept.bytes (omega (arith, all)) in
     same_both image kept.bytes is.0 (subst (λ (t : List ℕ). IsBeginning t image) whole is.1)
@@ -89,7 +89,7 @@ module _ (long : ℕ) (r : Record Definition) (before after stored : DurableStat
 
 -- The node that is opened after a crash has stored what its tape's length tells.
 pub cut_opened : (long keep : ℕ) (entry : Option (Record Definition)) (before after stored : DurableState Definition) (left crashed now : TapeValue) → crashed.bytes ≡ take (left.synced + keep) left.bytes →
-    crashed.synced ≡ length crashed.bytes → IsFoldOf stored crashed.bytes → Follows ReadsSame (IsImageOf crashed) (IsImageOf now) → IsSettled now.bytes (IsImageOf now) →
+    crashed.synced ≡ length crashed.bytes → IsFoldOf stored crashed.bytes → Follows ReadsSame (IsImageNow crashed) (IsImageNow now) → IsSettled now.bytes (IsImageNow now) →
     IsCutTape long entry before after left → stored ≡ stored_by (view_kept (kept_beyond long (length now.bytes))) before after
 cut_opened long keep None before after stored left crashed now taken all fold_of follows settled cut = absurd cut.cut
 cut_opened long keep (Some r) before after stored left crashed now taken all fold_of follows settled cut =
@@ -98,7 +98,7 @@ cut_opened long keep (Some r) before after stored left crashed now taken all fol
     let came = subst (λ (t : List ℕ). ReadsSame t now.bytes) (only_image crashed all earlier.0 earlier.1) earlier.2 in
     let same : settled.0 ≡ fold_of.records = read_one_way now.bytes settled.0 fold_of.records (whole_reads now.bytes settled.0 settled.1.are_records) (came fold_of.records reads) in
     let are_now = subst (λ (rs : List (Record Definition)). AreRecords now.bytes rs) same settled.1.are_records in
-    let is_cut = cut.cut crashed.bytes (subst (λ (t : List ℕ). IsImageOf left t) (sym taken) (crash_is_image left keep)) in
+    let is_cut = cut.cut crashed.bytes (subst (λ (t : List ℕ). IsImageNow left t) (sym taken) (crash_is_image left keep)) in
     elim is_cut.2 [
       | inl on ↦ kept_before long r before after stored cut.content crashed.bytes now.bytes cut.records fold_of.records cut.are_records cut.is_long reads fold_of.folds are_now
           (subst (λ (t : List ℕ). ReadsOn before t crashed.bytes) is_cut.1 on)

@@ -1,6 +1,6 @@
 -- One event: the entry that it is about is set, and the farm is the model's world after it.
 use Rattle.std.proofs.Common.{◌≡◌, ℕ, zero, suc, List, [], ◌∷◌, length, slice_get, slice_set, Option, Some, None, Result, Ok, Err, IfOk, IfSome, OnErr, refl, sym, ap, subst, ◌∙◌, inl, inr, length-set}
-use Rattle.wf_farm.proofs.Common.{cases_eq, none-some, same_Some, Message, Definition, World, after_restart, after_stop, happens, refused, AreMembers, KeepMembers, Happens, StayShown, MemoryHost, IsNode, IsMember, Stays, KeepsMember, KeepsSturdy, Stops, Restarts, tape_in, node_restarted, node_stopped, IsImageOf, NeverFails, get_set_same, get_set_other, set_same}
+use Rattle.wf_farm.proofs.Common.{cases_eq, none-some, same_Some, Message, Definition, World, after_restart, after_stop, happens, refused, AreSoundHosts, KeepMembers, Happens, StayShown, MemoryHost, HostsNode, IsHostOf, HostStays, KeepsMember, KeepsSturdy, Stops, Restarts, tape_in, node_restarted, node_stopped, IsImageNow, NeverFails, get_set_same, get_set_other, set_same}
 use Rattle.wf_model.specs.World as world
 use Rattle.wf_farm.specs.Cluster.{AreNodes, Refines}
 use Rattle.wf_delivery.proofs.Turns.{stop_sets, restart_sets}
@@ -11,8 +11,8 @@ use Rattle.wf_farm.proofs.Steps.{stops_changed}
 
 -- if there is an entry, its node is at the same index
 pub node_at : (hosts : List MemoryHost) (nodes : List (world.Node Definition)) (i : ℕ) (host : MemoryHost) → AreNodes hosts nodes → slice_get hosts i ≡ Some host →
-    (node : world.Node Definition) × (slice_get nodes i ≡ Some node) × IsNode host node
-node_at hosts nodes i host are e = entries.node_at IsImageOf hosts nodes i host are e
+    (node : world.Node Definition) × (slice_get nodes i ≡ Some node) × HostsNode host node
+node_at hosts nodes i host are e = entries.node_at IsImageNow hosts nodes i host are e
 
 -- if there is none, there is no node
 pub none_at : (hosts : List MemoryHost) (nodes : List (world.Node Definition)) (i : ℕ) → AreNodes hosts nodes → slice_get hosts i ≡ None → slice_get nodes i ≡ None
@@ -23,9 +23,9 @@ none_at (p ∷ hosts) (node ∷ nodes) zero are e = absurd (none-some p (sym e))
 none_at (p ∷ hosts) (node ∷ nodes) (suc i) are e = none_at hosts nodes i are.1 e
 
 pub as_many : (hosts : List MemoryHost) (nodes : List (world.Node Definition)) → AreNodes hosts nodes → length nodes ≡ length hosts
-as_many hosts nodes are = entries.as_many IsImageOf hosts nodes are
+as_many hosts nodes are = entries.as_many IsImageNow hosts nodes are
 
-pub set_nodes : (hosts : List MemoryHost) (nodes : List (world.Node Definition)) (i : ℕ) (host : MemoryHost) (node : world.Node Definition) → AreNodes hosts nodes → IsNode host node →
+pub set_nodes : (hosts : List MemoryHost) (nodes : List (world.Node Definition)) (i : ℕ) (host : MemoryHost) (node : world.Node Definition) → AreNodes hosts nodes → HostsNode host node →
     AreNodes (slice_set hosts i host) (slice_set nodes i node)
 set_nodes [] [] i host node are is = tt
 set_nodes [] (x ∷ nodes) i host node are is = absurd are
@@ -51,16 +51,16 @@ keep_twice hosts middle after first second = record {
 
 -- A member that replaces one.
 pub set_members : (hosts : List MemoryHost) (i : ℕ) (host after : MemoryHost) → slice_get hosts i ≡ Some host →
-    (IsMember (length hosts) i host → IsMember (length hosts) i after) → AreMembers hosts → AreMembers (slice_set hosts i after)
-unfolding AreMembers
-set_members hosts i host after at keeps are = λ j p e. subst (λ n. IsMember n j p) (sym (length-set hosts i after)) (elim (cases_eq j i) [
-  | inl same ↦ subst (λ k. IsMember (length hosts) k p) (sym same)
-      (subst (IsMember (length hosts) i) (get_set_same hosts i after host p at (subst (λ k. slice_get (slice_set hosts i after) k ≡ Some p) same e)) (keeps (are i host at)))
+    (IsHostOf (length hosts) i host → IsHostOf (length hosts) i after) → AreSoundHosts hosts → AreSoundHosts (slice_set hosts i after)
+unfolding AreSoundHosts
+set_members hosts i host after at keeps are = λ j p e. subst (λ n. IsHostOf n j p) (sym (length-set hosts i after)) (elim (cases_eq j i) [
+  | inl same ↦ subst (λ k. IsHostOf (length hosts) k p) (sym same)
+      (subst (IsHostOf (length hosts) i) (get_set_same hosts i after host p at (subst (λ k. slice_get (slice_set hosts i after) k ≡ Some p) same e)) (keeps (are i host at)))
   | inr differs ↦ are j p (sym (get_set_other hosts i j after differs) ∙ e)
 ])
 
 pub host_members : (hosts : List MemoryHost) (i : ℕ) (host after : MemoryHost) → slice_get hosts i ≡ Some host →
-    (IsMember (length hosts) i host → IsMember (length hosts) i after) → KeepsSturdy host after → KeepMembers hosts (slice_set hosts i after)
+    (IsHostOf (length hosts) i host → IsHostOf (length hosts) i after) → KeepsSturdy host after → KeepMembers hosts (slice_set hosts i after)
 host_members hosts i host after at keeps sturdy = record {
   as_many = length-set hosts i after;
   members = set_members hosts i host after at keeps;
@@ -75,10 +75,10 @@ host_members hosts i host after at keeps sturdy = record {
 }
 
 -- A farm keeps its members where one entry is set, with the number of entries and the entry's index given by other names.
-pub cast_members : (hosts : List MemoryHost) (i : ℕ) (host after : MemoryHost) (n id : ℕ) → slice_get hosts i ≡ Some host → n ≡ length hosts → id ≡ i → (IsMember n id host → IsMember n id after) →
+pub cast_members : (hosts : List MemoryHost) (i : ℕ) (host after : MemoryHost) (n id : ℕ) → slice_get hosts i ≡ Some host → n ≡ length hosts → id ≡ i → (IsHostOf n id host → IsHostOf n id after) →
     KeepsSturdy host after → KeepMembers hosts (slice_set hosts i after)
 cast_members hosts i host after n id at many is keeps sturdy = host_members hosts i host after at
-    (subst (λ k. IsMember (length hosts) k host → IsMember (length hosts) k after) is (subst (λ k. IsMember k id host → IsMember k id after) many keeps)) sturdy
+    (subst (λ k. IsHostOf (length hosts) k host → IsHostOf (length hosts) k after) is (subst (λ k. IsHostOf k id host → IsHostOf k id after) many keeps)) sturdy
 
 -- The number that a node number was made of.
 pub cast_id : (found : Option ℕ) (id number i : ℕ) → found ≡ Some id → IfSome found (λ x. x ≡ number) → number ≡ i → id ≡ i
@@ -89,16 +89,16 @@ pub host_keeps : (hosts : List MemoryHost) (i : ℕ) (host after : MemoryHost) �
 unfolding KeepsMember
 host_keeps hosts i host after at keeps sturdy = host_members hosts i host after at (keeps (length hosts) i) sturdy
 
-pub member_at : (hosts : List MemoryHost) (i : ℕ) (host : MemoryHost) → AreMembers hosts → slice_get hosts i ≡ Some host → IsMember (length hosts) i host
-unfolding AreMembers
+pub member_at : (hosts : List MemoryHost) (i : ℕ) (host : MemoryHost) → AreSoundHosts hosts → slice_get hosts i ≡ Some host → IsHostOf (length hosts) i host
+unfolding AreSoundHosts
 member_at hosts i host members at = members i host at
 
 -- ---- an entry that is set
 
 module _ (hosts : List MemoryHost) (sent : List Message) (i : ℕ) where
   -- An entry that is unchanged.
-  pub host_stays : (host after : MemoryHost) → slice_get hosts i ≡ Some host → Stays host after → StayShown hosts sent (slice_set hosts i after) sent
-  unfolding Stays StayShown
+  pub host_stays : (host after : MemoryHost) → slice_get hosts i ≡ Some host → HostStays host after → StayShown hosts sent (slice_set hosts i after) sent
+  unfolding HostStays StayShown
   host_stays host after at stays = λ w refines.
       let here = node_at hosts w.nodes i host refines.nodes at in
       record { nodes = subst (AreNodes (slice_set hosts i after)) (set_same w.nodes i here.0 here.1) (set_nodes hosts w.nodes i after here.0 refines.nodes (stays here.0 here.2)); messages = refines.messages }
@@ -112,7 +112,7 @@ module _ (hosts : List MemoryHost) (sent : List Message) (i : ℕ) where
 
   -- ---- a stop and a restart
 
-  pub host_stops : (host after : MemoryHost) → slice_get hosts i ≡ Some host → AreMembers hosts → Stops host after → Happens (world.Stop i) None hosts sent (slice_set hosts i after) sent
+  pub host_stops : (host after : MemoryHost) → slice_get hosts i ≡ Some host → AreSoundHosts hosts → Stops host after → Happens (world.Stop i) None hosts sent (slice_set hosts i after) sent
   unfolding happens refused
   host_stops host after at members stopped = record {
     reaches = λ w refines.

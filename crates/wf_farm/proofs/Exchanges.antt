@@ -1,6 +1,6 @@
 -- A farm's entry whose node takes an input; and what a client does to a farm's node is done to the nodes.
 use Rattle.std.proofs.Common.{◌≡◌, ℕ, zero, suc, ◌∷◌, slice_index_or, ◌≤◌, Bool, false, List, [], length-set, slice_get, slice_set, Some, refl, sym, ap, subst, ◌∙◌, arith, Vec}
-use Rattle.wf_farm.proofs.Common.{Global, none-some, same_Some, Message, Definition, Input, Node, NodeHost, Running, Stopped, StandAmong, IsAsked, IsReadyFor, IsSturdy, ReachabilityGoesOn, IsFarm, Takes, AreReachableFrom, AreReachableSending, KeepEntries, KeepsEntry, nodes_of, set_there, keep_set, length-nodes, nodes_get, nodes_set}
+use Rattle.wf_farm.proofs.Common.{Global, none-some, same_Some, Message, Definition, Input, Node, NodeHost, Running, Stopped, StandAmong, IsAsked, IsReadyFor, IsSturdy, ReachabilityGoesOn, IsSoundFarm, Takes, AreReachableFrom, AreReachableSending, KeepEntries, KeepsEntry, nodes_of, set_there, keep_set, length-nodes, nodes_get, nodes_set}
 use Rattle.wf_farm.specs.Hosts.{AreMembers}
 use Rattle.wf_delivery.proofs.Deliveries.{stays_itself}
 use Rattle.wf_farm.proofs.Nodes.{in_turn_of, member_of, reached_reachable, running_stopped, set_members}
@@ -74,7 +74,7 @@ module _ {T : Type 0} (tapes : Tape T) (hosts : List (NodeHost T)) (i : ℕ) (be
 
 module _ {T : Type 0} (tapes : Tape T) where
   abbrev IsFarmOf : List (NodeHost T) → List Message → ℕ → Bool → Type 0
-  IsFarmOf hosts sent pumped complete = IsFarm tapes.durable tapes.images tapes.never_fails hosts sent pumped complete
+  IsFarmOf hosts sent pumped complete = IsSoundFarm tapes.durable tapes.images tapes.never_fails hosts sent pumped complete
 
   -- A farm whose nodes were led on is one, with no message left.
   pub farm_reachable : (hosts next : List (NodeHost T)) (sent : List Message) (pumped : ℕ) (complete : Bool) → IsFarmOf hosts sent pumped complete → KeepEntries tapes hosts next →

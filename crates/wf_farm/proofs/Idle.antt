@@ -1,13 +1,13 @@
 -- Whether a node takes a step: it exists and runs, the step's message was sent, and the table doesn't reject it. Otherwise nothing happens.
 use Rattle.std.proofs.Common.{◌≡◌, ◌∙◌, ℕ, Bool, true, false, is_some, List, length, map, slice_get, Option, Some, None, option_map, refl, sym, ap, subst}
-use Rattle.wf_farm.proofs.Common.{false≢true, none-some, same_Some, slice_get-map, Message, Definition, definition_eq, Action, Input, StepRejection, step_rejection, after_torn, after_turn, delivered, happens, input_of, step_rejection_of, refused, turn_of, Kept, Node, stored_of, volatile_of, proposal_step_rejection, step_rejection_at, retry_step_rejection, NodeFault, TapeValue, Running, Stopped, Rejection, reported, IsHappened, MemoryHost, IsMember, rejection_in, IsIdle, ReportsWhyNot, acted}
+use Rattle.wf_farm.proofs.Common.{false≢true, none-some, same_Some, slice_get-map, Message, Definition, definition_eq, Action, Input, StepRejection, step_rejection, after_torn, after_turn, delivered, happens, input_of, step_rejection_of, refused, turn_of, Kept, Node, stored_of, volatile_of, proposal_step_rejection, step_rejection_at, retry_step_rejection, NodeFault, TapeValue, Running, Stopped, Rejection, reported, IsHappened, MemoryHost, IsHostOf, rejection_in, IsIdle, ReportsWhyNot, acted}
 use Rattle.wf_codec.specs.Message as message
 use Rattle.wf_model.specs.Kept.{view as view_kept}
 use Rattle.wf_model.specs.Message as model
 use Rattle.wf_model.specs.Table as table
 use Rattle.wf_node.specs.Fault.{IsWhyNot}
 use Rattle.wf_farm.specs.Cluster.{Refines}
-use Rattle.wf_farm.specs.FallibleStep.{IsTaken}
+use Rattle.wf_farm.specs.FallibleStep.{TakesItsStep}
 use Rattle.wf_farm.proofs.Events.{as_many, node_at, none_at}
 use Rattle.wf_delivery.proofs.Turns.{rejected_absent, rejected_idle, rejected_is, rejected_unsent, running_step_rejection, turn_absent, turn_idle, turn_is, turn_rejected, turn_unsent}
 
@@ -96,7 +96,7 @@ module _ (hosts : List MemoryHost) (sent : List Message) (i : ℕ) (action : Act
           ap reported (is.0 ∙ sym (rejected_is w i found.0 action input found.1 here ∙ ap (λ x. step_rejection_of (Some x) (Some input)) found.2 ∙ running_step_rejection (stored_of node) (volatile_of node) input)),
         )
 
-    pub is_taken : IsMember (length hosts) i (Running node) → ReportsWhyNot node action None → IsTaken i action hosts sent
+    pub is_taken : IsHostOf (length hosts) i (Running node) → ReportsWhyNot node action None → TakesItsStep i action hosts sent
     unfolding ReportsWhyNot
     is_taken member why = record { input = input; given = given; there = record { node = node; at = at; member = member; goes = why (map message.view sent) input given } }
 

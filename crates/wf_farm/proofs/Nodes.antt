@@ -1,6 +1,6 @@
 -- The entries of a farm as a list of nodes; and a farm over durable tapes whose nodes are led on is reached still.
 use Rattle.std.proofs.Common.{◌≡◌, ℕ, zero, suc, Bool, true, false, List, [], ◌∷◌, ◌++◌, map, length, slice_get, slice_set, Option, Some, None, refl, sym, ap, subst, ◌∙◌, arith, inl, inr, length-set}
-use Rattle.wf_farm.proofs.Common.{both_ways, cases_eq, false≢true, append-nil, none-some, same_Some, Message, Definition, definition_eq, steps_in_turn, World, start, after, steps, AllStandFor, Node, NodeHost, Running, Stopped, AnyPart, StandAmong, StandFor, StandInTurn, MayLeave, IsNodeBy, IsReachable, AreReachableFrom, AreReachable, Reach, AreChanged, Changed, KeepEntries, KeepHosts, KeepsEntry, KeepsHost, Unchanged, node_in, nodes_of, keep_set, keep_themselves, keep_twice, keeps_itself, length-nodes, nodes_back, nodes_get, get_set_same, get_set_other}
+use Rattle.wf_farm.proofs.Common.{both_ways, cases_eq, false≢true, append-nil, none-some, same_Some, Message, Definition, definition_eq, steps_in_turn, World, start, after, steps, AllStandFor, Node, NodeHost, Running, Stopped, AnyPart, StandAmong, StandFor, StandInTurn, MayLeaveOfEach, IsNodeBy, IsReachable, AreReachableFrom, AreReachable, Reach, AreChanged, Changed, KeepEntries, KeepHosts, KeepsEntry, KeepsHost, Unchanged, node_in, nodes_of, keep_set, keep_themselves, keep_twice, keeps_itself, length-nodes, nodes_back, nodes_get, get_set_same, get_set_other}
 use Rattle.wf_codec.specs.Message as message
 use Rattle.wf_model.specs.World as world
 use Rattle.wf_delivery.specs.Delivery as delivering
@@ -112,7 +112,7 @@ entry_there (x ∷ xs) (z ∷ ys) (suc i) y long e = entry_there xs ys i y (omeg
 -- ---- a farm over durable tapes is reached
 
 module _ {T : Type 0} (durable : Type 0) (images : T → List ℕ → Type 0) (never_fails : T → Type 0) where
-  any_node : (n i : ℕ) (host : NodeHost T) (shown : world.Node Definition) → IsMember durable images never_fails n i host → durable → IsNode images host shown → delivering.IsNode (AnyPart i) (node_in n i host) shown
+  any_node : (n i : ℕ) (host : NodeHost T) (shown : world.Node Definition) → IsMember durable images never_fails n i host → durable → IsNode images host shown → delivering.ShowsNode (AnyPart i) (node_in n i host) shown
   any_node n i (Running node) shown member h is = subst (λ b. IsNodeBy b (AnyPart i) node shown) (sym (member.2 h).0) is
   any_node n i (Stopped tape) shown member h is = (is.0, (shown.stored.history, refl), tt)
 
@@ -129,7 +129,7 @@ module _ {T : Type 0} (durable : Type 0) (images : T → List ℕ → Type 0) (n
             node_is = λ i node at.
                 let back = nodes_back hosts i node at in
                 let here = node_at images hosts w.nodes i back.0 reached.nodes back.1 in
-                (here.0, here.1, subst (λ (x : Node T). delivering.IsNode (AnyPart i) x here.0) back.2 (any_node (length hosts) i back.0 here.0 (member_of durable images never_fails hosts i back.0 back.1 members) h here.2));
+                (here.0, here.1, subst (λ (x : Node T). delivering.ShowsNode (AnyPart i) x here.0) back.2 (any_node (length hosts) i back.0 here.0 (member_of durable images never_fails hosts i back.0 back.1 members) h here.2));
           };
           messages = reached.messages;
         });
@@ -165,8 +165,8 @@ module _ {T : Type 0} (tapes : Tape T) (durable : tapes.durable) (hosts next : L
       absurd (both_ways held.halted ((member_of tapes.durable tapes.images tapes.never_fails next i (Running held) at next_members).2 durable).0 (subst (λ (x : Node T). x.halted ≡ true) (sym same) halted))
   left_of i (Stopped tape) node at same halted = subst (λ (x : Node T). tapes.images x.tape (left i)) same (is_left i tape at)
 
-  may : MayLeave tapes (nodes_of next) left
-  unfolding MayLeave
+  may : MayLeaveOfEach tapes (nodes_of next) left
+  unfolding MayLeaveOfEach
   may = λ i node at halted. let back = nodes_back next i node at in left_of i back.0 node back.1 back.2 halted
 
   -- a stopped node was stopped before, with the same tape
@@ -184,7 +184,7 @@ module _ {T : Type 0} (tapes : Tape T) (durable : tapes.durable) (hosts next : L
 
   module _ (w : World Definition) (are : AreNodes tapes.images hosts w.nodes) where
     is_by : (i : ℕ) (host : NodeHost T) (shown : world.Node Definition) → slice_get hosts i ≡ Some host → IsNode tapes.images host shown →
-        delivering.IsNode (StandFor left i) (node_in (length hosts) i host) shown
+        delivering.ShowsNode (StandFor left i) (node_in (length hosts) i host) shown
     is_by i (Running node) shown at is =
         subst (λ b. IsNodeBy b (StandFor left i) node shown) (sym ((member_of tapes.durable tapes.images tapes.never_fails hosts i (Running node) at members).2 durable).0) is
     is_by i (Stopped tape) shown at is = (is.0, (shown.stored.history, refl), is.1 (left i) (is_left i tape (stopped_after i tape at)))
@@ -196,7 +196,7 @@ module _ {T : Type 0} (tapes : Tape T) (durable : tapes.durable) (hosts next : L
       node_is = λ i node at.
           let back = nodes_back hosts i node at in
           let here = node_at tapes.images hosts w.nodes i back.0 are back.1 in
-          (here.0, here.1, subst (λ (x : Node T). delivering.IsNode (StandFor left i) x here.0) back.2 (is_by i back.0 here.0 back.1 here.2));
+          (here.0, here.1, subst (λ (x : Node T). delivering.ShowsNode (StandFor left i) x here.0) back.2 (is_by i back.0 here.0 back.1 here.2));
     }
 
     module _ (v : World Definition) (refines : delivering.AreNodes (StandFor left) (nodes_of next) v.nodes) where

@@ -1,6 +1,6 @@
 -- A step that a node in memory takes: what becomes of its entry, and of the world.
 use Rattle.std.proofs.Common.{◌≡◌, ◌∙◌, ℕ, zero, suc, Bool, true, false, is_some, List, [], ◌∷◌, ◌++◌, ◌≤◌, ◌<◌, arith, get_or, length, map, slice_get, slice_set, Option, Some, None, refl, sym, ap, subst}
-use Rattle.wf_farm.proofs.Common.{both_ways, map-append, none-some, same_Some, slice_get_within, Message, Definition, definition_eq, DurableState, Record, Action, Input, at_start, World, Turn, after_restart, after_torn, after_turn, happens, input_of, kept_part, refused, rejected_at, steps, stored_after, turn, turn_of, with_node, Kept, IsSettled, AllStandFor, EachIsCut, Node, stored_of, volatile_of, IsTransition, step_rejection_at, transition_of, stored_next, TapeValue, IsImageOf, NeverFails, with_fuse, Running, Stopped, MayAllocate, may_allocate, ChangesByEvent, KeepMembers, Moves, reported, FailsOnly, IsHappened, TearsAt, TearsOnly, crash_within, step_of, Takes, MemoryHost, IsMember, IsNode, KeepsMember, KeepsSturdy, Stays, Stops, set_there, Fares, Goes, GoesThere, IsCutTape, IsTornTo, received_as, stored_by, node_restarted, volatile_restarted, set_twice}
+use Rattle.wf_farm.proofs.Common.{both_ways, map-append, none-some, same_Some, slice_get_within, Message, Definition, definition_eq, DurableState, Record, Action, Input, at_start, World, Turn, after_restart, after_torn, after_turn, happens, input_of, kept_part, refused, rejected_at, steps, stored_after, turn, turn_of, with_node, Kept, IsSettled, AllStandFor, EachIsCut, Node, stored_of, volatile_of, IsTransition, step_rejection_at, transition_of, stored_next, TapeValue, IsImageNow, NeverFails, with_fuse, Running, Stopped, MayAllocate, may_allocate, ChangesByEvent, KeepMembers, Moves, reported, FailsOnly, IsHappened, TearsAt, TearsOnly, crash_within, step_of, Takes, MemoryHost, IsHostOf, HostsNode, KeepsMember, KeepsSturdy, HostStays, Stops, set_there, Fares, Goes, GoesThere, IsCutTape, IsTornTo, received_as, stored_by, node_restarted, volatile_restarted, set_twice}
 use Rattle.wf_codec.specs.Message as message
 use Rattle.wf_model.specs.Kept.{view as view_kept}
 use Rattle.wf_model.specs.World as world
@@ -34,7 +34,7 @@ module _ {T : Type 0} (tapes : Tape T) (node after : Node T) (input : Input Defi
 
 module _ (node after : Node TapeValue) (input : Input Definition) (outputs : List Message) (tapes : Tape TapeValue) where
   -- A node that took a step, or lost its input.
-  pub taken_fares : (lost : Bool) → Takes tapes lost input node after outputs → lost ≡ true → Stays (Running node) (Running after)
+  pub taken_fares : (lost : Bool) → Takes tapes lost input node after outputs → lost ≡ true → HostStays (Running node) (Running after)
   taken_fares true takes is = same_stays node after takes.same
   taken_fares false takes is = absurd (both_ways false refl is)
 
@@ -64,9 +64,9 @@ module _ (node after laid : Node TapeValue) (input : Input Definition) (outputs 
   pub laid_within : Goes input (Running node) → (laid.n ≤ 64) × (laid.id < laid.n)
   laid_within goes = (omega (arith, laid_n, goes.1), omega (arith, laid_n, laid_id, goes.2))
 
-  pub laid_member : (host : MemoryHost) → IsMember laid.n laid.id host → KeepsMember (Running node) host
+  pub laid_member : (host : MemoryHost) → IsHostOf laid.n laid.id host → KeepsMember (Running node) host
   unfolding KeepsMember
-  laid_member host member = λ n i was. subst (λ m. IsMember m i host) (laid_n ∙ was.1) (subst (λ j. IsMember laid.n j host) (laid_id ∙ was.0) member)
+  laid_member host member = λ n i was. subst (λ m. IsHostOf m i host) (laid_n ∙ was.1) (subst (λ j. IsHostOf laid.n j host) (laid_id ∙ was.0) member)
 
 -- The tape that a failed step left was cut.
 each_only : (entry : Option (Record Definition)) (before after : DurableState Definition) (content : List ℕ) (old images : List ℕ → Type 0) → ((image : List ℕ) → old image → image ≡ content) →
@@ -74,14 +74,14 @@ each_only : (entry : Option (Record Definition)) (before after : DurableState De
 each_only None before after content old images only each = each
 each_only (Some r) before after content old images only each = λ image left. let cut = each image left in (cut.0, only cut.0 cut.1, cut.2)
 
-pub tape_cut : (long : ℕ) (entry : Option (Record Definition)) (before after : DurableState Definition) (tape left : TapeValue) → IsSettled tape.bytes (IsImageOf tape) → long ≡ length tape.bytes →
-    EachIsCut entry before after (IsImageOf tape) (IsImageOf left) → IsCutTape long entry before after left
+pub tape_cut : (long : ℕ) (entry : Option (Record Definition)) (before after : DurableState Definition) (tape left : TapeValue) → IsSettled tape.bytes (IsImageNow tape) → long ≡ length tape.bytes →
+    EachIsCut entry before after (IsImageNow tape) (IsImageNow left) → IsCutTape long entry before after left
 tape_cut long entry before after tape left settled is_long each = record {
   content = tape.bytes;
   records = settled.0;
   are_records = settled.1.are_records;
   is_long = sym is_long;
-  cut = each_only entry before after tape.bytes (IsImageOf tape) (IsImageOf left) settled.1.only.no_other each;
+  cut = each_only entry before after tape.bytes (IsImageNow tape) (IsImageNow left) settled.1.only.no_other each;
 }
 
 -- ---- the world
@@ -111,7 +111,7 @@ module _ (hosts : List MemoryHost) (sent : List Message) (i : ℕ) (action : Act
     free = sym (ap reported (rejected_is w i (shown node) action input here given_in ∙ running_step_rejection (stored_of node) (volatile_of node) input ∙ there.goes))
 
     -- The world with another node there.
-    set_shown : (host : MemoryHost) (x : world.Node Definition) → IsNode host x → Refines (slice_set hosts i host) sent (world_of (slice_set w.nodes i x) w.sent)
+    set_shown : (host : MemoryHost) (x : world.Node Definition) → HostsNode host x → Refines (slice_set hosts i host) sent (world_of (slice_set w.nodes i x) w.sent)
     set_shown host x is = record { nodes = set_nodes hosts w.nodes i host x refines.nodes is; messages = refines.messages }
 
   -- The whole step.
@@ -127,7 +127,7 @@ module _ (hosts : List MemoryHost) (sent : List Message) (i : ℕ) (action : Act
   }
 
   -- The node stops before the step or after it, and sends nothing.
-  stopped_step : (kept : world.Kept) (left : TapeValue) → AllStandFor (kept_part kept the_turn) (IsImageOf left) →
+  stopped_step : (kept : world.Kept) (left : TapeValue) → AllStandFor (kept_part kept the_turn) (IsImageNow left) →
       IsHappened (world.Torn i action kept) (record { why = None; torn = None }) hosts sent (slice_set hosts i (Stopped left)) sent
   unfolding happens refused after_torn with_node
   stopped_step kept left stands = record {
@@ -176,7 +176,7 @@ module _ (hosts : List MemoryHost) (sent : List Message) (i : ℕ) (action : Act
       let left = stops.0 in
       subst (λ h. IsHappened (received_as h i action) (record { why = None; torn = None }) hosts sent (slice_set (slice_set hosts i middle) i last) sent) (sym is)
       (subst (λ ps. IsHappened (world.Torn i action world.After) (record { why = None; torn = None }) hosts sent ps sent) (sym (set_twice hosts i middle last ∙ ap (slice_set hosts i) stops.1))
-      (stopped_step world.After left (subst (λ stored. AllStandFor stored (IsImageOf left)) done.2.stored (stops.2 done.2.running))))
+      (stopped_step world.After left (subst (λ stored. AllStandFor stored (IsImageNow left)) done.2.stored (stops.2 done.2.running))))
 
   pub before_happens : (host last : MemoryHost) → slice_get hosts i ≡ Some host → Stops host last →
       IsHappened (world.Torn i action world.Before) (record { why = None; torn = None }) hosts sent (slice_set hosts i last) sent
@@ -223,7 +223,7 @@ pub fares_there : (hosts : List MemoryHost) (i : ℕ) (input : Input Definition)
 fares_there hosts i input host after what there at fares = subst (λ p. Fares input what p after) (same_Some host (Running there.node) (sym at ∙ there.at)) fares
 
 -- Where an allocation failed, and no tape fails, the entry is what it was.
-pub lost_host : (hosts : List MemoryHost) (i : ℕ) (input : Input Definition) (host after : MemoryHost) → slice_get hosts i ≡ Some host → Fares input fate.Lost host after → FailsOnly None hosts → Stays host after
+pub lost_host : (hosts : List MemoryHost) (i : ℕ) (input : Input Definition) (host after : MemoryHost) → slice_get hosts i ≡ Some host → Fares input fate.Lost host after → FailsOnly None hosts → HostStays host after
 unfolding FailsOnly
 lost_host hosts i input (Running node) after at fares sturdy = fares (sturdy i (Running node) at (λ is. none-some i is))
 lost_host hosts i input (Stopped tape) after at fares sturdy = absurd fares

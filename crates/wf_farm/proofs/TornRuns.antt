@@ -1,6 +1,6 @@
 -- Runs in which one step may be torn: one event more.
 use Rattle.std.proofs.Common.{◌≡◌, ◌∙◌, ℕ, zero, suc, ◌+◌, ◌<◌, ◌≤◌, Bool, true, false, List, [], ◌∷◌, ◌++◌, map, length, take, drop, get_or, slice_get, Option, Some, None, Result, Ok, Err, IfOk, OnErr, refl, sym, ap, subst, arith, length-append, if◌then◌else◌, ◌==◌, inl, inr}
-use Rattle.wf_farm.proofs.Common.{cases_eq, append-nil, append_assoc, none-some, same_Some, slice_get_within, Message, Definition, definition_eq, Event, deliver, refused, steps, Kept, CarrierFault, Happened, PumpEnd, PumpProgress, Rejection, MayAllocate, MayAllocateAt, KeepMembers, Moves, StayShown, ReportsWhy, last_rejected, view, reported, FailsOnly, GoesOn, HappensAs, HasFaredTo, HaveFared, HaveRun, IsArmed, IsHappened, IsStepOf, IsStepOfNode, IsStepOfWatched, IsWatchedStep, Stands, TearsOnly, ReportsLast, ReportsUnless, ReportsWhyUnlessTorn, crash_at, torn_at, with_torn, MemoryHost, IsMade, next, NextMayAllocate, begun, deliveries, most_deliveries}
+use Rattle.wf_farm.proofs.Common.{cases_eq, append-nil, append_assoc, none-some, same_Some, slice_get_within, Message, Definition, definition_eq, Event, deliver, refused, steps, Kept, CarrierFault, Happened, PumpEnd, PumpProgress, Rejection, MayAllocate, MayAllocateAt, KeepMembers, Moves, StayShown, ReportsWhy, last_rejected, view, reported, FailsOnly, AddsEvent, HappensAs, HasFaredTo, HaveFared, HaveRun, IsArmed, IsHappened, IsStepOf, IsStepOfNode, IsStepOfWatched, IsWatchedStep, Stands, TearsOnly, ReportsLast, ReportsUnless, ReportsWhyUnlessTorn, crash_at, torn_at, with_torn, MemoryHost, IsMade, next, NextMayAllocate, begun, deliveries, most_deliveries}
 use Rattle.wf_model.specs.Kept.{view as view_kept}
 use Rattle.wf_model.specs.World as world
 use Rattle.wf_farm.specs.declared.event.Event as declared
@@ -74,20 +74,20 @@ none_torn event None hosts sturdy tears = refl
 none_torn event (Some kept) hosts sturdy tears = absurd (watched_step event kept hosts tears None sturdy)
 
 module _ (watched : Option ℕ) (k : ℕ) (event : Event Definition) (hosts after : List MemoryHost) (sent more : List Message) where
-  goes_whole : (torn : Option (ℕ × Kept)) → HappensAs event None hosts sent after more → GoesOn watched k event torn torn hosts sent after more
+  goes_whole : (torn : Option (ℕ × Kept)) → HappensAs event None hosts sent after more → AddsEvent watched k event torn torn hosts sent after more
   goes_whole None reaches = reaches
   goes_whole (Some torn) reaches = (refl, reaches)
 
   -- an event of which nothing was torn
-  pub went_whole : (torn : Option (ℕ × Kept)) (what : Option Kept) → what ≡ None → HappensAs event what hosts sent after more → GoesOn watched k event torn torn hosts sent after more
+  pub went_whole : (torn : Option (ℕ × Kept)) (what : Option Kept) → what ≡ None → HappensAs event what hosts sent after more → AddsEvent watched k event torn torn hosts sent after more
   went_whole torn what none reaches = goes_whole torn (subst (λ w. HappensAs event w hosts sent after more) none reaches)
 
-  goes_torn : (kept : Kept) (torn : Option (ℕ × Kept)) → torn ≡ None → IsWatchedStep watched event → HappensAs event (Some kept) hosts sent after more → GoesOn watched k event torn (Some (k, kept)) hosts sent after more
-  goes_torn kept torn none step reaches = subst (λ t. GoesOn watched k event t (Some (k, kept)) hosts sent after more) (sym none) (refl, step, reaches)
+  goes_torn : (kept : Kept) (torn : Option (ℕ × Kept)) → torn ≡ None → IsWatchedStep watched event → HappensAs event (Some kept) hosts sent after more → AddsEvent watched k event torn (Some (k, kept)) hosts sent after more
+  goes_torn kept torn none step reaches = subst (λ t. AddsEvent watched k event t (Some (k, kept)) hosts sent after more) (sym none) (refl, step, reaches)
 
   -- One that was torn, after which the tape doesn't fail any more.
   pub went_torn : (kept : Kept) (torn : Option (ℕ × Kept)) (middle : List MemoryHost) (outputs : List Message) → IsArmed watched torn hosts → TearsOnly (Some kept) event hosts → HappensAs event (Some kept) hosts sent middle outputs →
-      StayShown middle outputs after more → GoesOn watched k event torn (Some (k, kept)) hosts sent after more
+      StayShown middle outputs after more → AddsEvent watched k event torn (Some (k, kept)) hosts sent after more
   went_torn kept torn middle outputs armed tears reaches stays =
       goes_torn kept torn (none_before event kept hosts tears watched torn armed) (watched_step event kept hosts tears watched (fails_before event kept hosts tears watched torn armed))
       (stays_run (crash_at (view_kept kept) (Some event)) hosts middle after sent outputs more reaches stays)
@@ -117,7 +117,7 @@ none_fared watched hosts sent = record { moves = λ w refines. refines; step = t
 
 module _ (watched : Option ℕ) (events : List (Event Definition)) (event : Event Definition) (hosts middle after : List MemoryHost) (sent outputs more : List Message) where
   -- One event more.
-  pub fared_on : (k : ℕ) (torn now : Option (ℕ × Kept)) → k ≡ length events → HaveFared watched events torn hosts sent middle outputs → GoesOn watched k event torn now middle outputs after more →
+  pub fared_on : (k : ℕ) (torn now : Option (ℕ × Kept)) → k ≡ length events → HaveFared watched events torn hosts sent middle outputs → AddsEvent watched k event torn now middle outputs after more →
       HaveFared watched (events ++ event ∷ []) now hosts sent after more
   fared_on k (Some torn) now long fared goes =
       let at : slice_get events torn.0 ≡ Some fared.step.0 = fared.step.1 in
@@ -140,7 +140,7 @@ module _ (watched : Option ℕ) (events : List (Event Definition)) (event : Even
       }
 
   -- Why it was rejected is why the last one was.
-  pub reported_on : (torn now : Option (ℕ × Kept)) (k : ℕ) (why : Option Rejection) → HaveFared watched events torn hosts sent middle outputs → GoesOn watched k event torn now middle outputs after more →
+  pub reported_on : (torn now : Option (ℕ × Kept)) (k : ℕ) (why : Option Rejection) → HaveFared watched events torn hosts sent middle outputs → AddsEvent watched k event torn now middle outputs after more →
       (torn ≡ None → ReportsWhyUnlessTorn event now why middle outputs) → ReportsLast (events ++ event ∷ []) now why hosts sent
   unfolding Moves
   reported_on (Some torn) now k why fared goes reports = subst (λ t. ReportsLast (events ++ event ∷ []) t why hosts sent) (sym goes.0)
@@ -193,7 +193,7 @@ module _ (watched : Option ℕ) (events : List declared.Event) (done more_done :
   more_events : take more_done (map view events) ≡ take done (map view events) ++ view event ∷ []
   more_events = ap (λ k. take k (map view events)) one ∙ take_more events done event at
 
-  pub next_run : (torn now : Option (ℕ × Kept)) (why last : Option Rejection) → HaveRun watched (take done (map view events)) torn last hosts sent middle outputs → GoesOn watched done (view event) torn now middle outputs after more →
+  pub next_run : (torn now : Option (ℕ × Kept)) (why last : Option Rejection) → HaveRun watched (take done (map view events)) torn last hosts sent middle outputs → AddsEvent watched done (view event) torn now middle outputs after more →
       (torn ≡ None → ReportsWhyUnlessTorn (view event) now why middle outputs) → HaveRun watched (take more_done (map view events)) now why hosts sent after more
   next_run torn now why last ran goes reports = subst (λ es. HaveRun watched es now why hosts sent after more) (sym more_events) (record {
     fared = fared_on watched (take done (map view events)) (view event) hosts middle after sent outputs more done torn now (long_so_far events done event at) ran.fared goes;
@@ -231,7 +231,7 @@ module _ (watched : Option ℕ) (targets : List ℕ) (first : ℕ) (hosts : List
   }
 
   module _ (p : PumpProgress) (torn now : Option (ℕ × Kept)) (middle after : List MemoryHost) (outputs more : List Message) (come : HasFaredTo watched targets first p torn hosts sent middle outputs) (left : first + p.whole < length outputs)
-      (may : p.done < most_deliveries) (goes : GoesOn watched p.done (deliver (get_or targets p.some 0) (first + p.whole)) torn now middle outputs after more) (grows : length outputs ≤ length more) where
+      (may : p.done < most_deliveries) (goes : AddsEvent watched p.done (deliver (get_or targets p.some 0) (first + p.whole)) torn now middle outputs after more) (grows : length outputs ≤ length more) where
     fares_on : HaveFared watched (deliveries targets first p.whole (p.some + 1)) now hosts sent after more
     fares_on =
         subst (λ es. HaveFared watched es now hosts sent after more) (one_more targets first p.whole p.some come.part)

@@ -1,6 +1,6 @@
 -- Events while a node's tape may fail: the farm, whose tapes may fail or not, and whose failures are set and taken away.
 use Rattle.std.proofs.Common.{◌≡◌, ◌∙◌, ℕ, ◌≤◌, ◌<◌, List, ◌++◌, length, slice_get, slice_set, Option, Some, None, inl, inr, refl, sym, ap, subst, arith}
-use Rattle.wf_farm.proofs.Common.{cases_eq, none-some, same_Some, slice_get_within, Message, Definition, definition_eq, steps_in_turn, Action, Event, steps, NeverFails, ChangesByEvent, ChangesByStep, AreMembers, Happens, KeepMembers, Moves, StayShown, FarmFault, Memory, may_allocate, FailsOnly, FailsWithin, IsHappened, NoneFails, MemoryHost, tape_in, with_fuse_in, get_set_other, get_set_same}
+use Rattle.wf_farm.proofs.Common.{cases_eq, none-some, same_Some, slice_get_within, Message, Definition, definition_eq, steps_in_turn, Action, Event, steps, NeverFails, ChangesByEvent, ChangesByStep, AreSoundHosts, Happens, KeepMembers, Moves, StayShown, FarmFault, Memory, may_allocate, FailsOnly, FailsWithin, IsHappened, NoneFails, MemoryHost, tape_in, with_fuse_in, get_set_other, get_set_same}
 use Rattle.wf_model.specs.World as world
 use Rattle.wf_farm.specs.Cluster.{Refines}
 use Rattle.wf_farm.proofs.Events.{host_members, host_stays, set_members}
@@ -37,7 +37,7 @@ module _ (hosts : List MemoryHost) (sent : List Message) (i call kept : ℕ) (ho
   pub fused_shown : StayShown hosts sent (slice_set hosts i (with_fuse_in call kept host)) sent
   fused_shown = host_stays hosts sent i host (with_fuse_in call kept host) at (fused_stays call kept host)
 
-  pub fused_members : AreMembers hosts → AreMembers (slice_set hosts i (with_fuse_in call kept host))
+  pub fused_members : AreSoundHosts hosts → AreSoundHosts (slice_set hosts i (with_fuse_in call kept host))
   fused_members members = set_members hosts i host (with_fuse_in call kept host) at (fused_member call kept (length hosts) i host) members
 
   -- The tape of this node alone may fail now.

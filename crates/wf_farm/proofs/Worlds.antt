@@ -1,6 +1,6 @@
 -- A farm is one world, which is reached from the start: so its nodes agree.
 use Rattle.std.proofs.Common.{◌≡◌, ℕ, zero, suc, ◌+◌, ◌≤◌, Bool, true, List, [], map, ◌∷◌, ◌++◌, length, replicate, slice_get, Option, Some, None, refl, sym, ap, subst, ◌∙◌, arith}
-use Rattle.wf_farm.proofs.Common.{map-append, none-some, same_Some, Message, Definition, empty_map, definition_eq, steps_in_turn, IsBeginning, sent_before, raised, history_of, history, definition, DurableState, definition_at, World, Event, start, after, steps, at_start, Node, volatile_of, Running, Stopped, HasStored, HasOneHistory, IsOneWorld, AreMembers, KeepMembers, Moves, TapeValue, IsImageOf, NeverFails, IsFresh, AllRun, node_in, nodes_of, nodes_back, MemoryFarm, IsMemoryFarm, IsReachable, FailsOnly, MemoryHost, IsNode, IsMember, tape_in, fresh_node, IsFreshAt}
+use Rattle.wf_farm.proofs.Common.{map-append, none-some, same_Some, Message, Definition, empty_map, definition_eq, steps_in_turn, IsBeginning, sent_before, raised, history_of, history, definition, DurableState, definition_at, World, Event, start, after, steps, at_start, Node, volatile_of, Running, Stopped, HasDurableState, HasNoTwoDefinitions, IsOneWorld, AreSoundHosts, KeepMembers, Moves, TapeValue, IsImageNow, NeverFails, IsFresh, AllRun, node_in, nodes_of, nodes_back, MemoryFarm, IsMemoryFarm, IsReachable, FailsOnly, MemoryHost, HostsNode, IsHostOf, tape_in, fresh_node, IsFreshAt}
 use Rattle.wf_codec.specs.Message as message
 use Rattle.wf_model.specs.Message as model
 use Rattle.wf_model.specs.World as world
@@ -26,7 +26,7 @@ fresh_more n i [] host are is = (subst (λ k. IsFreshAt n k host) (omega arith) 
 fresh_more n i (p ∷ hosts) host are is = (are.0, fresh_more n (suc i) hosts host are.1 (subst (λ k. IsFreshAt n k host) (omega arith) is))
 
 -- One more fresh node, appended.
-pub one_more_fresh : (n id : ℕ) (hosts : List MemoryHost) (host : MemoryHost) → AreFresh n 0 hosts → length hosts ≡ id → IsNode host fresh_node → IsMember n id host → NeverFails (tape_in host) → AreFresh n 0 (hosts ++ host ∷ [])
+pub one_more_fresh : (n id : ℕ) (hosts : List MemoryHost) (host : MemoryHost) → AreFresh n 0 hosts → length hosts ≡ id → HostsNode host fresh_node → IsHostOf n id host → NeverFails (tape_in host) → AreFresh n 0 (hosts ++ host ∷ [])
 one_more_fresh n id hosts host are long is member never = fresh_more n 0 hosts host are (subst (λ k. IsFreshAt n k host) (omega (arith, long)) (is, member, never))
 
 fresh_nodes : (n i : ℕ) (hosts : List MemoryHost) → AreFresh n i hosts → AreNodes hosts (replicate (length hosts) fresh_node)
@@ -43,9 +43,9 @@ pub start_shown : (n : ℕ) (hosts : List MemoryHost) → AreFresh n 0 hosts →
 unfolding start
 start_shown n hosts are long = record { nodes = subst (λ k. AreNodes hosts (replicate k fresh_node)) long (fresh_nodes n 0 hosts are); messages = refl }
 
-pub start_members : (n : ℕ) (hosts : List MemoryHost) → AreFresh n 0 hosts → length hosts ≡ n → AreMembers hosts
-unfolding AreMembers
-start_members n hosts are long = λ i host e. subst (λ k. IsMember k i host) (sym long) (subst (λ j. IsMember n j host) (omega arith) (fresh_at n 0 i hosts host are e).1)
+pub start_members : (n : ℕ) (hosts : List MemoryHost) → AreFresh n 0 hosts → length hosts ≡ n → AreSoundHosts hosts
+unfolding AreSoundHosts
+start_members n hosts are long = λ i host e. subst (λ k. IsHostOf k i host) (sym long) (subst (λ j. IsHostOf n j host) (omega arith) (fresh_at n 0 i hosts host are e).1)
 
 pub start_sturdy : (n : ℕ) (hosts : List MemoryHost) → AreFresh n 0 hosts → FailsOnly None hosts
 unfolding FailsOnly
@@ -69,7 +69,7 @@ fresh_are_new n hosts are = λ i node at.
     subst (λ (x : Node TapeValue). IsFresh x) (ap (λ (p : MemoryHost). node_in (length hosts) i p) (sym is.1) ∙ back.2) is.2
 
 -- The start is reached by no events.
-pub started : (n : ℕ) (hosts : List MemoryHost) → length hosts ≡ n → cluster.Refines hosts [] (start n) → IsReachable IsImageOf true hosts []
+pub started : (n : ℕ) (hosts : List MemoryHost) → length hosts ≡ n → cluster.Refines hosts [] (start n) → IsReachable IsImageNow true hosts []
 unfolding after steps
 started n hosts long refines =
     let is = subst (λ k. cluster.Refines hosts [] (start k)) (sym long) refines in
@@ -77,7 +77,7 @@ started n hosts long refines =
 
 -- ---- a run goes on from where a farm is
 
-module _ (complete : Bool) (hosts : List MemoryHost) (sent : List Message) (reached : IsReachable IsImageOf complete hosts sent) where
+module _ (complete : Bool) (hosts : List MemoryHost) (sent : List Message) (reached : IsReachable IsImageNow complete hosts sent) where
   -- the world reached, and the same with the messages that the farm still has
   abbrev there : World Definition
   there = after definition_eq (length hosts) reached.events
@@ -109,7 +109,7 @@ module _ (complete : Bool) (hosts : List MemoryHost) (sent : List Message) (reac
         ∙ earlier_messages Definition definition_eq before here more
 
     -- What is reached stays so by any run.
-    pub reached_on : length after_hosts ≡ length hosts → Moves more hosts sent after_hosts after_sent → IsReachable IsImageOf complete after_hosts after_sent
+    pub reached_on : length after_hosts ≡ length hosts → Moves more hosts sent after_hosts after_sent → IsReachable IsImageNow complete after_hosts after_sent
     unfolding Moves sent_before
     reached_on long moves =
         let ended = run_on (length after_hosts) long in
@@ -125,33 +125,33 @@ module _ (complete : Bool) (hosts : List MemoryHost) (sent : List Message) (reac
 -- ---- the members
 
 -- of a farm in memory
-one_member : (n i : ℕ) (host : MemoryHost) → entries.IsMember (Unit {0}) IsImageOf NeverFails n i host → IsMember n i host
+one_member : (n i : ℕ) (host : MemoryHost) → entries.IsMember (Unit {0}) IsImageNow NeverFails n i host → IsHostOf n i host
 one_member n i (Running node) is = (is.0, is.1, (is.2 tt).0)
 one_member n i (Stopped kept) is = tt
 
-its_tape : (n i : ℕ) (host : MemoryHost) → entries.IsMember (Unit {0}) IsImageOf NeverFails n i host → NeverFails (tape_in host)
+its_tape : (n i : ℕ) (host : MemoryHost) → entries.IsMember (Unit {0}) IsImageNow NeverFails n i host → NeverFails (tape_in host)
 its_tape n i (Running node) is = (is.2 tt).1
 its_tape n i (Stopped kept) is = (is tt).0
 
-its_member : (n i : ℕ) (host : MemoryHost) → IsMember n i host → NeverFails (tape_in host) → entries.IsMember (Unit {0}) IsImageOf NeverFails n i host
+its_member : (n i : ℕ) (host : MemoryHost) → IsHostOf n i host → NeverFails (tape_in host) → entries.IsMember (Unit {0}) IsImageNow NeverFails n i host
 its_member n i (Running node) is never = (is.0, is.1, λ durable. (is.2, never))
 its_member n i (Stopped kept) is never = λ durable. (never, (kept.bytes, content_is_image kept))
 
-pub members_of : (hosts : List MemoryHost) → entries.AreMembers (Unit {0}) IsImageOf NeverFails hosts → AreMembers hosts
-unfolding AreMembers entries.AreMembers
+pub members_of : (hosts : List MemoryHost) → entries.AreMembers (Unit {0}) IsImageNow NeverFails hosts → AreSoundHosts hosts
+unfolding AreSoundHosts entries.AreMembers
 members_of hosts are = λ i host at. one_member (length hosts) i host (are i host at)
 
-pub sturdy_of : (hosts : List MemoryHost) → entries.AreMembers (Unit {0}) IsImageOf NeverFails hosts → FailsOnly None hosts
+pub sturdy_of : (hosts : List MemoryHost) → entries.AreMembers (Unit {0}) IsImageNow NeverFails hosts → FailsOnly None hosts
 unfolding FailsOnly entries.AreMembers
 sturdy_of hosts are = λ i host at other. its_tape (length hosts) i host (are i host at)
 
-as_members : (hosts : List MemoryHost) → AreMembers hosts → FailsOnly None hosts → entries.AreMembers (Unit {0}) IsImageOf NeverFails hosts
-unfolding AreMembers FailsOnly entries.AreMembers
+as_members : (hosts : List MemoryHost) → AreSoundHosts hosts → FailsOnly None hosts → entries.AreMembers (Unit {0}) IsImageNow NeverFails hosts
+unfolding AreSoundHosts FailsOnly entries.AreMembers
 as_members hosts are sturdy = λ i host at. its_member (length hosts) i host (are i host at) (sturdy i host at (λ is. none-some i is))
 
 -- A farm after a run is a farm, if no tape of it fails.
 pub farm_run : (hosts after_hosts : List MemoryHost) (sent after_sent : List Message) (pumped now : ℕ) (complete : Bool) (more : List (Event Definition)) →
-    IsMemoryFarm hosts sent pumped complete → length after_hosts ≡ length hosts → AreMembers after_hosts → FailsOnly None after_hosts → Moves more hosts sent after_hosts after_sent → now ≤ length after_sent →
+    IsMemoryFarm hosts sent pumped complete → length after_hosts ≡ length hosts → AreSoundHosts after_hosts → FailsOnly None after_hosts → Moves more hosts sent after_hosts after_sent → now ≤ length after_sent →
     IsMemoryFarm after_hosts after_sent now complete
 farm_run hosts after_hosts sent after_sent pumped now complete more farm long members sturdy moves within = record {
   some = subst (λ k. 1 ≤ k) (sym long) farm.some;
@@ -174,7 +174,7 @@ farm_moved hosts after_hosts sent after_sent pumped now complete more farm keeps
     (sturdy_on None hosts after_hosts keeps (sturdy_of hosts farm.members)) moves within
 
 -- A new farm is one.
-pub farm_started : (n : ℕ) (hosts : List MemoryHost) → 1 ≤ n → n ≤ 64 → length hosts ≡ n → AreMembers hosts → FailsOnly None hosts → cluster.Refines hosts [] (start n) → IsMemoryFarm hosts [] 0 true
+pub farm_started : (n : ℕ) (hosts : List MemoryHost) → 1 ≤ n → n ≤ 64 → length hosts ≡ n → AreSoundHosts hosts → FailsOnly None hosts → cluster.Refines hosts [] (start n) → IsMemoryFarm hosts [] 0 true
 farm_started n hosts some most long members sturdy refines = record {
   some = subst (λ k. 1 ≤ k) (sym long) some;
   most = subst (λ k. k ≤ 64) (sym long) most;
@@ -185,7 +185,7 @@ farm_started n hosts some most long members sturdy refines = record {
 
 -- ---- one world
 
-one_node : (host : MemoryHost) (node other : world.Node Definition) → IsNode host node → IsNode host other → node ≡ other
+one_node : (host : MemoryHost) (node other : world.Node Definition) → HostsNode host node → HostsNode host other → node ≡ other
 one_node (Running held) node other is again = is ∙ sym again
 one_node (Stopped kept) node other is again =
     ap (λ s. node_of s node.volatile) (one_stored kept node.stored other.stored is.1 again.1) ∙ ap (λ x. node_of other.stored x) (is.0 ∙ sym again.0)
@@ -200,7 +200,7 @@ one_list (p ∷ hosts) (x ∷ nodes) (y ∷ others) are again =
     ap (λ z. z ∷ nodes) (one_node p x y are.0 again.0) ∙ ap (λ zs. y ∷ zs) (one_list hosts nodes others are.1 again.1)
 
 -- A farm that has all messages is the world that it was led to, and no other.
-pub one_world : (farm : MemoryFarm) → (Unit {0} → IsReachable IsImageOf farm.complete farm.hosts farm.sent) → farm.complete ≡ true → IsOneWorld farm
+pub one_world : (farm : MemoryFarm) → (Unit {0} → IsReachable IsImageNow farm.complete farm.hosts farm.sent) → farm.complete ≡ true → IsOneWorld farm
 one_world farm known complete =
     let reached = known tt in
     let w = after definition_eq (length farm.hosts) reached.events in
@@ -218,7 +218,7 @@ one_world farm known complete =
 -- ---- the headline
 
 -- the durable state of an entry is that of its node
-stored_at : (host : MemoryHost) (node : world.Node Definition) (stored : DurableState Definition) → IsNode host node → HasStored (Some host) stored → stored ≡ node.stored
+stored_at : (host : MemoryHost) (node : world.Node Definition) (stored : DurableState Definition) → HostsNode host node → HasDurableState (Some host) stored → stored ≡ node.stored
 stored_at (Running held) node stored is has = has ∙ sym (ap (λ x. x.stored) is)
 stored_at (Stopped kept) node stored is has = one_stored kept stored node.stored has is.1
 
@@ -229,7 +229,7 @@ entry_at definitions w i zero d same e = absurd (none-some d e)
 entry_at definitions w i (suc k) d same e = ap (λ ds. slice_get ds k) same ∙ e
 
 published_by : (hosts : List MemoryHost) (w : World Definition) (i s : ℕ) (d : Definition) (there : Option MemoryHost) (stored : DurableState Definition) → AreNodes hosts w.nodes →
-    slice_get hosts i ≡ there → HasStored there stored → definition_at stored.history s ≡ Some d → definition empty_map w i s ≡ Some d
+    slice_get hosts i ≡ there → HasDurableState there stored → definition_at stored.history s ≡ Some d → definition empty_map w i s ≡ Some d
 unfolding history history_of
 published_by hosts w i s d None stored are at has e = absurd has
 published_by hosts w i s d (Some host) stored are at has e =
@@ -238,7 +238,7 @@ published_by hosts w i s d (Some host) stored are at has e =
 
 -- the durable state of an entry has the list of the world's node
 history_at : (hosts : List MemoryHost) (w : World Definition) (i : ℕ) (there : Option MemoryHost) (stored : DurableState Definition) → AreNodes hosts w.nodes → slice_get hosts i ≡ there →
-    HasStored there stored → history w i ≡ stored.history
+    HasDurableState there stored → history w i ≡ stored.history
 unfolding history history_of
 history_at hosts w i None stored are at has = absurd has
 history_at hosts w i (Some host) stored are at has =
@@ -247,8 +247,8 @@ history_at hosts w i (Some host) stored are at has =
 
 -- What an entry's node has published before a run is a prefix of what it has published after it.
 pub grown : (hosts after_hosts : List MemoryHost) (sent after_sent : List Message) (complete : Bool) (more : List (Event Definition)) →
-    length after_hosts ≡ length hosts → (Unit {0} → IsReachable IsImageOf complete hosts sent) → Moves more hosts sent after_hosts after_sent →
-    (i : ℕ) (old new : DurableState Definition) → HasStored (slice_get hosts i) old → HasStored (slice_get after_hosts i) new → IsBeginning old.history new.history
+    length after_hosts ≡ length hosts → (Unit {0} → IsReachable IsImageNow complete hosts sent) → Moves more hosts sent after_hosts after_sent →
+    (i : ℕ) (old new : DurableState Definition) → HasDurableState (slice_get hosts i) old → HasDurableState (slice_get after_hosts i) new → IsBeginning old.history new.history
 unfolding reached_on
 grown hosts after_hosts sent after_sent complete more long known moves i old new was is =
     let reached = known tt in
@@ -260,14 +260,14 @@ grown hosts after_hosts sent after_sent complete more long known moves i old new
     (subst (λ k. IsBeginning (history before i) (history (after definition_eq k ended.events) i)) (sym long)
     ((agreement Definition).grows definition_eq (length hosts) i reached.events (raised (length (map message.view reached.earlier)) more))))
 
-pub grown_still : (hosts : List MemoryHost) (sent : List Message) (complete : Bool) → (Unit {0} → IsReachable IsImageOf complete hosts sent) →
-    (i : ℕ) (old new : DurableState Definition) → HasStored (slice_get hosts i) old → HasStored (slice_get hosts i) new → IsBeginning old.history new.history
+pub grown_still : (hosts : List MemoryHost) (sent : List Message) (complete : Bool) → (Unit {0} → IsReachable IsImageNow complete hosts sent) →
+    (i : ℕ) (old new : DurableState Definition) → HasDurableState (slice_get hosts i) old → HasDurableState (slice_get hosts i) new → IsBeginning old.history new.history
 unfolding Moves steps
 grown_still hosts sent complete reached = grown hosts hosts sent sent complete [] refl reached (λ w refines. refines)
 
 -- Whatever led to the farm, no two of its nodes publish different definitions under one sequence.
-pub agree_reached : (farm : MemoryFarm) → (Unit {0} → IsReachable IsImageOf farm.complete farm.hosts farm.sent) → HasOneHistory farm
-unfolding HasOneHistory
+pub agree_reached : (farm : MemoryFarm) → (Unit {0} → IsReachable IsImageNow farm.complete farm.hosts farm.sent) → HasNoTwoDefinitions farm
+unfolding HasNoTwoDefinitions
 agree_reached farm known = λ i j s c d first second.
     let reached = known tt in
     let w = after definition_eq (length farm.hosts) reached.events in

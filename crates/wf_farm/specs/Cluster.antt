@@ -1,17 +1,17 @@
 -- The nodes and messages of a farm as a world of the model, and the effect of events on both.
 use Rattle.std.specs.Prelude.{◌≡◌, ℕ, List, [], ◌∷◌, length, map, slice_get, Option, Some, None}
 use Rattle.wf_codec.specs.Message as message
-use Rattle.wf_farm.specs.Common.{Message, Definition, definition_eq, Action, Input, StepRejection, World, Event, input_of, refused, happens, steps, TapeValue, IsImageOf}
+use Rattle.wf_farm.specs.Common.{Message, Definition, definition_eq, Action, Input, StepRejection, World, Event, input_of, refused, happens, steps, TapeValue, IsImageNow}
 use Rattle.wf_model.specs.World as world
 use Rattle.wf_farm.specs.declared.rejection.Rejection.{Rejection}
 use Rattle.wf_farm.specs.declared.cluster.Cluster.{Cluster}
 use Rattle.wf_farm.specs.Fault.{reported}
 use Rattle.wf_farm.specs.Hosts as entries
-use Rattle.wf_farm.specs.NodeHost.{MemoryHost, IsMember, KeepsSturdy}
+use Rattle.wf_farm.specs.NodeHost.{MemoryHost, IsHostOf, KeepsSturdy}
 
 -- index by index, these nodes of the model
 abbrev pub AreNodes : List MemoryHost → List (world.Node Definition) → Type 0
-AreNodes hosts nodes = entries.AreNodes IsImageOf hosts nodes
+AreNodes hosts nodes = entries.AreNodes IsImageNow hosts nodes
 
 -- The entries and the messages are this world.
 pub record Refines (hosts : List MemoryHost) (sent : List Message) (w : World Definition) : Type 0 where
@@ -23,13 +23,13 @@ abbrev pub input_in : List Message → Action Definition ℕ → Option (Input D
 input_in sent action = input_of (map message.view sent) action
 
 -- each entry has the node of its index, and none has failed
-unfoldable pub AreMembers : List MemoryHost → Type 0
-AreMembers hosts = (i : ℕ) (host : MemoryHost) → slice_get hosts i ≡ Some host → IsMember (length hosts) i host
+unfoldable pub AreSoundHosts : List MemoryHost → Type 0
+AreSoundHosts hosts = (i : ℕ) (host : MemoryHost) → slice_get hosts i ≡ Some host → IsHostOf (length hosts) i host
 
 -- There are as many members as before, and none has failed; a tape that doesn't fail still doesn't.
 pub record KeepMembers (before after : List MemoryHost) : Type 0 where
   pub as_many : length after ≡ length before
-  pub members : AreMembers before → AreMembers after
+  pub members : AreSoundHosts before → AreSoundHosts after
   pub sturdy : (i : ℕ) (host : MemoryHost) → slice_get after i ≡ Some host → (was : MemoryHost) × (slice_get before i ≡ Some was) × KeepsSturdy was host
 
 -- The change keeps whatever world was shown.

@@ -15,5 +15,5 @@ pub use Rattle.wf_node.specs.Images.{AllStandFor, EachIsCut}
 pub use Rattle.wf_node.specs.Node.{Node, stored_of, volatile_of}
 pub use Rattle.wf_node.specs.Step.{IsTransition, entry_of, step_rejection_at, transition_of, stored_next}
 pub use Rattle.wf_node.specs.declared.fault.NodeFault.{NodeFault}
-pub use Rattle.wf_tape.specs.MemoryTape.{IsImageOf, NeverFails, TapeValue, with_fuse}
+pub use Rattle.wf_tape.specs.MemoryTape.{IsImageNow, NeverFails, TapeValue, with_fuse}
 pub use Rattle.wf_wms.specs.Answer.{AnswerValue, AsksForMap, IsAnswerOf}

@@ -1,6 +1,6 @@
 -- A step that a node in memory takes, whose tape may fail: it is done; or the node crashes within it, and is opened again.
 use Rattle.std.specs.Prelude.{◌≡◌, ◌≤◌, ◌<◌, ℕ, Bool, true, false, ⊤, List, length, Option, Some, None, if◌then◌else◌, nat_lt, slice_get}
-use Rattle.wf_farm.specs.Common.{Message, Definition, definition_eq, DurableState, Record, Action, Input, most_reports, at_start, World, Event, input_of, rejected_at, turn, Kept, EachIsCut, Node, stored_of, volatile_of, IsTransition, step_rejection_at, transition_of, stored_next, NodeFault, TapeValue, IsImageOf, NeverFails}
+use Rattle.wf_farm.specs.Common.{Message, Definition, definition_eq, DurableState, Record, Action, Input, most_reports, at_start, World, Event, input_of, rejected_at, turn, Kept, EachIsCut, Node, stored_of, volatile_of, IsTransition, step_rejection_at, transition_of, stored_next, NodeFault, TapeValue, IsImageNow, NeverFails}
 use Rattle.wf_model.specs.Kept.{view as view_kept}
 use Rattle.wf_model.specs.Message as model
 use Rattle.wf_model.specs.World as world
@@ -13,7 +13,7 @@ use Rattle.wf_farm.specs.declared.cluster.NodeHost.TheVariants.{Running, Stopped
 use Rattle.wf_farm.specs.declared.rejection.Rejection.{Rejection}
 use Rattle.wf_farm.specs.Cluster.{Refines, input_in}
 use Rattle.wf_farm.specs.Fault.{reported}
-use Rattle.wf_farm.specs.NodeHost.{MemoryHost, IsMember, Stays}
+use Rattle.wf_farm.specs.NodeHost.{MemoryHost, IsHostOf, HostStays}
 
 -- ---- whether a node takes a step
 
@@ -25,11 +25,11 @@ ReportsWhyNot node action why = (sent : List (model.Message Definition)) (input 
 pub record GoesThere (i : ℕ) (input : Input Definition) (hosts : List MemoryHost) : Type 0 where
   pub node : Node TapeValue
   pub at : slice_get hosts i ≡ Some (Running node)
-  pub member : IsMember (length hosts) i (Running node)
+  pub member : IsHostOf (length hosts) i (Running node)
   pub goes : step_rejection_at node input ≡ None
 
 -- So node i takes the action's step.
-pub record IsTaken (i : ℕ) (action : Action Definition ℕ) (hosts : List MemoryHost) (sent : List Message) : Type 0 where
+pub record TakesItsStep (i : ℕ) (action : Action Definition ℕ) (hosts : List MemoryHost) (sent : List Message) : Type 0 where
   pub input : Input Definition
   pub given : input_in sent action ≡ Some input
   pub there : GoesThere i input hosts
@@ -66,7 +66,7 @@ pub record IsCutTape (long : ℕ) (entry : Option (Record Definition)) (before a
   pub records : List (Record Definition)
   pub are_records : AreRecords content records
   pub is_long : length content ≡ long
-  pub cut : EachIsCut entry before after (λ image. image ≡ content) (IsImageOf left)
+  pub cut : EachIsCut entry before after (λ image. image ≡ content) (IsImageNow left)
 
 -- The node crashed and was opened again, with what was kept of these two durable states, unless an allocation failed.
 abbrev pub IsTornTo : DurableState Definition → DurableState Definition → Fate → MemoryHost → Type 0
@@ -86,7 +86,7 @@ abbrev pub Fares : Input Definition → Fate → MemoryHost → MemoryHost → T
 Fares input what (Stopped tape) after = ⊥
 Fares input (fate.Done outputs) (Running node) after = (next : Node TapeValue) × (after ≡ Running next) × IsTransition node (transition_of node input) outputs.items next
 Fares input (fate.Torn kept) (Running node) after = (NeverFails node.tape → ⊥) × IsTornTo (stored_of node) (stored_next node input) (fate.Torn kept) after
-Fares input fate.Lost (Running node) after = NeverFails node.tape → Stays (Running node) after
+Fares input fate.Lost (Running node) after = NeverFails node.tape → HostStays (Running node) after
 
 -- it sends no more messages than a step may
 abbrev pub IsFew : Fate → Type 0

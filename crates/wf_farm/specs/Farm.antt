@@ -1,7 +1,7 @@
 -- The model of a farm in contracts, and the invariant of every farm.
 use Rattle.std.specs.Prelude.{◌≡◌, ◌≤◌, ◌<◌, ◌++◌, ℕ, Bool, true, List, [], length, map, take, Option, Some, None}
 use Rattle.wf_codec.specs.Message as message
-use Rattle.wf_farm.specs.Common.{Message, Definition, definition_eq, World, Event, after, Node, TapeValue, IsImageOf, NeverFails}
+use Rattle.wf_farm.specs.Common.{Message, Definition, definition_eq, World, Event, after, Node, TapeValue, IsImageNow, NeverFails}
 use Rattle.wf_farm.specs.declared.rejection.Rejection.{Rejection}
 use Rattle.wf_farm.specs.declared.cluster.NodeHost.{NodeHost}
 use Rattle.wf_farm.specs.declared.cluster.NodeHost.TheVariants.{Running, Stopped}
@@ -49,7 +49,7 @@ pub record IsReachable {T : Type 0} (images : T → List ℕ → Type 0) (comple
 
 -- The invariant of every farm: it has 1 to 64 nodes, running or stopped; and if its tapes are durable, some events have led to it
 -- from the start.
-pub record IsFarm {T : Type 0} (durable : Type 0) (images : T → List ℕ → Type 0) (never_fails : T → Type 0) (hosts : List (NodeHost T)) (sent : List Message) (pumped : ℕ) (complete : Bool) : Type 0 where
+pub record IsSoundFarm {T : Type 0} (durable : Type 0) (images : T → List ℕ → Type 0) (never_fails : T → Type 0) (hosts : List (NodeHost T)) (sent : List Message) (pumped : ℕ) (complete : Bool) : Type 0 where
   pub some : 1 ≤ length hosts
   pub most : length hosts ≤ 64
   pub members : AreMembers durable images never_fails hosts
@@ -58,7 +58,7 @@ pub record IsFarm {T : Type 0} (durable : Type 0) (images : T → List ℕ → T
 
 -- the same of a farm in memory, whose tapes are durable
 abbrev pub IsMemoryFarm : List MemoryHost → List Message → ℕ → Bool → Type 0
-IsMemoryFarm hosts sent pumped complete = IsFarm (Unit {0}) IsImageOf NeverFails hosts sent pumped complete
+IsMemoryFarm hosts sent pumped complete = IsSoundFarm (Unit {0}) IsImageNow NeverFails hosts sent pumped complete
 
 -- the farm after these events
 abbrev pub Runs : List (Event Definition) → MemoryFarm → MemoryFarm → Type 0

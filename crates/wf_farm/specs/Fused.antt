@@ -134,10 +134,10 @@ IsArmed watched None hosts = FailsOnly watched hosts
 IsArmed watched (Some torn) hosts = FailsOnly None hosts
 
 -- One more event of a run, number k: it happened, or it was torn. That comes once in a run.
-abbrev pub GoesOn : Option ℕ → ℕ → Event Definition → Option (ℕ × Kept) → Option (ℕ × Kept) → List MemoryHost → List Message → List MemoryHost → List Message → Type 0
-GoesOn watched k event (Some torn) now hosts sent hosts_after sent_after = (now ≡ Some torn) × HappensAs event None hosts sent hosts_after sent_after
-GoesOn watched k event None None hosts sent hosts_after sent_after = HappensAs event None hosts sent hosts_after sent_after
-GoesOn watched k event None (Some now) hosts sent hosts_after sent_after = (now.0 ≡ k) × IsWatchedStep watched event × HappensAs event (Some now.1) hosts sent hosts_after sent_after
+abbrev pub AddsEvent : Option ℕ → ℕ → Event Definition → Option (ℕ × Kept) → Option (ℕ × Kept) → List MemoryHost → List Message → List MemoryHost → List Message → Type 0
+AddsEvent watched k event (Some torn) now hosts sent hosts_after sent_after = (now ≡ Some torn) × HappensAs event None hosts sent hosts_after sent_after
+AddsEvent watched k event None None hosts sent hosts_after sent_after = HappensAs event None hosts sent hosts_after sent_after
+AddsEvent watched k event None (Some now) hosts sent hosts_after sent_after = (now.0 ≡ k) × IsWatchedStep watched event × HappensAs event (Some now.1) hosts sent hosts_after sent_after
 
 -- why the last event was rejected; if it was torn, it wasn't
 abbrev pub ReportsLast : List (Event Definition) → Option (ℕ × Kept) → Option Rejection → List MemoryHost → List Message → Type 0

@@ -33,12 +33,12 @@ count {names} {before} {after} pumps = length (deliveries pumps.targets before.p
 
 -- Stopped early: the limit is reached and some deliveries are left. Otherwise each message sent by now was delivered to each
 -- target.
-abbrev pub IsEnd : {names : List ℕ} {before after : MemoryFarm} → Bool → Pumps names before after → Type 0
-IsEnd {names} {before} {after} true pumps = (count pumps ≡ most_deliveries) × (before.pumped + pumps.whole < length after.sent)
-IsEnd {names} {before} {after} false pumps = (count pumps ≤ most_deliveries) × (pumps.some ≡ 0) × (before.pumped + pumps.whole ≡ length after.sent)
+abbrev pub IsPumpEnd : {names : List ℕ} {before after : MemoryFarm} → Bool → Pumps names before after → Type 0
+IsPumpEnd {names} {before} {after} true pumps = (count pumps ≡ most_deliveries) × (before.pumped + pumps.whole < length after.sent)
+IsPumpEnd {names} {before} {after} false pumps = (count pumps ≤ most_deliveries) × (pumps.some ≡ 0) × (before.pumped + pumps.whole ≡ length after.sent)
 
 abbrev pub IsPumped : List ℕ → MemoryFarm → MemoryFarm → Bool → Type 0
-IsPumped names before after stopped = (pumps : Pumps names before after) × IsEnd stopped pumps
+IsPumped names before after stopped = (pumps : Pumps names before after) × IsPumpEnd stopped pumps
 
 -- An allocation failed after this number of deliveries, at the next one, which has an effect; or before the first one, and then
 -- nothing is changed. Or after this number the next one, which has an effect, wasn't carried.

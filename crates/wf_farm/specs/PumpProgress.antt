@@ -29,10 +29,10 @@ IsForMemory Stopped = ⊤
 IsForMemory (Failed fault) = fault ≡ carrier.Memory
 
 -- nothing is left; the limit of deliveries is reached, and some are left; or one wasn't made before that
-abbrev pub IsEnd : ℕ → ℕ → PumpProgress → PumpEnd → Type 0
-IsEnd first count p Done = (p.some ≡ 0) × (first + p.whole ≡ count)
-IsEnd first count p Stopped = (p.done ≡ most_deliveries) × (first + p.whole < count)
-IsEnd first count p (Failed fault) = p.done < most_deliveries
+abbrev pub IsProgressEnd : ℕ → ℕ → PumpProgress → PumpEnd → Type 0
+IsProgressEnd first count p Done = (p.some ≡ 0) × (first + p.whole ≡ count)
+IsProgressEnd first count p Stopped = (p.done ≡ most_deliveries) × (first + p.whole < count)
+IsProgressEnd first count p (Failed fault) = p.done < most_deliveries
 
 -- Where a delivery wasn't made, it may allocate.
 abbrev pub MayEnd : List ℕ → ℕ → PumpProgress → List MemoryHost → List Message → PumpEnd → Type 0

@@ -1,7 +1,7 @@
 //! The answers of a farm's nodes to clients.
 
 ghost use Rattle.std.specs.Prelude.{slice_get, IfOk, IfErr};
-ghost use Rattle.wf_farm.specs.ClientAnswers.{Answers, HasOneAnswer, HasOneMapAnswer, IsNoAnswer, sequence_at};
+ghost use Rattle.wf_farm.specs.ClientAnswers.{NodeAnswers, HasOneAnswer, HasOneMapAnswer, IsNoAnswer, sequence_at};
 ghost use Rattle.wf_farm.specs.Farm.{running_in};
 
 use crate::farm::Farm;
@@ -16,7 +16,7 @@ impl Farm<MemoryTape> {
     #[tactic(auto, using(crate::proofs::Answered::none_runs, crate::proofs::Answered::memory_wanted))]
     pub fn answer(&self, alloc: Global, number: usize, query: &[u8]) -> Result<Answer, FarmFault>
         ensures answer { IfOk result (λ answer.
-            Answers self.now number (sequence_at self.now number) query.now answer) }
+            NodeAnswers self.now number (sequence_at self.now number) query.now answer) }
         ensures fault { IfErr result (IsNoAnswer (running_in (slice_get self.now.hosts number))) }
     {
         let Some(node) = self.node(number) else {

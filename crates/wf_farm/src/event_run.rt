@@ -3,9 +3,9 @@
 ghost use Rattle.std.specs.Prelude.{◌≡◌, ◌<◌, ◌≤◌, length, map, take, None, Some, IfOk, IfErr, OnErr, OnOk};
 ghost use Rattle.wf_farm.specs.Allocation.{MayAllocate, MayAllocateAt};
 ghost use Rattle.wf_farm.specs.Carriage.{ChangesByEvent};
-ghost use Rattle.wf_farm.specs.Cluster.{AreMembers, Between, HoldsIn, KeepMembers, Moves, StayShown};
+ghost use Rattle.wf_farm.specs.Cluster.{AreSoundHosts, Between, HoldsIn, KeepMembers, Moves, StayShown};
 ghost use Rattle.wf_farm.specs.Event.{view};
-ghost use Rattle.wf_farm.specs.Fused.{FailsOnly, GoesOn, HaveRun, IsArmed, ReportsWhyUnlessTorn};
+ghost use Rattle.wf_farm.specs.Fused.{FailsOnly, AddsEvent, HaveRun, IsArmed, ReportsWhyUnlessTorn};
 ghost use Rattle.wf_farm.specs.declared.carrier.CarrierFault.TheVariants as carriers;
 
 use crate::carrier::{Carrier, CarrierFault};
@@ -27,7 +27,7 @@ impl Cluster<MemoryTape> {
         events: &[Event],
         watch: CrashWatch,
     ) -> Result<Ran, (usize, CarrierFault)>
-        requires members { AreMembers self.old.hosts.items }
+        requires members { AreSoundHosts self.old.hosts.items }
         requires size { length self.old.hosts.items ≤ 64 }
         requires armed { FailsOnly watch.node self.old.hosts.items }
         ensures done { IfOk result (λ ran.
@@ -65,11 +65,11 @@ impl Cluster<MemoryTape> {
         watch: CrashWatch,
         torn: &mut Option<(usize, Kept)>,
     ) -> Result<Option<Rejection>, CarrierFault>
-        requires members { AreMembers self.old.hosts.items }
+        requires members { AreSoundHosts self.old.hosts.items }
         requires size { length self.old.hosts.items ≤ 64 }
         requires armed { IsArmed watch.node torn.old self.old.hosts.items }
         ensures on { OnOk result (Between
-            (GoesOn watch.node number (view event.now) torn.old torn.new) self.old self.new) }
+            (AddsEvent watch.node number (view event.now) torn.old torn.new) self.old self.new) }
         ensures why { torn.old ≡ None → IfOk result (λ why.
             HoldsIn (ReportsWhyUnlessTorn (view event.now) torn.new why) self.old) }
         ensures armed { OnOk result (IsArmed watch.node torn.new self.new.hosts.items) }
@@ -98,11 +98,11 @@ impl Cluster<MemoryTape> {
 
     /// Sets a failure of a node's tape, if the node exists.
     pub(crate) fn arm(&mut self, node: usize, call: usize, kept: usize)
-        requires members { AreMembers self.old.hosts.items }
+        requires members { AreSoundHosts self.old.hosts.items }
         ensures only { FailsOnly None self.old.hosts.items →
             FailsOnly (Some node) self.new.hosts.items }
         ensures stays { Between StayShown self.old self.new }
-        ensures members { AreMembers self.new.hosts.items }
+        ensures members { AreSoundHosts self.new.hosts.items }
         ensures size { length self.new.hosts.items ≡ length self.old.hosts.items }
         ensures sent { self.new.sent ≡ self.old.sent }
     {

@@ -28,7 +28,7 @@ pub struct Farm<T: Tape = MemoryTape> {
 impl<T: Tape> Model for Farm<T> {
     ghost use Rattle.std.specs.Coded.{codes};
     ghost use Rattle.std.specs.FinMap as map;
-    ghost use Rattle.wf_farm.specs.Farm.{Farm, IsFarm};
+    ghost use Rattle.wf_farm.specs.Farm.{Farm, IsSoundFarm};
 
     ghost Value = { Farm T };
 
@@ -42,7 +42,7 @@ impl<T: Tape> Model for Farm<T> {
       complete = f.complete;
     } };
 
-    ghost invariant = { λ f. IsFarm T.durable T.images T.never_fails
+    ghost invariant = { λ f. IsSoundFarm T.durable T.images T.never_fails
         f.cluster.hosts.items f.cluster.sent.items f.pumped f.complete };
 }
 
@@ -99,7 +99,7 @@ impl<T: Tape> Farm<T> {
 impl Farm<MemoryTape> {
     ghost use Rattle.std.specs.Prelude.{◌≡◌, ◌≤◌, true, map, None, IfOk, IfErr, OnOk, OnErr};
     ghost use Rattle.wf_model.specs.World.{start};
-    ghost use Rattle.wf_farm.specs.Agreement.{HasOneHistory, HistoriesGrow, IsOneWorld};
+    ghost use Rattle.wf_farm.specs.Agreement.{HasNoTwoDefinitions, HistoriesGrow, IsOneWorld};
     ghost use Rattle.wf_farm.specs.Allocation.{AllocatesAt};
     ghost use Rattle.wf_farm.specs.Cluster.{ReportsWhy, last_rejected};
     ghost use Rattle.wf_farm.specs.Event.{view};
@@ -171,7 +171,7 @@ impl Farm<MemoryTape> {
     /// publish different definitions under one sequence. And a farm that has all messages is exactly one world of the model.
     #[tactic(auto, using(crate::proofs::Worlds::agree_reached, crate::proofs::Worlds::one_world))]
     pub fn agree(&self)
-        ensures agree { HasOneHistory self.now }
+        ensures agree { HasNoTwoDefinitions self.now }
         ensures world { self.now.complete ≡ true → IsOneWorld self.now }
     {
         let _ = &self.cluster;

@@ -8,10 +8,10 @@ ghost use Rattle.wf_model.specs.World as world;
 ghost use Rattle.wf_node.specs.Input.{view as view_input};
 ghost use Rattle.wf_farm.specs.Allocation.{MayAllocate};
 ghost use Rattle.wf_farm.specs.Carriage.{ChangesByEvent};
-ghost use Rattle.wf_farm.specs.Cluster.{AreMembers, Between, Happens, HoldsIn, KeepMembers, StayShown, input_in};
+ghost use Rattle.wf_farm.specs.Cluster.{AreSoundHosts, Between, Happens, HoldsIn, KeepMembers, StayShown, input_in};
 ghost use Rattle.wf_farm.specs.Event.{view};
 ghost use Rattle.wf_farm.specs.Fused.{FailsOnly, IsHappened, TearsAt, TearsOnly};
-ghost use Rattle.wf_farm.specs.FallibleStep.{GoesThere, IsIdle, IsTaken, ReportsWhyNot, acted, received_as};
+ghost use Rattle.wf_farm.specs.FallibleStep.{GoesThere, IsIdle, TakesItsStep, ReportsWhyNot, acted, received_as};
 ghost use Rattle.wf_farm.specs.declared.carrier.CarrierFault.TheVariants as carriers;
 
 use crate::carrier::{Carrier, CarrierFault, carry_over};
@@ -23,7 +23,6 @@ use crate::rejection::Rejection;
 use std::alloc::Global;
 use wf_ballot::NodeId;
 use wf_canon::Canon;
-use wf_codec::Message;
 use wf_delivery::{MOST_OUTPUTS, send};
 use wf_model::{Action, Kept};
 use wf_node::{Input, Node, NodeFault};
@@ -42,7 +41,7 @@ impl Cluster<MemoryTape> {
         event: &Event,
         keep: usize,
     ) -> Result<Happened, CarrierFault>
-        requires members { AreMembers self.old.hosts.items }
+        requires members { AreSoundHosts self.old.hosts.items }
         requires size { length self.old.hosts.items ≤ 64 }
         ensures done { IfOk result (λ what.
             Between (IsHappened (view event.now) what) self.old self.new) }
@@ -85,7 +84,7 @@ impl Cluster<MemoryTape> {
         crash: Option<Kept>,
         keep: usize,
     ) -> Result<Happened, CarrierFault>
-        requires members { AreMembers self.old.hosts.items }
+        requires members { AreSoundHosts self.old.hosts.items }
         requires size { length self.old.hosts.items ≤ 64 }
         ensures done { IfOk result (λ what. Between
             (IsHappened (acted crash node (numbered action.now)) what) self.old self.new) }
@@ -122,9 +121,9 @@ impl Cluster<MemoryTape> {
     /// Whether a node takes a step: it exists and runs, the step's message was sent, and the node doesn't reject it. Err: nothing happens,
     /// and why the node rejects the step, if it does. Allocates nothing.
     fn takes(&self, node: usize, action: &Action<Canon, usize>) -> Result<(), Option<Rejection>>
-        requires members { AreMembers self.now.hosts.items }
+        requires members { AreSoundHosts self.now.hosts.items }
         ensures within { OnOk result (node < length self.now.hosts.items) }
-        ensures taken { OnOk result (HoldsIn (IsTaken node (numbered action.now)) self.now) }
+        ensures taken { OnOk result (HoldsIn (TakesItsStep node (numbered action.now)) self.now) }
         ensures idle { IfErr result (λ why.
             HoldsIn (IsIdle node (numbered action.now) why) self.now) }
     {
@@ -157,7 +156,7 @@ impl Cluster<MemoryTape> {
         keep: usize,
     ) -> Result<Happened, CarrierFault>
         requires node { node < length self.old.hosts.items }
-        requires taken { HoldsIn (IsTaken node (numbered action.now)) self.old }
+        requires taken { HoldsIn (TakesItsStep node (numbered action.now)) self.old }
         requires size { length self.old.hosts.items ≤ 64 }
         ensures done { IfOk result (λ what. Between
             (IsHappened (received_as received node (numbered action.now)) what) self.old self.new) }
@@ -230,7 +229,7 @@ impl Cluster<MemoryTape> {
     /// Stops a node, if it exists.
     #[tactic(auto, using(crate::proofs::Events::same_members))]
     fn stop(&mut self, alloc: Global, node: usize)
-        requires members { AreMembers self.old.hosts.items }
+        requires members { AreSoundHosts self.old.hosts.items }
         ensures done { Between (Happens (world.Stop node) None) self.old self.new }
         ensures members { KeepMembers self.old.hosts.items self.new.hosts.items }
         ensures grows { length self.old.sent.items ≤ length self.new.sent.items }
@@ -243,7 +242,7 @@ impl Cluster<MemoryTape> {
     /// Restarts a stopped node, if it exists. The only error is allocation failure.
     #[tactic(auto, using(crate::proofs::Events::same_members))]
     fn restart(&mut self, alloc: Global, node: usize) -> Result<Happened, CarrierFault>
-        requires members { AreMembers self.old.hosts.items }
+        requires members { AreSoundHosts self.old.hosts.items }
         requires size { length self.old.hosts.items ≤ 64 }
         ensures done { OnOk result (Between (Happens (world.Restart node) None) self.old self.new) }
         ensures none { IfOk result (λ what. what ≡ record { why = None; torn = None }) }

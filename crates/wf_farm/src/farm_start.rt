@@ -4,9 +4,9 @@ ghost use Rattle.std.specs.Prelude.{◌≡◌, ◌<◌, ◌≤◌, ◌+◌, [], 
 ghost use Rattle.wf_model.specs.World.{start};
 ghost use Rattle.wf_tape.specs.MemoryTape.{NeverFails};
 ghost use Rattle.wf_delivery.specs.Reachability.{fresh_node};
-ghost use Rattle.wf_farm.specs.Cluster.{AreMembers, Refines};
+ghost use Rattle.wf_farm.specs.Cluster.{AreSoundHosts, Refines};
 ghost use Rattle.wf_farm.specs.Fused.{FailsOnly};
-ghost use Rattle.wf_farm.specs.NodeHost.{IsMember, IsNode, tape_in};
+ghost use Rattle.wf_farm.specs.NodeHost.{IsHostOf, HostsNode, tape_in};
 ghost use Rattle.wf_farm.specs.Start.{AreFresh};
 
 use crate::cluster::{Cluster, NodeHost};
@@ -21,7 +21,7 @@ impl Cluster<MemoryTape> {
     pub(crate) fn new(alloc: Global, n: u8) -> Result<Cluster<MemoryTape>, AllocError>
         requires { n ≤ 64 }
         ensures size { IfOk result (λ cluster. length cluster.hosts.items ≡ n) }
-        ensures members { IfOk result (λ cluster. AreMembers cluster.hosts.items) }
+        ensures members { IfOk result (λ cluster. AreSoundHosts cluster.hosts.items) }
         ensures refines { IfOk result (λ cluster.
             Refines cluster.hosts.items cluster.sent.items (start n)) }
         ensures sent { IfOk result (λ cluster. cluster.sent.items ≡ []) }
@@ -70,8 +70,8 @@ fn add_node(
 fn first_node(alloc: Global, id: NodeId, n: u8) -> Result<NodeHost<MemoryTape>, AllocError>
     requires most { n ≤ 64 }
     requires member { id < n }
-    ensures node { IfOk result (λ host. IsNode host fresh_node) }
-    ensures member { IfOk result (IsMember n id) }
+    ensures node { IfOk result (λ host. HostsNode host fresh_node) }
+    ensures member { IfOk result (IsHostOf n id) }
     ensures fuse { IfOk result (λ host. NeverFails (tape_in host)) }
 {
     match open_fresh(alloc, id, n) {

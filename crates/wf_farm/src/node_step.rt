@@ -6,7 +6,7 @@ ghost use Rattle.wf_model.specs.DurableState.{Record, DurableState};
 ghost use Rattle.wf_node.specs.Input.{view};
 ghost use Rattle.wf_tape.specs.MemoryTape.{NeverFails};
 ghost use Rattle.wf_farm.specs.Allocation.{IsStopped};
-ghost use Rattle.wf_farm.specs.NodeHost.{IsMember, KeepsMember, KeepsSturdy, Restarts, Stays, Stops, tape_in, with_fuse_in};
+ghost use Rattle.wf_farm.specs.NodeHost.{IsHostOf, KeepsMember, KeepsSturdy, Restarts, HostStays, Stops, tape_in, with_fuse_in};
 ghost use Rattle.wf_farm.specs.FallibleStep.{Fares, Goes, IsCutTape, IsFew, IsTornTo, kept_beyond};
 ghost use Rattle.wf_farm.specs.declared.cluster.NodeHost.TheVariants.{Running, Stopped};
 
@@ -60,9 +60,9 @@ impl NodeHost<MemoryTape> {
         requires nodes { n ≤ 64 }
         requires member { id < n }
         ensures restarted { OnOk result (Restarts self.old self.new) }
-        ensures err { OnErr result (Stays self.old self.new) }
+        ensures err { OnErr result (HostStays self.old self.new) }
         ensures stopped { OnErr result (IsStopped self.old) }
-        ensures member { IsMember n id self.old → IsMember n id self.new }
+        ensures member { IsHostOf n id self.old → IsHostOf n id self.new }
         ensures sturdy { KeepsSturdy self.old self.new }
     {
         let before = replace(self, NodeHost::blank(alloc));
@@ -89,10 +89,10 @@ impl NodeHost<MemoryTape> {
         requires nodes { n ≤ 64 }
         requires member { id < n }
         ensures restarted { IfOk result (Restarts self) }
-        ensures err { IfErr result (Stays self) }
+        ensures err { IfErr result (HostStays self) }
         ensures stopped { OnErr result (IsStopped self) }
-        ensures member { IfOk result (λ after. IsMember n id self → IsMember n id after) }
-        ensures err_member { IfErr result (IsMember n id) }
+        ensures member { IfOk result (λ after. IsHostOf n id self → IsHostOf n id after) }
+        ensures err_member { IfErr result (IsHostOf n id) }
         ensures sturdy { IfOk result (KeepsSturdy self) }
         ensures err_sturdy { IfErr result (KeepsSturdy self) }
     {
@@ -164,7 +164,7 @@ fn crash(
     ensures torn { (entry : Option (Record Definition)) (before after : DurableState Definition) →
         IsCutTape long entry before after node.tape → IsTornTo before after result.1 result.0 }
     ensures few { IsFew result.1 }
-    ensures member { IsMember node.n node.id result.0 }
+    ensures member { IsHostOf node.n node.id result.0 }
     ensures sturdy { NeverFails (tape_in result.0) }
 {
     let id = node.id();
@@ -204,9 +204,9 @@ fn open_again(
     requires nodes { n ≤ 64 }
     requires member { id < n }
     ensures restarted { IfOk result (Restarts (Stopped tape)) }
-    ensures err { IfErr result (Stays (Stopped tape)) }
-    ensures member { IfOk result (IsMember n id) }
-    ensures err_member { IfErr result (IsMember n id) }
+    ensures err { IfErr result (HostStays (Stopped tape)) }
+    ensures member { IfOk result (IsHostOf n id) }
+    ensures err_member { IfErr result (IsHostOf n id) }
     ensures sturdy { IfOk result (KeepsSturdy (Stopped tape)) }
     ensures err_sturdy { IfErr result (KeepsSturdy (Stopped tape)) }
 {
@@ -226,9 +226,9 @@ fn open_whole(
     requires nodes { n ≤ 64 }
     requires member { id < n }
     ensures restarted { IfOk result (Restarts (Stopped tape)) }
-    ensures err { IfErr result (Stays (Stopped tape)) }
-    ensures member { IfOk result (IsMember n id) }
-    ensures err_member { IfErr result (IsMember n id) }
+    ensures err { IfErr result (HostStays (Stopped tape)) }
+    ensures member { IfOk result (IsHostOf n id) }
+    ensures err_member { IfErr result (IsHostOf n id) }
     ensures sturdy { IfOk result (KeepsSturdy (Stopped tape)) }
     ensures err_sturdy { IfErr result (KeepsSturdy (Stopped tape)) }
 {

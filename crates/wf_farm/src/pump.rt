@@ -6,10 +6,10 @@ ghost use Rattle.wf_model.specs.World.{deliver};
 ghost use Rattle.wf_farm.specs.Agreement.{HistoriesGrow};
 ghost use Rattle.wf_farm.specs.Allocation.{TakesStep};
 ghost use Rattle.wf_farm.specs.Carriage.{ChangesByStep, IsMemory, IsUndelivered};
-ghost use Rattle.wf_farm.specs.Cluster.{AreMembers, Between, KeepMembers};
+ghost use Rattle.wf_farm.specs.Cluster.{AreSoundHosts, Between, KeepMembers};
 ghost use Rattle.wf_farm.specs.Farm.{IsAtOnce, Runs, size};
 ghost use Rattle.wf_farm.specs.Fused.{FailsOnly, HasFaredTo, IsArmed, Stands};
-ghost use Rattle.wf_farm.specs.PumpProgress.{IsEnd, IsForMemory, MayEnd};
+ghost use Rattle.wf_farm.specs.PumpProgress.{IsProgressEnd, IsForMemory, MayEnd};
 ghost use Rattle.wf_farm.specs.Pump.{IsPumped, IsPumpedPart};
 
 use crate::carrier::{Carrier, Copies};
@@ -129,7 +129,7 @@ impl Cluster<MemoryTape> {
         first: usize,
         watch: CrashWatch,
     ) -> Pumping
-        requires members { AreMembers self.old.hosts.items }
+        requires members { AreSoundHosts self.old.hosts.items }
         requires size { length self.old.hosts.items ≤ 64 }
         requires some { 0 < length targets.now }
         requires within { first ≤ length self.old.sent.items }
@@ -137,7 +137,7 @@ impl Cluster<MemoryTape> {
         ensures come { Stands watch.node result.end → Between
             (HasFaredTo watch.node targets.now first result.progress result.torn)
             self.old self.new }
-        ensures end { IsEnd first (length self.new.sent.items) result.progress result.end }
+        ensures end { IsProgressEnd first (length self.new.sent.items) result.progress result.end }
         ensures may { watch.node ≡ None → MayEnd targets.now first result.progress
             self.old.hosts.items self.old.sent.items result.end }
         ensures armed { Stands watch.node result.end →

@@ -6,7 +6,7 @@ ghost use Rattle.wf_block.specs.ReadContract.{Gives};
 
 use crate::slots::{FeatureOnce, FeatureSlots};
 use std::alloc::Global;
-use wf_block::{MapFault, Parser, Slots, fill_block, is_name, once, text_or_empty};
+use wf_block::{Block, MapFault, Parser, Slots, fill_block, is_name, once, text_or_empty};
 use wf_def::{Feature, Part, Point, ShapeParts};
 use wf_token::Token;
 
@@ -40,7 +40,7 @@ impl Slots for FeatureReading {
     #[tactic(auto, unfolding(crate::specs::Feature::feature_put))]
     fn take(&mut self, keyword: Token<'_>, parser: &mut Parser<'_>) -> Result<(), MapFault> {
         if is_name(keyword.text, "POINTS") {
-            let part = read_points(parser, self.most - self.points)?;
+            let part = read_part(parser, self.most - self.points)?;
             let count = part.len();
             self.slots.parts.push(part)?;
             self.points += count;
@@ -81,6 +81,15 @@ impl FeatureSlots {
         }
     }
 
+    /// The keyword that is required and hasn't come.
+    fn lacking(&self) -> Option<&'static str> {
+        if self.parts.as_slice().is_empty() {
+            Some("POINTS")
+        } else {
+            None
+        }
+    }
+
     /// The feature of the slots; absent texts are empty.
     #[tactic(auto, unfolding(crate::specs::Feature::feature_of))]
     fn fill(self, alloc: Global) -> Result<Feature, MapFault>
@@ -107,7 +116,8 @@ pub fn read_feature(parser: &mut Parser<'_>, most: usize) -> Result<(Feature, us
         most,
         points: 0,
     };
-    fill_block(parser, &mut reading)?;
+    fill_block(parser, Block::Feature, &mut reading)?;
+    parser.lacks(reading.slots.lacking());
     let FeatureReading {
         slots,
         most: _,
@@ -116,7 +126,18 @@ pub fn read_feature(parser: &mut Parser<'_>, most: usize) -> Result<(Feature, us
     Ok((slots.fill(parser.alloc())?, points))
 }
 
-/// Reads at most n points up to END (MapServer mapfile reference, POINTS).
+/// Reads a part of at most n points up to its END (MapServer mapfile reference, POINTS).
+fn read_part(parser: &mut Parser<'_>, most: usize) -> Result<Part, MapFault>
+    ensures read { Gives (λ part. (part, parser.new)) result (points most parser.old) }
+    ensures fits { IfOk result (λ part. length part ≤ most) }
+{
+    let outer = parser.enter(Block::Points);
+    let part = read_points(parser, most)?;
+    parser.leave(outer);
+    Ok(part)
+}
+
+/// Reads at most n points up to END.
 #[tactic(auto, unfolding(crate::specs::Feature::points), using(crate::proofs::PointsTheorem::points_step, crate::proofs::PointsTheorem::points_past))]
 fn read_points(parser: &mut Parser<'_>, most: usize) -> Result<Part, MapFault>
     ensures read { Gives (λ part. (part, parser.new)) result (points most parser.old) }
@@ -140,7 +161,10 @@ fn read_point(parser: &mut Parser<'_>, room: bool) -> Result<Point, MapFault>
     ensures read { Gives (λ p. (p, parser.new)) result (if room then point parser.old else None) }
     ensures one { IfOk result (λ _. room ≡ true) }
 {
+    let byte_offset = parser.byte_offset();
+    parser.at_keyword(None);
     let x = parser.number()?;
+    parser.at_keyword(Some(byte_offset));
     if !room {
         return Err(MapFault::TooMany);
     }

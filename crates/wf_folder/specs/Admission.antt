@@ -23,19 +23,19 @@ has_byte Empty = false
 has_byte Written = true
 
 -- the tape of a node is there, or has a byte; there is none past the end of the list
-abbrev pub IsThere : List Presence → ℕ → Type 0
-IsThere tapes i = is_there (slice_index_or tapes i Absent) ≡ true
+abbrev pub IsTapeThere : List Presence → ℕ → Type 0
+IsTapeThere tapes i = is_there (slice_index_or tapes i Absent) ≡ true
 
 abbrev pub HasByte : List Presence → ℕ → Type 0
 HasByte tapes i = has_byte (slice_index_or tapes i Absent) ≡ true
 
 -- the tapes of n nodes are all there
 abbrev pub AllAreThere : ℕ → List Presence → Type 0
-AllAreThere nodes tapes = (i : ℕ) → i < nodes → IsThere tapes i
+AllAreThere nodes tapes = (i : ℕ) → i < nodes → IsTapeThere tapes i
 
 -- no tape of another node is
 abbrev pub NoneIsSurplus : ℕ → List Presence → Type 0
-NoneIsSurplus nodes tapes = (i : ℕ) → nodes ≤ i → ¬ IsThere tapes i
+NoneIsSurplus nodes tapes = (i : ℕ) → nodes ≤ i → ¬ IsTapeThere tapes i
 
 -- no tape has a byte
 abbrev pub AllAreEmpty : List Presence → Type 0
@@ -44,14 +44,14 @@ AllAreEmpty tapes = (i : ℕ) → ¬ HasByte tapes i
 -- The first of the nodes' tapes that isn't there.
 pub record IsFirstMissing (nodes : ℕ) (tapes : List Presence) (i : ℕ) : Type 0 where
   pub within : i < nodes
-  pub missing : ¬ IsThere tapes i
+  pub missing : ¬ IsTapeThere tapes i
   pub first : AllAreThere i tapes
 
 -- The first tape of another node.
 pub record IsFirstSurplus (nodes : ℕ) (tapes : List Presence) (i : ℕ) : Type 0 where
   pub beyond : nodes ≤ i
-  pub surplus : IsThere tapes i
-  pub first : (k : ℕ) → nodes ≤ k → k < i → ¬ IsThere tapes k
+  pub surplus : IsTapeThere tapes i
+  pub first : (k : ℕ) → nodes ≤ k → k < i → ¬ IsTapeThere tapes k
 
 -- ---- what a farm of n nodes may start on
 
@@ -87,12 +87,12 @@ HasBegun (finds.Bad fault) tapes = ⊥
 
 -- The cause: the file is bad; it is that of another number of nodes; if neither, a tape of another node is there; if none is, a
 -- tape is missing of a folder that has begun.
-abbrev pub IsRejection : ℕ → FoundFile → List Presence → StartRejection → Type 0
-IsRejection nodes found tapes (causes.BadFile fault) = found ≡ finds.Bad fault
-IsRejection nodes found tapes (causes.OtherNodes other) = (file : FarmFile) × (found ≡ finds.File file) × (file.nodes ≡ other) × (other ≢ nodes)
-IsRejection nodes found tapes (causes.SurplusTape i) = IsOwnOrNone nodes found × IsFirstSurplus nodes tapes i
-IsRejection nodes found tapes (causes.MissingTape i) = IsOwnOrNone nodes found × NoneIsSurplus nodes tapes × HasBegun found tapes × IsFirstMissing nodes tapes i
+abbrev pub IsAdmissionFault : ℕ → FoundFile → List Presence → StartRejection → Type 0
+IsAdmissionFault nodes found tapes (causes.BadFile fault) = found ≡ finds.Bad fault
+IsAdmissionFault nodes found tapes (causes.OtherNodes other) = (file : FarmFile) × (found ≡ finds.File file) × (file.nodes ≡ other) × (other ≢ nodes)
+IsAdmissionFault nodes found tapes (causes.SurplusTape i) = IsOwnOrNone nodes found × IsFirstSurplus nodes tapes i
+IsAdmissionFault nodes found tapes (causes.MissingTape i) = IsOwnOrNone nodes found × NoneIsSurplus nodes tapes × HasBegun found tapes × IsFirstMissing nodes tapes i
 
 -- no start is both
 abbrev pub StartsAreNotRejected : Type 0
-StartsAreNotRejected = (nodes : ℕ) (found : FoundFile) (tapes : List Presence) (start : Start) (why : StartRejection) → IsStart nodes found tapes start → ¬ IsRejection nodes found tapes why
+StartsAreNotRejected = (nodes : ℕ) (found : FoundFile) (tapes : List Presence) (start : Start) (why : StartRejection) → IsStart nodes found tapes start → ¬ IsAdmissionFault nodes found tapes why

@@ -1,5 +1,5 @@
 -- On what a node may start: the file `farm` and the tape of a folder, in a farm of n nodes, and what the tape holds.
-use Rattle.std.specs.Prelude.{◌≡◌, ◌≢◌, ◌<◌, ◌≤◌, ℕ, true, List, Option, Some, None}
+use Rattle.std.specs.Prelude.{◌≡◌, ◌≢◌, ◌<◌, ◌≤◌, ℕ, true, List, Option, Some}
 use Rattle.wf_folder.specs.declared.node_admission.NodeFound.{NodeFound}
 use Rattle.wf_folder.specs.declared.node_admission.NodeFound.TheVariants as finds
 use Rattle.wf_folder.specs.declared.node_admission.NodeRejection.{NodeRejection}
@@ -20,7 +20,7 @@ IsSoundFind (finds.Bad fault) = Unit {0}
 
 -- The node's file is there, of a farm of n nodes, and its tape, and a further start can be counted: the file of this start counts it, and
 -- says what it said otherwise.
-pub record IsStartOn (nodes : ℕ) (file : NodeFile) (tape : Presence) (now : NodeFile) : Type 0 where
+pub record IsAdmittedStart (nodes : ℕ) (file : NodeFile) (tape : Presence) (now : NodeFile) : Type 0 where
   pub same_nodes : file.nodes ≡ nodes
   pub has_tape : is_there tape ≡ true
   pub countable : file.starts < last_start
@@ -28,7 +28,7 @@ pub record IsStartOn (nodes : ℕ) (file : NodeFile) (tape : Presence) (now : No
 
 abbrev pub IsNodeStart : ℕ → NodeFound → Presence → NodeFile → Type 0
 IsNodeStart nodes finds.Nothing tape now = ⊥
-IsNodeStart nodes (finds.File file) tape now = IsStartOn nodes file tape now
+IsNodeStart nodes (finds.File file) tape now = IsAdmittedStart nodes file tape now
 IsNodeStart nodes (finds.Bad fault) tape now = ⊥
 
 -- why a node doesn't start on this file: it is of another number of nodes; if not, the tape is missing; if not, it counts no further start

@@ -1,6 +1,6 @@
 //! Whether the nodes of a farm may start on what is in a folder.
 ghost use Rattle.std.specs.Prelude.{◌≡◌, ◌≤◌, ◌<◌, ℕ, length, false, true, IfErr, IfNone, IfOk, IfSome};
-ghost use Rattle.wf_folder.specs.Admission.{AllAreEmpty, AllAreThere, HasByte, IsFirstMissing, IsFirstSurplus, IsRejection, IsStart, NoneIsSurplus};
+ghost use Rattle.wf_folder.specs.Admission.{AllAreEmpty, AllAreThere, HasByte, IsFirstMissing, IsFirstSurplus, IsAdmissionFault, IsStart, NoneIsSurplus};
 
 use crate::farm_file::FarmFile;
 use crate::fault::FileFault;
@@ -54,7 +54,7 @@ pub enum StartRejection {
 pub fn admit(nodes: u8, found: FoundFile, tapes: &[Presence]) -> Result<Start, StartRejection>
     requires { nodes ≤ length tapes.now }
     ensures start { IfOk result (IsStart nodes found tapes.now) }
-    ensures rejection { IfErr result (IsRejection nodes found tapes.now) }
+    ensures rejection { IfErr result (IsAdmissionFault nodes found tapes.now) }
 {
     match found {
         FoundFile::Nothing => admit_without_file(nodes as usize, tapes),
@@ -67,7 +67,7 @@ pub fn admit(nodes: u8, found: FoundFile, tapes: &[Presence]) -> Result<Start, S
 fn admit_with_file(nodes: u8, file: FarmFile, tapes: &[Presence]) -> Result<Start, StartRejection>
     requires { nodes ≤ length tapes.now }
     ensures start { IfOk result (IsStart nodes (FoundFile.File file) tapes.now) }
-    ensures rejection { IfErr result (IsRejection nodes (FoundFile.File file) tapes.now) }
+    ensures rejection { IfErr result (IsAdmissionFault nodes (FoundFile.File file) tapes.now) }
 {
     if file.nodes != nodes {
         return Err(StartRejection::OtherNodes(file.nodes));
@@ -85,7 +85,7 @@ fn admit_with_file(nodes: u8, file: FarmFile, tapes: &[Presence]) -> Result<Star
 fn admit_without_file(nodes: usize, tapes: &[Presence]) -> Result<Start, StartRejection>
     requires { nodes ≤ length tapes.now }
     ensures start { IfOk result (IsStart nodes FoundFile.Nothing tapes.now) }
-    ensures rejection { IfErr result (IsRejection nodes FoundFile.Nothing tapes.now) }
+    ensures rejection { IfErr result (IsAdmissionFault nodes FoundFile.Nothing tapes.now) }
 {
     if let Some(tape) = first_surplus(nodes, tapes) {
         return Err(StartRejection::SurplusTape(tape));

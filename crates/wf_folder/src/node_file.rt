@@ -1,9 +1,8 @@
 //! The file `farm` of a folder that one node uses, and its text.
-ghost use Rattle.std.specs.Prelude.{◌≡◌, ◌≤◌, ◌<◌, ◌++◌, [], Some, None, length, IfOk, OnOk, IfSome, SomeIff};
+ghost use Rattle.std.specs.Prelude.{◌≡◌, ◌<◌, ◌++◌, [], Some, None, length, IfOk, OnOk, IfSome, SomeIff};
 ghost use Rattle.wf_folder.specs.FarmFile.{IsNumberOfNodes};
 ghost use Rattle.wf_folder.specs.NodeFile.{IsNodeFile, farm_line, known_then, last_start, node_end, node_line, node_text, raised_known, started, starts_line, suspended_then};
 ghost use Rattle.wf_folder.specs.Reach.{IsKnown, IsNoLess, IsPromise, IsReach, IsVoteOrNone, nothing_known};
-ghost use Rattle.wf_folder.specs.Suspension.{IsSuspension};
 
 use crate::digest::push_digest;
 use crate::farm_file::{push_mark, push_nodes};

@@ -1,7 +1,7 @@
 //! The text of a node's file `farm` is read.
 ghost use Rattle.std.specs.Prelude.{◌≡◌, ◌≢◌, ◌<◌, ◌+◌, ◌/◌, ◌%◌, ◌^◌, ◌++◌, ℕ, List, Option, None, Some, length, IfErr, IfOk, IfNone, IfSome, IsErrOf};
 ghost use Rattle.hex.specs.Hex.{IsBytes};
-ghost use Rattle.wf_folder.specs.FarmFile.{IsNumberOfNodes, first_line, mark_line};
+ghost use Rattle.wf_folder.specs.FarmFile.{IsNumberOfNodes, first_line};
 ghost use Rattle.wf_folder.specs.Name.{IsFarmName};
 ghost use Rattle.wf_folder.specs.NodeFile.{IsNodeFile, IsOldFile, IsTextOf, farm_and_mark, farm_line, kind_node_line, known_then, node_fields, node_first_line, node_line, numbers_then, old_node_fields, starts_line, suspended_then};
 ghost use Rattle.wf_folder.specs.Reach.{IsKnown};

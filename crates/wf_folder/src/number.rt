@@ -1,7 +1,6 @@
 //! Numbers of 32 bits in texts: eight hexadecimal digits in lowercase.
-ghost use Rattle.std.specs.Prelude.{◌≡◌, ◌≢◌, ◌<◌, ◌^◌, ◌++◌, ℕ, List, length, IfNone, IfSome, OnErr, OnOk};
-ghost use Rattle.std.specs.Int.{w32, to_be_bytes};
-ghost use Rattle.hex.specs.Hex.{encode_lower};
+ghost use Rattle.std.specs.Prelude.{◌≡◌, ◌≢◌, ◌<◌, ◌^◌, ◌++◌, ℕ, List, IfNone, IfSome, OnErr, OnOk};
+ghost use Rattle.std.specs.Int.{to_be_bytes};
 ghost use Rattle.wf_folder.specs.Number.{number_digits};
 
 use std::alloc::AllocError;

@@ -1,5 +1,5 @@
 //! The text of the file `farm` is read.
-ghost use Rattle.std.specs.Prelude.{◌≡◌, ◌≢◌, ◌≤◌, ◌+◌, ◌/◌, ◌%◌, ◌++◌, ℕ, List, length, IfErr, IfOk, IfNone, IfSome, IsErrOf, MatchOption};
+ghost use Rattle.std.specs.Prelude.{◌≡◌, ◌≢◌, ◌+◌, ◌/◌, ◌%◌, ◌++◌, ℕ, List, length, IfErr, IfOk, IfNone, IfSome, IsErrOf, MatchOption};
 ghost use Rattle.hex.specs.Hex.{IsBytes, encode_lower};
 ghost use Rattle.wf_folder.specs.FarmFile.{IsFarmFile, IsNumberOfNodes, beginning_line, farm_text, first_line, kind_line, mark_line, nodes_line};
 ghost use Rattle.wf_folder.specs.declared.farm_file.Beginning.{Beginning};

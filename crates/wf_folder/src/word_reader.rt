@@ -1,5 +1,5 @@
 //! Words with numbers, marks, promises and votes are read.
-ghost use Rattle.std.specs.Prelude.{◌≡◌, ◌≢◌, ◌<◌, ◌≤◌, ◌^◌, ◌++◌, ℕ, List, Option, Some, codes, length, IfNone, IfSome};
+ghost use Rattle.std.specs.Prelude.{◌≡◌, ◌≢◌, ◌<◌, ◌^◌, ℕ, List, Option, Some, codes, length, IfNone, IfSome};
 ghost use Rattle.hex.specs.Hex.{IsBytes};
 ghost use Rattle.wf_ballot.specs.Ballot.{Ballot as BallotValue, IsBallot};
 ghost use Rattle.wf_ballot.specs.Node.{IsNode};

@@ -1,6 +1,6 @@
 -- What a body ends with, after its fields of fixed length: nothing, a text, or a report.
 use Rattle.std.specs.Prelude.{ℕ, Bool, true, List, [], ◌∷◌, Option, Some, is_some}
-use Rattle.wf_frame.specs.Report.{Report, IsText, IsReport, report_bytes, most_report, report_of, votes_definitions, texts_of_read}
+use Rattle.wf_frame.specs.Report.{Report, IsBoundedText, IsVoteReport, report_bytes, most_report, report_of, votes_definitions, texts_of_read}
 
 -- `most` is the most bytes of a text. A text at the end fills the rest of the body.
 pub data Ending : Type 0 where
@@ -16,8 +16,8 @@ End (Votes most) = Report
 
 abbrev pub IsEnd : (ending : Ending) → End ending → Type 0
 IsEnd Nothing end = Unit {0}
-IsEnd (Text most) text = IsText most text
-IsEnd (Votes most) report = IsReport most report
+IsEnd (Text most) text = IsBoundedText most text
+IsEnd (Votes most) report = IsVoteReport most report
 
 abbrev pub end_bytes : (ending : Ending) → End ending → List ℕ
 end_bytes Nothing end = []

@@ -26,7 +26,7 @@ abbrev pub votes_with : {V W : Type 0} → (V → W) → List (Option (Vote V)) 
 votes_with f votes = map (vote_with f) votes
 
 -- a text that isn't empty and has at most so many bytes
-pub record IsText (most : ℕ) (text : List ℕ) : Type 0 where
+pub record IsBoundedText (most : ℕ) (text : List ℕ) : Type 0 where
   pub least : 1 ≤ length text
   pub within : length text ≤ most
 
@@ -39,11 +39,11 @@ AreVotesOf P [] = Unit {0}
 AreVotesOf P (vote ∷ votes) = IsVoteOf P vote × AreVotesOf P votes
 
 -- each part is in its range, and there are as many votes as the slot has sequences; the length of a text has 4 bytes
-pub record IsReport (most : ℕ) (report : Report) : Type 0 where
+pub record IsVoteReport (most : ℕ) (report : Report) : Type 0 where
   pub slot : IsSlot report.slot
   pub ballot : IsBallot report.ballot
   pub count : length report.votes ≡ votes_in_report report.slot
-  pub votes : AreVotesOf (IsText most) report.votes
+  pub votes : AreVotesOf (IsBoundedText most) report.votes
   pub four_bytes : most < 2 ^ 32
 
 -- ---- its bytes

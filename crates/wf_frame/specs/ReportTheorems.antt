@@ -14,7 +14,7 @@ use Rattle.wf_ballot.specs.FieldTheorems.{length-seq_bytes, length-ballot_bytes}
 use Rattle.wf_model.specs.Message.{Vote}
 use Rattle.wf_model.specs.VolatileState.{window}
 use Rattle.wf_model.specs.Table.{sequences_from}
-use Rattle.wf_frame.specs.Report.{Report, votes_in_report, IsText, IsVoteOf, AreVotesOf, IsReport, text_bytes, vote_bytes, votes_bytes, report_bytes, most_report, front_text, front_vote, votes_of, report_of}
+use Rattle.wf_frame.specs.Report.{Report, votes_in_report, IsBoundedText, IsVoteOf, AreVotesOf, IsVoteReport, text_bytes, vote_bytes, votes_bytes, report_bytes, most_report, front_text, front_vote, votes_of, report_of}
 
 -- bytes after the front are bytes
 pub AreBytes-rest : (front rest : List ℕ) → AreBytes (front ++ rest) → AreBytes rest
@@ -44,7 +44,7 @@ text_stands most (a ∷ b ∷ c ∷ d ∷ bytes) rest text fits e =
     ∙ ap (λ (t : List ℕ). (t ++ take n bytes) ++ drop n bytes) (sym size) in
     subst (λ (x : List ℕ × List ℕ). head ++ bytes ≡ (to_be_bytes w32 (length x.0) ++ x.0) ++ x.1) k.1 joined
 
-text_again : (most : ℕ) (text rest : List ℕ) → IsText most text → most < 2 ^ 32 → front_text most (text_bytes text ++ rest) ≡ Some (text, rest)
+text_again : (most : ℕ) (text rest : List ℕ) → IsBoundedText most text → most < 2 ^ 32 → front_text most (text_bytes text ++ rest) ≡ Some (text, rest)
 unfolding front_text text_bytes
 text_again most text rest is_text short =
     let again : from_be_bytes w32 (to_be_bytes w32 (length text)) ≡ length text = from_be_bytes-to_be_bytes_4 (length text) (omega (arith, is_text.within)) in
@@ -81,7 +81,7 @@ vote_stands most (suc zero ∷ bytes) rest vote fits e =
     subst (λ (v : Option (Vote (List ℕ)) × List ℕ). 1 ∷ bytes ≡ vote_bytes v.0 ++ v.1) same_read spelled))
 vote_stands most (suc (suc mark) ∷ bytes) rest vote fits e = absurd cc
 
-vote_again : (most : ℕ) (vote : Option (Vote (List ℕ))) (rest : List ℕ) → IsVoteOf (IsText most) vote → most < 2 ^ 32 → front_vote most (vote_bytes vote ++ rest) ≡ Some (vote, rest)
+vote_again : (most : ℕ) (vote : Option (Vote (List ℕ))) (rest : List ℕ) → IsVoteOf (IsBoundedText most) vote → most < 2 ^ 32 → front_vote most (vote_bytes vote ++ rest) ≡ Some (vote, rest)
 unfolding front_vote vote_bytes
 vote_again most None rest is short = refl
 vote_again most (Some v) rest is short =
@@ -102,7 +102,7 @@ votes_stand most (suc count) bytes votes fits e =
     let same_read : x.0 ∷ others ≡ votes = cc in
     subst (λ (v : List (Option (Vote (List ℕ)))). bytes ≡ votes_bytes v) same_read (front ∙ ap (λ (t : List ℕ). vote_bytes x.0 ++ t) behind)))
 
-votes_again : (most : ℕ) (votes : List (Option (Vote (List ℕ)))) → AreVotesOf (IsText most) votes → most < 2 ^ 32 → votes_of most (length votes) (votes_bytes votes) ≡ Some votes
+votes_again : (most : ℕ) (votes : List (Option (Vote (List ℕ)))) → AreVotesOf (IsBoundedText most) votes → most < 2 ^ 32 → votes_of most (length votes) (votes_bytes votes) ≡ Some votes
 unfolding votes_of votes_bytes
 votes_again most [] are short = refl
 votes_again most (vote ∷ votes) are short = rw (vote_again most vote (votes_bytes votes) are.0 short, votes_again most votes are.1 short) refl
@@ -128,7 +128,7 @@ report_stands most bytes report fits e =
     ∙ sym (append_assoc (seq_bytes x.0) (ballot_bytes y.0) (votes_bytes votes))))))
 
 -- a report is read from its bytes
-pub report_again : (most : ℕ) (report : Report) → IsReport most report → report_of most (report_bytes report) ≡ Some report
+pub report_again : (most : ℕ) (report : Report) → IsVoteReport most report → report_of most (report_bytes report) ≡ Some report
 unfolding report_of report_bytes
 report_again most report is =
     let joined : (seq_bytes report.slot ++ ballot_bytes report.ballot) ++ votes_bytes report.votes ≡ seq_bytes report.slot ++ (ballot_bytes report.ballot ++ votes_bytes report.votes) =
@@ -158,7 +158,7 @@ at_least : (slot : ℕ) → IsSlot slot → 1 ≤ votes_in_report slot
 unfolding sequences_from
 at_least slot is = rw (le-leb slot last_sequence (omega (arith, is.to_last))) (omega arith)
 
-vote_length : (most : ℕ) (vote : Option (Vote (List ℕ))) → IsVoteOf (IsText most) vote → (1 ≤ length (vote_bytes vote)) × (length (vote_bytes vote) ≤ 10 + most)
+vote_length : (most : ℕ) (vote : Option (Vote (List ℕ))) → IsVoteOf (IsBoundedText most) vote → (1 ≤ length (vote_bytes vote)) × (length (vote_bytes vote) ≤ 10 + most)
 unfolding vote_bytes text_bytes
 vote_length most None is = (omega arith, omega arith)
 vote_length most (Some v) is =
@@ -168,7 +168,7 @@ vote_length most (Some v) is =
     omega (arith, length-append (ballot_bytes v.ballot) text, length-ballot_bytes v.ballot) in
     (omega arith, omega arith)
 
-votes_length : (most : ℕ) (votes : List (Option (Vote (List ℕ)))) → AreVotesOf (IsText most) votes → (length votes ≤ length (votes_bytes votes)) × (length (votes_bytes votes) ≤ length votes * (10 + most))
+votes_length : (most : ℕ) (votes : List (Option (Vote (List ℕ)))) → AreVotesOf (IsBoundedText most) votes → (length votes ≤ length (votes_bytes votes)) × (length (votes_bytes votes) ≤ length votes * (10 + most))
 unfolding votes_bytes
 votes_length most [] are = (omega arith, omega arith)
 votes_length most (vote ∷ votes) are =
@@ -194,7 +194,7 @@ times zero n k h = omega arith
 times (suc m) zero k h = absurd (omega arith)
 times (suc m) (suc n) k h = let rest : m * k ≤ n * k = times m n k (omega arith) in omega arith
 
-pub report_length : (most : ℕ) (report : Report) → IsReport most report → (8 ≤ length (report_bytes report)) × (length (report_bytes report) ≤ most_report most)
+pub report_length : (most : ℕ) (report : Report) → IsVoteReport most report → (8 ≤ length (report_bytes report)) × (length (report_bytes report) ≤ most_report most)
 report_length most report is =
     let whole : length (report_bytes report) ≡ 7 + length (votes_bytes report.votes) = length-report report in
     let (least, within) = votes_length most report.votes is.votes in

@@ -4,7 +4,7 @@ use Rattle.std.proofs.Common.{◌≡◌, ℕ, ◌+◌, ◌<◌, ◌≤◌, ◌^�
 use Rattle.std.specs.Prelude.{option_map, option_and_then}
 use Rattle.wf_ballot.specs.Front.{AreBytes}
 use Rattle.wf_frame.specs.Field.{Field, NodeField, SlotField, RoundField, BallotField, FieldValue, NodeValue, SlotValue, RoundValue, BallotValue, Value, value_bytes, field_of, value_of, value_with}
-use Rattle.wf_frame.specs.Report.{IsText}
+use Rattle.wf_frame.specs.Report.{IsBoundedText}
 use Rattle.wf_frame.specs.BodyEnd.{Ending, Nothing, Text, Votes, End, end_texts, most_end}
 use Rattle.wf_frame.specs.Layout.{Layout, Parts, Body, AreParts, parts_bytes, body_bytes, end_of, widths, fits, read_body, has_fields, texts_in}
 use Rattle.wf_frame.specs.Row.{Row, RowEnd, NoEnd, TextEnd, VotesEnd, end_definitions, AreInRange, IsRowOf, fields_bytes, row_end_bytes, row_bytes, row_ending, row_layout, values_in, end_from, row_from, layout_of, read_row}
@@ -25,7 +25,7 @@ abbrev body_of_row : (most : ℕ) (r : Row (List ℕ)) → Body (row_layout most
 body_of_row most r = row_parts most r.fields r.ending
 
 -- its fields are in their ranges
-row_parts_fit : (most : ℕ) (values : List FieldValue) (end : RowEnd (List ℕ)) → most < 2 ^ 32 → AreInRange (IsText most) values end → AreParts (map field_of values) (row_ending most end) (row_parts most values end)
+row_parts_fit : (most : ℕ) (values : List FieldValue) (end : RowEnd (List ℕ)) → most < 2 ^ 32 → AreInRange (IsBoundedText most) values end → AreParts (map field_of values) (row_ending most end) (row_parts most values end)
 row_parts_fit most [] NoEnd short p = tt
 row_parts_fit most [] (TextEnd text) short p = p
 row_parts_fit most [] (VotesEnd s b votes) short p = record { slot = p.0; ballot = p.1; count = p.2; votes = p.3; four_bytes = short }
@@ -99,7 +99,7 @@ unfolding row_bytes
 row_length r = omega (arith, length-append (fields_bytes r.fields) (row_end_bytes r.ending), fields_length r.fields)
 
 -- a row's body has a length that its layout allows
-pub row_fits : (most : ℕ) (r : Row (List ℕ)) → most < 2 ^ 32 → IsRowOf (IsText most) r → fits (row_layout most r) (length (row_bytes r)) ≡ true
+pub row_fits : (most : ℕ) (r : Row (List ℕ)) → most < 2 ^ 32 → IsRowOf (IsBoundedText most) r → fits (row_layout most r) (length (row_bytes r)) ≡ true
 row_fits most r short is =
     ap (λ (bytes : List ℕ). fits (row_layout most r) (length bytes)) (bytes_of_row_body most r) ∙ body_fits (row_layout most r) (body_of_row most r) (row_parts_fit most r.fields r.ending short is)
 
@@ -123,7 +123,7 @@ kinds_within most (kind ∷ kinds) byte layout n within e has =
 -- ---- reading
 
 -- a row's body is read as the row
-pub row_read : (kinds : List (ℕ × Layout)) (most : ℕ) (r : Row (List ℕ)) → most < 2 ^ 32 → layout_of kinds r.byte ≡ Some (row_layout most r) → IsRowOf (IsText most) r → read_row kinds r.byte (row_bytes r) ≡ Some r
+pub row_read : (kinds : List (ℕ × Layout)) (most : ℕ) (r : Row (List ℕ)) → most < 2 ^ 32 → layout_of kinds r.byte ≡ Some (row_layout most r) → IsRowOf (IsBoundedText most) r → read_row kinds r.byte (row_bytes r) ≡ Some r
 unfolding read_row
 row_read kinds most r short known is =
     ap (option_and_then (λ layout. read_body layout (row_bytes r) (row_from r.byte layout))) known

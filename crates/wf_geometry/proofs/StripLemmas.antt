@@ -5,7 +5,7 @@ use Rattle.std.proofs.lemmas.Int.{ints}
 use Rattle.wf_geometry.specs.Exact.{plus, difference, product, opposite, quotient, is_less, number_of}
 use Rattle.wf_geometry.specs.Level.{level, row_level, level_at, is_in_margin}
 use Rattle.wf_geometry.specs.Span.{IsSpanOf, is_within}
-use Rattle.wf_geometry.specs.Strip.{is_in_strip, AreEnds, IsEnd, IsFar}
+use Rattle.wf_geometry.specs.Strip.{is_in_strip, AreEnds, IsStripEnd, IsFar}
 use Rattle.wf_geometry.specs.declared.levels.Levels.{Levels}
 use Rattle.wf_geometry.specs.declared.row.Quotient.{Quotient}
 use Rattle.wf_geometry.specs.declared.level.Span.{Span}
@@ -100,7 +100,7 @@ unfolding plus difference
 one_more n bound z is = omega (arith, ints)
 
 end_begins : (l : Levels) (bound here : ℤ) (row step : ℕ) (q : Quotient) → here ≡ row_level l row →
-    number_of step q ≡ difference (difference bound here) (pos 1) → q.rest < step → IsEnd bound l.origin (product (pos pixel_side) l.up) step row q
+    number_of step q ≡ difference (difference bound here) (pos 1) → q.rest < step → IsStripEnd bound l.origin (product (pos pixel_side) l.up) step row q
 unfolding row_level
 end_begins l bound here row step q is value rest = record { value = one_more (number_of step q) bound here value ∙ ap (difference bound) is; rest = rest }
 

@@ -6,8 +6,8 @@ abbrev pub IsNear : ℤ → Type 0
 IsNear z = nat_abs z ≤ 2 ^ 53
 
 -- the distance of two positions
-abbrev pub IsReach : ℤ → Type 0
-IsReach z = nat_abs z ≤ 2 ^ 54
+abbrev pub IsDistance : ℤ → Type 0
+IsDistance z = nat_abs z ≤ 2 ^ 54
 
 -- a product of two such distances
 abbrev pub IsArea : ℤ → Type 0

@@ -13,7 +13,7 @@ unfoldable pub is_in_strip : Levels → Span → Span → ℕ → ℕ → Bool
 is_in_strip l rows columns column row = is_within columns column && (is_within rows row && is_in_margin l.margin (level_at l column row))
 
 -- the whole part tells which pixels of the row lie below the bound: those up to it
-pub record IsEnd (bound start change : ℤ) (step row : ℕ) (q : Quotient) : Type 0 where
+pub record IsStripEnd (bound start change : ℤ) (step row : ℕ) (q : Quotient) : Type 0 where
   pub value : plus (number_of step q) (pos 1) ≡ difference bound (level start change (pos row))
   pub rest : q.rest < step
 
@@ -21,7 +21,7 @@ pub record IsEnd (bound start change : ℤ) (step row : ℕ) (q : Quotient) : Ty
 pub record AreEnds (l : Levels) (row : ℕ) (e : RowEnds) : Type 0 where
   pub across : pos e.step ≡ product (pos pixel_side) l.across
   pub most : e.step ≤ 2 ^ 60
-  pub begins : IsEnd (opposite l.margin) l.origin (product (pos pixel_side) l.up) e.step row e.low
+  pub begins : IsStripEnd (opposite l.margin) l.origin (product (pos pixel_side) l.up) e.step row e.low
   pub near : nat_abs e.low.whole ≤ (row + 1) * 2 ^ 51
   pub apart : number_of e.step e.gap ≡ plus l.margin l.margin
   pub gap_rest : e.gap.rest < e.step

@@ -1,7 +1,6 @@
 //! Which pixels a shape covers.
 ghost use Rattle.std.specs.Prelude.{◌≡◌, ◌≤◌, ◌^◌, nat_abs, pos};
-ghost use Rattle.wf_def.specs.Limit.{most_width};
-ghost use Rattle.wf_geometry.specs.Near.{IsReach, IsArea};
+ghost use Rattle.wf_geometry.specs.Near.{IsDistance, IsArea};
 ghost use Rattle.wf_geometry.specs.Coverage.{run, rise, is_left_of, is_beside, meets, crosses, is_inside, deviation, margin, is_along, is_in_band, is_across, is_on_flat, is_steep, is_on, is_on_any};
 ghost use Rattle.wf_geometry.specs.Operation.{covers, operation_value};
 
@@ -29,7 +28,7 @@ pub fn covers(operation: &Operation, pixel: Pixel) -> bool
 #[tactic(auto, unfolding(crate::specs::Coverage::run))]
 pub(crate) fn run(from: Position, to: Position) -> i64
     ensures value { result ≡ run from to }
-    ensures within { IsReach result }
+    ensures within { IsDistance result }
 {
     difference(to.x(), from.x())
 }
@@ -38,7 +37,7 @@ pub(crate) fn run(from: Position, to: Position) -> i64
 #[tactic(auto, unfolding(crate::specs::Coverage::rise))]
 pub(crate) fn rise(from: Position, to: Position) -> i64
     ensures value { result ≡ rise from to }
-    ensures within { IsReach result }
+    ensures within { IsDistance result }
 {
     difference(to.y(), from.y())
 }

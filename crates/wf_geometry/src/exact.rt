@@ -1,6 +1,6 @@
 //! Exact integer arithmetic for views and coverage: one function for each operation.
-ghost use Rattle.std.specs.Prelude.{◌≡◌, ◌≤◌, ◌^◌, pos, ◌<ℤ◌, nat_abs};
-ghost use Rattle.wf_geometry.specs.Near.{IsNear, IsReach, IsArea};
+ghost use Rattle.std.specs.Prelude.{◌≡◌, ◌≤◌, ◌^◌, nat_abs};
+ghost use Rattle.wf_geometry.specs.Near.{IsNear, IsDistance, IsArea};
 ghost use Rattle.wf_geometry.specs.Exact.{difference, product, opposite, is_less};
 
 /// `a` less `b`.
@@ -9,7 +9,7 @@ pub(crate) fn difference(a: i64, b: i64) -> i64
     requires first { IsNear a }
     requires second { IsNear b }
     ensures value { result ≡ difference a b }
-    ensures within { IsReach result }
+    ensures within { IsDistance result }
 {
     a - b
 }
@@ -17,8 +17,8 @@ pub(crate) fn difference(a: i64, b: i64) -> i64
 /// The product of two distances.
 #[tactic(auto, unfolding(crate::specs::Exact::product))]
 pub(crate) fn product(a: i64, b: i64) -> i128
-    requires first { IsReach a }
-    requires second { IsReach b }
+    requires first { IsDistance a }
+    requires second { IsDistance b }
     ensures value { result ≡ product a b }
     ensures within { IsArea result }
 {

@@ -1,6 +1,5 @@
 //! The tile grid.
 ghost use Rattle.std.specs.Prelude.{◌≡◌, ◌≤◌, ◌+◌, ◌*◌, ◌^◌, ◌==◌, ◌&&◌, ℕ, ℤ, pos, true, false, nat_abs, IfSome, IfNone};
-ghost use Rattle.wf_def.specs.Extent.{IsExtent};
 ghost use Rattle.wf_def.specs.Limit.{most_millionths};
 ghost use Rattle.wf_def.specs.Number.{IsMicro};
 ghost use Rattle.wf_geometry.specs.Exact.{plus, difference, product, quotient};

@@ -1,5 +1,5 @@
 //! The pixels of a row between two bounds.
-ghost use Rattle.std.specs.Prelude.{◌≡◌, ◌≤◌, ◌^◌, ◌&&◌, not, pos, nat_abs};
+ghost use Rattle.std.specs.Prelude.{◌≡◌, ◌&&◌, not, pos};
 ghost use Rattle.wf_geometry.specs.Near.{IsNear, IsArea};
 ghost use Rattle.wf_geometry.specs.Exact.{plus, is_less};
 ghost use Rattle.wf_geometry.specs.Position.{middle};

@@ -1,6 +1,6 @@
 //! Lines of a given width along segments: each is a strip of the picture.
 ghost use Rattle.std.specs.Prelude.{◌≡◌, ℕ, ◌*◌, ◌≤◌, ◌<◌, ◌^◌, ◌≤ℤ◌, false, pos, nat_abs};
-ghost use Rattle.wf_geometry.specs.Near.{IsNear, IsReach, IsArea};
+ghost use Rattle.wf_geometry.specs.Near.{IsNear, IsDistance, IsArea};
 ghost use Rattle.wf_geometry.specs.Exact.{plus, difference, opposite, is_less};
 ghost use Rattle.wf_geometry.specs.Limit.{half_side};
 ghost use Rattle.wf_geometry.specs.Level.{level_at, is_in_margin};
@@ -22,9 +22,9 @@ use crate::steps::centres_below;
 /// the line covers. Its levels don't fall from column to column, and are near enough to 0 for sums over a picture's rows.
 pub fn strip_of(width: u8, segment: &Segment, wide: u32, high: u32) -> Strip
     ensures origin { nat_abs result.levels.origin ≤ 2 ^ 110 }
-    ensures across { IsReach result.levels.across }
+    ensures across { IsDistance result.levels.across }
     ensures rising { pos 0 ≤ℤ result.levels.across }
-    ensures up { IsReach result.levels.up }
+    ensures up { IsDistance result.levels.up }
     ensures margin { IsArea result.levels.margin }
     ensures rows { result.rows.to ≤ high }
     ensures columns { result.columns.to ≤ wide }
@@ -60,9 +60,9 @@ fn in_order(from: Position, to: Position) -> Segment
 /// The line from left to right, as a strip of a picture of this size.
 fn rightward(width: u8, line: Segment, wide: u32, high: u32) -> Strip
     ensures origin { nat_abs result.levels.origin ≤ 2 ^ 110 }
-    ensures across { IsReach result.levels.across }
+    ensures across { IsDistance result.levels.across }
     ensures rising { pos 0 ≤ℤ result.levels.across }
-    ensures up { IsReach result.levels.up }
+    ensures up { IsDistance result.levels.up }
     ensures margin { IsArea result.levels.margin }
     ensures rows { result.rows.to ≤ high }
     ensures columns { result.columns.to ≤ wide }
@@ -81,9 +81,9 @@ fn rightward(width: u8, line: Segment, wide: u32, high: u32) -> Strip
 /// The line from its lower to its upper end, whose positions have their axes exchanged, as a strip of a picture of this size.
 fn upward(width: u8, line: Segment, wide: u32, high: u32) -> Strip
     ensures origin { nat_abs result.levels.origin ≤ 2 ^ 110 }
-    ensures across { IsReach result.levels.across }
+    ensures across { IsDistance result.levels.across }
     ensures rising { pos 0 ≤ℤ result.levels.across }
-    ensures up { IsReach result.levels.up }
+    ensures up { IsDistance result.levels.up }
     ensures margin { IsArea result.levels.margin }
     ensures rows { result.rows.to ≤ high }
     ensures columns { result.columns.to ≤ wide }
@@ -102,12 +102,12 @@ fn upward(width: u8, line: Segment, wide: u32, high: u32) -> Strip
 /// Levels that lie within the margin exactly where these do, and don't fall from column to column.
 fn not_falling(levels: Levels) -> Levels
     requires origin { nat_abs levels.origin ≤ 2 ^ 109 }
-    requires across { IsReach levels.across }
-    requires up { IsReach levels.up }
+    requires across { IsDistance levels.across }
+    requires up { IsDistance levels.up }
     ensures origin { nat_abs result.origin ≤ 2 ^ 110 }
-    ensures across { IsReach result.across }
+    ensures across { IsDistance result.across }
     ensures rising { pos 0 ≤ℤ result.across }
-    ensures up { IsReach result.up }
+    ensures up { IsDistance result.up }
     ensures margin { result.margin ≡ levels.margin }
     ensures same { (u v : ℕ) → is_in_margin levels.margin (level_at result u v)
         ≡ is_in_margin levels.margin (level_at levels u v) }
@@ -122,11 +122,11 @@ fn not_falling(levels: Levels) -> Levels
 /// Levels that lie within a margin exactly where these do, and fall where these rise.
 fn mirror(levels: Levels) -> Levels
     requires origin { nat_abs levels.origin ≤ 2 ^ 109 }
-    requires across { IsReach levels.across }
-    requires up { IsReach levels.up }
+    requires across { IsDistance levels.across }
+    requires up { IsDistance levels.up }
     ensures origin { nat_abs result.origin ≤ 2 ^ 110 }
     ensures across { result.across ≡ opposite levels.across }
-    ensures up { IsReach result.up }
+    ensures up { IsDistance result.up }
     ensures margin { result.margin ≡ levels.margin }
     ensures value { (u v : ℕ) →
         level_at result u v ≡ difference (opposite (level_at levels u v)) (pos 1) }
@@ -143,8 +143,8 @@ fn mirror(levels: Levels) -> Levels
 /// of the line in the same measure.
 fn deviations(width: u8, left: Position, right: Position) -> Levels
     ensures origin { nat_abs result.origin ≤ 2 ^ 109 }
-    ensures across { IsReach result.across }
-    ensures up { IsReach result.up }
+    ensures across { IsDistance result.across }
+    ensures up { IsDistance result.up }
     ensures margin { result.margin ≡ margin width left right }
     ensures margin_within { IsArea result.margin }
     ensures value { (u v : ℕ) →
@@ -161,8 +161,8 @@ fn deviations(width: u8, left: Position, right: Position) -> Levels
 /// How far each pixel's centre lies from the line, with the axes of both exchanged.
 fn turned_deviations(width: u8, low: Position, high: Position) -> Levels
     ensures origin { nat_abs result.origin ≤ 2 ^ 109 }
-    ensures across { IsReach result.across }
-    ensures up { IsReach result.up }
+    ensures across { IsDistance result.across }
+    ensures up { IsDistance result.up }
     ensures margin { result.margin ≡ margin width low high }
     ensures margin_within { IsArea result.margin }
     ensures value { (u v : ℕ) →

@@ -1,5 +1,5 @@
 //! Positions in a view.
-ghost use Rattle.std.specs.Prelude.{◌≡◌, ◌<◌, ◌^◌, pos};
+ghost use Rattle.std.specs.Prelude.{◌≡◌, pos};
 ghost use Rattle.wf_geometry.specs.Near.{IsNear};
 ghost use Rattle.wf_geometry.specs.Position.{IsPosition, middle, centre, turned};
 

@@ -1,7 +1,7 @@
 //! Rows of a strip: where their pixels begin and end. The ends of a row are those of the row before, moved by a constant, so no row but
 //! the first takes a division.
 ghost use Rattle.std.specs.Prelude.{◌≡◌, ◌+◌, ◌*◌, ◌^◌, ◌<◌, ◌≤◌, nat_abs, pos, ◌≤ℤ◌, IfSome, IfNone};
-ghost use Rattle.wf_geometry.specs.Near.{IsReach, IsArea};
+ghost use Rattle.wf_geometry.specs.Near.{IsDistance, IsArea};
 ghost use Rattle.wf_geometry.specs.Exact.{plus, difference, product, opposite, number_of};
 ghost use Rattle.wf_geometry.specs.Level.{level_at, row_level, is_in_margin};
 ghost use Rattle.wf_geometry.specs.Span.{IsSpanOf};
@@ -38,9 +38,9 @@ const LEAP_ROWS: i64 = 16;
 /// change from column to column, or if 64 bits don't hold the quotients.
 pub fn ends_in(levels: Levels, row: u32) -> Option<RowEnds>
     requires origin { nat_abs levels.origin ≤ 2 ^ 110 }
-    requires across { IsReach levels.across }
+    requires across { IsDistance levels.across }
     requires rising { pos 0 ≤ℤ levels.across }
-    requires up { IsReach levels.up }
+    requires up { IsDistance levels.up }
     requires margin { IsArea levels.margin }
     requires row { row ≤ most_pixels }
     ensures value { IfSome result (AreEnds levels row) }
@@ -70,7 +70,7 @@ pub fn ends_in(levels: Levels, row: u32) -> Option<RowEnds>
 
 /// How an end of a row's pixels changes over 16 rows, as a quotient by `step`. None if 64 bits don't hold it.
 pub fn leap(levels: Levels, step: u64) -> Option<Quotient>
-    requires up { IsReach levels.up }
+    requires up { IsDistance levels.up }
     requires step { 1 ≤ step }
     ensures value { IfSome result (λ q. number_of step q
         ≡ opposite (product (pos (16 * pixel_side)) levels.up)) }
@@ -95,9 +95,9 @@ fn double(margin: i128) -> i128
 /// The pixels, of the first `most` of a row, whose level lies within the margin about 0.
 pub fn row_within(levels: Levels, row: u32, most: u32) -> Span
     requires origin { nat_abs levels.origin ≤ 2 ^ 110 }
-    requires across { IsReach levels.across }
+    requires across { IsDistance levels.across }
     requires rising { pos 0 ≤ℤ levels.across }
-    requires up { IsReach levels.up }
+    requires up { IsDistance levels.up }
     requires margin { IsArea levels.margin }
     requires row { row ≤ most_pixels }
     ensures { IsSpanOf (λ u. is_in_margin levels.margin (level_at levels u row)) most result }
@@ -112,9 +112,9 @@ pub fn row_within(levels: Levels, row: u32, most: u32) -> Span
 /// The pixels, of the first `most` of a row, whose level lies within the margin about 0, if levels rise from column to column.
 fn rising_within(levels: Levels, row: u32, most: u32) -> Span
     requires origin { nat_abs levels.origin ≤ 2 ^ 110 }
-    requires across { IsReach levels.across }
+    requires across { IsDistance levels.across }
     requires rising { pos 1 ≤ℤ levels.across }
-    requires up { IsReach levels.up }
+    requires up { IsDistance levels.up }
     requires margin { IsArea levels.margin }
     requires row { row ≤ most_pixels }
     ensures { IsSpanOf (λ u. is_in_margin levels.margin (level_at levels u row)) most result }
@@ -130,7 +130,7 @@ fn rising_within(levels: Levels, row: u32, most: u32) -> Span
 /// The change of a level from one column to the next.
 #[tactic(auto, unfolding(crate::specs::Exact::product))]
 fn step(across: i64) -> u64
-    requires reach { IsReach across }
+    requires reach { IsDistance across }
     requires rising { pos 1 ≤ℤ across }
     ensures value { pos result ≡ product (pos pixel_side) across }
     ensures least { 1 ≤ result }
@@ -142,7 +142,7 @@ fn step(across: i64) -> u64
 /// The level in the first column of a row.
 fn row_level(levels: Levels, row: u32) -> i128
     requires origin { nat_abs levels.origin ≤ 2 ^ 110 }
-    requires up { IsReach levels.up }
+    requires up { IsDistance levels.up }
     requires row { row ≤ most_pixels }
     ensures value { result ≡ row_level levels row }
     ensures within { nat_abs result ≤ 2 ^ 111 }
@@ -154,7 +154,7 @@ fn row_level(levels: Levels, row: u32) -> i128
 fn sixteenths(pixels: u32) -> i64
     requires { pixels ≤ most_pixels }
     ensures value { result ≡ pos (pixel_side * pixels) }
-    ensures within { IsReach result }
+    ensures within { IsDistance result }
 {
     PIXEL_SIDE * i64::from(pixels)
 }

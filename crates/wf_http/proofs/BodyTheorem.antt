@@ -7,7 +7,7 @@ use Rattle.std.proofs.lemmas.List.{append-nil, length-append, length-take, take_
 use Rattle.std.specs.Io.KnownBytes.{Consumes, IsAtEnd}
 use Rattle.wf_stream.specs.KnownTheorems.{first_at_end, first_at_limit, nothing_read, takes_read}
 use Rattle.wf_stream.specs.Effects.{ReadsPiece, TakesUpTo}
-use Rattle.wf_http.specs.Body.{IsBody, IsBodyFault}
+use Rattle.wf_http.specs.Body.{IsRequestBody, IsBodyFault}
 use Rattle.wf_http.specs.declared.http_error.HttpError.TheVariants as http_error
 use Rattle.wf_http.specs.declared.fault.RequestFault.TheVariants as fault
 
@@ -39,7 +39,7 @@ module _ (behind known front rest : List ℕ) (bytes missing : ℕ) (came : fron
       let sum : length behind + missing ≡ bytes = omega arith in
       ap (λ xs. xs ++ rest) all ∙ ap (λ xs. behind ++ xs) read ∙ sym (take-append-add behind known missing) ∙ ap (λ n. take n (behind ++ known)) sum
 
-  whole_body : length rest ≡ missing → IsBody (behind ++ known) bytes (front ++ rest)
+  whole_body : length rest ≡ missing → IsRequestBody (behind ++ known) bytes (front ++ rest)
   whole_body full = record {
     whole = let sizes = length-append behind known in let size = came_bytes in
         let had : length rest ≡ min missing (length known) = ap length read ∙ length-take missing known in omega arith;
@@ -65,7 +65,7 @@ piece_is known new piece count missing size consumed short ends = elim (cases_lt
 -- the same, if the input is known
 pub body_joined : (left new : Option (List ℕ)) (behind front begun body : List ℕ) (bytes missing count : ℕ) → front ≡ take (min (length behind) bytes) behind
     → missing ≡ bytes - length front → begun ≡ front → ReadsPiece count left new begun body → count ≤ missing → (count < missing → IsAtEnd new) → count ≡ missing
-    → IfSome left (λ known. IsBody (behind ++ known) bytes body)
+    → IfSome left (λ known. IsRequestBody (behind ++ known) bytes body)
 body_joined None new behind front begun body bytes missing count came misses same read short ends full = tt
 body_joined (Some known) new behind front begun body bytes missing count came misses same (piece, size, consumed, is) short ends full =
     rw (is, same)

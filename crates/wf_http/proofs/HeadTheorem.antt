@@ -9,7 +9,7 @@ use Rattle.httparse.specs.declared.spans.HeaderSpan.{HeaderSpan}
 use Rattle.httparse.specs.declared.spans.RequestSpans.{RequestSpans}
 use Rattle.wf_http.specs.Head.{Head, Begins, HasNoSmallRequest, most_fields, most_head_bytes}
 use Rattle.wf_stream.specs.Effects.{ReadsPiece}
-use Rattle.wf_http.specs.Front.{front_of, IsHeadError, IsHeadFault, IsUnfinished, TakesPiece, TakesHead}
+use Rattle.wf_http.specs.Front.{front_of, IsHeadError, IsHeadFault, HasNoHead, TakesPiece, TakesHead}
 use Rattle.wf_http.specs.declared.http_error.HttpError.{HttpError}
 use Rattle.wf_http.specs.declared.http_error.HttpError.TheVariants as http_error
 use Rattle.wf_http.specs.declared.fault.RequestFault.{RequestFault}
@@ -73,7 +73,7 @@ piece_taken piece room count old new given taken within small =
     (take count given, omega arith, still_small piece count (length (take count given)) (omega arith) small, taken)
 
 -- one more piece is taken if no head is complete yet
-pub head_looked_for : (here piece : Option ℕ) (start old new : Option (List ℕ)) (bytes : List ℕ) → here ≡ piece → IsUnfinished bytes → length bytes < most_head_bytes
+pub head_looked_for : (here piece : Option ℕ) (start old new : Option (List ℕ)) (bytes : List ℕ) → here ≡ piece → HasNoHead bytes → length bytes < most_head_bytes
     → Consumes start old bytes → TakesPiece here (most_head_bytes - length bytes) old new → TakesHead piece start new
 head_looked_for here piece start old new bytes same unfinished room first (more, within, small, second) = record {
   before = bytes;
@@ -85,7 +85,7 @@ head_looked_for here piece start old new bytes same unfinished room first (more,
 }
 
 -- no more is taken once as much was as a head may have
-pub taken_at_limit : (piece : Option ℕ) (start left : Option (List ℕ)) (bytes : List ℕ) → Consumes start left bytes → IsUnfinished bytes → length bytes ≤ most_head_bytes
+pub taken_at_limit : (piece : Option ℕ) (start left : Option (List ℕ)) (bytes : List ℕ) → Consumes start left bytes → HasNoHead bytes → length bytes ≤ most_head_bytes
     → TakesHead piece start left
 taken_at_limit piece start left bytes taken unfinished within = record {
   before = bytes;
@@ -147,7 +147,7 @@ shorter bytes more h rest reads short =
     (reads.0, sym (take-append-drop size bytes) ∙ ap (λ xs. xs ++ drop size bytes) front)
 
 -- the limit was read, and no head is complete
-pub fault_at_limit : (start left : Option (List ℕ)) (bytes : List ℕ) → Consumes start left bytes → length bytes ≡ most_head_bytes → IsUnfinished bytes
+pub fault_at_limit : (start left : Option (List ℕ)) (bytes : List ℕ) → Consumes start left bytes → length bytes ≡ most_head_bytes → HasNoHead bytes
     → IfSome start (λ input. IsHeadFault input (fault.Rejected http_error.HeadTooLarge))
 fault_at_limit start left bytes taken full unfinished =
     let none : HasNoRequest bytes = unfinished (omega arith) in

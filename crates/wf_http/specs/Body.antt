@@ -5,7 +5,7 @@ use Rattle.wf_http.specs.declared.fault.RequestFault.{RequestFault}
 use Rattle.wf_http.specs.declared.fault.RequestFault.TheVariants as fault
 
 -- the first bytes after the head
-pub record IsBody (rest : List ℕ) (bytes : ℕ) (body : List ℕ) : Type 0 where
+pub record IsRequestBody (rest : List ℕ) (bytes : ℕ) (body : List ℕ) : Type 0 where
   pub whole : bytes ≤ length rest
   pub first : body ≡ take bytes rest
 

@@ -37,8 +37,8 @@ abbrev pub TakesFront : Option (List ℕ) → Option (List ℕ) → Front → Ty
 TakesFront old new front = (bytes : List ℕ) × Consumes old new bytes × IsFront bytes front
 
 -- no head is at the front of the bytes, if there are any
-abbrev pub IsUnfinished : List ℕ → Type 0
-IsUnfinished bytes = 0 < length bytes → HasNoRequest bytes
+abbrev pub HasNoHead : List ℕ → Type 0
+HasNoHead bytes = 0 < length bytes → HasNoRequest bytes
 
 -- some bytes were taken from the front of what is left: at most as many as there is room for, and as the reader returns a call,
 -- if known
@@ -51,7 +51,7 @@ TakesPiece piece room old new =
 pub record TakesHead (piece : Option ℕ) (old new : Option (List ℕ)) : Type 0 where
   pub before : List ℕ
   pub last : List ℕ
-  pub unfinished : IsUnfinished before
+  pub unfinished : HasNoHead before
   pub most : length (before ++ last) ≤ most_head_bytes
   pub small : IfSome piece (λ most. length last ≤ most)
   pub taken : Consumes old new (before ++ last)

@@ -1,6 +1,6 @@
 //! The body of a request.
 ghost use Rattle.std.specs.Prelude.{◌≡◌, ◌<◌, ◌-◌, ◌++◌, IfOk, IfErr, IfSome, IsOk, length};
-ghost use Rattle.wf_http.specs.Body.{IsBody, IsBodyFault};
+ghost use Rattle.wf_http.specs.Body.{IsRequestBody, IsBodyFault};
 ghost use Rattle.wf_http.specs.Front.{CountsReads};
 ghost use Rattle.wf_stream.specs.Effects.{TakesUpTo};
 
@@ -29,7 +29,7 @@ fn read_missing<S: Source>(
 ) -> Result<Vec<u8>, RequestFault>
     requires { 0 < bytes }
     ensures ok { IfOk result (λ body.
-        IfSome (S.left source.old) (λ left. IsBody (behind.now ++ left) bytes body.items)) }
+        IfSome (S.left source.old) (λ left. IsRequestBody (behind.now ++ left) bytes body.items)) }
     ensures err { IfErr result (λ fault.
         IfSome (S.left source.old) (λ left. IsBodyFault (behind.now ++ left) bytes fault)) }
     ensures takes { TakesUpTo (bytes - length behind.now) (S.left source.old) (S.left source.new) }
@@ -64,7 +64,7 @@ pub fn read_body<S: Source>(
     bytes: usize,
 ) -> Result<Vec<u8>, RequestFault>
     ensures ok { IfOk result (λ body.
-        IfSome (S.left source.old) (λ left. IsBody (behind.now ++ left) bytes body.items)) }
+        IfSome (S.left source.old) (λ left. IsRequestBody (behind.now ++ left) bytes body.items)) }
     ensures err { IfErr result (λ fault.
         IfSome (S.left source.old) (λ left. IsBodyFault (behind.now ++ left) bytes fault)) }
     ensures takes { TakesUpTo (bytes - length behind.now) (S.left source.old) (S.left source.new) }

@@ -1,9 +1,9 @@
 //! The front of a request: its head, and the bytes read after it.
 ghost use Rattle.std.specs.Prelude.{◌≡◌, ◌≢◌, ◌≤◌, ◌<◌, ◌+◌, ◌-◌, ◌++◌, ℕ, List, Option, None, Ok, length, IfOk, IfErr, IfSome, OnOk};
-ghost use Rattle.std.specs.Io.KnownBytes.{Consumes, IsAtEnd};
+ghost use Rattle.std.specs.Io.KnownBytes.{IsAtEnd};
 ghost use Rattle.httparse.specs.Grammar.{HasNoRequest};
 ghost use Rattle.wf_http.specs.Head.{most_head_bytes, most_fields};
-ghost use Rattle.wf_http.specs.Front.{front_of, IsFront, TakesFront, TakesPiece, TakesHead, IsUnfinished, IsHeadError, IsHeadFault, CountsReads};
+ghost use Rattle.wf_http.specs.Front.{front_of, IsFront, TakesFront, TakesPiece, TakesHead, HasNoHead, IsHeadError, IsHeadFault, CountsReads};
 ghost use Rattle.wf_http.specs.Checks.{most_body_bytes};
 ghost use Rattle.wf_http.specs.declared.fault.RequestFault.TheVariants.{ReadFailed, Memory};
 ghost use Rattle.wf_stream.specs.Effects.{Counts, ReadsPiece};
@@ -63,7 +63,7 @@ fn parse(bytes: &[u8]) -> Result<Option<Parts>, HttpError>
 
 // The result if the input ends without a complete head.
 fn early_end(bytes: &[u8]) -> RequestFault
-    requires { IsUnfinished bytes.now }
+    requires { HasNoHead bytes.now }
     ensures fault { IsHeadFault bytes.now result }
     ensures calm { result ≢ ReadFailed }
     ensures no_memory { result ≢ Memory }

@@ -1,6 +1,5 @@
 //! Lines buffered before they are written.
 ghost use Rattle.std.specs.Prelude.{◌≡◌, [], Some};
-ghost use Rattle.wf_stream.specs.Effects.{Rises};
 
 use arrayvec::ArrayVec;
 use std::io;

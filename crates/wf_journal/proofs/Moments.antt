@@ -5,7 +5,7 @@ use Rattle.wf_model.specs.DurableState.{Record}
 use Rattle.wf_canon.specs.TextMeaning.{OneTextOneMap}
 use Rattle.wf_tape.specs.declared.fault.TapeFault.{TapeFault}
 use Rattle.wf_tape.specs.declared.fault.TapeFault.TheVariants.{Device, Memory}
-use Rattle.wf_tape.specs.Tape.{IsBeginning, IsUnchanged, IsExtended, IsNotMemory, LeavesNoOther, LeavesOldOrCut, LeavesOldOrNew, Elapses, IsNow}
+use Rattle.wf_tape.specs.Tape.{IsBeginning, IsUnchanged, IsExtended, IsNotMemory, LeavesNoOther, LeavesOldOrCut, LeavesOldOrNew, Elapses, LeavesNow}
 use Rattle.wf_journal.specs.MomentTheorems.{inside_two}
 use Rattle.wf_journal.specs.Encoding.{Encodes}
 use Rattle.wf_journal.specs.Journal.{IsSettled, Follows, ReadsSameOrOneMore}
@@ -37,7 +37,7 @@ inside_failed content bytes new old mid inside result Memory is extended cut sam
 -- ---- the journal
 
 -- no call was made: each image is one from before
-pub inside_none : (r : Record Definition) (images since : List ℕ → Type 0) → IsNow images since → Follows (ReadsSameOrOneMore r) images since
+pub inside_none : (r : Record Definition) (images since : List ℕ → Type 0) → LeavesNow images since → Follows (ReadsSameOrOneMore r) images since
 inside_none r images since now image left = (image, now.nothing_else image left, λ records reads. inl reads)
 
 -- Inside an addition each image reads as the records before, or with the new one.

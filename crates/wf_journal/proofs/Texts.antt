@@ -5,7 +5,7 @@ use Rattle.wf_def.specs.Definition.{Definition}
 use Rattle.wf_spelling.specs.Canon.{canon, line, most_canon_bytes}
 use Rattle.wf_canon.specs.TextMeaning.{OneTextOneMap}
 use Rattle.wf_frame.specs.Field.{FieldValue}
-use Rattle.wf_frame.specs.Report.{IsText}
+use Rattle.wf_frame.specs.Report.{IsBoundedText}
 use Rattle.wf_frame.specs.Layout.{fits}
 use Rattle.wf_frame.specs.LayoutTheorems.{fits_most}
 use Rattle.wf_frame.specs.Row.{Row, RowEnd, NoEnd, TextEnd, VotesEnd, end_with, IsEndOf, AreInRange, IsRowOf, row_bytes, row_layout, layout_of, read_row}
@@ -37,18 +37,18 @@ no_votes (Promised s b) = tt
 no_votes (Accepted s b d) = tt
 no_votes (Published s d) = tt
 
-end_is_text : (most : ℕ) (end : RowEnd Definition) → IsEndOf HasText end → IfSome (end_definition end) (λ d. length (canon d) ≤ most) → HasNoVotes end → IsEndOf (IsText most) (end_with canon end)
+end_is_text : (most : ℕ) (end : RowEnd Definition) → IsEndOf HasText end → IfSome (end_definition end) (λ d. length (canon d) ≤ most) → HasNoVotes end → IsEndOf (IsBoundedText most) (end_with canon end)
 end_is_text most NoEnd p short none = tt
 end_is_text most (TextEnd d) p short none = record { least = not_empty d; within = short }
 end_is_text most (VotesEnd s b votes) p short none = absurd none
 
 fields_fit : (most : ℕ) (values : List FieldValue) (end : RowEnd Definition) → AreInRange HasText values end → IfSome (end_definition end) (λ d. length (canon d) ≤ most) → HasNoVotes end →
-    AreInRange (IsText most) values (end_with canon end)
+    AreInRange (IsBoundedText most) values (end_with canon end)
 fields_fit most [] end p short none = end_is_text most end p short none
 fields_fit most (v ∷ values) end p short none = (p.0, fields_fit most values end p.1 short none)
 
 -- a record's text is a text, in each version that allows it
-texts_fit : (most : ℕ) (r : Record Definition) → IsRecord r → HasTextWithin most r → IsRowOf (IsText most) (texts r)
+texts_fit : (most : ℕ) (r : Record Definition) → IsRecord r → HasTextWithin most r → IsRowOf (IsBoundedText most) (texts r)
 texts_fit most r is short = fields_fit most (row r).fields (row r).ending is short (no_votes r)
 
 -- a record's fields are those of its kind

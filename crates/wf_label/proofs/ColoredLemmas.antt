@@ -7,7 +7,7 @@ use Rattle.std.proofs.lemmas.Nat.{div_below}
 use Rattle.std.proofs.Math.Nat.{mul-le-mul, mul_comm, mul-zero, zero-mul}
 use Rattle.wf_def.specs.declared.color.Color.{Color}
 use Rattle.wf_paint.specs.Pixmap.{PixmapValue, IsSet, pixel_at, column_of, row_of}
-use Rattle.wf_label.specs.Colored.{IsColored, IsCut, is_between, is_in, is_in_row}
+use Rattle.wf_label.specs.Colored.{IsColored, IsCutBefore, is_between, is_in, is_in_row}
 use Rattle.wf_label.specs.declared.placed.PixelBox.{PixelBox}
 
 -- ---- one after another
@@ -138,16 +138,16 @@ IsRun-in_row row left end color a b here most run = record { width = run.width; 
 abbrev pub in_rows : PixelBox → ℕ → ℕ → ℕ → ℕ → Bool
 in_rows f bottom row k m = is_between f.left f.right k && (nat_le bottom m && nat_lt m row)
 
-pub IsCut-same : (most width cut : ℕ) (z side : ℤ) → most ≡ width → z ≡ side → IsCut most cut z → IsCut width cut side
+pub IsCut-same : (most width cut : ℕ) (z side : ℤ) → most ≡ width → z ≡ side → IsCutBefore most cut z → IsCutBefore width cut side
 IsCut-same most width cut z side wide same is = λ k within. rw (← same) (is k (rw wide within))
 
-pub between_cuts : (most first end : ℕ) (low high : ℤ) (k : ℕ) → IsCut most first low → IsCut most end high → k < most → is_between low high k ≡ (nat_le first k && nat_lt k end)
+pub between_cuts : (most first end : ℕ) (low high : ℤ) (k : ℕ) → IsCutBefore most first low → IsCutBefore most end high → k < most → is_between low high k ≡ (nat_le first k && nat_lt k end)
 unfolding is_between
 between_cuts most first end low high k begins ends within =
     let past : not (nat_lt k first) ≡ nat_le first k = grind (arith, nat_tests) in
     rw (← begins k within, ← ends k within, past) refl
 
-module _ (f : PixelBox) (left right bottom top : ℕ) (color : Color) (a b c : PixmapValue) (begins : IsCut a.width left f.left) (ends : IsCut a.width right f.right) where
+module _ (f : PixelBox) (left right bottom top : ℕ) (color : Color) (a b c : PixmapValue) (begins : IsCutBefore a.width left f.left) (ends : IsCutBefore a.width right f.right) where
   -- one row more
   pub rows_next : (row : ℕ) → bottom ≤ row → IsColored (in_rows f bottom row) color a b → IsColored (is_in_row row left right) color b c → IsColored (in_rows f bottom (row + 1)) color a c
   unfolding is_in_row
@@ -158,7 +158,7 @@ module _ (f : PixelBox) (left right bottom top : ℕ) (color : Color) (a b c : P
       by_row there = grind (arith, nat_tests)
 
   -- all rows
-  pub rows_all : (row : ℕ) → IsCut a.height bottom f.bottom → IsCut a.height top f.top → row ≡ max top bottom → IsColored (in_rows f bottom row) color a b → IsColored (is_in f) color a b
+  pub rows_all : (row : ℕ) → IsCutBefore a.height bottom f.bottom → IsCutBefore a.height top f.top → row ≡ max top bottom → IsColored (in_rows f bottom row) color a b → IsColored (is_in f) color a b
   unfolding is_in
   rows_all row low high last is = IsColored-same color a b c (in_rows f bottom row) (is_in f) same is where
     same : (k m : ℕ) → k < a.width → m < a.height → is_in f k m ≡ in_rows f bottom row k m

@@ -16,7 +16,7 @@ use Rattle.wf_label.specs.PixelBox.{box_of, is_whole_in, meets, text_width, text
 use Rattle.wf_label.specs.Label.{candidates, entry_labels, feature_label, label_of, labelled, labels_of, labels_up_to, layer_labels, text_of}
 use Rattle.wf_label.specs.Placed.{PlacedValue, placed_value, placed_values}
 use Rattle.wf_label.specs.LabelLayout.{stands}
-use Rattle.wf_label.specs.Taken.{IsSolid, IsShown}
+use Rattle.wf_label.specs.Taken.{IsSolid, LiesInView}
 use Rattle.wf_label.specs.declared.feature_anchor.Anchor.{Anchor}
 use Rattle.wf_label.specs.declared.placed.Placed.{Placed}
 use Rattle.std.proofs.Common.{get_or}
@@ -85,6 +85,6 @@ unfolding is_less plus
 further a n some = grind (arith, ints)
 
 -- a label that may be placed has a box with a pixel, whole in the view
-pub shown_from : (view : ViewValue) (before : List PlacedValue) (label : PlacedValue) → stands view before label ≡ true → IsSolid (box_of label) → IsShown view label
+pub shown_from : (view : ViewValue) (before : List PlacedValue) (label : PlacedValue) → stands view before label ≡ true → IsSolid (box_of label) → LiesInView view label
 unfolding stands
 shown_from view before label is solid = record { solid = solid; whole = (and_parts (is_whole_in view (box_of label)) (label.force || not (list_any (meets label) before)) is).0 }

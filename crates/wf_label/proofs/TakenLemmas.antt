@@ -11,11 +11,11 @@ use Rattle.std.proofs.lemmas.List.Elements.{All-head, All-tail, All-push}
 use Rattle.std.specs.List.{All, list_any}
 use Rattle.wf_geometry.specs.Exact.{plus, difference, is_less}
 use Rattle.wf_geometry.specs.View.{ViewValue}
-use Rattle.wf_label.specs.Colored.{IsCut, is_between, is_in}
+use Rattle.wf_label.specs.Colored.{IsCutBefore, is_between, is_in}
 use Rattle.wf_label.specs.PixelBox.{box_of, is_whole_in, overlap, spans_overlap, widen}
 use Rattle.wf_label.specs.Placed.{PlacedValue, placed_value, placed_values}
 use Rattle.wf_label.specs.declared.placed.Placed.{Placed}
-use Rattle.wf_label.specs.Taken.{IsSolid, IsShown, IsTaken, IsMet, IsMarkedWithin, is_taken, is_marked, words_for}
+use Rattle.wf_label.specs.Taken.{IsSolid, LiesInView, IsTaken, IsMet, IsMarkedWithin, is_taken, is_marked, words_for}
 use Rattle.wf_label.proofs.MarkLemmas.{none_at}
 use Rattle.wf_label.specs.declared.placed.PixelBox.{PixelBox}
 
@@ -94,7 +94,7 @@ abbrev meets_one : PixelBox → List PlacedValue → Bool
 meets_one f placed = list_any (λ other. overlap f (box_of other)) placed
 
 -- the box doesn't overlap a label's box of which it holds no pixel of the view
-one_apart : (view : ViewValue) (f : PixelBox) (o : PlacedValue) → IsSolid f → IsShown view o →
+one_apart : (view : ViewValue) (f : PixelBox) (o : PlacedValue) → IsSolid f → LiesInView view o →
     ((k m : ℕ) → k < view.width → m < view.height → is_in f k m ≡ true → is_in (box_of o) k m ≡ false) → overlap f (box_of o) ≡ false
 one_apart view f o solid shown free = by_test (overlap f (box_of o)) refl where
   by_test : (t : Bool) → overlap f (box_of o) ≡ t → t ≡ false
@@ -104,13 +104,13 @@ one_apart view f o solid shown free = by_test (overlap f (box_of o)) refl where
   by_test false apart = refl
 
 -- a box in which no pixel of the view is taken overlaps no label's box
-none_met : (view : ViewValue) (f : PixelBox) (placed : List PlacedValue) → IsSolid f → All (IsShown view) placed →
+none_met : (view : ViewValue) (f : PixelBox) (placed : List PlacedValue) → IsSolid f → All (LiesInView view) placed →
     ((k m : ℕ) → k < view.width → m < view.height → is_in f k m ≡ true → is_taken placed k m ≡ false) → meets_one f placed ≡ false
 unfolding is_taken
 none_met view f [] solid shown free = refl
 none_met view f (o ∷ placed) solid shown free =
-    or_from _ _ (one_apart view f o solid (All-head (IsShown view) o placed shown) (λ k m wide high inside. (or_parts _ _ (free k m wide high inside)).0))
-    (none_met view f placed solid (All-tail (IsShown view) o placed shown) (λ k m wide high inside. (or_parts _ _ (free k m wide high inside)).1))
+    or_from _ _ (one_apart view f o solid (All-head (LiesInView view) o placed shown) (λ k m wide high inside. (or_parts _ _ (free k m wide high inside)).0))
+    (none_met view f placed solid (All-tail (LiesInView view) o placed shown) (λ k m wide high inside. (or_parts _ _ (free k m wide high inside)).1))
 
 -- a box in which a pixel is taken overlaps a label's box
 some_met : (f : PixelBox) (placed : List PlacedValue) (k m : ℕ) → is_in f k m ≡ true → is_taken placed k m ≡ true → meets_one f placed ≡ true
@@ -138,7 +138,7 @@ module _ (view : ViewValue) (f : PixelBox) (placed : List PlacedValue) (marks : 
 
 -- ---- rows marked
 
-module _ (f : PixelBox) (left right bottom top width height : ℕ) (begins : IsCut width left f.left) (ends : IsCut width right f.right) (most : right ≤ width) where
+module _ (f : PixelBox) (left right bottom top width height : ℕ) (begins : IsCutBefore width left f.left) (ends : IsCutBefore width right f.right) (most : right ≤ width) where
   -- one row more is marked
   pub row_marked : (row k m : ℕ) (new before old : Bool) → bottom ≤ row → k < width → before ≡ (in_rows f bottom row k m || old) →
       new ≡ ((nat_le (row * width + left) (m * width + k) && nat_lt (m * width + k) (row * width + right)) || before) → new ≡ (in_rows f bottom (row + 1) k m || old)
@@ -171,7 +171,7 @@ module _ (f : PixelBox) (left right bottom top width height : ℕ) (begins : IsC
         let rows : (nat_le bottom m && nat_lt m row) ≡ true = grind (arith, nat_tests, both.1) in
         so_far k m inside high (and_from (is_between f.left f.right k) (nat_le bottom m && nat_lt m row) both.0 rows)
 
-module _ (f : PixelBox) (bottom top width height : ℕ) (low : IsCut height bottom f.bottom) (high : IsCut height top f.top) where
+module _ (f : PixelBox) (bottom top width height : ℕ) (low : IsCutBefore height bottom f.bottom) (high : IsCutBefore height top f.top) where
   pub rows_are_in : (row k m : ℕ) → row ≡ max top bottom → m < height → is_in f k m ≡ in_rows f bottom row k m
   unfolding is_in
   rows_are_in row k m last within =
@@ -179,7 +179,7 @@ module _ (f : PixelBox) (bottom top width height : ℕ) (low : IsCut height bott
       ap (λ (there : Bool). is_between f.left f.right k && there) (between_cuts height bottom top f.bottom f.top m low high within ∙ up)
 
 -- a marked index in a row of the box is a pixel that the box overlaps
-pub row_met : (view : ViewValue) (f : PixelBox) (marks : List ℕ) (left right bottom top row : ℕ) → IsCut view.width left f.left → IsCut view.width right f.right → IsCut view.height bottom f.bottom → IsCut view.height top f.top →
+pub row_met : (view : ViewValue) (f : PixelBox) (marks : List ℕ) (left right bottom top row : ℕ) → IsCutBefore view.width left f.left → IsCutBefore view.width right f.right → IsCutBefore view.height bottom f.bottom → IsCutBefore view.height top f.top →
     right ≤ view.width → top ≤ view.height → bottom ≤ row → row < top → IsMarkedWithin marks (row * view.width + left) (row * view.width + right) → IsMet view f marks
 unfolding is_in
 row_met view f marks left right bottom top row begins ends low high wide tall above below at =
@@ -221,18 +221,18 @@ taken-push (o ∷ placed) label k m = ap (λ (t : Bool). is_in (box_of o) k m ||
   turned false true c = refl
   turned false false c = refl
 
-pub IsTaken-more : (view : ViewValue) (placed : List PlacedValue) (label : PlacedValue) (old new : List ℕ) → IsShown view label → IsTaken view placed old → length new ≡ length old →
+pub IsTaken-more : (view : ViewValue) (placed : List PlacedValue) (label : PlacedValue) (old new : List ℕ) → LiesInView view label → IsTaken view placed old → length new ≡ length old →
     ((k m : ℕ) → k < view.width → m < view.height → is_marked new (m * view.width + k) ≡ (is_in (box_of label) k m || is_marked old (m * view.width + k))) → IsTaken view (placed ++ label ∷ []) new
 IsTaken-more view placed label old new one taken same marked_too = record {
   size = same ∙ taken.size;
-  shown = All-push (IsShown view) placed label taken.shown one;
+  shown = All-push (LiesInView view) placed label taken.shown one;
   each = λ k m wide high.
       marked_too k m wide high ∙ ap (λ (t : Bool). is_in (box_of label) k m || t) (taken.each k m wide high) ∙ sym (taken-push placed label k m);
 }
 
 -- the same by the code's labels and its words, which were lent out of a list of this length
 pub taken_lent : (view : ViewValue) (placed after : List Placed) (label : Placed) (old new : List ℕ) (n : ℕ) (rest : List ℕ) → after ≡ placed ++ label ∷ [] → length new ≡ n → length new ≡ length old →
-    IsShown view (placed_value label) → IsTaken view (placed_values placed) old →
+    LiesInView view (placed_value label) → IsTaken view (placed_values placed) old →
     ((k m : ℕ) → k < view.width → m < view.height → is_marked new (m * view.width + k) ≡ (is_in (box_of (placed_value label)) k m || is_marked old (m * view.width + k))) →
     IsTaken view (placed_values after) (take n (new ++ rest))
 taken_lent view placed after label old new n rest pushed whole same one taken marked_too =

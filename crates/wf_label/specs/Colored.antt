@@ -32,8 +32,8 @@ unfoldable pub is_in_row : ℕ → ℕ → ℕ → ℕ → ℕ → Bool
 is_in_row line left right column row = row == line && (nat_le left column && nat_lt column right)
 
 -- on an axis of `most` pixels, those before the cut are those before the side of a box
-abbrev pub IsCut : ℕ → ℕ → ℤ → Type 0
-IsCut most cut side = (pixel : ℕ) → pixel < most → nat_lt pixel cut ≡ is_less (pos pixel) side
+abbrev pub IsCutBefore : ℕ → ℕ → ℤ → Type 0
+IsCutBefore most cut side = (pixel : ℕ) → pixel < most → nat_lt pixel cut ≡ is_less (pos pixel) side
 
 -- ---- bits of labels
 

@@ -15,7 +15,7 @@ pub record IsSolid (b : PixelBox) : Type 0 where
   pub high : is_less b.bottom b.top ≡ true
 
 -- the label's box has a pixel, and lies whole in the view
-pub record IsShown (view : ViewValue) (label : PlacedValue) : Type 0 where
+pub record LiesInView (view : ViewValue) (label : PlacedValue) : Type 0 where
   pub solid : IsSolid (box_of label)
   pub whole : is_whole_in view (box_of label) ≡ true
 
@@ -34,7 +34,7 @@ words_for area = area / 64 + 1
 -- the pixels that the labels take are marked, and no others; a bit a pixel, row by row from the bottom
 pub record IsTaken (view : ViewValue) (placed : List PlacedValue) (marks : List ℕ) : Type 0 where
   pub size : length marks ≡ words_for (view.width * view.height)
-  pub shown : All (IsShown view) placed
+  pub shown : All (LiesInView view) placed
   pub each : (column row : ℕ) → column < view.width → row < view.height → is_marked marks (row * view.width + column) ≡ is_taken placed column row
 
 -- a marked pixel of the view that lies in the box

@@ -1,7 +1,6 @@
 //! Labels drawn over a picture.
-ghost use Rattle.std.specs.Prelude.{◌≡◌, ◌≤◌, ◌<◌, ◌*◌, ◌^◌, pos};
+ghost use Rattle.std.specs.Prelude.{◌≡◌, ◌≤◌, ◌*◌, ◌^◌, pos};
 ghost use Rattle.wf_label.specs.Colored.{IsColored, bit_box, character_bits, is_in_bits, one_bit, row_bits};
-ghost use Rattle.wf_label.specs.PixelBox.{IsPixelBox};
 ghost use Rattle.wf_label.specs.Ink.{IsInked, inks};
 ghost use Rattle.wf_label.specs.Placed.{placed_value, placed_values};
 

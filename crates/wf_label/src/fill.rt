@@ -1,7 +1,7 @@
 //! Boxes of pixels filled with a colour.
-ghost use Rattle.std.specs.Prelude.{◌≡◌, ◌≤◌, ◌<◌, ℕ, pos, nat_lt};
+ghost use Rattle.std.specs.Prelude.{◌≤◌, ◌<◌};
 ghost use Rattle.wf_geometry.specs.Exact.{is_less};
-ghost use Rattle.wf_label.specs.Colored.{IsColored, IsCut, is_in, is_in_row};
+ghost use Rattle.wf_label.specs.Colored.{IsColored, IsCutBefore, is_in, is_in_row};
 
 use crate::placed::PixelBox;
 use wf_def::Color;
@@ -24,7 +24,7 @@ pub(crate) fn fill(pixmap: &mut Pixmap, pixel_box: &PixelBox, color: Color)
 #[tactic(auto, unfolding(wf_geometry::specs::Exact::is_less))]
 pub(crate) fn cut(side: i128, most: u32) -> u32
     ensures most { result ≤ most }
-    ensures value { IsCut most result side }
+    ensures value { IsCutBefore most result side }
 {
     if side <= 0 {
         0

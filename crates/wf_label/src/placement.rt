@@ -5,7 +5,7 @@ ghost use Rattle.wf_label.specs.PixelBox.{overlap, box_of};
 ghost use Rattle.wf_label.specs.Label.{candidates};
 ghost use Rattle.wf_label.specs.Placed.{placed_value, placed_values};
 ghost use Rattle.wf_label.specs.LabelLayout.{IsLayout, joined, stands};
-ghost use Rattle.wf_label.specs.Taken.{IsShown, IsSolid, IsTaken};
+ghost use Rattle.wf_label.specs.Taken.{LiesInView, IsSolid, IsTaken};
 
 use crate::label_order::candidates;
 use crate::overlap::{box_of, is_whole_in, widen};
@@ -92,7 +92,7 @@ fn place_label<'a>(
 
 /// Places the label.
 fn add<'a>(layout: &mut LabelLayout<'a>, view: &View, label: &Placed<'a>) -> Result<(), AllocError>
-    requires shown { IsShown view.now (placed_value label.now) }
+    requires shown { LiesInView view.now (placed_value label.now) }
     requires taken { IsTaken view.now
         (placed_values layout.old.placed.items) layout.old.marks.items }
     ensures placed { OnOk result (placed_values layout.new.placed.items
@@ -113,7 +113,7 @@ fn stands(layout: &LabelLayout, view: &View, label: &Placed) -> bool
         (placed_values layout.now.placed.items) layout.now.marks.items }
     ensures value { result
         ≡ stands view.now (placed_values layout.now.placed.items) (placed_value label.now) }
-    ensures shown { result ≡ true → IsShown view.now (placed_value label.now) }
+    ensures shown { result ≡ true → LiesInView view.now (placed_value label.now) }
 {
     let pixel_box = box_of(label);
     is_whole_in(view, &pixel_box)

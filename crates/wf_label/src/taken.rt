@@ -1,6 +1,6 @@
 //! Which pixels of a view are taken by the boxes of placed labels.
 ghost use Rattle.std.specs.Prelude.{◌≡◌, ◌≤◌, ◌<◌, ◌*◌, ◌+◌, ◌/◌, ◌^◌, ℕ, ◌&&◌, ◌||◌, false, true, length, nat_le, nat_lt};
-ghost use Rattle.wf_label.specs.Colored.{IsCut, is_in};
+ghost use Rattle.wf_label.specs.Colored.{IsCutBefore, is_in};
 ghost use Rattle.wf_geometry.specs.View.{IsView};
 ghost use Rattle.wf_label.specs.Taken.{IsMarkedWithin, IsMet, is_marked, words_for};
 
@@ -20,10 +20,10 @@ struct CoveredBox {
 
 /// The part of the box that lies in the view.
 fn block_of(view: &View, pixel_box: &PixelBox) -> CoveredBox
-    ensures left { IsCut view.now.width result.left pixel_box.now.left }
-    ensures right { IsCut view.now.width result.right pixel_box.now.right }
-    ensures bottom { IsCut view.now.height result.bottom pixel_box.now.bottom }
-    ensures top { IsCut view.now.height result.top pixel_box.now.top }
+    ensures left { IsCutBefore view.now.width result.left pixel_box.now.left }
+    ensures right { IsCutBefore view.now.width result.right pixel_box.now.right }
+    ensures bottom { IsCutBefore view.now.height result.bottom pixel_box.now.bottom }
+    ensures top { IsCutBefore view.now.height result.top pixel_box.now.top }
     ensures wide { result.right ≤ view.now.width }
     ensures tall { result.top ≤ view.now.height }
     ensures begins { result.left ≤ view.now.width }

@@ -13,7 +13,7 @@ use Rattle.wf_mail.proofs.Split.{joined_breaks, split_one_way}
 use Rattle.wf_mail.specs.Stream.{Breaks}
 use Rattle.wf_codec.specs.declared.fault.DecodeFault.{DecodeFault}
 use Rattle.wf_link.specs.Arrival.{Arrives, HasReceived, HasTaken, came_out}
-use Rattle.wf_link.specs.Cause.{BeginsNoMessage, BreaksOff, ComesOtherwise, EndsEarly, FailsFor, Fares, HasBroken, IsAny, IsOneMessage, IsUnpassed, IsUnread}
+use Rattle.wf_link.specs.Cause.{BeginsNoMessage, BreaksOff, ComesOtherwise, EndsEarly, FailsFor, CrossesOrFails, HasBroken, IsAny, IsOneMessage, IsUnpassed, IsUnread}
 use Rattle.wf_link.specs.declared.receiver.Arrival.{Arrival}
 
 -- ---- outcomes
@@ -26,7 +26,7 @@ pub fails_weaker : {A B C D : Type 0} (fault : CarrierFault) → (A → C) → (
 fails_weaker faults.Memory calm cause is = calm is
 fails_weaker faults.Lost calm cause is = cause is
 
-pub fares_weaker : {T A B C D : Type 0} (r : Result T CarrierFault) → (A → C) → (B → D) → Fares r A B → Fares r C D
+pub fares_weaker : {T A B C D : Type 0} (r : Result T CarrierFault) → (A → C) → (B → D) → CrossesOrFails r A B → CrossesOrFails r C D
 fares_weaker (Ok x) calm cause is = calm is
 fares_weaker (Err fault) calm cause is = fails_weaker fault calm cause is
 
@@ -36,7 +36,7 @@ fails_calm B faults.Memory is calm = calm
 fails_calm B faults.Lost is calm = absurd (cc)
 
 -- of a call that fails by a loss alone
-pub fares_lost : {T : Type 0} (A B : Type 0) (r : Result T CarrierFault) → A → IfErr r (λ fault. fault ≡ faults.Lost) → OnErr r B → Fares r A B
+pub fares_lost : {T : Type 0} (A B : Type 0) (r : Result T CarrierFault) → A → IfErr r (λ fault. fault ≡ faults.Lost) → OnErr r B → CrossesOrFails r A B
 fares_lost A B (Ok x) calm lost cause = calm
 fares_lost A B (Err faults.Lost) calm lost cause = cause
 fares_lost A B (Err faults.Memory) calm lost cause = absurd (cc)
@@ -45,7 +45,7 @@ pub never_lost : {T P : Type 0} (r : Result T CarrierFault) → IfErr r (λ faul
 never_lost (Ok x) memory is = absurd (cc)
 never_lost (Err fault) memory is = absurd (cc)
 
-pub lost_for : {T : Type 0} (A B : Type 0) (r : Result T CarrierFault) → Fares r A B → r ≡ Err faults.Lost → B
+pub lost_for : {T : Type 0} (A B : Type 0) (r : Result T CarrierFault) → CrossesOrFails r A B → r ≡ Err faults.Lost → B
 lost_for A B (Ok x) fares is = absurd (cc)
 lost_for A B (Err faults.Lost) fares is = fares
 lost_for A B (Err faults.Memory) fares is = absurd (cc)

@@ -19,8 +19,8 @@ FailsFor faults.Memory calm cause = calm
 FailsFor faults.Lost calm cause = cause
 
 -- success leaves the ends like that, and a failure is for that cause
-abbrev pub Fares : {T : Type 0} → Result T CarrierFault → Type 0 → Type 0 → Type 0
-Fares result calm cause = MatchResult result (λ _. calm) (λ fault. FailsFor fault calm cause)
+abbrev pub CrossesOrFails : {T : Type 0} → Result T CarrierFault → Type 0 → Type 0 → Type 0
+CrossesOrFails result calm cause = MatchResult result (λ _. calm) (λ fault. FailsFor fault calm cause)
 
 -- ---- what a reader may give in place of what was written
 

@@ -6,7 +6,7 @@ ghost use Rattle.wf_codec.specs.Message.{IsMessage, view};
 ghost use Rattle.wf_codec.specs.Encoding.{spelling};
 ghost use Rattle.wf_farm.specs.declared.carrier.CarrierFault.TheVariants as faults;
 ghost use Rattle.wf_link.specs.Arrival.{Arrives, HaveArrived};
-ghost use Rattle.wf_link.specs.Cause.{BeginsNoMessage, Fares, IsAny, IsCalm, IsLost, IsOneMessage, IsUnpassed};
+ghost use Rattle.wf_link.specs.Cause.{BeginsNoMessage, CrossesOrFails, IsAny, IsCalm, IsLost, IsOneMessage, IsUnpassed};
 ghost use Rattle.wf_link.specs.MessageCrossing.{AppendsPart, ComesOut, IsSentIfLooped, NoneComesOut, front_of};
 
 use crate::receiver::{Arrival, no_message, nothing, only_message, receive};
@@ -36,7 +36,7 @@ pub fn cross<K: Sink, S: Source>(
         ComesOut (view message.now) (S.left source.old) (S.left source.new) (view arrived)) }
     ensures same { IfOk result (λ arrived.
         IsSentIfLooped (view message.now) (S.left source.old) (view arrived)) }
-    ensures cause { Fares result
+    ensures cause { CrossesOrFails result
         (IsCalm K.Sink S.Source sink.old sink.new source.old source.new)
         (IsLost K.Sink S.Source (length (spelling (view message.now))) IsOneMessage
         sink.old sink.new source.old source.new) }
@@ -71,7 +71,7 @@ pub fn cut_off<K: Sink, S: Source>(
         (front_of (view message.now) count)) }
     ensures none { OnOk result
         (NoneComesOut (front_of (view message.now) count) (S.left source.old) (S.left source.new)) }
-    ensures cause { Fares result
+    ensures cause { CrossesOrFails result
         (IsCalm K.Sink S.Source sink.old sink.new source.old source.new)
         (IsLost K.Sink S.Source (length (front_of (view message.now) count)) BeginsNoMessage
         sink.old sink.new source.old source.new) }
@@ -120,7 +120,7 @@ fn pass_all<K: Sink, S: Source>(
     ensures part { OnErr result (AppendsPart (K.written sink.old) (K.written sink.new) bytes.now) }
     ensures arrived { IfOk result (λ arrival.
         HaveArrived (length bytes.now) (S.left source.old) (S.left source.new) arrival) }
-    ensures cause { Fares result
+    ensures cause { CrossesOrFails result
         (IsCalm K.Sink S.Source sink.old sink.new source.old source.new)
         (IsLost K.Sink S.Source (length bytes.now) IsAny
         sink.old sink.new source.old source.new) }
@@ -148,7 +148,7 @@ fn pass_each<K: Sink, S: Source>(
     ensures part { OnErr result (AppendsPart (K.written sink.old) (K.written sink.new) bytes.now) }
     ensures arrives { OnOk result (Arrives
         (length bytes.now) (S.left source.old) (S.left source.new) arrival.old arrival.new) }
-    ensures cause { Fares result
+    ensures cause { CrossesOrFails result
         (IsCalm K.Sink S.Source sink.old sink.new source.old source.new)
         (IsUnpassed (length bytes.now) (K.failures sink.old) (K.failures sink.new) (S.failures source.old)
         (S.failures source.new) (S.left source.old) (S.left source.new) arrival.old) }
@@ -177,7 +177,7 @@ fn pass<K: Sink, S: Source>(
     ensures part { OnErr result (AppendsPart (K.written sink.old) (K.written sink.new) piece.now) }
     ensures arrives { OnOk result (Arrives
         (length piece.now) (S.left source.old) (S.left source.new) arrival.old arrival.new) }
-    ensures cause { Fares result
+    ensures cause { CrossesOrFails result
         (IsCalm K.Sink S.Source sink.old sink.new source.old source.new)
         (IsUnpassed (length piece.now) (K.failures sink.old) (K.failures sink.new) (S.failures source.old)
         (S.failures source.new) (S.left source.old) (S.left source.new) arrival.old) }

@@ -5,7 +5,7 @@ ghost use Rattle.std.specs.IoError.{error_kind};
 ghost use Rattle.wf_codec.specs.Message.{view};
 ghost use Rattle.wf_farm.specs.declared.carrier.CarrierFault.TheVariants as faults;
 ghost use Rattle.wf_link.specs.Arrival.{Arrives, HasReceived, HasTaken};
-ghost use Rattle.wf_link.specs.Cause.{BeginsNoMessage, Fares, HasBroken, IsOneMessage, IsUnread};
+ghost use Rattle.wf_link.specs.Cause.{BeginsNoMessage, CrossesOrFails, HasBroken, IsOneMessage, IsUnread};
 ghost use Rattle.wf_mail.specs.Stream.{Reads};
 
 use std::alloc::Global;
@@ -44,7 +44,7 @@ pub fn receive<S: Source>(
 ) -> Result<(), CarrierFault>
     ensures arrives { OnOk result
         (Arrives count (S.left source.old) (S.left source.new) arrival.old arrival.new) }
-    ensures cause { Fares result (S.failures source.new ≡ S.failures source.old)
+    ensures cause { CrossesOrFails result (S.failures source.new ≡ S.failures source.old)
         (IsUnread count (S.failures source.old) (S.failures source.new)
         (S.left source.old) (S.left source.new) arrival.old) }
 {
@@ -71,7 +71,7 @@ fn receive_some<S: Source>(
         Arrives some (S.left source.old) (S.left source.new) arrival.old arrival.new) }
     ensures some { IfOk result (λ some. 0 < some) }
     ensures within { IfOk result (λ some. some ≤ room) }
-    ensures cause { Fares result (S.failures source.new ≡ S.failures source.old)
+    ensures cause { CrossesOrFails result (S.failures source.new ≡ S.failures source.old)
         (IsUnread room (S.failures source.old) (S.failures source.new)
         (S.left source.old) (S.left source.new) arrival.old) }
 {

@@ -1,5 +1,5 @@
 //! The listing of a tape's bytes.
-ghost use Rattle.std.specs.Prelude.{◌≡◌, ◌++◌, ◌<◌, ◌^◌, [], IfOk, OnOk, map};
+ghost use Rattle.std.specs.Prelude.{◌≡◌, ◌<◌, ◌^◌, [], IfOk, OnOk, map};
 ghost use Rattle.std.specs.String.{string_bytes};
 ghost use Rattle.wf_listing.specs.Listing.{AreFound, IsListing, Prints, record_lines, rest_of};
 ghost use Rattle.wf_journal.specs.Record.{view};

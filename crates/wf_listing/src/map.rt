@@ -3,7 +3,7 @@ ghost use Rattle.std.specs.Prelude.{◌≡◌, IfOk, map, option_map};
 ghost use Rattle.std.specs.Option.{option_copied};
 ghost use Rattle.wf_journal.specs.Record.{view};
 ghost use Rattle.wf_spelling.specs.Canon.{canon};
-ghost use Rattle.wf_listing.specs.Map.{IsTextOf, published_by, published_in};
+ghost use Rattle.wf_listing.specs.Map.{IsMapTextAt, published_by, published_in};
 
 use crate::record_search::find;
 use std::alloc::{AllocError, Global};
@@ -17,7 +17,7 @@ pub fn text_of_map(
     bytes: &[u8],
     sequence: u16,
 ) -> Result<Option<Vec<u8>>, AllocError>
-    ensures { IfOk result (IsTextOf bytes.now sequence) }
+    ensures { IfOk result (IsMapTextAt bytes.now sequence) }
 {
     let (records, _) = find(alloc, bytes)?;
     let text = copy_definition(alloc, published_in(&records, sequence));

@@ -1,5 +1,5 @@
 //! The records of bytes.
-ghost use Rattle.std.specs.Prelude.{◌≡◌, ◌<◌, ◌^◌, true, IfErr, IfOk, IsErrOf, map};
+ghost use Rattle.std.specs.Prelude.{◌<◌, ◌^◌, true, IfErr, IfOk, IsErrOf, map};
 ghost use Rattle.wf_listing.specs.Listing.{AreFound};
 ghost use Rattle.wf_journal.specs.Journal.{IsWhereBad};
 ghost use Rattle.wf_journal.specs.Record.{view};

@@ -11,7 +11,7 @@ use Rattle.wf_codec.specs.declared.fault.DecodeFault.TheVariants as decoder
 use Rattle.wf_codec.specs.KindTable.{kinds, most_body_bytes}
 use Rattle.wf_codec.specs.Fault.{layout_in, length_in, behind_header, body_in, check_version, check_kind, check_longest, check_length, check_whole, check_fields, first_failing, first_fault, texts_of_kind, texts_in, HasFault, IsNoText}
 use Rattle.wf_codec.specs.Message.{HasOneOf}
-use Rattle.wf_codec.specs.Theorem.{IsUnfinished, IsRejection, BeginsWithNone}
+use Rattle.wf_codec.specs.Theorem.{IsUnfinished, IsLastingFault, BeginsWithNone}
 use Rattle.wf_mail.proofs.Headers.{body_within}
 use Rattle.wf_mail.specs.Stream.{IsWrong}
 
@@ -108,7 +108,7 @@ texts_on (v ∷ k ∷ a ∷ b ∷ c ∷ d ∷ bytes) more e =
 
 -- ---- an error remains
 
-fault_on : (fault : DecodeFault) (bytes more : List ℕ) → IsRejection fault → HasFault bytes fault → HasFault (bytes ++ more) fault
+fault_on : (fault : DecodeFault) (bytes more : List ℕ) → IsLastingFault fault → HasFault bytes fault → HasFault (bytes ++ more) fault
 fault_on decoder.BadVersion bytes more rejection e = first_on bytes more (Some decoder.BadVersion) e (λ is. absurd cc)
 fault_on decoder.BadKind bytes more rejection e = first_on bytes more (Some decoder.BadKind) e (λ is. absurd cc)
 fault_on decoder.BadField bytes more rejection e = first_on bytes more (Some decoder.BadField) e (λ is. absurd cc)
@@ -149,7 +149,7 @@ reported_back decoder.TooLong = refl
 reported_back decoder.Memory = refl
 reported_back decoder.Short = refl
 
-is_reported : (fault : DecodeFault) (bytes : List ℕ) → IsRejection fault → HasFault bytes fault → first_fault bytes ≡ reported fault
+is_reported : (fault : DecodeFault) (bytes : List ℕ) → IsLastingFault fault → HasFault bytes fault → first_fault bytes ≡ reported fault
 unfolding reported
 is_reported decoder.NotCanonical bytes rejection carries = carries.no_fault
 is_reported decoder.BadVersion bytes rejection e = e
@@ -187,7 +187,7 @@ part_is_short (v ∷ []) same = rw same refl
 part_is_short (v ∷ k ∷ bytes) unfinished =
     rw (unfinished.0, unfinished.1.1) (lacks_is_short v k unfinished.1.0 bytes unfinished.1.1 unfinished.1.2)
 
-not_short : (fault : DecodeFault) → IsRejection fault → reported fault ≡ short → ⊥
+not_short : (fault : DecodeFault) → IsLastingFault fault → reported fault ≡ short → ⊥
 unfolding reported
 not_short decoder.NotCanonical rejection e = absurd cc
 not_short decoder.BadVersion rejection e = absurd cc

@@ -16,7 +16,7 @@ use Rattle.wf_codec.specs.FormatTheorems.{is_format}
 use Rattle.wf_codec.specs.Encoding.{message_version, header_length, text_spelling, Spells}
 use Rattle.wf_codec.specs.Theorem.{BeginsWithNone, IsUnfinished}
 use Rattle.wf_mail.specs.Header.{known_length, IsFilled}
-use Rattle.wf_mail.specs.Stream.{most_message_bytes, IsPart}
+use Rattle.wf_mail.specs.Stream.{most_message_bytes, IsUnfinishedPart}
 
 -- ---- the length that a header tells
 
@@ -159,8 +159,8 @@ all_moved rest piece new left filled short =
     ]
 
 -- Its header was whole before, so it is still part of the message.
-pub part_on : (rest piece new left : List ℕ) → IsPart rest → IsFilled rest piece new left (known_length new) → header_length ≤ length rest →
-    length new < known_length new → IsPart new
+pub part_on : (rest piece new left : List ℕ) → IsUnfinishedPart rest → IsFilled rest piece new left (known_length new) → header_length ≤ length rest →
+    length new < known_length new → IsUnfinishedPart new
 part_on rest piece new left part filled whole short =
     let parts = parts_of rest piece new left (known_length new) filled in
     let more : List ℕ = drop (length rest) new in

@@ -9,17 +9,17 @@ use Rattle.wf_model.specs.Message.{Message}
 use Rattle.wf_codec.specs.Encoding.{header_length}
 use Rattle.wf_codec.specs.declared.fault.DecodeFault.{DecodeFault}
 use Rattle.wf_mail.specs.Header.{known_length, IsFilled}
-use Rattle.wf_mail.specs.Stream.{Splits, IsPart, Reads, IsWrong, Breaks}
+use Rattle.wf_mail.specs.Stream.{Splits, IsUnfinishedPart, Reads, IsWrong, Breaks}
 use Rattle.wf_mail.specs.FrontMessage.{TakesOne, TakesNone}
 use Rattle.wf_mail.proofs.Faults.{wrong_on}
 use Rattle.wf_mail.proofs.Headers.{all_moved, front_stays, part_is_shorter, part_on}
 
 -- no messages so far
-reads_part : (stream : List ℕ) (messages : List (Message Definition)) (rest : List ℕ) → messages ≡ [] → stream ≡ rest → IsPart rest → Reads stream messages rest
+reads_part : (stream : List ℕ) (messages : List (Message Definition)) (rest : List ℕ) → messages ≡ [] → stream ≡ rest → IsUnfinishedPart rest → Reads stream messages rest
 reads_part stream messages rest none e part = record { splits = subst (λ (ms : List (Message Definition)). Splits stream ms rest) (sym none) e; part = part }
 
 -- the message that begins in the rest isn't whole yet, by its header
-pub still_part : {X : Type 0} (view : X → Message Definition) (rest piece new left : List ℕ) (messages : List X) → IsPart rest →
+pub still_part : {X : Type 0} (view : X → Message Definition) (rest piece new left : List ℕ) (messages : List X) → IsUnfinishedPart rest →
     IsFilled rest piece new left (known_length new) → header_length ≤ length rest → length new < known_length new → messages ≡ [] → Reads (rest ++ piece) (map view messages) new
 still_part view rest piece new left messages part filled whole short none =
     reads_part (rest ++ piece) (map view messages) new (ap (map view) none) (all_moved rest piece new left filled short) (part_on rest piece new left part filled whole short)
@@ -32,7 +32,7 @@ still_none view rest piece new left old messages filled takes none =
     reads_part (rest ++ piece) (map view messages) new (takes.unchanged ∙ ap (map view) none) (all_moved rest piece new left filled short) takes.part
 
 -- The message ends behind the rest, in which it wasn't whole.
-pub ends_behind : (rest piece new left : List ℕ) (n : ℕ) (old messages : List (Message Definition)) → IsPart rest → IsFilled rest piece new left (known_length new) →
+pub ends_behind : (rest piece new left : List ℕ) (n : ℕ) (old messages : List (Message Definition)) → IsUnfinishedPart rest → IsFilled rest piece new left (known_length new) →
     TakesOne new n old messages → length rest < n
 ends_behind rest piece new left n old messages part filled takes =
     elim (cases_lt (length rest) n) [
@@ -49,7 +49,7 @@ ends_within rest piece new left n old messages filled takes =
     omega (arith, ap length filled.moved, length-append rest piece, length-append new left, takes.within)
 
 -- So the stream is that message, followed by what stands behind it in the piece.
-pub ends_there : {X : Type 0} (view : X → Message Definition) (rest piece new left : List ℕ) (n : ℕ) (old : List X) (messages : List (Message Definition)) → IsPart rest →
+pub ends_there : {X : Type 0} (view : X → Message Definition) (rest piece new left : List ℕ) (n : ℕ) (old : List X) (messages : List (Message Definition)) → IsUnfinishedPart rest →
     IsFilled rest piece new left (known_length new) → TakesOne new n (map view old) messages → old ≡ [] → Splits (rest ++ piece) messages (drop (n - length rest) piece)
 ends_there view rest piece new left n old messages part filled takes none =
     let behind = ends_behind rest piece new left n (map view old) messages part filled takes in

@@ -7,7 +7,7 @@ use Rattle.wf_codec.specs.Encoding.{Spells}
 use Rattle.wf_codec.proofs.Validated.{none_is_empty}
 use Rattle.wf_codec.specs.Theorem.{BeginsWith, BeginsWithNone}
 use Rattle.wf_codec.specs.declared.fault.DecodeFault.{DecodeFault}
-use Rattle.wf_mail.specs.Stream.{Splits, IsPart, Reads, IsWrong, Breaks}
+use Rattle.wf_mail.specs.Stream.{Splits, IsUnfinishedPart, Reads, IsWrong, Breaks}
 use Rattle.wf_mail.specs.FrontMessage.{TakesOne, TakesNone}
 
 -- ---- one message after the other
@@ -49,12 +49,12 @@ none_begins_nothing : BeginsWithNone []
 none_begins_nothing m spelled after spells e = absurd (omega (arith, none_is_empty m spelled spells, ap length e, length-append spelled after))
 
 -- no bytes are part of a message
-pub nothing_is_part : IsPart []
+pub nothing_is_part : IsUnfinishedPart []
 nothing_is_part = record { longest = none_begins_nothing; unfinished = tt }
 
 -- so empty bytes are
-pub empty_is_part : (bytes : List ℕ) → bytes ≡ [] → IsPart bytes
-empty_is_part bytes none = subst (λ (t : List ℕ). IsPart t) (sym none) nothing_is_part
+pub empty_is_part : (bytes : List ℕ) → bytes ≡ [] → IsUnfinishedPart bytes
+empty_is_part bytes none = subst (λ (t : List ℕ). IsUnfinishedPart t) (sym none) nothing_is_part
 
 -- nothing is left: the stream is read
 pub read_to_end : (stream rest : List ℕ) (messages : List (Message Definition)) → Splits stream messages rest → length rest ≡ 0 → Reads stream messages rest

@@ -3,7 +3,7 @@ use Rattle.std.specs.Prelude.{◌≡◌, ℕ, List, [], ◌∷◌, ◌++◌, tak
 use Rattle.wf_def.specs.Definition.{Definition}
 use Rattle.wf_model.specs.Message.{Message}
 use Rattle.wf_codec.specs.Encoding.{Spells}
-use Rattle.wf_mail.specs.Stream.{IsPart}
+use Rattle.wf_mail.specs.Stream.{IsUnfinishedPart}
 
 -- the message at the front of the bytes, n bytes long, is appended to the list
 pub record TakesOne (bytes : List ℕ) (n : ℕ) (old new : List (Message Definition)) : Type 0 where
@@ -15,5 +15,5 @@ pub record TakesOne (bytes : List ℕ) (n : ℕ) (old new : List (Message Defini
 
 -- no message is there yet, and the list is unchanged
 pub record TakesNone (bytes : List ℕ) (old new : List (Message Definition)) : Type 0 where
-  pub part : IsPart bytes
+  pub part : IsUnfinishedPart bytes
   pub unchanged : new ≡ old

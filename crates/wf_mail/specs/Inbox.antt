@@ -2,9 +2,9 @@
 use Rattle.std.specs.Prelude.{◌≡◌, ℕ, List, [], ◌++◌, length, Option, Some, None}
 use Rattle.wf_def.specs.Definition.{Definition}
 use Rattle.wf_model.specs.Message.{Message}
-use Rattle.wf_codec.specs.Theorem.{IsRejection}
+use Rattle.wf_codec.specs.Theorem.{IsLastingFault}
 use Rattle.wf_codec.specs.declared.fault.DecodeFault.{DecodeFault}
-use Rattle.wf_mail.specs.Stream.{IsPart, Reads, Breaks}
+use Rattle.wf_mail.specs.Stream.{IsUnfinishedPart, Reads, Breaks}
 
 -- the bytes after the last whole message, or the error that stands in the stream
 pub data InboxState : Type 0 where
@@ -18,8 +18,8 @@ state_of (Some fault) rest = Failed fault
 
 -- An open inbox keeps nothing or part of a message. A failed one keeps no bytes, and an error of the stream.
 abbrev pub IsInbox : Option DecodeFault → List ℕ → Type 0
-IsInbox None rest = IsPart rest
-IsInbox (Some fault) rest = IsRejection fault × (rest ≡ [])
+IsInbox None rest = IsUnfinishedPart rest
+IsInbox (Some fault) rest = IsLastingFault fault × (rest ≡ [])
 
 -- the number of bytes that it keeps
 abbrev pub pending_bytes : InboxState → ℕ

@@ -7,7 +7,7 @@ use Rattle.wf_def.specs.Definition.{Definition}
 use Rattle.wf_model.specs.Message.{Message}
 use Rattle.wf_mail.specs.Inbox as inbox
 use Rattle.wf_mail.specs.Inbox.{InboxState}
-use Rattle.wf_mail.specs.Stream.{IsPart, Reads, Breaks}
+use Rattle.wf_mail.specs.Stream.{IsUnfinishedPart, Reads, Breaks}
 use Rattle.wf_codec.specs.declared.fault.DecodeFault.{DecodeFault}
 use Rattle.wf_codec.specs.declared.fault.DecodeFault.TheVariants.{Memory}
 use Rattle.wf_mail.specs.Mail.{spelled, AreMessages}
@@ -64,7 +64,7 @@ IsClosed (Closed before earlier) piece fault after = (fault ≡ earlier) × (aft
 
 -- What came has encodings, and an open inbox keeps nothing or part of a message.
 abbrev pub KeepsPartIn : InboxState → Type 0
-KeepsPartIn (inbox.Open rest) = IsPart rest
+KeepsPartIn (inbox.Open rest) = IsUnfinishedPart rest
 KeepsPartIn (inbox.Failed fault) = Unit {0}
 
 pub record IsReceiver (came : List (Message Definition)) (state : InboxState) : Type 0 where

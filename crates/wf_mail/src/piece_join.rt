@@ -2,7 +2,7 @@
 
 ghost use Rattle.std.specs.Prelude.{◌≡◌, ◌≢◌, ◌++◌, ℕ, List, [], map, take, length, OnOk, OnErr, IfErr, IsErrOf};
 ghost use Rattle.wf_codec.specs.Message.{view};
-ghost use Rattle.wf_mail.specs.Stream.{Splits, Reads, Breaks, IsPart};
+ghost use Rattle.wf_mail.specs.Stream.{Splits, Reads, Breaks, IsUnfinishedPart};
 
 use crate::header::{complete, known_length};
 use crate::whole_messages::{read_next, read_whole};
@@ -18,7 +18,7 @@ pub fn take_in(
     piece: &[u8],
 ) -> Result<(), DecodeFault>
     requires empty { messages.old.items ≡ [] }
-    requires part { IsPart rest.old.items }
+    requires part { IsUnfinishedPart rest.old.items }
     ensures ok { OnOk result
         (Reads (rest.old.items ++ piece.now) (map view messages.new.items) rest.new.items) }
     ensures err { IfErr result (λ fault. fault ≢ DecodeFault.Memory →
@@ -47,7 +47,7 @@ fn join(
     piece: &[u8],
 ) -> Result<(), DecodeFault>
     requires empty { messages.old.items ≡ [] }
-    requires part { IsPart rest.old.items }
+    requires part { IsUnfinishedPart rest.old.items }
     ensures ok { OnOk result
         (Reads (rest.old.items ++ piece.now) (map view messages.new.items) rest.new.items) }
     ensures err { IfErr result (λ fault. fault ≢ DecodeFault.Memory →

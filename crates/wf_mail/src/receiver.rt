@@ -20,7 +20,6 @@ pub struct Receiver {
 }
 
 impl Model for Receiver {
-    ghost use Rattle.wf_mail.specs.Mail.{AreMessages};
     ghost use Rattle.wf_mail.specs.Receiver.{ReceiverState, state_of, logged, IsReceiver};
 
     ghost Value = { ReceiverState };

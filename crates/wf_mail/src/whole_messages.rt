@@ -1,6 +1,6 @@
 //! Whole messages at the front of bytes.
 
-ghost use Rattle.std.specs.Prelude.{◌≡◌, ◌≢◌, ℕ, List, map, IfOk, IfErr, MatchOption};
+ghost use Rattle.std.specs.Prelude.{◌≢◌, ℕ, List, map, IfOk, IfErr, MatchOption};
 ghost use Rattle.wf_codec.specs.Message.{view};
 ghost use Rattle.wf_mail.specs.Stream.{Splits, Reads, IsWrong, Breaks};
 ghost use Rattle.wf_mail.specs.FrontMessage.{TakesOne, TakesNone};

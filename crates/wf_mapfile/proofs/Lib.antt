@@ -3,3 +3,5 @@ pub mod Pairs
 pub mod Texts
 pub mod Counted
 pub mod RejectionTheorem
+mod Taken
+mod Keyword

@@ -16,3 +16,4 @@ pub use Rattle.wf_feature.specs.Layers
 pub mod Map
 pub mod Meaning
 pub mod Rejection
+pub mod Keywords

@@ -13,7 +13,7 @@ ghost use Rattle.wf_def.specs.Limit.{most_classes};
 use crate::metadata::read_metadata;
 use crate::slots::{LayerDropped, LayerOnce, LayerSlots, Metadata};
 use std::alloc::{AllocError, Global};
-use wf_block::{MapFault, Parser, Slots, fill_block, is_name, once, text_or_empty};
+use wf_block::{Block, MapFault, Parser, Slots, fill_block, is_name, once, text_or_empty};
 use wf_class::read_class;
 use wf_def::{Classes, Features, Layer, LayerKind};
 use wf_feature::{LayerName, LayerRead, Layers, read_feature};
@@ -223,6 +223,17 @@ impl LayerSlots {
 }
 
 impl LayerOnce {
+    /// The first keyword that is required and hasn't come.
+    fn lacking(&self) -> Option<&'static str> {
+        if self.name.is_none() {
+            Some("NAME")
+        } else if self.kind.is_none() {
+            Some("TYPE")
+        } else {
+            None
+        }
+    }
+
     /// The values of the slots, with defaults for absent ones.
     fn fill(self, alloc: Global) -> Result<LayerHead, AllocError>
         requires name { is_some self.name ≡ true }
@@ -414,8 +425,11 @@ pub fn read_layer(parser: &mut Parser<'_>, others: &Layers) -> Result<LayerRead,
         others,
         points: 0,
     };
-    match fill_block(parser, &mut reading) {
-        Ok(()) => reading.fill(parser.alloc()),
+    match fill_block(parser, Block::Layer, &mut reading) {
+        Ok(()) => {
+            parser.lacks(reading.slots.single.lacking());
+            reading.fill(parser.alloc())
+        }
         Err(fault) => {
             drop(reading);
             Err(fault)

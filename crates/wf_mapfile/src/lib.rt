@@ -12,10 +12,12 @@
 //! files, and how a definition is written (wf_canon).
 //!
 //! Modules: `map` and `layer`, the blocks that hold all others, with `web` and `metadata`, whose keywords fill their slots in
-//! `slots`, and `reader`, the whole file. The readers of tokens and of any block are in wf_block, CLASS with STYLE and LABEL in
-//! wf_class, FEATURE and the layers so far in wf_feature. The error is re-exported.
+//! `slots`; `reader`, the whole file; `keywords`, those of each block with what each takes, for reports. The readers of tokens and
+//! of any block are in wf_block, CLASS with STYLE and LABEL in wf_class, FEATURE and the layers so far in wf_feature. The error is
+//! re-exported; [`read_with_place`] returns it with the block and the keyword where it was found.
 #![tactic(auto)]
 
+mod keywords;
 mod layer;
 mod map;
 mod metadata;
@@ -23,6 +25,7 @@ mod reader;
 mod slots;
 mod web;
 
-pub use reader::{MOST_MAPFILE_BYTES, limit_of_mapfiles, read};
-pub use wf_block::MapFault;
+pub use keywords::{Keyword, Takes, keyword_of, keywords_of};
+pub use reader::{MOST_MAPFILE_BYTES, Rejection, limit_of_mapfiles, read, read_with_place};
+pub use wf_block::{Block, MapFault, Place};
 pub use wf_feature::layer_names_are_tested;

@@ -10,7 +10,7 @@ use crate::slots::{MapDropped, MapOnce, MapSlots, Metadata};
 use crate::web::read_web;
 use std::alloc::{AllocError, Global};
 use wf_block::{
-    MapFault, Parser, Slots, choose, fill_block, is_name, once, text_or, text_or_empty,
+    Block, MapFault, Parser, Slots, choose, fill_block, is_name, once, text_or, text_or_empty,
 };
 use wf_class::read_color;
 use wf_def::{Extent, MapDef, Projection};
@@ -52,6 +52,17 @@ impl Slots for MapSlots {
 }
 
 impl MapOnce {
+    /// The first keyword that is required and hasn't come.
+    fn lacking(&self) -> Option<&'static str> {
+        if self.extent.is_none() {
+            Some("EXTENT")
+        } else if self.projection.is_none() {
+            Some("PROJECTION")
+        } else {
+            None
+        }
+    }
+
     /// Reads the arguments of a keyword that comes at most once, and stores them.
     #[tactic(auto, unfolding(crate::specs::Map::map_once))]
     fn take(&mut self, keyword: Token<'_>, parser: &mut Parser<'_>) -> Result<(), MapFault>
@@ -225,7 +236,8 @@ pub fn read_map(parser: &mut Parser<'_>) -> Result<MapDef, MapFault>
     ensures { Gives (λ d. (d, parser.new)) result (map parser.old) }
 {
     let mut slots = MapSlots::new(parser.alloc());
-    fill_block(parser, &mut slots)?;
+    fill_block(parser, Block::Map, &mut slots)?;
+    parser.lacks(slots.single.lacking());
     slots.fill(parser.alloc())
 }
 
@@ -257,12 +269,15 @@ fn read_extent(parser: &mut Parser<'_>, keyword: usize) -> Result<Extent, MapFau
 fn read_projection(parser: &mut Parser<'_>) -> Result<Projection, MapFault>
     ensures { Gives (λ p. (p, parser.new)) result (projection parser.old) }
 {
+    let outer = parser.enter(Block::Projection);
     let byte_offset = parser.byte_offset();
     let text = parser.text_there()?;
     let projection = projection_named(text.as_bytes()).ok_or(MapFault::UnexpectedWord(
         byte_offset,
     ))?;
+    parser.at_keyword(Some(byte_offset));
     parser.end()?;
+    parser.leave(outer);
     Ok(projection)
 }
 

@@ -1,14 +1,16 @@
 //! METADATA: pairs of texts.
-ghost use Rattle.std.specs.Prelude.{◌≡◌, None, length, string_bytes};
+ghost use Rattle.std.specs.Prelude.{◌≡◌, IfOk, None, length, string_bytes};
 ghost use Rattle.std.specs.HashSet.{contains_text};
 ghost use Rattle.wf_mapfile.specs.Metadata.{metadata};
+ghost use Rattle.wf_block.specs.Grammar.{text};
 ghost use Rattle.wf_block.specs.ReadContract.{Gives};
+ghost use Rattle.wf_text.specs.Text.{IsText};
 ghost use Rattle.wf_mapfile.specs.Pairs.{collect, keep, new_pair};
 ghost use Rattle.wf_mapfile.specs.Web.{no_metadata};
 
 use crate::slots::Metadata;
 use std::collections::HashSet;
-use wf_block::{MapFault, Parser, keep};
+use wf_block::{Block, MapFault, Parser, keep};
 use wf_text::Text;
 
 impl Metadata {
@@ -40,10 +42,20 @@ impl Metadata {
     }
 }
 
-/// Reads pairs of texts up to END (MapServer mapfile reference, METADATA). Keys are compared without regard to ASCII letter
-/// case, and no key may come twice, whether its value is kept or not.
-#[tactic(auto, using(crate::proofs::Pairs::metadata_read))]
+/// Reads a block of pairs of texts up to its END (MapServer mapfile reference, METADATA). Keys are compared without regard to
+/// ASCII letter case, and no key may come twice, whether its value is kept or not.
 pub fn read_metadata(parser: &mut Parser<'_>) -> Result<Metadata, MapFault>
+    ensures { Gives (λ m. (m, parser.new)) result (metadata parser.old) }
+{
+    let outer = parser.enter(Block::Metadata);
+    let kept = read_kept(parser)?;
+    parser.leave(outer);
+    Ok(kept)
+}
+
+/// Reads pairs up to END.
+#[tactic(auto, using(crate::proofs::Pairs::metadata_read))]
+fn read_kept(parser: &mut Parser<'_>) -> Result<Metadata, MapFault>
     ensures { Gives (λ m. (m, parser.new)) result (metadata parser.old) }
 {
     let mut keys = HashSet::new(parser.alloc());
@@ -80,6 +92,18 @@ fn read_pairs(
     Err(parser.missing_end())
 }
 
+/// Reads the key of a pair.
+fn read_key<'a>(parser: &mut Parser<'a>) -> Result<&'a str, MapFault>
+    ensures read { Gives (λ t. (t.now, parser.new)) result (text parser.old) }
+    ensures within { IfOk result (λ t. IsText t.now) }
+{
+    let byte_offset = parser.byte_offset();
+    parser.at_keyword(None);
+    let key = parser.text_there()?;
+    parser.at_keyword(Some(byte_offset));
+    Ok(key)
+}
+
 /// Reads a pair whose key, in lower case, differs from these.
 #[tactic(auto, unfolding(crate::specs::Pairs::new_pair))]
 fn read_new_pair(
@@ -90,7 +114,7 @@ fn read_new_pair(
         (new_pair (λ key. contains_text keys.now key) parser.old) }
 {
     let byte_offset = parser.byte_offset();
-    let text = parser.text_there()?;
+    let text = read_key(parser)?;
     let key = text.to_ascii_lowercase(parser.alloc())?;
     if keys.contains(key.as_str()) {
         drop(key);

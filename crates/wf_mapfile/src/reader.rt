@@ -9,7 +9,7 @@ ghost use Rattle.wf_token.specs.Token.{Token as TokenValue, token_value, tokens}
 
 use crate::map::read_map;
 use std::alloc::Global;
-use wf_block::{MapFault, Parser, is_name};
+use wf_block::{MapFault, Parser, Place, is_name};
 use wf_def::MapDef;
 use wf_token::{LexFault, Token, TokenKind, tokenize};
 
@@ -40,12 +40,36 @@ pub fn read(alloc: Global, bytes: &[u8]) -> Result<MapDef, MapFault>
     // that begins with another token than MAP, and M12 for a map with a token after it.
     ensures reported { IfErr result (λ fault. is_memory fault ≡ false → HasError bytes.now fault) }
 {
-    read_meaning(alloc, bytes)
+    let mut place = Place::front();
+    read_meaning(alloc, bytes, &mut place)
 }
 
-/// The meaning of the bytes, or the first error.
+/// Why bytes aren't a mapfile, and where.
+#[derive(Clone, Copy)]
+pub struct Rejection {
+    /// The first error from the left.
+    pub fault: MapFault,
+    /// Where the reader was when it found the error; the front of the file for an error that is checked before its tokens.
+    pub place: Place,
+}
+
+/// Reads a mapfile like [`read`], for a report: an error comes with the block and the keyword where it was found.
+#[tactic(auto, using(crate::proofs::RejectionTheorem::has_error))]
+pub fn read_with_place(alloc: Global, bytes: &[u8]) -> Result<MapDef, Rejection>
+    ensures meant { IfOk result (λ map. Means bytes.now map) }
+    ensures reported { IfErr result
+        (λ rejection. is_memory rejection.fault ≡ false → HasError bytes.now rejection.fault) }
+{
+    let mut place = Place::front();
+    match read_meaning(alloc, bytes, &mut place) {
+        Ok(map) => Ok(map),
+        Err(fault) => Err(Rejection { fault, place }),
+    }
+}
+
+/// The meaning of the bytes, or the first error and where it is.
 #[tactic(auto, unfolding(crate::specs::Meaning::meaning))]
-fn read_meaning(alloc: Global, bytes: &[u8]) -> Result<MapDef, MapFault>
+fn read_meaning(alloc: Global, bytes: &[u8], place: &mut Place) -> Result<MapDef, MapFault>
     ensures too_long { longest_mapfile < length bytes.now → result ≡ Err MapFault.TooLong }
     ensures not_utf8 { length bytes.now ≤ longest_mapfile → is_utf8 bytes.now ≡ false →
         result ≡ Err (MapFault.NotUtf8 (utf8_valid_len bytes.now)) }
@@ -61,6 +85,7 @@ fn read_meaning(alloc: Global, bytes: &[u8]) -> Result<MapDef, MapFault>
     let lexed = tokenize(alloc, bytes)?;
     let mut parser = Parser::new(alloc, lexed.tokens.as_slice(), bytes.len());
     let parsed = read_file(&mut parser);
+    *place = parser.place();
     match lexed.fault {
         None => parsed,
         Some(fault) => Err(first_fault(parsed, lexed.tokens.is_empty(), fault)),

@@ -1,11 +1,11 @@
 //! WEB: at most one METADATA, and dropped keywords.
-ghost use Rattle.std.specs.Prelude.{◌≡◌, Some, None, is_some, false, MatchResult, true, unwrap_or};
-ghost use Rattle.wf_block.specs.ReadContract.{Gives, is_memory};
+ghost use Rattle.std.specs.Prelude.{◌≡◌, Some, None, unwrap_or};
+ghost use Rattle.wf_block.specs.ReadContract.{Gives};
 ghost use Rattle.wf_mapfile.specs.Web.{no_metadata, web};
 
 use crate::metadata::read_metadata;
 use crate::slots::{Metadata, WebSlots};
-use wf_block::{MapFault, Parser, Slots, fill_block, is_name, once};
+use wf_block::{Block, MapFault, Parser, Slots, fill_block, is_name, once};
 use wf_token::Token;
 
 impl Slots for WebSlots {
@@ -62,6 +62,6 @@ pub fn read_web(parser: &mut Parser<'_>) -> Result<Metadata, MapFault>
     ensures { Gives (λ m. (m, parser.new)) result (web parser.old) }
 {
     let mut slots = WebSlots::default();
-    fill_block(parser, &mut slots)?;
+    fill_block(parser, Block::Web, &mut slots)?;
     Ok(slots.fill())
 }

@@ -20,7 +20,7 @@ use Rattle.wf_journal.specs.Journal.{Journal}
 use Rattle.wf_journal.specs.Record.{view}
 use Rattle.wf_node.specs.declared.fault.NodeFault.{NodeFault}
 use Rattle.wf_node.specs.declared.fault.NodeFault.TheVariants.{Memory}
-use Rattle.wf_node.specs.Act.{IsAct, IsChange, IsRejectedOr, IsReply}
+use Rattle.wf_node.specs.Act.{IsAct, IsChange, IsRejectedOr, IsStepReply}
 use Rattle.wf_node.specs.Fault.{rejected_by, TakesMemory, ByEntry, ByMessages, fault_of}
 use Rattle.wf_node.specs.DurablePart as keeping
 use Rattle.wf_node.specs.Parts.{Parts, stored_of}
@@ -51,7 +51,7 @@ module _ {T : Type 0} (tapes : Tape T) where
   -- an input that only sends messages
   pub act_only_sends : {A : Type 0} (input : Input Definition) (messages : List (model.Message Definition)) (journal : Journal T) (parts : Parts) (proposer : Proposer)
       (result : Result (Vec Message A) NodeFault) → step_rejection (stored_of parts) (volatile_of proposer) input ≡ None → journal.halted ≡ false →
-      transition_at parts proposer input ≡ only_sends (volatile_of proposer) messages → IsReply messages result →
+      transition_at parts proposer input ≡ only_sends (volatile_of proposer) messages → IsStepReply messages result →
       IsAct tapes input journal parts proposer result journal parts proposer
   act_only_sends input messages journal parts proposer result none running is reply =
       subst (λ why. IsRejectedOr tapes why (transition_at parts proposer input) journal parts proposer result journal parts proposer) (sym none)

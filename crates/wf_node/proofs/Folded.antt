@@ -10,7 +10,7 @@ use Rattle.wf_journal.specs.Records.{length_of}
 use Rattle.wf_journal.specs.declared.record.Record as code
 use Rattle.wf_journal.specs.declared.open_error.OpenFault.{OpenFault}
 use Rattle.wf_journal.specs.declared.open_error.OpenFault.TheVariants.{TapeFailed, BadRecord, Memory}
-use Rattle.wf_node.specs.OpenedNode.{IsUnfitAt, IsTaken, IsWhyRejected, IsWhyUnfolded}
+use Rattle.wf_node.specs.OpenedNode.{IsUnfitAt, IsApplied, IsWhyRecordRejected, IsWhyUnfolded}
 use Rattle.wf_node.proofs.Fold.{fold_more}
 
 -- The fold of the records applied so far, the byte offset of the next one, and those that remain.
@@ -38,7 +38,7 @@ length_of-first r rest = refl
 
 -- One more record is applied.
 pub taken_more : (old new : DurableState Definition) (index next : ℕ) (taken left rest all : List code.Record) (entry : code.Record) → HasTaken old index taken left all → left ≡ entry ∷ rest →
-    IsTaken old (view entry) index new next → HasTaken new next (taken ++ entry ∷ []) rest all
+    IsApplied old (view entry) index new next → HasTaken new next (taken ++ entry ∷ []) rest all
 taken_more old new index next taken left rest all entry has is one =
     let records : map view (taken ++ entry ∷ []) ≡ map view taken ++ view entry ∷ [] = map-append view taken (entry ∷ []) in
     record {
@@ -73,7 +73,7 @@ room_there stored index taken left rest all entry has is short =
 
 -- If one isn't applied, the records aren't folded.
 pub why_unfolded : (stored : DurableState Definition) (index : ℕ) (taken left rest all : List code.Record) (entry : code.Record) (fault : OpenFault) → HasTaken stored index taken left all →
-    left ≡ entry ∷ rest → IsWhyRejected stored (view entry) index fault → IsWhyUnfolded (map view all) fault
+    left ≡ entry ∷ rest → IsWhyRecordRejected stored (view entry) index fault → IsWhyUnfolded (map view all) fault
 why_unfolded stored index taken left rest all entry TapeFailed has is why = why
 why_unfolded stored index taken left rest all entry (BadRecord there) has is why = record {
   before = map view taken;

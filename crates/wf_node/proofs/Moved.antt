@@ -15,7 +15,7 @@ use Rattle.wf_node.specs.Compaction.{short_records}
 use Rattle.wf_node.specs.Images.{StandsFor, AllStandFor}
 use Rattle.wf_node.specs.DurablePart as keeping
 use Rattle.wf_node.specs.DurablePart.{DurablePart}
-use Rattle.wf_node.specs.Node.{Node, IsNode, view_of, stored_of}
+use Rattle.wf_node.specs.Node.{Node, IsSoundNode, view_of, stored_of}
 use Rattle.wf_node.specs.OpenedNode.{IsRead}
 use Rattle.wf_node.specs.Relocation.{LeavesOldOrStands, IsMoved, IsNotMoved, IsBegunWith, IsNotBegunWith}
 use Rattle.wf_node.proofs.Shortened.{shortened_folds}
@@ -47,7 +47,7 @@ module _ (stored : DurableState Definition) (folds : fold (short_records stored)
 
 module _ {T U : Type 0} (tapes : Tape U) (old : Journal T) (persistent : DurablePart) (proposer : Proposer) (running : old.halted ≡ false)
     (folds : fold (short_records (keeping.stored_of persistent)) ≡ Some (keeping.stored_of persistent)) (tape : U) where
-  pub moved_keeps : (journal : Journal U) → persistent.id ≡ proposer.node → IsForNext (keeping.stored_of persistent) (volatile_of proposer).proposing → IsBegunWith tapes (short_records (keeping.stored_of persistent)) tape journal → IsNode tapes journal persistent proposer
+  pub moved_keeps : (journal : Journal U) → persistent.id ≡ proposer.node → IsForNext (keeping.stored_of persistent) (volatile_of proposer).proposing → IsBegunWith tapes (short_records (keeping.stored_of persistent)) tape journal → IsSoundNode tapes journal persistent proposer
   moved_keeps journal same_node for_next begun = record {
     same_node = same_node;
     for_next = for_next;

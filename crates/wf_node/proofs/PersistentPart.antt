@@ -14,9 +14,9 @@ use Rattle.wf_journal.specs.Record.{view}
 use Rattle.wf_journal.specs.declared.record.Record.{Record}
 use Rattle.wf_journal.specs.declared.record.Record.TheVariants.{Tried, Promised, Accepted, Published}
 use Rattle.wf_acceptor.specs.Acceptor as acceptor
-use Rattle.wf_acceptor.specs.Acceptor.{Part, ActsFor, Applies, IsNext}
+use Rattle.wf_acceptor.specs.Acceptor.{Part, ActsFor, Applies, IsNextSlot}
 use Rattle.wf_acceptor.specs.AcceptorAnswer as answers
-use Rattle.wf_acceptor.specs.AcceptorAnswer.{Answers}
+use Rattle.wf_acceptor.specs.AcceptorAnswer.{AnswersAlways}
 use Rattle.wf_acceptor.specs.declared.acceptor.AcceptorAnswer.{AcceptorAnswer}
 use Rattle.wf_node.specs.Parts.{Parts, stored_of}
 use Rattle.wf_node.specs.DurablePart.{IsTransition, Stores, IsRoomFor, tried_after, definitions_after}
@@ -72,7 +72,7 @@ fits_in_turn stored r s n number d is same_number as_many = rw (is, same_number,
 
 -- A record that fits is one that the acceptor may apply.
 pub next_where_fits : (tried : ℕ) (part : Part) (definitions : List Definition) (r : Record) → part.published ≡ length definitions →
-    fits (stored_of (parts_of tried part definitions)) (view r) ≡ true → IsNext part r
+    fits (stored_of (parts_of tried part definitions)) (view r) ≡ true → IsNextSlot part r
 unfolding fits next_sequence published
 next_where_fits tried part definitions (Tried round) as_many fit = tt
 next_where_fits tried part definitions (Promised s b) as_many fit = tt
@@ -123,7 +123,7 @@ nothing_applied stored entry none = sym (ap (λ (o : Option Record). store store
 -- ---- answers
 
 pub transition_if_ok : {E : Type 0} (tried : ℕ) (part : Part) (definitions : List Definition) (transition : DurableState Definition → VolatileState Definition → Transition Definition) (result : Result AcceptorAnswer E) →
-    part.published ≡ length definitions → IfOk result (Answers part transition) → IfOk result (IsTransition (transition (stored_of (parts_of tried part definitions))))
+    part.published ≡ length definitions → IfOk result (AnswersAlways part transition) → IfOk result (IsTransition (transition (stored_of (parts_of tried part definitions))))
 transition_if_ok tried part definitions transition (Ok answer) as_many answers_ = λ volatile. answers_ (stored_of (parts_of tried part definitions)) volatile (acts_for_persistent tried part definitions as_many)
 transition_if_ok tried part definitions transition (Err e) as_many answers_ = tt
 

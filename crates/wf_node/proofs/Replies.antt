@@ -16,7 +16,7 @@ use Rattle.wf_journal.specs.Encoding.{spelling}
 use Rattle.wf_tape.specs.Tape.{IsUnchanged, IsExtended, HasRisen}
 use Rattle.wf_node.specs.declared.fault.NodeFault.{NodeFault}
 use Rattle.wf_node.specs.declared.fault.NodeFault.TheVariants.{Memory, Busy, SequenceFull, RoundsFull, Halted, TapeFailed, Nothing}
-use Rattle.wf_node.specs.Act.{IsChange, IsReply}
+use Rattle.wf_node.specs.Act.{IsChange, IsStepReply}
 use Rattle.wf_node.specs.Fault.{TakesMemory, ByEntry, ByMessages}
 use Rattle.wf_node.specs.Parts.{Parts, stored_of}
 use Rattle.wf_node.specs.TapeWrites.{bytes_of, keeping, IsTornAt, IsWritten, IsSpared, IsBroken, IsStoredBy, IsWrite}
@@ -47,7 +47,7 @@ module _ {T : Type 0} (tapes : Tape T) where
 
   -- The transition stores nothing and leaves the volatile state unchanged: it only sends messages.
   pub reply_changes : {A : Type 0} (the_transition : Transition Definition) (journal : Journal T) (parts : Parts) (proposer : Proposer) (result : Result (Vec Message A) NodeFault) →
-      journal.halted ≡ false → the_transition.entry ≡ None → the_transition.volatile ≡ volatile_of proposer → IsReply the_transition.messages result →
+      journal.halted ≡ false → the_transition.entry ≡ None → the_transition.volatile ≡ volatile_of proposer → IsStepReply the_transition.messages result →
       IsChange tapes the_transition journal parts proposer result journal parts proposer
   unfolding store
   reply_changes the_transition journal parts proposer (Ok given) running entry volatile reply = (
@@ -71,7 +71,7 @@ module _ {T : Type 0} (tapes : Tape T) where
 
   -- a transition that sends these messages
   pub sends_changes : {A : Type 0} (the_transition : Transition Definition) (messages : List (model.Message Definition)) (journal : Journal T) (parts : Parts) (proposer : Proposer) (result : Result (Vec Message A) NodeFault) →
-      journal.halted ≡ false → the_transition ≡ only_sends (volatile_of proposer) messages → IsReply messages result →
+      journal.halted ≡ false → the_transition ≡ only_sends (volatile_of proposer) messages → IsStepReply messages result →
       IsChange tapes the_transition journal parts proposer result journal parts proposer
   unfolding only_sends
   sends_changes the_transition messages journal parts proposer result running is reply =

@@ -10,7 +10,7 @@ use Rattle.wf_node.specs.declared.fault.NodeFault.TheVariants.{Memory, Busy, Seq
 use Rattle.wf_node.specs.Images.{AllStandFor}
 use Rattle.wf_node.specs.DurablePart as keeping
 use Rattle.wf_node.specs.DurablePart.{DurablePart}
-use Rattle.wf_node.specs.Node.{IsNode, view_of}
+use Rattle.wf_node.specs.Node.{IsSoundNode, view_of}
 use Rattle.wf_node.specs.Compaction.{IsShortening, short_records}
 use Rattle.wf_node.specs.TapeWrites.{IsReplacement}
 use Rattle.wf_node.proofs.Shortened.{stands_on}
@@ -45,12 +45,12 @@ module _ {T : Type 0} (tapes : Tape T) where
 
   -- So the node's invariant holds.
   pub rewriting_keeps : {A : Type 0} (journal after : Journal T) (persistent persistent_after : DurablePart) (proposer proposer_after : Proposer) (result : Result A NodeFault) →
-      FoldsAreOpen Definition → VotesArePromised Definition → IsNode tapes journal persistent proposer → journal.halted ≡ false →
+      FoldsAreOpen Definition → VotesArePromised Definition → IsSoundNode tapes journal persistent proposer → journal.halted ≡ false →
       IsReplacement tapes (short_records (keeping.stored_of persistent)) journal result after → persistent_after ≡ persistent → proposer_after ≡ proposer →
-      IsNode tapes after persistent_after proposer_after
+      IsSoundNode tapes after persistent_after proposer_after
   rewriting_keeps journal after persistent persistent_after proposer proposer_after result are_open are_promised node running replaced same_persistent same_proposer =
-      subst (λ (p : Proposer). IsNode tapes after persistent_after p) (sym same_proposer)
-      (subst (λ (k : DurablePart). IsNode tapes after k proposer) (sym same_persistent) (record {
+      subst (λ (p : Proposer). IsSoundNode tapes after persistent_after p) (sym same_proposer)
+      (subst (λ (k : DurablePart). IsSoundNode tapes after k proposer) (sym same_persistent) (record {
         same_node = node.same_node;
         for_next = node.for_next;
         stands = λ h still. replacement_stands result (keeping.stored_of persistent) journal after are_open are_promised replaced h (node.stands h running);
@@ -102,7 +102,7 @@ module _ {T : Type 0} (tapes : Tape T) where
   shortens_by journal after persistent proposer (Err Nothing) never stands = absurd never
 
   pub shortens : {A : Type 0} (journal after : Journal T) (persistent persistent_after : DurablePart) (proposer proposer_after : Proposer) (result : Result A NodeFault) →
-      FoldsAreOpen Definition → VotesArePromised Definition → IsNode tapes journal persistent proposer → journal.halted ≡ false →
+      FoldsAreOpen Definition → VotesArePromised Definition → IsSoundNode tapes journal persistent proposer → journal.halted ≡ false →
       IsReplacement tapes (short_records (keeping.stored_of persistent)) journal result after → persistent_after ≡ persistent → proposer_after ≡ proposer →
       IsShortening tapes (view_of journal persistent.parts proposer) result (view_of after persistent_after.parts proposer_after)
   shortens journal after persistent persistent_after proposer proposer_after result are_open are_promised node running replaced same_persistent same_proposer =

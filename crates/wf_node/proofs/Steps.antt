@@ -18,7 +18,7 @@ use Rattle.wf_node.specs.Fault.{step_rejection_of, rejected_by}
 use Rattle.wf_node.specs.Images.{StandsFor, AllStandFor, EachStandsFor, EachIsCut}
 use Rattle.wf_node.specs.DurablePart.{DurablePart}
 use Rattle.wf_node.specs.Fault as memory
-use Rattle.wf_node.specs.Node.{IsNode, view_of}
+use Rattle.wf_node.specs.Node.{IsSoundNode, view_of}
 use Rattle.wf_node.specs.Parts.{Parts, stored_of}
 use Rattle.wf_node.specs.TapeWrites.{bytes_of}
 use Rattle.wf_tape.specs.Change.{inside}
@@ -180,7 +180,7 @@ module _ {T : Type 0} (tapes : Tape T) where
 
   -- What the parts did or rejected is the node's step.
   pub act_steps : {A : Type 0} (journal journal_after : Journal T) (persistent persistent_after : DurablePart) (proposer proposer_after : Proposer) (input : Input Definition) (result : Result (Vec Message A) NodeFault) →
-      IsNode tapes journal persistent proposer → journal.halted ≡ false → RecordsFit Definition →
+      IsSoundNode tapes journal persistent proposer → journal.halted ≡ false → RecordsFit Definition →
       IsAct tapes input journal persistent.parts proposer result journal_after persistent_after.parts proposer_after →
       IsStep tapes (view_of journal persistent.parts proposer) input result (view_of journal_after persistent_after.parts proposer_after)
   act_steps journal journal_after persistent persistent_after proposer proposer_after input result is running fit act =
@@ -215,7 +215,7 @@ module _ {T : Type 0} (tapes : Tape T) where
       inl (stand image (subst (λ (j : Journal T). inside tapes journal.tape j.tape image) same left))
 
   pub act_inside : {A : Type 0} (journal journal_after : Journal T) (persistent persistent_after : DurablePart) (proposer proposer_after : Proposer) (input : Input Definition) (result : Result (Vec Message A) NodeFault) →
-      IsNode tapes journal persistent proposer → journal.halted ≡ false → RecordsFit Definition →
+      IsSoundNode tapes journal persistent proposer → journal.halted ≡ false → RecordsFit Definition →
       IsAct tapes input journal persistent.parts proposer result journal_after persistent_after.parts proposer_after →
       tapes.durable → LeavesNoOther (tapes.images journal.tape) (inside tapes journal.tape journal.tape) →
       EachStandsFor (stored_of persistent.parts) (store (stored_of persistent.parts) (transition_of (view_of journal persistent.parts proposer) input).entry) (inside tapes journal.tape journal_after.tape)
@@ -248,7 +248,7 @@ module _ {T : Type 0} (tapes : Tape T) where
   done_cut journal journal_after parts parts_after proposer proposer_after input (Err Halted) fits change h stand e = absurd change
 
   pub act_cut : {A : Type 0} (journal journal_after : Journal T) (persistent persistent_after : DurablePart) (proposer proposer_after : Proposer) (input : Input Definition) (result : Result (Vec Message A) NodeFault) →
-      IsNode tapes journal persistent proposer → journal.halted ≡ false → RecordsFit Definition →
+      IsSoundNode tapes journal persistent proposer → journal.halted ≡ false → RecordsFit Definition →
       IsAct tapes input journal persistent.parts proposer result journal_after persistent_after.parts proposer_after →
       tapes.durable → result ≡ Err TapeFailed →
       EachIsCut (transition_of (view_of journal persistent.parts proposer) input).entry (stored_of persistent.parts) (store (stored_of persistent.parts) (transition_of (view_of journal persistent.parts proposer) input).entry)
@@ -265,10 +265,10 @@ module _ {T : Type 0} (tapes : Tape T) where
       ] act)
 
   done_node : {A : Type 0} (journal journal_after : Journal T) (persistent persistent_after : DurablePart) (proposer proposer_after : Proposer) (input : Input Definition) (result : Result (Vec Message A) NodeFault) →
-      IsNode tapes journal persistent proposer → journal.halted ≡ false →
+      IsSoundNode tapes journal persistent proposer → journal.halted ≡ false →
       TransitionFits (stored_of persistent.parts) (proposer_transition proposer persistent.parts input) → persistent_after.id ≡ persistent.id →
       IsChange tapes (proposer_transition proposer persistent.parts input) journal persistent.parts proposer result journal_after persistent_after.parts proposer_after →
-      IsNode tapes journal_after persistent_after proposer_after
+      IsSoundNode tapes journal_after persistent_after proposer_after
   done_node journal journal_after persistent persistent_after proposer proposer_after input (Ok messages) is running fits id change = record {
     same_node = id ∙ (is.same_node ∙ sym change.1.node);
     for_next = subst (λ s. IsForNext s (volatile_of proposer_after).proposing) (sym change.1.stored) (subst (λ w. IsForNext (store (stored_of persistent.parts) (proposer_transition proposer persistent.parts input).entry) w.proposing) (sym change.1.volatile) fits.for_next);
@@ -290,8 +290,8 @@ module _ {T : Type 0} (tapes : Tape T) where
   done_node journal journal_after persistent persistent_after proposer proposer_after input (Err Nothing) is running fits id change = absurd change
   done_node journal journal_after persistent persistent_after proposer proposer_after input (Err Halted) is running fits id change = absurd change
 
-  rejected_node : (journal journal_after : Journal T) (persistent persistent_after : DurablePart) (proposer proposer_after : Proposer) → IsNode tapes journal persistent proposer →
-      persistent_after.id ≡ persistent.id → journal_after ≡ journal → IsSame persistent.parts persistent_after.parts proposer proposer_after → IsNode tapes journal_after persistent_after proposer_after
+  rejected_node : (journal journal_after : Journal T) (persistent persistent_after : DurablePart) (proposer proposer_after : Proposer) → IsSoundNode tapes journal persistent proposer →
+      persistent_after.id ≡ persistent.id → journal_after ≡ journal → IsSame persistent.parts persistent_after.parts proposer proposer_after → IsSoundNode tapes journal_after persistent_after proposer_after
   rejected_node journal journal_after persistent persistent_after proposer proposer_after is id same_journal same = record {
     same_node = id ∙ (is.same_node ∙ ap (λ (p : Proposer). p.node) (sym same.proposer));
     for_next = subst (λ parts. IsForNext (stored_of parts) (volatile_of proposer_after).proposing) (sym same.parts) (subst (λ p. IsForNext (stored_of persistent.parts) (volatile_of p).proposing) (sym same.proposer) is.for_next);
@@ -301,15 +301,15 @@ module _ {T : Type 0} (tapes : Tape T) where
 
   -- The invariant of nodes holds after the step.
   pub act_keeps : {A : Type 0} (journal journal_after : Journal T) (persistent persistent_after : DurablePart) (proposer proposer_after : Proposer) (input : Input Definition) (result : Result (Vec Message A) NodeFault) →
-      IsNode tapes journal persistent proposer → journal.halted ≡ false → RecordsFit Definition → persistent_after.id ≡ persistent.id →
+      IsSoundNode tapes journal persistent proposer → journal.halted ≡ false → RecordsFit Definition → persistent_after.id ≡ persistent.id →
       IsAct tapes input journal persistent.parts proposer result journal_after persistent_after.parts proposer_after →
-      IsNode tapes journal_after persistent_after proposer_after
+      IsSoundNode tapes journal_after persistent_after proposer_after
   act_keeps journal journal_after persistent persistent_after proposer proposer_after input result is running fit id act =
       let fits : TransitionFits (stored_of persistent.parts) (proposer_transition proposer persistent.parts input) =
       fit definition_eq proposer.nodes proposer.node (stored_of persistent.parts) (volatile_of proposer) input is.for_next in
       elim (step_rejection (stored_of persistent.parts) (volatile_of proposer) input) as (λ why.
       IsRejectedOr tapes why (proposer_transition proposer persistent.parts input) journal persistent.parts proposer result journal_after persistent_after.parts proposer_after →
-      IsNode tapes journal_after persistent_after proposer_after) [
+      IsSoundNode tapes journal_after persistent_after proposer_after) [
         | None ↦ λ change. done_node journal journal_after persistent persistent_after proposer proposer_after input result is running fits id change
         | Some why ↦ λ refused. rejected_node journal journal_after persistent persistent_after proposer proposer_after is id refused.1 refused.2
       ] act

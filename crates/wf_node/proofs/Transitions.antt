@@ -14,7 +14,7 @@ use Rattle.wf_model.specs.DurableState.{HasStored, DurableState, Record, fits, p
 use Rattle.wf_model.specs.Table.{Transition, running_transition, on_promise, on_accepted, on_nack, on_prepare, on_accept, on_chosen, on_catch_up, on_retry, reject_proposal, reject_retry, round_known, Busy, SequenceFull, on_propose, propose_by, begin_at, lead, ask_votes, stores, only_sends, quiet, with_proposal, promised, voted, is_new_response, leadership_of, asking_votes, with_promise, with_vote, reports, reports_of, reports_from, most_reports, ends, ended, after_publishing}
 use Rattle.wf_model.specs.VolatileState.{VolatileState, Proposing, Idle, Running, Won, Overtaken, Proposal, Preparing, Accepting, Leadership, proposed, is_at, leading_at}
 use Rattle.wf_proposer.specs.Proposer.{runs_for}
-use Rattle.wf_node.specs.Act.{IsOwn, runs}
+use Rattle.wf_node.specs.Act.{IsOwnRecord, runs}
 use Rattle.wf_node.specs.Fault.{TakesMemory, ByEntry, ByMessages}
 
 -- ---- records of the proposer
@@ -28,8 +28,8 @@ entry_if_running P volatile (Running proposal) transition_of none some = some pr
 entry_if_running P volatile (Won s) transition_of none some = none
 entry_if_running P volatile (Overtaken s) transition_of none some = none
 
-pub none_own : (entry : Option (Record Definition)) → entry ≡ None → IsOwn entry
-none_own entry none = subst IsOwn (sym none) tt
+pub none_own : (entry : Option (Record Definition)) → entry ≡ None → IsOwnRecord entry
+none_own entry none = subst IsOwnRecord (sym none) tt
 
 promised_none : (n : ℕ) (volatile : VolatileState Definition) (proposal : Proposal Definition) → (promised n volatile proposal).entry ≡ None
 unfolding promised ask_votes only_sends quiet
@@ -54,27 +54,27 @@ promise_stores_none n volatile sender s b votes =
     (λ proposal. if is_new_response n proposal Preparing sender s b then promised n volatile (with_promise proposal sender votes) else quiet volatile) refl
     (λ proposal. received_promise_none n volatile proposal sender votes (is_new_response n proposal Preparing sender s b))
 
-voted_own : (n : ℕ) (volatile : VolatileState Definition) (proposal : Proposal Definition) → IsOwn (voted definition_eq n volatile proposal).entry
+voted_own : (n : ℕ) (volatile : VolatileState Definition) (proposal : Proposal Definition) → IsOwnRecord (voted definition_eq n volatile proposal).entry
 unfolding voted stores quiet
 voted_own n volatile proposal =
     let d : Definition = proposed proposal in
     elim (is_majority_of (count_nodes n proposal.responders) n) as (λ b.
-    IsOwn (if b then stores (record volatile { proposing = ended definition_eq proposal d }) (stored_part.Published proposal.sequence d) (Chosen proposal.sequence d)
+    IsOwnRecord (if b then stores (record volatile { proposing = ended definition_eq proposal d }) (stored_part.Published proposal.sequence d) (Chosen proposal.sequence d)
     else quiet (with_proposal volatile proposal)).entry) [
       | true ↦ tt
       | false ↦ tt
     ]
 
 received_vote_own : (n : ℕ) (volatile : VolatileState Definition) (proposal : Proposal Definition) (sender : ℕ) (is_first_response : Bool) →
-    IsOwn (if is_first_response then voted definition_eq n volatile (with_vote proposal sender) else quiet volatile).entry
+    IsOwnRecord (if is_first_response then voted definition_eq n volatile (with_vote proposal sender) else quiet volatile).entry
 unfolding quiet
 received_vote_own n volatile proposal sender true = voted_own n volatile (with_vote proposal sender)
 received_vote_own n volatile proposal sender false = tt
 
-pub accepted_own : (n : ℕ) (volatile : VolatileState Definition) (sender s : ℕ) (b : Ballot) → IsOwn (on_accepted definition_eq n volatile sender s b).entry
+pub accepted_own : (n : ℕ) (volatile : VolatileState Definition) (sender s : ℕ) (b : Ballot) → IsOwnRecord (on_accepted definition_eq n volatile sender s b).entry
 unfolding on_accepted
 accepted_own n volatile sender s b =
-    entry_if_running IsOwn volatile volatile.proposing
+    entry_if_running IsOwnRecord volatile volatile.proposing
     (λ proposal. if is_new_response n proposal Accepting sender s b then voted definition_eq n volatile (with_vote proposal sender) else quiet volatile) tt
     (λ proposal. received_vote_own n volatile proposal sender (is_new_response n proposal Accepting sender s b))
 
@@ -92,12 +92,12 @@ nack_stores_none volatile s b promise =
     (λ proposal. seen_none volatile proposal (record proposal { seen = max proposal.seen promise.round }) (is_at proposal s b))
 
 -- A new round's record is the proposer's own, and a leader's proposal has none.
-begun_own : (me : ℕ) (stored : DurableState Definition) (leadership : Option (Leadership Definition)) (own : Definition) → IsOwn (propose_by me stored leadership own).entry
+begun_own : (me : ℕ) (stored : DurableState Definition) (leadership : Option (Leadership Definition)) (own : Definition) → IsOwnRecord (propose_by me stored leadership own).entry
 unfolding propose_by begin_at stores lead ask_votes only_sends
 begun_own me stored None own = tt
 begun_own me stored (Some leadership) own = tt
 
-pub propose_own : (me : ℕ) (stored : DurableState Definition) (volatile : VolatileState Definition) (own : Definition) → IsOwn (on_propose me stored volatile own).entry
+pub propose_own : (me : ℕ) (stored : DurableState Definition) (volatile : VolatileState Definition) (own : Definition) → IsOwnRecord (on_propose me stored volatile own).entry
 unfolding on_propose
 propose_own me stored volatile own = begun_own me stored (leading_at volatile.leadership (next_sequence stored)) own
 
@@ -111,10 +111,10 @@ pub propose_takes : (me : ℕ) (stored : DurableState Definition) (volatile : Vo
 unfolding on_propose
 propose_takes me stored volatile own = begun_takes me stored (leading_at volatile.leadership (next_sequence stored)) own
 
-pub retry_own : (me : ℕ) (stored : DurableState Definition) (volatile : VolatileState Definition) → IsOwn (on_retry me stored volatile).entry
+pub retry_own : (me : ℕ) (stored : DurableState Definition) (volatile : VolatileState Definition) → IsOwnRecord (on_retry me stored volatile).entry
 unfolding on_retry begin_at stores
 retry_own me stored volatile =
-    entry_if_running IsOwn volatile volatile.proposing (λ proposal. begin_at me stored proposal.own (round_known stored proposal + 1)) tt (λ proposal. tt)
+    entry_if_running IsOwnRecord volatile volatile.proposing (λ proposal. begin_at me stored proposal.own (round_known stored proposal + 1)) tt (λ proposal. tt)
 
 -- ---- published definitions are sent
 

@@ -33,15 +33,15 @@ pub record IsReady {T : Type 0} (machine : Machine T) : Type 0 where
   pub fits : RecordsFit Definition
 
 -- The messages, or allocation failure, which is possible only if there are some.
-abbrev pub IsReply : {A : Type 0} → List (model.Message Definition) → Result (Vec Message A) NodeFault → Type 0
-IsReply messages (Ok given) = map message.view given.items ≡ messages
-IsReply messages (Err Memory) = messages ≡ [] → ⊥
-IsReply messages (Err TapeFailed) = ⊥
-IsReply messages (Err Busy) = ⊥
-IsReply messages (Err SequenceFull) = ⊥
-IsReply messages (Err RoundsFull) = ⊥
-IsReply messages (Err Halted) = ⊥
-IsReply messages (Err Nothing) = ⊥
+abbrev pub IsStepReply : {A : Type 0} → List (model.Message Definition) → Result (Vec Message A) NodeFault → Type 0
+IsStepReply messages (Ok given) = map message.view given.items ≡ messages
+IsStepReply messages (Err Memory) = messages ≡ [] → ⊥
+IsStepReply messages (Err TapeFailed) = ⊥
+IsStepReply messages (Err Busy) = ⊥
+IsStepReply messages (Err SequenceFull) = ⊥
+IsStepReply messages (Err RoundsFull) = ⊥
+IsStepReply messages (Err Halted) = ⊥
+IsStepReply messages (Err Nothing) = ⊥
 
 -- whether a proposal runs
 abbrev pub runs : model_volatile.Proposing Definition → Bool
@@ -51,12 +51,12 @@ runs (model_volatile.Won s) = false
 runs (model_volatile.Overtaken s) = false
 
 -- a record that a proposer may store, or none
-abbrev pub IsOwn : Option (Record Definition) → Type 0
-IsOwn None = ⊤
-IsOwn (Some (model_stored.Tried round)) = ⊤
-IsOwn (Some (model_stored.Promised s b)) = ⊥
-IsOwn (Some (model_stored.Accepted s b d)) = ⊥
-IsOwn (Some (model_stored.Published s d)) = ⊤
+abbrev pub IsOwnRecord : Option (Record Definition) → Type 0
+IsOwnRecord None = ⊤
+IsOwnRecord (Some (model_stored.Tried round)) = ⊤
+IsOwnRecord (Some (model_stored.Promised s b)) = ⊥
+IsOwnRecord (Some (model_stored.Accepted s b d)) = ⊥
+IsOwnRecord (Some (model_stored.Published s d)) = ⊤
 
 -- A definition is published at the slot: a running proposal for the slot ends. A leadership stays.
 pub record IsEndedAt (s : ℕ) (d : Definition) (before after : Proposer) : Type 0 where
@@ -65,11 +65,11 @@ pub record IsEndedAt (s : ℕ) (d : Definition) (before after : Proposer) : Type
   pub volatile : volatile_of after ≡ (if runs_for s (volatile_of before).proposing then after_publishing definition_eq (volatile_of before) d else volatile_of before)
 
 -- the effect of a published definition's record on a proposer
-abbrev pub IsEnded : tape.Record → Proposer → Proposer → Type 0
-IsEnded (tape_case.Tried round) before after = after ≡ before
-IsEnded (tape_case.Promised s b) before after = after ≡ before
-IsEnded (tape_case.Accepted s b d) before after = after ≡ before
-IsEnded (tape_case.Published s d) before after = IsEndedAt s d before after
+abbrev pub IsProposalEnded : tape.Record → Proposer → Proposer → Type 0
+IsProposalEnded (tape_case.Tried round) before after = after ≡ before
+IsProposalEnded (tape_case.Promised s b) before after = after ≡ before
+IsProposalEnded (tape_case.Accepted s b d) before after = after ≡ before
+IsProposalEnded (tape_case.Published s d) before after = IsEndedAt s d before after
 
 -- the durable state, the proposer and the messages are those of the transition
 pub record IsTransitionOf (the_transition : Transition Definition) (old new : Parts) (before after : Proposer) (sent : List Message) : Type 0 where

@@ -25,8 +25,8 @@ rejected_by (Ok x) = None
 rejected_by (Err fault) = step_rejection_of fault
 
 -- the table rejected the input
-abbrev pub IsRejected : {A : Type 0} → Result A NodeFault → Type 0
-IsRejected result = IsSome (rejected_by result)
+abbrev pub IsRejectedByTable : {A : Type 0} → Result A NodeFault → Type 0
+IsRejectedByTable result = IsSome (rejected_by result)
 
 -- this is the error of the table's rejection, or there is none
 abbrev pub IsWhyNot : Option table.StepRejection → Option NodeFault → Type 0

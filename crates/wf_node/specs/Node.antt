@@ -52,7 +52,7 @@ view_of journal persistent_parts proposes =
 
 -- The invariant of nodes: its durable state and its proposer are of the same node, a running proposal is for the next sequence, and
 -- if the journal runs, every image of a durable tape stands for the durable state.
-pub record IsNode {T : Type 0} (tapes : Tape T) (journal : Journal T) (persistent : DurablePart) (proposes : Proposer) : Type 0 where
+pub record IsSoundNode {T : Type 0} (tapes : Tape T) (journal : Journal T) (persistent : DurablePart) (proposes : Proposer) : Type 0 where
   pub same_node : persistent.id ≡ proposes.node
   pub for_next : IsForNext (keeping.stored_of persistent) (proposer.volatile_of proposes).proposing
   pub stands : tapes.durable → journal.halted ≡ false → AllStandFor (keeping.stored_of persistent) (tapes.images journal.tape)

@@ -48,16 +48,16 @@ IsWhyBad Memory content = Unit {0}
 -- ---- used only in this crate's contracts: the records are folded one after the other
 
 -- The record at this byte offset fits and is applied, and the next one follows it.
-pub record IsTaken (old : DurableState Definition) (r : Record Definition) (index : ℕ) (new : DurableState Definition) (next : ℕ) : Type 0 where
+pub record IsApplied (old : DurableState Definition) (r : Record Definition) (index : ℕ) (new : DurableState Definition) (next : ℕ) : Type 0 where
   pub fit : fits old r ≡ true
   pub applied : new ≡ with_record old r
   pub behind : next ≡ index + length (spelling r)
 
 -- why the record at this byte offset isn't applied: it doesn't fit, or allocation failed
-abbrev pub IsWhyRejected : DurableState Definition → Record Definition → ℕ → OpenFault → Type 0
-IsWhyRejected old r here (BadRecord index) = (index ≡ here) × (fits old r ≡ false)
-IsWhyRejected old r here TapeFailed = ⊥
-IsWhyRejected old r here Memory = Unit {0}
+abbrev pub IsWhyRecordRejected : DurableState Definition → Record Definition → ℕ → OpenFault → Type 0
+IsWhyRecordRejected old r here (BadRecord index) = (index ≡ here) × (fits old r ≡ false)
+IsWhyRecordRejected old r here TapeFailed = ⊥
+IsWhyRecordRejected old r here Memory = Unit {0}
 
 -- why the records aren't folded
 abbrev pub IsWhyUnfolded : List (Record Definition) → OpenFault → Type 0

@@ -1,6 +1,6 @@
 //! A node rewrites its tape with as few records as its durable state needs.
 
-ghost use Rattle.std.specs.Prelude.{◌≡◌, ◌++◌, ◌∷◌, [], false, map, IfOk, OnOk};
+ghost use Rattle.std.specs.Prelude.{◌≡◌, ◌∷◌, [], false, map, IfOk, OnOk};
 ghost use Rattle.wf_ballot.specs.Sequence.{last_sequence, IsSlot};
 ghost use Rattle.wf_node.specs.DurablePart.{stored_of as stored_in};
 ghost use Rattle.wf_node.specs.Compaction.{tried_records, vote_records, promised_sequence, promise_records, is_voted, records_at, records_from, short_records, Appends};

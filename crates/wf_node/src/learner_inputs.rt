@@ -1,10 +1,10 @@
 //! Inputs for the learner.
 
-ghost use Rattle.std.specs.Prelude.{◌≡◌, ◌+◌, ◌≤◌, length, false};
+ghost use Rattle.std.specs.Prelude.{◌≡◌, ◌+◌, ◌≤◌, length};
 ghost use Rattle.wf_def.specs.Equality.{definition_eq};
 ghost use Rattle.wf_model.specs.Message as model;
 ghost use Rattle.wf_model.specs.Table.{on_chosen, reports, CatchUp, Deliver};
-ghost use Rattle.wf_node.specs.Act.{Acts, Changes, IsEnded, IsReady, IsReply};
+ghost use Rattle.wf_node.specs.Act.{Acts, Changes, IsProposalEnded, IsReady, IsStepReply};
 ghost use Rattle.wf_node.specs.DurablePart.{stored_of};
 ghost use Rattle.wf_proposer.specs.Proposer.{volatile_of};
 
@@ -75,7 +75,7 @@ impl<T: Tape> Machine<T> {
 
     /// Returns the definition that is published at the slot, if there is one.
     pub(crate) fn report(&self, alloc: Global, slot: Slot) -> Result<Vec<Message>, NodeFault>
-        ensures { IsReply (reports self.now.persistent.parts.history slot) result }
+        ensures { IsStepReply (reports self.now.persistent.parts.history slot) result }
     {
         counts_from_one(slot);
         match self.persistent.history().chosen_message(slot) {
@@ -125,7 +125,7 @@ fn counts_from_one(slot: Slot)
 
 /// A running proposal for the slot of a published definition's record ends.
 fn end_proposal(proposer: &mut Proposer, entry: &Record)
-    ensures { IsEnded entry.now proposer.old proposer.new }
+    ensures { IsProposalEnded entry.now proposer.old proposer.new }
 {
     if let Record::Published(slot, canon) = entry {
         proposer.on_published(*slot, canon);

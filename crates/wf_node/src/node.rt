@@ -18,7 +18,7 @@ pub struct Node<T: Tape> {
 impl<T: Tape> Model for Node<T> {
     ghost use Rattle.std.specs.Coded.{codes};
     ghost use Rattle.std.specs.FinMap as map;
-    ghost use Rattle.wf_node.specs.Node.{Node, IsNode, view_of};
+    ghost use Rattle.wf_node.specs.Node.{Node, IsSoundNode, view_of};
 
     ghost Value = { Node T };
 
@@ -26,7 +26,7 @@ impl<T: Tape> Model for Node<T> {
 
     ghost view = { λ node. view_of node.machine.journal node.machine.persistent.parts node.machine.proposer };
 
-    ghost invariant = { λ node. IsNode T.Tape node.machine.journal node.machine.persistent node.machine.proposer };
+    ghost invariant = { λ node. IsSoundNode T.Tape node.machine.journal node.machine.persistent node.machine.proposer };
 }
 
 impl<T: Tape> Node<T> {

@@ -6,7 +6,7 @@ ghost use Rattle.wf_model.specs.VolatileState as model;
 ghost use Rattle.wf_node.specs.Images.{AllStandFor};
 ghost use Rattle.wf_node.specs.DurablePart as persistent_;
 ghost use Rattle.wf_node.specs.Node.{stored_of, volatile_of, IsOnTape};
-ghost use Rattle.wf_node.specs.OpenedNode.{IsFoldOf, IsRead, IsWhyBad, IsTaken, IsWhyRejected, IsWhyUnfolded};
+ghost use Rattle.wf_node.specs.OpenedNode.{IsFoldOf, IsRead, IsWhyBad, IsApplied, IsWhyRecordRejected, IsWhyUnfolded};
 ghost use Rattle.wf_tape.specs.Change.{inside, Stays};
 ghost use Rattle.wf_journal.specs.Journal.{Follows, ReadsSame, IsWhyFailed};
 ghost use Rattle.wf_journal.specs.Record.{view};
@@ -149,9 +149,9 @@ fn take_all(persistent: &mut DurablePart, records: Vec<Record>) -> Result<(), Op
 fn take_at(persistent: &mut DurablePart, index: usize, entry: Record) -> Result<usize, OpenFault>
     requires { index + length (spelling (view entry)) < 2 ^ 64 }
     ensures ok { IfOk result (λ next.
-        IsTaken (persistent_.stored_of persistent.old) (view entry) index (persistent_.stored_of persistent.new) next) }
+        IsApplied (persistent_.stored_of persistent.old) (view entry) index (persistent_.stored_of persistent.new) next) }
     ensures id { persistent.new.id ≡ persistent.old.id }
-    ensures why { IfErr result (IsWhyRejected (persistent_.stored_of persistent.old) (view entry) index) }
+    ensures why { IfErr result (IsWhyRecordRejected (persistent_.stored_of persistent.old) (view entry) index) }
 {
     if !persistent.fits(&entry) {
         drop(entry);

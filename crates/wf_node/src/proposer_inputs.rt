@@ -6,7 +6,7 @@ ghost use Rattle.wf_codec.specs.Message.{view_votes};
 ghost use Rattle.wf_model.specs.Fits.{Fits};
 ghost use Rattle.wf_model.specs.Message as model;
 ghost use Rattle.wf_model.specs.Table.{Deliver, Propose, Retry};
-ghost use Rattle.wf_node.specs.Act.{Acts, Changes, IsOwn, IsReady, runs};
+ghost use Rattle.wf_node.specs.Act.{Acts, Changes, IsOwnRecord, IsReady, runs};
 ghost use Rattle.wf_node.specs.Fault.{IsWhyNot};
 ghost use Rattle.wf_node.specs.DurablePart.{stored_of};
 ghost use Rattle.wf_proposer.specs.Proposer.{retry_step_rejection, transition_of, start_step_rejection, volatile_of};
@@ -145,7 +145,7 @@ impl<T: Tape> Machine<T> {
     fn perform(&mut self, alloc: Global, next: Next) -> Result<Vec<Message>, NodeFault>
         requires running { self.old.journal.halted ≡ false }
         requires fits { Fits (stored_of self.old.persistent) (transition_of self.old.proposer next).entry }
-        requires own { IsOwn (transition_of self.old.proposer next).entry }
+        requires own { IsOwnRecord (transition_of self.old.proposer next).entry }
         ensures change { Changes T.Tape (transition_of self.old.proposer next) self.old result self.new }
         ensures id { self.new.persistent.id ≡ self.old.persistent.id }
     {

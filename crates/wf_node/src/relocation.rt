@@ -1,6 +1,6 @@
 //! A node that was opened in memory moves to another tape.
 
-ghost use Rattle.std.specs.Prelude.{◌≡◌, map, IfOk, IfErr};
+ghost use Rattle.std.specs.Prelude.{map, IfOk, IfErr};
 ghost use Rattle.wf_journal.specs.Record.{view};
 ghost use Rattle.wf_node.specs.Compaction.{short_records};
 ghost use Rattle.wf_node.specs.DurablePart.{stored_of as stored_in};

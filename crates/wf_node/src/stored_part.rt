@@ -1,7 +1,7 @@
 //! The durable state of a node, in memory.
 
 ghost use Rattle.std.specs.Prelude.{◌≡◌, OnOk, OnErr, IsOk};
-ghost use Rattle.wf_acceptor.specs.Acceptor.{Applies, IsNext};
+ghost use Rattle.wf_acceptor.specs.Acceptor.{Applies, IsNextSlot};
 ghost use Rattle.wf_node.specs.DurablePart.{IsRoomy, IsRoomFor, tried_after, definitions_after, publication_of};
 ghost use Rattle.wf_journal.specs.Record.{view};
 
@@ -9,7 +9,7 @@ use crate::comparison::{are_same, has_learned};
 use std::alloc::{AllocError, Global};
 use std::marker::Model;
 use wf_acceptor::{Acceptor, AcceptorAnswer};
-use wf_ballot::{Ballot, NodeId, Seq, Slot};
+use wf_ballot::{Ballot, NodeId, Slot};
 use wf_canon::Canon;
 use wf_journal::Record;
 use wf_learner::History;
@@ -49,7 +49,7 @@ impl Model for DurablePart {
 }
 
 impl DurablePart {
-    ghost use Rattle.std.specs.Prelude.{◌≡◌, ◌<◌, ℕ, length, true, nat_le, option_map, IfOk, OnOk, OnErr, IsOk, IsTrue, IfSome, None, ◌≢◌};
+    ghost use Rattle.std.specs.Prelude.{◌≡◌, ◌<◌, length, true, nat_le, option_map, IfOk, OnOk, OnErr, IsOk, IsTrue, IfSome, None, ◌≢◌};
     ghost use Rattle.std.specs.Option.{option_copied};
     ghost use Rattle.wf_model.specs.Fits.{Fits};
     ghost use Rattle.wf_codec.specs.Message.{view_vote};
@@ -237,7 +237,7 @@ impl DurablePart {
 
 // The acceptor applies the record; afterwards there is room for it in the history.
 fn report(history: &mut History, acceptor: &mut Acceptor, entry: &Record) -> Result<(), AllocError>
-    requires { IsNext acceptor.old.part entry.now }
+    requires { IsNextSlot acceptor.old.part entry.now }
     ensures applied { OnOk result (Applies acceptor.old.part acceptor.new.part (view entry.now)) }
     ensures id { acceptor.new.part.id ≡ acceptor.old.part.id }
     ensures definitions { history.new.definitions ≡ history.old.definitions }

@@ -8,7 +8,7 @@ use Rattle.std.proofs.lemmas.Nat.{shr-shr, shr_le, one_shl}
 use Rattle.std.proofs.lemmas.Nat.Bits.{bit_at-lt, bit_at-zero, bit_at_ones, bit_at_ones_above, bit_at_mask_below, bit_at_mask_inside, ones_shl, ones_shr, bit_at_and, bit_at_not, bit_at_above, bit_at-trailing_zeros}
 use Rattle.wf_def.specs.declared.color.Color.{Color}
 use Rattle.wf_paint.specs.Pixmap.{pixel_at}
-use Rattle.wf_paint.specs.Cells.{IsCells, HasFreeBit, IsWritten, AreWritten, IsRangePainted, is_free, painted_in}
+use Rattle.wf_paint.specs.Cells.{IsCells, HasFreeBit, IsPixelWritten, ArePainted, IsRangePainted, is_free, painted_in}
 
 -- ---- free and painted pixels
 
@@ -49,11 +49,11 @@ is_free-by_color free bytes i color painted =
 -- ---- the pixels of a word whose bits are set
 
 module _ (first bits : ℕ) (color : Color) (old : List ℕ) where
-  pub none_written : AreWritten 0 first bits color old old
+  pub none_written : ArePainted 0 first bits color old old
   none_written = record { size = refl; changed = λ k before. absurd (omega arith); others = λ i apart. refl }
 
   -- where no bit from `here` on is set, the rest is written too
-  pub written_to_end : (here : ℕ) (bytes : List ℕ) → bits < 2 ^ 64 → bits / 2 ^ here ≡ 0 → AreWritten here first bits color old bytes → AreWritten 64 first bits color old bytes
+  pub written_to_end : (here : ℕ) (bytes : List ℕ) → bits < 2 ^ 64 → bits / 2 ^ here ≡ 0 → ArePainted here first bits color old bytes → ArePainted 64 first bits color old bytes
   written_to_end here bytes fits none written =
       let clear : (k : ℕ) → here ≤ k → bit_at bits k ≡ 0 = λ k from.
       let index : here + (k - here) ≡ k = omega arith in
@@ -91,7 +91,7 @@ module _ (first bits : ℕ) (color : Color) (old : List ℕ) where
       )
 
   pub one_written : (here set : ℕ) (bytes new : List ℕ) → here ≤ set → bit_at bits set ≡ 1 → ((k : ℕ) → here ≤ k → k < set → bit_at bits k ≡ 0) →
-      AreWritten here first bits color old bytes → IsWritten (first + set) color bytes new → AreWritten (set + 1) first bits color old new
+      ArePainted here first bits color old bytes → IsPixelWritten (first + set) color bytes new → ArePainted (set + 1) first bits color old new
   one_written here set bytes new order is clear written one = record {
     size = one.size ∙ written.size;
     changed = λ k before this. elim (cases_eq k set) [
@@ -240,7 +240,7 @@ module _ (free bytes : List ℕ) (from to mask : ℕ) (color : Color) (last : to
       sym (masked_in left mask (i % 64) (in_mask i same later earlier)) ∙ ap (λ (n : ℕ). bit_at n (i % 64)) none ∙ bit_at-zero (i % 64) in
       is_free-clear free i (ap (λ (w : ℕ). bit_at (slice_index free w) (i % 64)) same ∙ clear))
 
-  module _ (new : List ℕ) (within : word < length free) (fits : mask < 2 ^ 64) (written : AreWritten 64 (64 * word) (bit_and left mask) color bytes new) where
+  module _ (new : List ℕ) (within : word < length free) (fits : mask < 2 ^ 64) (written : ArePainted 64 (64 * word) (bit_and left mask) color bytes new) where
     abbrev cleared : List ℕ
     cleared = set free word (bit_and left (bit_not w64 mask))
 

@@ -3,7 +3,7 @@ use Rattle.std.proofs.Common.{◌≡◌, ◌≢◌, ℕ, ◌+◌, ◌*◌, ◌<�
 use Rattle.std.proofs.lemmas.List.{get_or-set_same, get_or-set_other, length-set}
 use Rattle.wf_def.specs.declared.color.Color.{Color}
 use Rattle.wf_paint.specs.Pixmap.{PixmapValue, IsSet, pixel_at}
-use Rattle.wf_paint.specs.Cells.{IsWritten}
+use Rattle.wf_paint.specs.Cells.{IsPixelWritten}
 
 pub color-same : (a b : Color) → a.r ≡ b.r → a.g ≡ b.g → a.b ≡ b.b → a ≡ b
 color-same a b red green blue i = record { r = red i; g = green i; b = blue i }
@@ -48,7 +48,7 @@ pixel_at-other bytes index color i apart = color-same _ _
     (other bytes (3 * index) color (3 * i + 2) (omega arith) (omega arith) (omega arith))
 
 -- only the bytes of this pixel change
-pub pixel_written : (bytes : List ℕ) (index : ℕ) (color : Color) → 3 * index + 2 < length bytes → IsWritten index color bytes (with_pixel bytes (3 * index) color)
+pub pixel_written : (bytes : List ℕ) (index : ℕ) (color : Color) → 3 * index + 2 < length bytes → IsPixelWritten index color bytes (with_pixel bytes (3 * index) color)
 pixel_written bytes index color within = record {
   size = simp length-set;
   changed = pixel_at-written bytes index color within;
@@ -56,7 +56,7 @@ pixel_written bytes index color within = record {
 }
 
 -- the picture with these three bytes written is the picture with the pixel set
-pub pixel_set : (p : PixmapValue) (index : ℕ) (color : Color) (bytes : List ℕ) → IsWritten index color p.bytes bytes →
+pub pixel_set : (p : PixmapValue) (index : ℕ) (color : Color) (bytes : List ℕ) → IsPixelWritten index color p.bytes bytes →
     IsSet index color p (record { width = p.width; height = p.height; bytes = bytes })
 pixel_set p index color bytes written = record {
   width = refl;

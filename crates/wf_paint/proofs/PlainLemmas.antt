@@ -6,7 +6,7 @@ use Rattle.std.proofs.lemmas.List.{get_or_append_left, get_or-append_right, get_
 use Rattle.wf_def.specs.declared.color.Color.{Color}
 use Rattle.wf_geometry.specs.Limit.{most_pixels}
 use Rattle.wf_paint.specs.Pixmap.{pixel_at}
-use Rattle.wf_paint.specs.Cells.{IsPlain, IsWritten}
+use Rattle.wf_paint.specs.Cells.{IsPlain, IsPixelWritten}
 use Rattle.wf_paint.proofs.PixelLemmas.{color-same, pixel_written, with_pixel}
 
 -- a view has at most this many pixels
@@ -69,7 +69,7 @@ pub record BeginsPlain (count size : ℕ) (color : Color) (bytes : List ℕ) : T
 pub written_plain : (count size : ℕ) (color : Color) (bytes : List ℕ) → 3 * count + 2 < size → BeginsPlain count size color bytes →
     BeginsPlain (count + 1) size color (with_pixel bytes (3 * count) color)
 written_plain count size color bytes within begun =
-    let written : IsWritten count color bytes (with_pixel bytes (3 * count) color) = pixel_written bytes count color (omega (arith, begun.length_is)) in
+    let written : IsPixelWritten count color bytes (with_pixel bytes (3 * count) color) = pixel_written bytes count color (omega (arith, begun.length_is)) in
     record {
       length_is = written.size ∙ begun.length_is;
       pixels = λ i before. elim (cases_eq i count) [
@@ -102,9 +102,9 @@ drop-pixel room start bytes color =
     ∙ ap (λ (l : List ℕ). set l (start + 1) color.g) (drop-set-add room bytes start color.r))
 
 pub written_after : (room index : ℕ) (color : Color) (bytes : List ℕ) → 3 * index + 2 < length (drop room bytes) →
-    IsWritten index color (drop room bytes) (drop room (with_pixel bytes (room + 3 * index) color))
+    IsPixelWritten index color (drop room bytes) (drop room (with_pixel bytes (room + 3 * index) color))
 written_after room index color bytes within =
-    subst (λ (new : List ℕ). IsWritten index color (drop room bytes) new) (sym (drop-pixel room (3 * index) bytes color)) (pixel_written (drop room bytes) index color within)
+    subst (λ (new : List ℕ). IsPixelWritten index color (drop room bytes) new) (sym (drop-pixel room (3 * index) bytes color)) (pixel_written (drop room bytes) index color within)
 
 -- ---- a head in place of the first bytes
 

@@ -14,8 +14,8 @@ use Rattle.wf_paint.specs.Canvas.{CanvasValue, painted_at}
 use Rattle.wf_paint.specs.Shown.{IsColored, color_where}
 use Rattle.wf_geometry.specs.Level.{level, row_level, level_at, is_in_margin}
 use Rattle.wf_geometry.specs.Span.{IsSpanOf, is_within, shared}
-use Rattle.wf_geometry.specs.Strip.{is_in_strip, AreEnds, IsEnd}
-use Rattle.wf_paint.specs.RowPart.{most_between, IsPart, IsBetween, StaysBetween, IsHiddenBlock}
+use Rattle.wf_geometry.specs.Strip.{is_in_strip, AreEnds, IsStripEnd}
+use Rattle.wf_paint.specs.RowPart.{most_between, IsRowPart, IsBetween, StaysBetween, IsHiddenBlock}
 use Rattle.wf_geometry.specs.declared.row.RowEnds.{RowEnds}
 use Rattle.wf_geometry.specs.declared.levels.Levels.{Levels}
 use Rattle.wf_geometry.specs.declared.row.Quotient.{Quotient}
@@ -42,7 +42,7 @@ level_next start change row =
 
 -- a quotient that tells where a row's pixels end, and is near enough to 0 for the sums that follow
 pub record IsEdge (bound start change : ℤ) (step row : ℕ) (q : Quotient) : Type 0 where
-  pub ends : IsEnd bound start change step row q
+  pub ends : IsStripEnd bound start change step row q
   pub within : nat_abs q.whole ≤ (row + 2) * 2 ^ 51
 
 lowered : (n c next bound z change further : ℤ) → plus n (pos 1) ≡ difference bound z → c ≡ opposite change → next ≡ plus n c → further ≡ plus z change →
@@ -66,7 +66,7 @@ edge_moves bound start change step row q c next edge moves sum rest within = rec
 abbrev pub Counts : Quotient → ℕ → ℕ → Type 0
 Counts q most n = (divisor u : ℕ) → q.rest < divisor → u < most → is_less (product (pos divisor) (pos u)) (plus (number_of divisor q) (pos 1)) ≡ nat_lt u n
 
-edge_counts : (bound start change s : ℤ) (step row most n : ℕ) (q : Quotient) → IsEnd bound start change step row q → pos step ≡ s → Counts q most n →
+edge_counts : (bound start change s : ℤ) (step row most n : ℕ) (q : Quotient) → IsStripEnd bound start change step row q → pos step ≡ s → Counts q most n →
     (u : ℕ) → u < most → is_less (product s (pos u)) (difference bound (level start change (pos row))) ≡ nat_lt u n
 edge_counts bound start change s step row most n q edge same counts u below =
     ap (λ (z : ℤ). is_less (product z (pos u)) (difference bound (level start change (pos row)))) (sym same)
@@ -74,7 +74,7 @@ edge_counts bound start change s step row most n q edge same counts u below =
     ∙ counts step u edge.rest below
 
 pub rising_row : (l : Levels) (margin : ℤ) (step row most : ℕ) (low high : Quotient) (span : Span) → pos step ≡ product (pos pixel_side) l.across →
-    IsEnd (opposite margin) l.origin (product (pos pixel_side) l.up) step row low → IsEnd margin l.origin (product (pos pixel_side) l.up) step row high →
+    IsStripEnd (opposite margin) l.origin (product (pos pixel_side) l.up) step row low → IsStripEnd margin l.origin (product (pos pixel_side) l.up) step row high →
     Counts low most span.from → Counts high most span.to → span.to ≤ most → IsSpanOf (λ u. is_in_margin margin (level_at l u row)) most span
 unfolding level_at row_level
 rising_row l margin step row most low high span same lower upper from to within =
@@ -90,7 +90,7 @@ counted q n is divisor u rest = multiples_to divisor q.rest u q.whole rest ∙ a
 
 -- where both bounds lie among the columns, nothing is cut off
 pub part_inside : (columns : Span) (low high : Quotient) (from to : ℕ) → pos from ≡ plus low.whole (pos 1) → pos to ≡ plus high.whole (pos 1) →
-    columns.from ≤ from → to ≤ columns.to → IsPart columns low high (record { from = from; to = to })
+    columns.from ≤ from → to ≤ columns.to → IsRowPart columns low high (record { from = from; to = to })
 part_inside columns low high from to first last after before =
     let begins : max columns.from from ≡ from = omega arith in
     let ends : min columns.to to ≡ to = omega arith in
@@ -109,8 +109,8 @@ unfolding plus difference opposite
 raised n h w m z first second third = omega (arith, ints)
 
 -- the upper end lies twice the margin further
-pub end_beyond : (m start change : ℤ) (step row : ℕ) (low gap high : Quotient) → IsEnd (opposite m) start change step row low → number_of step gap ≡ plus m m →
-    number_of step high ≡ plus (number_of step low) (number_of step gap) → high.rest < step → IsEnd m start change step row high
+pub end_beyond : (m start change : ℤ) (step row : ℕ) (low gap high : Quotient) → IsStripEnd (opposite m) start change step row low → number_of step gap ≡ plus m m →
+    number_of step high ≡ plus (number_of step low) (number_of step gap) → high.rest < step → IsStripEnd m start change step row high
 end_beyond m start change step row low gap high is twice sum rest = record {
   value = raised (number_of step low) (number_of step high) (number_of step gap) m (level start change (pos row)) is.value sum twice;
   rest = rest;
@@ -127,7 +127,7 @@ high_edge l row e high is sum rest within = record {
 }
 
 -- of another row, whose lower end is known
-pub ends_from : (l : Levels) (first row : ℕ) (e : RowEnds) (q : Quotient) → AreEnds l first e → IsEnd (opposite l.margin) l.origin (product (pos pixel_side) l.up) e.step row q →
+pub ends_from : (l : Levels) (first row : ℕ) (e : RowEnds) (q : Quotient) → AreEnds l first e → IsStripEnd (opposite l.margin) l.origin (product (pos pixel_side) l.up) e.step row q →
     nat_abs q.whole ≤ (row + 1) * 2 ^ 51 → AreEnds l row (record { low = q; gap = e.gap; change = e.change; step = e.step })
 ends_from l first row e q is begins near = record {
   across = is.across;
@@ -147,7 +147,7 @@ unfolding plus difference opposite
 lowered_by n h m z w first second third = omega (arith, ints)
 
 -- the two ends of a row lie as far apart as those of each other row
-ends_apart : (m start change : ℤ) (step row : ℕ) (low gap high : Quotient) → IsEnd (opposite m) start change step row low → IsEnd m start change step row high →
+ends_apart : (m start change : ℤ) (step row : ℕ) (low gap high : Quotient) → IsStripEnd (opposite m) start change step row low → IsStripEnd m start change step row high →
     number_of step gap ≡ plus m m → number_of step high ≡ plus (number_of step low) (number_of step gap)
 ends_apart m start change step row low gap high lower upper twice =
     lowered_by (number_of step low) (number_of step high) m (level start change (pos row)) (number_of step gap) lower.value upper.value twice
@@ -178,7 +178,7 @@ whole_order d r s (negsuc a) (negsuc b) below less = elim (cases_lt a b) [
   | inr after ↦ omega (arith, ints)
 ]
 
-end_order : (bound start change : ℤ) (step a b : ℕ) (p q : Quotient) → IsEnd bound start change step a p → IsEnd bound start change step b q →
+end_order : (bound start change : ℤ) (step a b : ℕ) (p q : Quotient) → IsStripEnd bound start change step a p → IsStripEnd bound start change step b q →
     level start change (pos b) ≤ℤ level start change (pos a) → p.whole ≤ℤ q.whole
 unfolding number_of
 end_order bound start change step a b p q first second lower =
@@ -209,7 +209,7 @@ between_wholes columns width p q r first last under over = record {
 
 -- a row's pixels lie in the columns if those of a row before and of one after it do
 pub row_between : (bound start change : ℤ) (step first row last width : ℕ) (columns : Span) (p q r : Quotient) → first ≤ row → row ≤ last →
-    IsEnd bound start change step first p → IsEnd bound start change step row q → IsEnd bound start change step last r →
+    IsStripEnd bound start change step first p → IsStripEnd bound start change step row q → IsStripEnd bound start change step last r →
     IsBetween columns width p → IsBetween columns width r → IsBetween columns width q
 row_between bound start (pos c) step first row last width columns p q r after before begin here end low high =
     between_wholes columns width r q p high low
@@ -238,8 +238,8 @@ strip_row l rows columns span width row within from to levels = record {
 
 -- the pixels between the two ends, where both lie among the columns, are the row's part of the strip
 pub wide_row : (l : Levels) (step row count wide from : ℕ) (rows columns : Span) (low high : Quotient) → pos step ≡ product (pos pixel_side) l.across → columns.to ≤ wide →
-    rows.from ≤ row → row < rows.to → IsEnd (opposite l.margin) l.origin (product (pos pixel_side) l.up) step row low →
-    IsEnd l.margin l.origin (product (pos pixel_side) l.up) step row high → pos from ≡ plus low.whole (pos 1) → pos (from + count) ≡ plus high.whole (pos 1) →
+    rows.from ≤ row → row < rows.to → IsStripEnd (opposite l.margin) l.origin (product (pos pixel_side) l.up) step row low →
+    IsStripEnd l.margin l.origin (product (pos pixel_side) l.up) step row high → pos from ≡ plus low.whole (pos 1) → pos (from + count) ≡ plus high.whole (pos 1) →
     columns.from ≤ from → from + count ≤ columns.to → IsSpanOf (λ u. is_in_strip l rows columns u row) wide (record { from = from; to = from + count })
 wide_row l step row count wide from rows columns low high same within after before lower upper begins ends first last =
     let part = part_inside columns low high from (from + count) begins ends first last in
@@ -335,9 +335,9 @@ leap_change : (up : ℤ) → product (pos (16 * pixel_side)) up ≡ product (pos
 unfolding product
 leap_change up = omega (arith, ints)
 
-pub end_leaps : (l : Levels) (bound : ℤ) (row step : ℕ) (q c next : Quotient) → IsEnd bound l.origin (product (pos pixel_side) l.up) step row q →
+pub end_leaps : (l : Levels) (bound : ℤ) (row step : ℕ) (q c next : Quotient) → IsStripEnd bound l.origin (product (pos pixel_side) l.up) step row q →
     number_of step c ≡ opposite (product (pos (16 * pixel_side)) l.up) → number_of step next ≡ plus (number_of step q) (number_of step c) → next.rest < step →
-    IsEnd bound l.origin (product (pos pixel_side) l.up) step (row + 16) next
+    IsStripEnd bound l.origin (product (pos pixel_side) l.up) step (row + 16) next
 end_leaps l bound row step q c next is leaps sum rest =
     let change : ℤ = product (pos pixel_side) l.up in
     record {
@@ -347,8 +347,8 @@ end_leaps l bound row step q c next is leaps sum rest =
     }
 
 -- the rows from the first one to the one before the last one
-pub stays_between : (l : Levels) (step width : ℕ) (rows columns : Span) (low next : Quotient) → IsEnd (opposite l.margin) l.origin (product (pos pixel_side) l.up) step rows.from low →
-    IsEnd (opposite l.margin) l.origin (product (pos pixel_side) l.up) step rows.to next → IsBetween columns width low → IsBetween columns width next →
+pub stays_between : (l : Levels) (step width : ℕ) (rows columns : Span) (low next : Quotient) → IsStripEnd (opposite l.margin) l.origin (product (pos pixel_side) l.up) step rows.from low →
+    IsStripEnd (opposite l.margin) l.origin (product (pos pixel_side) l.up) step rows.to next → IsBetween columns width low → IsBetween columns width next →
     StaysBetween l step width rows columns
 stays_between l step width rows columns low next begin end first last = record {
   each = λ row after before q here.
@@ -375,7 +375,7 @@ end_at bound start change step row =
     let room : ℤ = difference (difference bound (level start change (pos row))) (pos 1) in
     record { whole = quotient room (pos step); rest = nat_abs (int_rem_euclid room (pos step)) }
 
-end_exists : (bound start change : ℤ) (step row : ℕ) → 0 < step → IsEnd bound start change step row (end_at bound start change step row)
+end_exists : (bound start change : ℤ) (step row : ℕ) → 0 < step → IsStripEnd bound start change step row (end_at bound start change step row)
 unfolding number_of
 end_exists bound start change step row some =
     let here : ℤ = level start change (pos row) in
@@ -415,8 +415,8 @@ in_span span u inside = (
 )
 
 row_few : (l : Levels) (step row wide from width : ℕ) (g : ℤ) (rows columns : Span) (low high : Quotient) → pos step ≡ product (pos pixel_side) l.across → columns.to ≤ wide →
-    rows.from ≤ row → row < rows.to → IsEnd (opposite l.margin) l.origin (product (pos pixel_side) l.up) step row low →
-    IsEnd l.margin l.origin (product (pos pixel_side) l.up) step row high → pos from ≡ plus low.whole (pos 1) → (low.whole +ℤ g) ≤ℤ high.whole → pos 1 ≤ℤ g →
+    rows.from ≤ row → row < rows.to → IsStripEnd (opposite l.margin) l.origin (product (pos pixel_side) l.up) step row low →
+    IsStripEnd l.margin l.origin (product (pos pixel_side) l.up) step row high → pos from ≡ plus low.whole (pos 1) → (low.whole +ℤ g) ≤ℤ high.whole → pos 1 ≤ℤ g →
     high.whole ≤ℤ (low.whole +ℤ pos width) → IsBetween columns width low → (u : ℕ) → u < wide → is_in_strip l rows columns u row ≡ true → (from ≤ u) × (u < from + width)
 unfolding plus
 row_few l step row wide from width g rows columns low high same within after before lower upper begins least some most between u below shown =
@@ -430,7 +430,7 @@ row_few l step row wide from width g rows columns low high same within after bef
 -- the pixels of each row are at most `width`, from its lower end on
 abbrev pub AreFew : Levels → ℕ → ℕ → ℕ → Span → Span → Type 0
 AreFew l step width wide rows columns = (row : ℕ) → rows.from ≤ row → row < rows.to → (q : Quotient) →
-    IsEnd (opposite l.margin) l.origin (product (pos pixel_side) l.up) step row q → (from u : ℕ) → pos from ≡ plus q.whole (pos 1) → u < wide →
+    IsStripEnd (opposite l.margin) l.origin (product (pos pixel_side) l.up) step row q → (from u : ℕ) → pos from ≡ plus q.whole (pos 1) → u < wide →
     is_in_strip l rows columns u row ≡ true → (from ≤ u) × (u < from + width)
 
 pub wide_few : (l : Levels) (step wide : ℕ) (gap : Quotient) (rows columns : Span) → pos step ≡ product (pos pixel_side) l.across → columns.to ≤ wide →
@@ -440,7 +440,7 @@ unfolding plus
 wide_few l step wide gap rows columns same within twice rest some stays row after before q end from u begins below shown =
     let change : ℤ = product (pos pixel_side) l.up in
     let high : Quotient = end_at l.margin l.origin change step row in
-    let upper : IsEnd l.margin l.origin change step row high = end_exists l.margin l.origin change step row (omega (arith, rest)) in
+    let upper : IsStripEnd l.margin l.origin change step row high = end_exists l.margin l.origin change step row (omega (arith, rest)) in
     let sum : number_of step high ≡ plus (number_of step q) (number_of step gap) = ends_apart l.margin l.origin change step row q gap high end upper twice in
     let between : IsBetween columns (most_between gap) q = stays.each row after before q end in
     let least : (q.whole +ℤ gap.whole) ≤ℤ high.whole = apart_least step q gap high upper.rest sum in
@@ -449,7 +449,7 @@ wide_few l step wide gap rows columns same within twice rest some stays row afte
 
 -- where all of a box is painted, nothing is left to do in the rows whose pixels lie in it
 pub strip_hidden : (l : Levels) (step width : ℕ) (rows columns : Span) (low next : Quotient) (color : Color) (c : CanvasValue) → 0 < step → rows.to ≡ rows.from + 16 →
-    IsEnd (opposite l.margin) l.origin (product (pos pixel_side) l.up) step rows.from low → IsEnd (opposite l.margin) l.origin (product (pos pixel_side) l.up) step rows.to next →
+    IsStripEnd (opposite l.margin) l.origin (product (pos pixel_side) l.up) step rows.from low → IsStripEnd (opposite l.margin) l.origin (product (pos pixel_side) l.up) step rows.to next →
     AreFew l step width c.width rows columns → IsHiddenBlock rows.from width low next c → IsColored (is_in_strip l rows columns) color c c
 unfolding plus
 strip_hidden l step width rows columns low next color c some count begin end few hidden = record {
@@ -462,7 +462,7 @@ strip_hidden l step width rows columns low next color c some count begin end few
       sym (shown_painted (painted_at c i) (is_in_strip l rows columns column row) color (λ shown.
       let inside : (rows.from ≤ row) × (row < rows.to) = in_rows l rows columns column row shown in
       let q : Quotient = end_at (opposite l.margin) l.origin (product (pos pixel_side) l.up) step row in
-      let here : IsEnd (opposite l.margin) l.origin (product (pos pixel_side) l.up) step row q = end_exists (opposite l.margin) l.origin (product (pos pixel_side) l.up) step row some in
+      let here : IsStripEnd (opposite l.margin) l.origin (product (pos pixel_side) l.up) step row q = end_exists (opposite l.margin) l.origin (product (pos pixel_side) l.up) step row some in
       let between : IsBetween hidden.columns width q = row_between (opposite l.margin) l.origin (product (pos pixel_side) l.up) step rows.from row rows.to width hidden.columns low q next
       inside.0 (omega (arith, inside.1)) begin here end hidden.first hidden.last in
       let from : ℕ = nat_abs (q.whole +ℤ pos 1) in

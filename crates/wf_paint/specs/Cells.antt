@@ -45,13 +45,13 @@ pub record IsPlain (count : ℕ) (color : Color) (bytes : List ℕ) : Type 0 whe
   pub pixels : (i : ℕ) → i < count → pixel_at bytes i ≡ color
 
 -- the pixel's three bytes are the colour's; every other pixel has its old ones
-pub record IsWritten (index : ℕ) (color : Color) (old new : List ℕ) : Type 0 where
+pub record IsPixelWritten (index : ℕ) (color : Color) (old new : List ℕ) : Type 0 where
   pub size : length new ≡ length old
   pub changed : pixel_at new index ≡ color
   pub others : (i : ℕ) → i ≢ index → pixel_at new i ≡ pixel_at old i
 
 -- of the pixels from `first` on, the `count` first ones whose bit is set have the colour; every other pixel has its old one
-pub record AreWritten (count first bits : ℕ) (color : Color) (old new : List ℕ) : Type 0 where
+pub record ArePainted (count first bits : ℕ) (color : Color) (old new : List ℕ) : Type 0 where
   pub size : length new ≡ length old
   pub changed : (k : ℕ) → k < count → bit_at bits k ≡ 1 → pixel_at new (first + k) ≡ color
   pub others : (i : ℕ) → ((k : ℕ) → k < count → bit_at bits k ≡ 1 → i ≢ first + k) → pixel_at new i ≡ pixel_at old i

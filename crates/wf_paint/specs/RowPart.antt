@@ -4,14 +4,14 @@ use Rattle.wf_paint.specs.Canvas.{CanvasValue, IsBoxPainted}
 use Rattle.wf_geometry.specs.Exact.{plus, product, opposite, is_less, number_of}
 use Rattle.wf_geometry.specs.Limit.{pixel_side}
 use Rattle.wf_geometry.specs.Span.{shared}
-use Rattle.wf_geometry.specs.Strip.{IsEnd}
+use Rattle.wf_geometry.specs.Strip.{IsStripEnd}
 use Rattle.wf_geometry.specs.declared.levels.Levels.{Levels}
 use Rattle.wf_geometry.specs.declared.row.Quotient.{Quotient}
 use Rattle.wf_geometry.specs.declared.level.Span.{Span}
 
 -- a number counts u if u times the divisor isn't greater: the span has those of the columns that the high number counts and the low one
 -- doesn't
-pub record IsPart (columns : Span) (low high : Quotient) (span : Span) : Type 0 where
+pub record IsRowPart (columns : Span) (low high : Quotient) (span : Span) : Type 0 where
   pub within : Span
   pub to_within : within.to ≤ columns.to
   pub from : (divisor u : ℕ) → low.rest < divisor → u < columns.to →
@@ -34,7 +34,7 @@ pub record IsBetween (columns : Span) (width : ℕ) (q : Quotient) : Type 0 wher
 -- the same in each row
 pub record StaysBetween (l : Levels) (step width : ℕ) (rows columns : Span) : Type 0 where
   pub each : (row : ℕ) → rows.from ≤ row → row < rows.to → (q : Quotient) →
-      IsEnd (opposite l.margin) l.origin (product (pos pixel_side) l.up) step row q → IsBetween columns width q
+      IsStripEnd (opposite l.margin) l.origin (product (pos pixel_side) l.up) step row q → IsBetween columns width q
 
 -- all pixels of 16 rows are painted in columns among which the `width` pixels of the first row and those of the row after them lie
 pub record IsHiddenBlock (row width : ℕ) (low next : Quotient) (c : CanvasValue) : Type 0 where

@@ -3,7 +3,7 @@
 ghost use Rattle.std.specs.Prelude.{◌≡◌, ◌≤◌, ◌<◌, ◌*◌, ◌+◌, ◌/◌, ◌-◌, ◌^◌, ℕ, true, false, length, slice_index, nat_lt, IfOk};
 ghost use Rattle.std.specs.Int.{bit_at};
 ghost use Rattle.wf_geometry.specs.Limit.{most_pixels};
-ghost use Rattle.wf_paint.specs.Cells.{IsCells, HasFreeBit, IsRangePainted, AreWritten, AreBlocks, IsSized, is_free};
+ghost use Rattle.wf_paint.specs.Cells.{IsCells, HasFreeBit, IsRangePainted, ArePainted, AreBlocks, IsSized, is_free};
 ghost use Rattle.wf_paint.specs.Canvas.{IsCanvas, IsBlank, IsFull, HasFree, IsAlike, IsFinished, IsBoxPainted};
 ghost use Rattle.wf_paint.specs.Shown.{IsColored, is_in_run};
 
@@ -206,7 +206,7 @@ fn free_words(alloc: Global, area: u32) -> Result<Vec<u64>, AllocError>
 fn write_set(pixels: &mut Pixels, first: u32, bits: u64, color: Color)
     requires first { first ≤ 2 ^ 20 }
     requires within { (k : ℕ) → bit_at bits k ≡ 1 → 3 * (first + k) + 2 < length pixels.old }
-    ensures { AreWritten 64 first bits color pixels.old pixels.new }
+    ensures { ArePainted 64 first bits color pixels.old pixels.new }
 {
     let mut here = 0;
     while here < 64 {

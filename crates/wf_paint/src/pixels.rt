@@ -1,6 +1,6 @@
 //! The bytes of pixels: three each, red, green and blue, in a buffer that may have room before them for the head of a file.
 ghost use Rattle.std.specs.Prelude.{◌≡◌, ◌≤◌, ◌<◌, ◌+◌, ◌*◌, ◌^◌, ◌++◌, drop, length, IfOk};
-ghost use Rattle.wf_paint.specs.Cells.{IsPlain, IsWritten};
+ghost use Rattle.wf_paint.specs.Cells.{IsPlain, IsPixelWritten};
 
 use std::alloc::{AllocError, Global};
 use std::marker::Model;
@@ -59,7 +59,7 @@ impl Pixels {
     #[tactic(auto, using(crate::proofs::PlainLemmas::within_all))]
     pub(crate) fn write(&mut self, index: u32, color: Color)
         requires { 3 * index + 2 < length self.old }
-        ensures { IsWritten index color self.old self.new }
+        ensures { IsPixelWritten index color self.old self.new }
     {
         let start = self.room as usize + 3 * index as usize;
         self.bytes[start] = color.r;

@@ -1,13 +1,13 @@
 //! Strips, painted row by row. The ends of a row's pixels are those of the row before, moved by a constant, so no row but the first
 //! takes a division. Only lines whose numbers are too large for it take one in each row.
 ghost use Rattle.std.specs.Prelude.{◌≡◌, ℕ, ◌+◌, ◌*◌, ◌^◌, ◌<◌, ◌≤◌, nat_abs, pos, ◌≤ℤ◌, ◌<ℤ◌, true, false};
-ghost use Rattle.wf_geometry.specs.Near.{IsReach, IsArea};
+ghost use Rattle.wf_geometry.specs.Near.{IsDistance, IsArea};
 ghost use Rattle.wf_geometry.specs.Exact.{plus, product, opposite};
 ghost use Rattle.wf_paint.specs.Canvas.{IsBoxPainted};
 ghost use Rattle.wf_paint.specs.Shown.{IsColored};
 ghost use Rattle.wf_geometry.specs.Span.{shared};
-ghost use Rattle.wf_geometry.specs.Strip.{is_in_strip, AreEnds, IsEnd};
-ghost use Rattle.wf_paint.specs.RowPart.{most_between, IsPart, IsBetween, IsHiddenBlock, StaysBetween};
+ghost use Rattle.wf_geometry.specs.Strip.{is_in_strip, AreEnds, IsStripEnd};
+ghost use Rattle.wf_paint.specs.RowPart.{most_between, IsRowPart, IsBetween, IsHiddenBlock, StaysBetween};
 ghost use Rattle.wf_geometry.specs.Limit.{most_pixels, pixel_side};
 
 use crate::canvas::{BLOCK_SIDE, Canvas};
@@ -19,9 +19,9 @@ use wf_geometry::{
 /// Paints the strip's pixels, 16 rows at a time.
 pub(crate) fn draw_strip(canvas: &mut Canvas, strip: Strip, color: Color)
     requires origin { nat_abs strip.levels.origin ≤ 2 ^ 110 }
-    requires across { IsReach strip.levels.across }
+    requires across { IsDistance strip.levels.across }
     requires rising { pos 0 ≤ℤ strip.levels.across }
-    requires up { IsReach strip.levels.up }
+    requires up { IsDistance strip.levels.up }
     requires margin { IsArea strip.levels.margin }
     requires rows { strip.rows.to ≤ canvas.old.height }
     requires columns { strip.columns.to ≤ canvas.old.width }
@@ -89,7 +89,7 @@ fn draw_block(canvas: &mut Canvas, strip: Strip, ends: RowEnds, next: Quotient, 
     requires most_rows { strip.rows.to ≤ most_pixels }
     requires columns { strip.columns.to ≤ canvas.old.width }
     requires ends { AreEnds strip.levels strip.rows.from ends }
-    requires next { IsEnd (opposite strip.levels.margin) strip.levels.origin
+    requires next { IsStripEnd (opposite strip.levels.margin) strip.levels.origin
         (product (pos pixel_side) strip.levels.up) ends.step strip.rows.to next }
     requires near { nat_abs next.whole ≤ 2 ^ 62 }
     ensures { IsColored (is_in_strip strip.levels strip.rows strip.columns) color
@@ -220,9 +220,9 @@ fn draw_cut(canvas: &mut Canvas, strip: Strip, ends: RowEnds, color: Color)
 /// strip has few rows.
 fn draw_far(canvas: &mut Canvas, strip: Strip, color: Color)
     requires origin { nat_abs strip.levels.origin ≤ 2 ^ 110 }
-    requires across { IsReach strip.levels.across }
+    requires across { IsDistance strip.levels.across }
     requires rising { pos 0 ≤ℤ strip.levels.across }
-    requires up { IsReach strip.levels.up }
+    requires up { IsDistance strip.levels.up }
     requires margin { IsArea strip.levels.margin }
     requires order { strip.rows.from ≤ strip.rows.to }
     requires rows { strip.rows.to ≤ canvas.old.height }
@@ -244,7 +244,7 @@ fn draw_far(canvas: &mut Canvas, strip: Strip, color: Color)
 fn part(columns: Span, low: Quotient, high: Quotient) -> Span
     requires low { nat_abs low.whole ≤ 2 ^ 62 }
     requires high { nat_abs high.whole ≤ 2 ^ 62 }
-    ensures part { IsPart columns low high result }
+    ensures part { IsRowPart columns low high result }
     ensures within { result.to ≤ columns.to }
 {
     let (from, to) = (low.whole + 1, high.whole + 1);

@@ -12,7 +12,7 @@ use Rattle.wf_paint.specs.Pixmap.{PixmapValue, IsPixmap, IsPicture}
 use Rattle.wf_geometry.specs.View.{ViewValue}
 use Rattle.wf_geometry.specs.declared.view.Corner.{Corner}
 use Rattle.wf_picture.specs.Image.{header, image, pixel_bytes, row_bytes}
-use Rattle.wf_picture.specs.Picture.{corner_of, crop, labelled, picture, IsImageOf, IsViewFor, LiesIn}
+use Rattle.wf_picture.specs.Picture.{corner_of, crop, labelled, picture, IsImageOf, IsViewFor, IsPartOfView}
 use Rattle.wf_picture.specs.Request.{RequestValue}
 use Rattle.wf_picture.proofs.ImageLemmas.{row_shown, row_more}
 
@@ -79,7 +79,7 @@ file_written p whole old head file width height is shows none headed wide high j
 
 -- ---- a request for all of its view
 
-pub whole_drawn : (map : Definition) (request : RequestValue) (view : ViewValue) (bytes : List ℕ) → IsViewFor map.extent request view → LiesIn request.size view →
+pub whole_drawn : (map : Definition) (request : RequestValue) (view : ViewValue) (bytes : List ℕ) → IsViewFor map.extent request view → IsPartOfView request.size view →
     view.width ≡ request.size.width → view.height ≡ request.size.height →
     bytes ≡ image view.width view.height (labelled map request.layers view request.background) → IsImageOf map request bytes
 unfolding picture

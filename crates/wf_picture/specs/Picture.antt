@@ -38,7 +38,7 @@ abbrev pub corner_of : ViewValue → Corner
 corner_of view = unwrap_or view.corner (record { column = 0; row = 0 })
 
 -- a picture of this size that begins there is a part of the view
-pub record LiesIn (size : Size) (view : ViewValue) : Type 0 where
+pub record IsPartOfView (size : Size) (view : ViewValue) : Type 0 where
   pub columns : (corner_of view).column + size.width ≤ view.width
   pub rows : (corner_of view).row + size.height ≤ view.height
 

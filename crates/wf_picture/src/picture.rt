@@ -2,7 +2,7 @@
 ghost use Rattle.std.specs.Prelude.{◌≡◌, ◌<◌, true, length, IfOk};
 ghost use Rattle.std.specs.List.{All};
 ghost use Rattle.wf_picture.specs.Image.{image};
-ghost use Rattle.wf_picture.specs.Picture.{corner_of, labelled, IsCutOut, IsImageOf, IsWholePicture, IsViewFor, LiesIn};
+ghost use Rattle.wf_picture.specs.Picture.{corner_of, labelled, IsCutOut, IsImageOf, IsWholePicture, IsViewFor, IsPartOfView};
 
 use crate::image::{file, header_size, image};
 use crate::request::{PictureRequest, Size};
@@ -57,7 +57,7 @@ fn file_of(
 /// it.
 pub fn view_of(map: &MapDef, request: &PictureRequest) -> View
     ensures is { IsViewFor map.now.extent request.now result }
-    ensures within { LiesIn request.now.size result }
+    ensures within { IsPartOfView request.now.size result }
 {
     let size = request.size();
     View::of(map, &request.bbox(), size.width, size.height)
@@ -101,7 +101,7 @@ fn draw_labelled_after(
 /// The picture of a request of this size, cut out of the picture of its view, as a file. Of whichever map and request the view's
 /// picture is, the file is the request's image. Allocation failure is the only error.
 pub fn cut(alloc: Global, pixmap: &Pixmap, view: &View, size: Size) -> Result<Vec<u8>, AllocError>
-    requires within { LiesIn size view.now }
+    requires within { IsPartOfView size view.now }
     requires wide { pixmap.now.width ≡ view.now.width }
     requires high { pixmap.now.height ≡ view.now.height }
     ensures { IfOk result (λ file. IsCutOut pixmap.now view.now size file.items) }

@@ -10,11 +10,11 @@ use Rattle.wf_model.specs.Table as table
 use Rattle.wf_model.specs.VolatileState.{VolatileState}
 use Rattle.wf_model.specs.World as world
 use Rattle.wf_model.specs.World.{Event, Node, World, deliver, delivered, happens, step_rejection_of, step_rejection_running, refused, rejected_at, steps}
-use Rattle.wf_farm.specs.Agreement.{HasStored, HistoriesGrow, IsOneWorld}
+use Rattle.wf_farm.specs.Agreement.{HasDurableState, HistoriesGrow, IsOneWorld}
 use Rattle.wf_farm.specs.Cluster.{AreNodes, Moves, last_rejected}
 use Rattle.wf_farm.specs.Carriage.{IsMemory}
 use Rattle.wf_farm.specs.Farm.{MemoryFarm, IsAtOnce, Runs, Refines, size}
-use Rattle.wf_farm.specs.NodeHost.{MemoryHost, IsNode}
+use Rattle.wf_farm.specs.NodeHost.{MemoryHost, HostsNode}
 use Rattle.wf_farm.specs.declared.fault.FarmFault.{FarmFault}
 use Rattle.wf_farm.specs.declared.cluster.NodeHost.TheVariants.{Running, Stopped}
 use Rattle.wf_play.specs.OrderEffect.{Delivers}
@@ -44,18 +44,18 @@ beginning_on xs ys zs first second =
     (first.0 ++ second.0, sym (append_assoc xs first.0 second.0) ∙ ap (λ front. front ++ second.0) first.1 ∙ second.1)
 
 -- a node of the model has a durable state
-stored_at : (host : MemoryHost) (node : Node Definition) → IsNode host node → HasStored (Some host) node.stored
+stored_at : (host : MemoryHost) (node : Node Definition) → HostsNode host node → HasDurableState (Some host) node.stored
 stored_at (Running running) node is = ap (λ (n : Node Definition). n.stored) is
 stored_at (Stopped tape) node is = is.1
 
-stored_in : (hosts : List MemoryHost) (nodes : List (Node Definition)) (i : ℕ) → AreNodes hosts nodes → i < length hosts → (stored : DurableState Definition) × HasStored (slice_get hosts i) stored
+stored_in : (hosts : List MemoryHost) (nodes : List (Node Definition)) (i : ℕ) → AreNodes hosts nodes → i < length hosts → (stored : DurableState Definition) × HasDurableState (slice_get hosts i) stored
 stored_in [] nodes i are there = absurd (omega arith)
 stored_in (host ∷ hosts) [] i are there = absurd are
 stored_in (host ∷ hosts) (node ∷ nodes) zero are there = (node.stored, stored_at host node are.0)
 stored_in (host ∷ hosts) (node ∷ nodes) (suc i) are there = stored_in hosts nodes i are.1 (omega arith)
 
 -- what has a durable state is there
-there_is : (hosts : List MemoryHost) (i : ℕ) (stored : DurableState Definition) → HasStored (slice_get hosts i) stored → i < length hosts
+there_is : (hosts : List MemoryHost) (i : ℕ) (stored : DurableState Definition) → HasDurableState (slice_get hosts i) stored → i < length hosts
 there_is [] i stored has = absurd has
 there_is (host ∷ hosts) zero stored has = omega arith
 there_is (host ∷ hosts) (suc i) stored has = let below = there_is hosts i stored has in omega arith
@@ -69,11 +69,11 @@ grows_on before between after same one first second = λ i old new had has.
 
 hosts_grow : (before between after : MemoryFarm) → between.hosts ≡ before.hosts → HistoriesGrow between after → HistoriesGrow before after
 unfolding HistoriesGrow
-hosts_grow before between after same grows = λ i old new had has. grows i old new (subst (λ (p : List MemoryHost). HasStored (slice_get p i) old) (sym same) had) has
+hosts_grow before between after same grows = λ i old new had has. grows i old new (subst (λ (p : List MemoryHost). HasDurableState (slice_get p i) old) (sym same) had) has
 
 grow_hosts : (before between after : MemoryFarm) → after.hosts ≡ between.hosts → HistoriesGrow before between → HistoriesGrow before after
 unfolding HistoriesGrow
-grow_hosts before between after same grows = λ i old new had has. grows i old new had (subst (λ (p : List MemoryHost). HasStored (slice_get p i) new) same has)
+grow_hosts before between after same grows = λ i old new had has. grows i old new had (subst (λ (p : List MemoryHost). HasDurableState (slice_get p i) new) same has)
 
 -- ---- a play, and a delivery more
 

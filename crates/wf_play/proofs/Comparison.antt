@@ -4,7 +4,7 @@ use Rattle.std.proofs.lemmas.Slice.Eq.{bytes_eq-Decides}
 use Rattle.wf_wms.specs.Answer.{AnswerValue}
 use Rattle.wf_wms.specs.declared.response.Kind.{Kind}
 use Rattle.wf_wms.specs.contracts.response.KindEq.TheImpl.Laws.{laws-law}
-use Rattle.wf_farm.specs.ClientAnswers.{Answers, HasOneAnswer, HasOneMapAnswer, sequence_at}
+use Rattle.wf_farm.specs.ClientAnswers.{NodeAnswers, HasOneAnswer, HasOneMapAnswer, sequence_at}
 use Rattle.wf_farm.specs.Farm.{MemoryFarm}
 use Rattle.wf_play.specs.Comparison.{Compares, IsTrueWhereOne, is_same_answer, is_same_kind}
 
@@ -31,15 +31,15 @@ found_equal : (a b : AnswerValue) (test : Bool) → test ≡ is_same_answer a b 
 found_equal a b test is same = is ∙ ap (λ (x : AnswerValue). is_same_answer a x) same ∙ same_answer a
 
 -- what is compared is what the two nodes answer
-pub compared : (farm : MemoryFarm) (i j : ℕ) (query : List ℕ) (a b : AnswerValue) (test : Bool) → Answers farm i (sequence_at farm i) query a → Answers farm j (sequence_at farm j) query b →
+pub compared : (farm : MemoryFarm) (i j : ℕ) (query : List ℕ) (a b : AnswerValue) (test : Bool) → NodeAnswers farm i (sequence_at farm i) query a → NodeAnswers farm j (sequence_at farm j) query b →
     test ≡ is_same_answer a b → Compares farm i j query test
 compared farm i j query a b test first second is = record { answer = a; another = b; first = first; second = second; test = is }
 
 -- By the theorem there is one answer, where the nodes are at one sequence, and where they are asked for one map.
 pub true_where_one : (farm : MemoryFarm) (i j : ℕ) (query : List ℕ) (a b : AnswerValue) (test : Bool) → HasOneAnswer farm → HasOneMapAnswer farm →
-    Answers farm i (sequence_at farm i) query a → Answers farm j (sequence_at farm j) query b → test ≡ is_same_answer a b → IsTrueWhereOne farm i j query test
+    NodeAnswers farm i (sequence_at farm i) query a → NodeAnswers farm j (sequence_at farm j) query b → test ≡ is_same_answer a b → IsTrueWhereOne farm i j query test
 unfolding HasOneAnswer HasOneMapAnswer
 true_where_one farm i j query a b test sequence_theorem map_theorem first second is = record {
-  one_sequence = λ same. found_equal a b test is (sequence_theorem i j (sequence_at farm i) query a b first (subst (λ s. Answers farm j s query b) (sym same) second));
+  one_sequence = λ same. found_equal a b test is (sequence_theorem i j (sequence_at farm i) query a b first (subst (λ s. NodeAnswers farm j s query b) (sym same) second));
   one_map = λ m here there. found_equal a b test is (map_theorem i j (sequence_at farm i) (sequence_at farm j) m query a b here there first second);
 }

@@ -10,7 +10,7 @@ use Rattle.wf_model.specs.World.{Event, steps}
 use Rattle.wf_model.specs.DurableState.{definition_at}
 use Rattle.wf_node.specs.Node.{Node, stored_of}
 use Rattle.wf_tape.specs.MemoryTape.{TapeValue}
-use Rattle.wf_farm.specs.Agreement.{HasStored, HistoriesGrow, HasOneHistory}
+use Rattle.wf_farm.specs.Agreement.{HasDurableState, HistoriesGrow, HasNoTwoDefinitions}
 use Rattle.wf_farm.specs.Cluster.{Moves}
 use Rattle.wf_farm.specs.Farm.{MemoryFarm, Runs, RunsPart, running_in, size}
 use Rattle.wf_farm.specs.NodeHost.{MemoryHost}
@@ -53,12 +53,12 @@ pump_part_played names before after NoNode part same grows = absurd part
 pump_part_played names before after (Carried done) part same grows = record { events = _; runs = part.0.runs; size = same; grows = inr grows }
 
 -- what is published under one sequence is one definition
-pub published_once : (farm : MemoryFarm) (s : ℕ) (c d : Definition) → HasOneHistory farm → IsPublished farm s c → IsPublished farm s d → c ≡ d
-unfolding HasOneHistory
+pub published_once : (farm : MemoryFarm) (s : ℕ) (c d : Definition) → HasNoTwoDefinitions farm → IsPublished farm s c → IsPublished farm s d → c ≡ d
+unfolding HasNoTwoDefinitions
 published_once farm s c d one this that = one this.0 that.0 s c d this.1 that.1
 
 -- what the node that runs at an index has stored
-stored_there : (node : Node TapeValue) (host : Option MemoryHost) → Some node ≡ running_in host → HasStored host (stored_of node)
+stored_there : (node : Node TapeValue) (host : Option MemoryHost) → Some node ≡ running_in host → HasDurableState host (stored_of node)
 stored_there node None runs = absurd (none-some node (sym runs))
 stored_there node (Some (Running other)) runs = ap stored_of (same_Some node other runs)
 stored_there node (Some (Stopped tape)) runs = absurd (none-some node (sym runs))

@@ -9,7 +9,7 @@ use Rattle.std.proofs.lemmas.Option.{same_Some}
 use Rattle.wf_script.specs.declared.fault.ScriptFault.{ScriptFault}
 use Rattle.wf_script.specs.declared.fault.ScriptFault.TheVariants.{Memory}
 use Rattle.wf_script.specs.Fault.{IsMemory}
-use Rattle.wf_play.specs.OrderEffect.{ArePumped, Happens, HappensIf, Performs, PerformsAt, fault_at, may_use, may_use_at}
+use Rattle.wf_play.specs.OrderEffect.{ArePumped, HaveHappened, HappensIf, Performs, PerformsAt, fault_at, may_use, may_use_at}
 use Rattle.wf_script.specs.Script.{Numbered}
 
 -- where there is an order
@@ -27,7 +27,7 @@ pub fault_there : (there : Option Numbered) (n : Numbered) → Some n ≡ there 
 fault_there there n is = subst (λ o. fault_at o ≡ Some (Memory n.line)) is refl
 
 -- the event that an order is
-pub happened : (there : Option (Event Definition)) (event : Event Definition) (before after : MemoryFarm) → Some event ≡ there → Happens (event ∷ []) before after → HappensIf there before after
+pub happened : (there : Option (Event Definition)) (event : Event Definition) (before after : MemoryFarm) → Some event ≡ there → HaveHappened (event ∷ []) before after → HappensIf there before after
 happened there event before after is does = subst (λ o. HappensIf o before after) is does
 
 -- nothing, where it is none

@@ -5,7 +5,7 @@ use Rattle.std.specs.Io.KnownBytes.{Appends}
 use Rattle.wf_farm.specs.Farm.{MemoryFarm, Refines}
 use Rattle.wf_model.specs.World.{start}
 use Rattle.wf_stream.specs.KnownTheorems.{appends_more, keeps_same}
-use Rattle.wf_play.specs.PlayEnd.{BreaksOffAtOrder, IsEnded, LosesAtOrder, MayBeBegun, StopsAtOrder, WritesBeginning}
+use Rattle.wf_play.specs.PlayEnd.{BreaksOffAtOrder, IsPlayEnded, LosesAtOrder, MayBeBegun, StopsAtOrder, WritesBeginning}
 use Rattle.wf_play.specs.Fault.{IsOrderFault, IsPlayingFault}
 use Rattle.wf_play.specs.OrderEffect.{PerformsAt, fault_at, may_use_at}
 use Rattle.wf_play.specs.ScriptRun.{HavePlayed, IsStepRejectionOf}
@@ -41,7 +41,7 @@ module _ (n : ℕ) (script same : Script) (before between : MemoryFarm) (old now
   }
 
   -- The next order ended with this error.
-  pub ends_there : (fault : PlayFault) → IsOrderFault (slice_get same.orders n) between fault → IsEnded script before old now fault
+  pub ends_there : (fault : PlayFault) → IsOrderFault (slice_get same.orders n) between fault → IsPlayEnded script before old now fault
   ends_there (play.Script fault) why = stops_there fault why
   ends_there play.Wire why = loses_there why
   ends_there play.Read why = absurd why
@@ -75,10 +75,10 @@ both_faults (Ok x) so is also = tt
 both_faults (Err e) so is also = so e is also
 
 -- A play on a new farm.
-pub begun : (script same : Script) (opening : MemoryFarm) (old new : Option (List ℕ)) (fault : PlayFault) → same ≡ script → Refines opening (start script.nodes) → opening.pumped ≡ 0 → IsEnded same opening old new fault
+pub begun : (script same : Script) (opening : MemoryFarm) (old new : Option (List ℕ)) (fault : PlayFault) → same ≡ script → Refines opening (start script.nodes) → opening.pumped ≡ 0 → IsPlayEnded same opening old new fault
     → MayBeBegun script old new fault
 begun script same opening old new fault is starts fresh ended =
-    inr (record { opening = opening; start = starts; fresh = fresh; ended = subst (λ (s : Script). IsEnded s opening old new fault) is ended })
+    inr (record { opening = opening; start = starts; fresh = fresh; ended = subst (λ (s : Script). IsPlayEnded s opening old new fault) is ended })
 
 -- Before the farm is made nothing is written.
 pub not_begun : (script : Script) (written : Option (List ℕ)) (fault : ScriptFault) → fault ≡ script_fault.Memory 1 → MayBeBegun script written written (play.Script fault)

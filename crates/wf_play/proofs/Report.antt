@@ -16,7 +16,7 @@ use Rattle.wf_farm.specs.declared.fault.FarmFault.{FarmFault}
 use Rattle.wf_farm.specs.declared.fault.FarmFault.TheVariants.{NoNode}
 use Rattle.wf_play.specs.Comparison.{IsUncompared}
 use Rattle.wf_script.specs.Script.{Numbered, Script}
-use Rattle.wf_play.specs.Report.{Adds, IsOfAnswer, IsReportedAbsent, ReportsAnswer, ReportsEqual, ReportsPump, Writes, WritesAt, no_node, published_word, pump_line}
+use Rattle.wf_play.specs.Report.{Adds, IsOfAnswer, IsReportedAbsent, ReportsAnswer, ReportsEqual, ReportsPump, WritesOrder, WritesAt, no_node, published_word, pump_line}
 
 -- a consequence of a property holds where the property is reported
 pub also_ok : {T E P Q : Type 0} → (result : Result T E) → (P → Q) → OnOk result P → OnOk result Q
@@ -98,7 +98,7 @@ pub pump_reported : (nodes : List ℕ) (before after : MemoryFarm) (stopped : Bo
 pump_reported nodes before after stopped old new done is = (pump_line stopped, (stopped, done, refl), is)
 
 -- what the order at an index writes, where that order is there
-pub written_at : (script : Script) (there : Option Numbered) (n : Numbered) (before after : MemoryFarm) (old new : List ℕ) → Some n ≡ there → Adds (Writes script n.order before after) old new
+pub written_at : (script : Script) (there : Option Numbered) (n : Numbered) (before after : MemoryFarm) (old new : List ℕ) → Some n ≡ there → Adds (WritesOrder script n.order before after) old new
     → Adds (WritesAt script there before after) old new
 unfolding WritesAt
 written_at script there n before after old new is reports = subst (λ o. Adds (WritesAt script o before after) old new) is reports

@@ -3,7 +3,7 @@ use Rattle.std.specs.Prelude.{◌≡◌, ◌⊎◌, ◌&&◌, ℕ, Bool, true, L
 use Rattle.wf_wms.specs.Answer.{AnswerValue, AsksForMap}
 use Rattle.wf_wms.specs.declared.response.Kind.{Kind}
 use Rattle.wf_wms.specs.contracts.response.KindPartialEq.TheImpl as kinds
-use Rattle.wf_farm.specs.ClientAnswers.{Answers, IsNoAnswer, sequence_at}
+use Rattle.wf_farm.specs.ClientAnswers.{NodeAnswers, IsNoAnswer, sequence_at}
 use Rattle.wf_farm.specs.Farm.{MemoryFarm}
 use Rattle.wf_farm.specs.declared.fault.FarmFault.{FarmFault}
 use Rattle.wf_play.specs.Session.{node_at}
@@ -20,8 +20,8 @@ is_same_answer a b = is_same_kind a.kind b.kind && bytes_eq a.media b.media && b
 pub record Compares (farm : MemoryFarm) (i j : ℕ) (query : List ℕ) (equal : Bool) : Type 0 where
   pub answer : AnswerValue
   pub another : AnswerValue
-  pub first : Answers farm i (sequence_at farm i) query answer
-  pub second : Answers farm j (sequence_at farm j) query another
+  pub first : NodeAnswers farm i (sequence_at farm i) query answer
+  pub second : NodeAnswers farm j (sequence_at farm j) query another
   pub test : equal ≡ is_same_answer answer another
 
 -- The test is true where the nodes i and j are at one sequence, and where the query asks both for one map.

@@ -34,7 +34,7 @@ event_at maps other = None
 
 -- Exactly these events have happened: the farm reports why the last one was rejected, if it was, and as many messages count as
 -- pumped as before.
-pub record Happens (events : List (Event Definition)) (before after : MemoryFarm) : Type 0 where
+pub record HaveHappened (events : List (Event Definition)) (before after : MemoryFarm) : Type 0 where
   pub runs : Runs events before after
   pub refused : ReportsWhy (λ w. last_rejected w events) after.refused before.hosts before.sent
   pub pumped : after.pumped ≡ before.pumped
@@ -42,7 +42,7 @@ pub record Happens (events : List (Event Definition)) (before after : MemoryFarm
 -- this event has happened, or nothing
 abbrev pub HappensIf : Option (Event Definition) → MemoryFarm → MemoryFarm → Type 0
 HappensIf None before after = after ≡ before
-HappensIf (Some event) before after = Happens (event ∷ []) before after
+HappensIf (Some event) before after = HaveHappened (event ∷ []) before after
 
 -- Exactly these messages were delivered to node i, in turn. No delivery is rejected; the farm reports the rejection that it reported
 -- before, and as many messages count as pumped as before.

@@ -49,26 +49,26 @@ pub record BreaksOffAtOrder (script : Script) (before : MemoryFarm) (old new : O
   pub written : Appends old new (text ++ take some last)
 
 -- a play of the script from this farm on ended with this error
-abbrev pub IsEnded : Script → MemoryFarm → Option (List ℕ) → Option (List ℕ) → PlayFault → Type 0
-IsEnded script before old new (play.Script fault) = StopsAtOrder script before old new fault
-IsEnded script before old new play.Read = ⊥
-IsEnded script before old new play.Write = BreaksOffAtOrder script before old new
-IsEnded script before old new play.Wire = LosesAtOrder script before old new
+abbrev pub IsPlayEnded : Script → MemoryFarm → Option (List ℕ) → Option (List ℕ) → PlayFault → Type 0
+IsPlayEnded script before old new (play.Script fault) = StopsAtOrder script before old new fault
+IsPlayEnded script before old new play.Read = ⊥
+IsPlayEnded script before old new play.Write = BreaksOffAtOrder script before old new
+IsPlayEnded script before old new play.Wire = LosesAtOrder script before old new
 
 -- A play of the script on a new farm, the model's start, ended with this error.
-pub record IsBegun (script : Script) (old new : Option (List ℕ)) (fault : PlayFault) : Type 0 where
+pub record IsPlayedFromStart (script : Script) (old new : Option (List ℕ)) (fault : PlayFault) : Type 0 where
   pub opening : MemoryFarm
   pub start : Refines opening (start script.nodes)
   pub fresh : opening.pumped ≡ 0
-  pub ended : IsEnded script opening old new fault
+  pub ended : IsPlayEnded script opening old new fault
 
 -- for the crate's own contracts: the same, or an allocation failed before the farm was made
 abbrev pub MayBeBegun : Script → Option (List ℕ) → Option (List ℕ) → PlayFault → Type 0
-MayBeBegun script old new fault = ((fault ≡ play.Script (script_fault.Memory 1)) × Keeps old new) ⊎ IsBegun script old new fault
+MayBeBegun script old new fault = ((fault ≡ play.Script (script_fault.Memory 1)) × Keeps old new) ⊎ IsPlayedFromStart script old new fault
 
 -- the input, where it is known, is a script, and a play of it ended with this error
 abbrev pub IsInputBegun : Option (List ℕ) → Option (List ℕ) → Option (List ℕ) → PlayFault → Type 0
-IsInputBegun input old new fault = (script : Script) × IfSome input (λ text. script_of text ≡ Ok script) × IsBegun script old new fault
+IsInputBegun input old new fault = (script : Script) × IfSome input (λ text. script_of text ≡ Ok script) × IsPlayedFromStart script old new fault
 
 -- What is written before an error. Where a write failed or a message wasn't carried, it is a beginning of the play of the input's
 -- script. Where an allocation failed, likewise; or it is nothing, as where the input is no script or can't be read.

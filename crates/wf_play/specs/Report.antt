@@ -13,7 +13,7 @@ use Rattle.wf_wms.specs.declared.exception.Exception.{Exception}
 use Rattle.wf_wms.specs.declared.exception.Exception.TheVariants as exception
 use Rattle.wf_wms.specs.declared.response.Kind.{Kind}
 use Rattle.wf_wms.specs.declared.response.Kind.TheVariants as kind
-use Rattle.wf_farm.specs.ClientAnswers.{Answers, sequence_at}
+use Rattle.wf_farm.specs.ClientAnswers.{NodeAnswers, sequence_at}
 use Rattle.wf_farm.specs.Farm.{MemoryFarm, running_in}
 use Rattle.wf_farm.specs.Fault.{number_of as rejection_number}
 use Rattle.wf_farm.specs.NodeHost.{MemoryHost}
@@ -125,7 +125,7 @@ Adds P old new = (text : List ℕ) × P text × (new ≡ old ++ text)
 
 -- The line about the node's answer to the query, or that there is no such node.
 abbrev pub ReportsAnswer : MemoryFarm → ℕ → List ℕ → List ℕ → Type 0
-ReportsAnswer farm i query text = ((answer : AnswerValue) × Answers farm i (sequence_at farm i) query answer × (text ≡ kind_line i answer.kind (length answer.bytes))) ⊎ (IsAbsent farm i × (text ≡ no_node))
+ReportsAnswer farm i query text = ((answer : AnswerValue) × NodeAnswers farm i (sequence_at farm i) query answer × (text ≡ kind_line i answer.kind (length answer.bytes))) ⊎ (IsAbsent farm i × (text ≡ no_node))
 
 abbrev pub equal_line : Bool → List ℕ
 equal_line true = codes "equal\n"
@@ -141,17 +141,17 @@ happened_text None refused = []
 happened_text (Some event) refused = step_rejection_line refused
 
 -- What an order writes. Of an event it is the rejection, if it was rejected. A delivery writes nothing, since none is rejected.
-abbrev pub Writes : Script → Order → MemoryFarm → MemoryFarm → List ℕ → Type 0
-Writes script (order.Pump nodes) before after text = ReportsPump nodes before after text
-Writes script (order.Ask question) before after text = text ≡ answer_text script question after
-Writes script (order.Get i query) before after text = ReportsAnswer after i query text
-Writes script (order.Equal i j query) before after text = ReportsEqual after i j query text
-Writes script other before after text = text ≡ happened_text (event_at script.maps other) after.refused
+abbrev pub WritesOrder : Script → Order → MemoryFarm → MemoryFarm → List ℕ → Type 0
+WritesOrder script (order.Pump nodes) before after text = ReportsPump nodes before after text
+WritesOrder script (order.Ask question) before after text = text ≡ answer_text script question after
+WritesOrder script (order.Get i query) before after text = ReportsAnswer after i query text
+WritesOrder script (order.Equal i j query) before after text = ReportsEqual after i j query text
+WritesOrder script other before after text = text ≡ happened_text (event_at script.maps other) after.refused
 
 -- what the order at an index writes: nothing where there is none
 unfoldable pub WritesAt : Script → Option Numbered → MemoryFarm → MemoryFarm → List ℕ → Type 0
 WritesAt script None before after text = text ≡ []
-WritesAt script (Some numbered) before after text = Writes script numbered.order before after text
+WritesAt script (Some numbered) before after text = WritesOrder script numbered.order before after text
 
 -- ---- what a call appends to the output
 
@@ -168,5 +168,5 @@ abbrev pub ReportsOrder : {Z : Type 0} → ℕ → Session → Session → Strin
 ReportsOrder n before after old new = IsOneAppended (WritesAt before.script (order_at before n) before.farm after.farm) old new
 
 -- what this order of its script writes
-abbrev pub Reports : {Z : Type 0} → Order → Session → Session → String Z → String Z → Type 0
-Reports order before after old new = IsOneAppended (Writes before.script order before.farm after.farm) old new
+abbrev pub WritesReport : {Z : Type 0} → Order → Session → Session → String Z → String Z → Type 0
+WritesReport order before after old new = IsOneAppended (WritesOrder before.script order before.farm after.farm) old new

@@ -2,7 +2,7 @@
 
 ghost use Rattle.std.specs.Prelude.{◌≡◌, IfOk, IfErr, OnOk};
 ghost use Rattle.std.specs.String.{string_bytes};
-ghost use Rattle.wf_farm.specs.ClientAnswers.{Answers, sequence_at};
+ghost use Rattle.wf_farm.specs.ClientAnswers.{NodeAnswers, sequence_at};
 ghost use Rattle.wf_play.specs.Comparison.{Compares, IsTrueWhereOne, IsUncompared, is_same_answer, is_same_kind};
 ghost use Rattle.wf_play.specs.Report.{IsAppended, IsOfAnswer, IsOneAppended, IsReportedAbsent, ReportsAnswer, ReportsEqual, exception_line, kind_line, number_of};
 
@@ -99,7 +99,7 @@ fn compare_with(
     query: &[u8],
     answer: &Answer,
 ) -> Result<bool, FarmFault>
-    requires { Answers farm.now first (sequence_at farm.now first) query.now answer.now }
+    requires { NodeAnswers farm.now first (sequence_at farm.now first) query.now answer.now }
     ensures test { IfOk result (λ equal. Compares farm.now first second query.now equal) }
     ensures theorem { IfOk result (λ equal. IsTrueWhereOne farm.now first second query.now equal) }
     ensures fault { IfErr result (λ fault. IsUncompared farm.now first second fault) }
@@ -123,8 +123,8 @@ fn compare(
     answer: &Answer,
     another: &Answer,
 ) -> bool
-    requires first { Answers farm.now first (sequence_at farm.now first) query.now answer.now }
-    requires second { Answers farm.now second (sequence_at farm.now second) query.now another.now }
+    requires first { NodeAnswers farm.now first (sequence_at farm.now first) query.now answer.now }
+    requires second { NodeAnswers farm.now second (sequence_at farm.now second) query.now another.now }
     ensures test { Compares farm.now first second query.now result }
     ensures theorem { IsTrueWhereOne farm.now first second query.now result }
 {

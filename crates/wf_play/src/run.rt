@@ -4,9 +4,8 @@ ghost use Rattle.std.specs.Prelude.{◌≡◌, ◌+◌, ◌<◌, IfErr, IfOk, If
 ghost use Rattle.std.specs.Io.KnownBytes.{IsAtEnd};
 ghost use Rattle.wf_stream.specs.Effects.{TakesUpTo};
 ghost use Rattle.wf_script.specs.Lines.{examined, most_script_bytes};
-ghost use Rattle.wf_play.specs.PlayEnd.{IsEnded, MayBeBegun, WritesBeginning};
+ghost use Rattle.wf_play.specs.PlayEnd.{IsPlayEnded, MayBeBegun, WritesBeginning};
 ghost use Rattle.wf_play.specs.Fault.{CountsReads, CountsWrites, EndsWriting, IsInputFault, IsPlayingFault, KeepsQuiet, LosesNone};
-ghost use Rattle.wf_script.specs.Fault.{IsMemory};
 ghost use Rattle.wf_play.specs.ScriptRun.{HavePlayed, IsStepRejectionOf, IsScriptText, PlaysInput, ReadsWhole, WritesPlay};
 ghost use Rattle.wf_script.specs.Text.{script_of};
 
@@ -130,7 +129,7 @@ fn perform_all<K: Sink, C: Carrier>(
         (HavePlayed count session.old.script session.old.farm session.new.farm
         (K.written sink.old) (K.written sink.new)) }
     ensures ended { IfErr result
-        (IsEnded session.old.script session.old.farm (K.written sink.old) (K.written sink.new)) }
+        (IsPlayEnded session.old.script session.old.farm (K.written sink.old) (K.written sink.new)) }
     ensures err { IfErr result IsPlayingFault }
     ensures faithful { C.faithful → IfErr result LosesNone }
     ensures writes { CountsWrites result (K.failures sink.old) (K.failures sink.new) }

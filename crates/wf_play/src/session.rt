@@ -38,7 +38,7 @@ impl<'s> Model for Session<'s> {
 
 impl<'s> Session<'s> {
     ghost use Rattle.std.specs.Prelude.{[], ◌∷◌, false, map, IfOk, IfErr};
-    ghost use Rattle.wf_farm.specs.Agreement.{HasOneHistory, IsOneWorld};
+    ghost use Rattle.wf_farm.specs.Agreement.{HasNoTwoDefinitions, IsOneWorld};
     ghost use Rattle.wf_farm.specs.Event.{view as event_view};
     ghost use Rattle.wf_farm.specs.Farm.{Refines, size};
     ghost use Rattle.wf_farm.specs.declared.carrier.CarrierFault.TheVariants as faults;
@@ -46,9 +46,9 @@ impl<'s> Session<'s> {
     ghost use Rattle.wf_script.specs.Order.{view};
     ghost use Rattle.wf_play.specs.Fault.{IsOrderFault, LosesNone, LosesOnlyOf};
     ghost use Rattle.wf_play.specs.Theorem.{HasKeptPromises, HasOwnBallots, HasPromisedMajorities};
-    ghost use Rattle.wf_play.specs.OrderEffect.{Acts, Happens, HappensIf, PerformsOrder, carries, event_at, may_use, may_use_at, order_at};
+    ghost use Rattle.wf_play.specs.OrderEffect.{Acts, HaveHappened, HappensIf, PerformsOrder, carries, event_at, may_use, may_use_at, order_at};
     ghost use Rattle.wf_play.specs.Session.{Plays};
-    ghost use Rattle.wf_play.specs.Report.{IsAppended, Reports, ReportsOrder, happened_text, step_rejection_line};
+    ghost use Rattle.wf_play.specs.Report.{IsAppended, WritesReport, ReportsOrder, happened_text, step_rejection_line};
 
     /// The farm before the script's first order: the model's start. Returns S1 at line 1 where an allocation failed.
     pub fn new(alloc: Global, script: &'s Script) -> Result<Session<'s>, ScriptFault>
@@ -93,7 +93,7 @@ impl<'s> Session<'s> {
         ensures unused { may_use_at (order_at self.old number) self.old.farm ≡ false →
             carrier.new ≡ carrier.old }
         ensures plays { Plays self.old.farm self.new.farm }
-        ensures agree { HasOneHistory self.new.farm }
+        ensures agree { HasNoTwoDefinitions self.new.farm }
         ensures world { IsOneWorld self.new.farm }
         ensures ballots { HasOwnBallots self.new.farm }
         ensures promises { HasKeptPromises self.new.farm }
@@ -106,7 +106,7 @@ impl<'s> Session<'s> {
 
     /// The theorems about the farm hold of it as it is.
     fn obeys_theorems(&self)
-        ensures agree { HasOneHistory self.now.farm }
+        ensures agree { HasNoTwoDefinitions self.now.farm }
         ensures world { IsOneWorld self.now.farm }
         ensures ballots { HasOwnBallots self.now.farm }
         ensures promises { HasKeptPromises self.now.farm }
@@ -154,7 +154,7 @@ impl<'s> Session<'s> {
     ) -> Result<(), CarrierFault>
         ensures script { self.new.script ≡ self.old.script }
         ensures does { OnOk result (Acts (view order.now) self.old self.new) }
-        ensures reports { OnOk result (Reports (view order.now) self.old self.new out.old out.new) }
+        ensures reports { OnOk result (WritesReport (view order.now) self.old self.new out.old out.new) }
         ensures lost { IfErr result (LosesOnlyOf (view order.now) self.old.farm) }
         ensures faithful { C.faithful → IfErr result (λ fault. fault ≡ faults.Memory) }
         ensures unused { may_use (view order.now) self.old.farm ≡ false →
@@ -186,7 +186,7 @@ impl<'s> Session<'s> {
         requires { carries (view order.now) ≡ false }
         ensures script { self.new.script ≡ self.old.script }
         ensures does { OnOk result (Acts (view order.now) self.old self.new) }
-        ensures reports { OnOk result (Reports (view order.now) self.old self.new out.old out.new) }
+        ensures reports { OnOk result (WritesReport (view order.now) self.old self.new out.old out.new) }
         ensures memory { IfErr result (λ fault. fault ≡ faults.Memory) }
         ensures plays { Plays self.old.farm self.new.farm }
     {
@@ -201,7 +201,7 @@ impl<'s> Session<'s> {
         requires { carries (view order.now) ≡ false }
         ensures script { self.new.script ≡ self.old.script }
         ensures does { OnOk result (Acts (view order.now) self.old self.new) }
-        ensures reports { OnOk result (Reports (view order.now) self.old self.new out.old out.new) }
+        ensures reports { OnOk result (WritesReport (view order.now) self.old self.new out.old out.new) }
         ensures plays { Plays self.old.farm self.new.farm }
     {
         match order {
@@ -243,7 +243,7 @@ impl<'s> Session<'s> {
     fn run(&mut self, alloc: Global, events: &[Event], out: &mut String) -> Result<(), AllocError>
         ensures script { self.new.script ≡ self.old.script }
         ensures does { OnOk result
-            (Happens (map event_view events.now) self.old.farm self.new.farm) }
+            (HaveHappened (map event_view events.now) self.old.farm self.new.farm) }
         ensures reports { OnOk result
             (IsAppended (step_rejection_line self.new.farm.refused) out.old out.new) }
         ensures plays { Plays self.old.farm self.new.farm }
@@ -257,7 +257,7 @@ impl<'s> Session<'s> {
     /// Makes the event, and appends its rejection, if it was rejected.
     fn happen(&mut self, alloc: Global, event: Event, out: &mut String) -> Result<(), AllocError>
         ensures script { self.new.script ≡ self.old.script }
-        ensures does { OnOk result (Happens (event_view event ∷ []) self.old.farm self.new.farm) }
+        ensures does { OnOk result (HaveHappened (event_view event ∷ []) self.old.farm self.new.farm) }
         ensures reports { OnOk result
             (IsAppended (step_rejection_line self.new.farm.refused) out.old out.new) }
         ensures plays { Plays self.old.farm self.new.farm }

@@ -1,7 +1,7 @@
 //! The theorems about a farm on which scripts are played.
 
 ghost use Rattle.std.specs.Prelude.{◌≡◌, true};
-ghost use Rattle.wf_farm.specs.Agreement.{HasOneHistory, IsOneWorld};
+ghost use Rattle.wf_farm.specs.Agreement.{HasNoTwoDefinitions, IsOneWorld};
 ghost use Rattle.wf_play.specs.Theorem.{HasKeptPromises, HasOwnBallots, HasPromisedMajorities};
 
 use wf_farm::Farm;
@@ -10,7 +10,7 @@ use wf_farm::Farm;
 #[tactic(auto, using(crate::proofs::Worlds::own_ballots_there, crate::proofs::Worlds::kept_promises_there, crate::proofs::Worlds::promised_majorities_there))]
 pub(crate) fn farm_obeys_theorems(farm: &Farm)
     requires { farm.now.complete ≡ true }
-    ensures agree { HasOneHistory farm.now }
+    ensures agree { HasNoTwoDefinitions farm.now }
     ensures world { IsOneWorld farm.now }
     ensures ballots { HasOwnBallots farm.now }
     ensures promises { HasKeptPromises farm.now }

@@ -31,7 +31,7 @@ pub use Rattle.wf_delivery.specs.Reachability.{IsFresh, outputs_by}
 unfoldable pub use Rattle.wf_delivery.specs.Reachability.{AreFresh}
 pub use Rattle.wf_delivery.specs.IndexTheorems.{get_set_other, get_set_same, set_there}
 pub use Rattle.wf_delivery.specs.Progress.{begun, counted, next}
-pub use Rattle.wf_publication.specs.Publication.{ArePumped, DeliveredExactly, NewStayNew, PublishedOnAll}
+pub use Rattle.wf_publication.specs.Publication.{HaveBeenDelivered, DeliveredExactly, NewStayNew, PublishedOnAll}
 unfoldable pub use Rattle.wf_publication.specs.Publication.{AllPublish}
 pub use Rattle.wf_publication.specs.Rounds.{AreTargets}
 unfoldable pub use Rattle.wf_publication.specs.Rounds.{deliveries, rounds, to_each}

@@ -1,6 +1,6 @@
 -- A proposal at one of three new nodes is published on all.
 use Rattle.std.proofs.Common.{◌≡◌, ◌<◌, ℕ, zero, suc, true, false, List, [], ◌∷◌, length, slice_get, slice_set, Some, Ok, Vec, refl, sym, ap, subst, ◌∙◌, arith}
-use Rattle.wf_publication.proofs.Common.{Global, AllByRecursion, none-some, same_Some, slice_get_within, Message, Definition, definition_eq, World, propose, happens, input_of, start, steps, transition_grown, Node, IsStep, transition_of, AnyPart, AreNodes, Refines, StandInTurn, KeepTurn, AreHandedOut, keeps_turn, AreFresh, NoneHalted, AllPublish, ArePumped, PublishedOnAll, AreTargets, deliveries, rounds}
+use Rattle.wf_publication.proofs.Common.{Global, AllByRecursion, none-some, same_Some, slice_get_within, Message, Definition, definition_eq, World, propose, happens, input_of, start, steps, transition_grown, Node, IsStep, transition_of, AnyPart, AreNodes, Refines, StandInTurn, KeepTurn, AreHandedOut, keeps_turn, AreFresh, NoneHalted, AllPublish, HaveBeenDelivered, PublishedOnAll, AreTargets, deliveries, rounds}
 use Rattle.wf_def.specs.EqualityTheorems.{definition_eq_equiv}
 use Rattle.wf_model.specs.Table as table
 use Rattle.wf_model.specs.World as world
@@ -83,7 +83,7 @@ module _ {T : Type 0} (tapes : Tape T) (nodes : List (Node T)) (i : ℕ) (before
     many : length (slice_set nodes i proposed) ≡ 3
     many = proposed_turn.as_many ∙ long
 
-    delivered : ArePumped three (began d i node_within) done false after
+    delivered : HaveBeenDelivered three (began d i node_within) done false after
     delivered =
         delivered_exactly tapes (slice_set nodes i proposed) after outputs.items done false (began d i node_within) three (omega (arith, many))
         (subst (λ n. AreTargets n [] three) (sym many) (up_to_targets 3 three three_up_to)) (proposed_turn.in_turn turns) proposed_shown out none

@@ -6,7 +6,7 @@ use Rattle.wf_codec.specs.declared.message.Message.{Message}
 use Rattle.wf_def.specs.Definition.{Definition}
 use Rattle.wf_def.specs.Equality.{definition_eq}
 use Rattle.wf_delivery.specs.declared.progress.PumpProgress.{PumpProgress}
-use Rattle.wf_delivery.specs.Delivery.{AnyPart, AreHandedOut, IsEnd, NoneHalted, Refines, StandInTurn}
+use Rattle.wf_delivery.specs.Delivery.{AnyPart, AreHandedOut, IsDeliveryEnd, NoneHalted, Refines, StandInTurn}
 use Rattle.wf_delivery.specs.Reachability.{AreFresh, outputs_by}
 use Rattle.wf_model.specs.Table as table
 use Rattle.wf_model.specs.VolatileState.{Idle, Overtaken, Proposing, Running, Won}
@@ -32,20 +32,20 @@ AllPublish {T} nodes d = (i : ℕ) (node : Node T) → slice_get nodes i ≡ Som
 
 -- `done` deliveries led from the world to exactly what the nodes are: those of the first messages to each of these nodes, as a pump
 -- makes them.
-pub record ArePumped {T : Type 0} (targets : List ℕ) (w : World Definition) (done : ℕ) (stopped : Bool) (after : List (Node T)) : Type 0 where
+pub record HaveBeenDelivered {T : Type 0} (targets : List ℕ) (w : World Definition) (done : ℕ) (stopped : Bool) (after : List (Node T)) : Type 0 where
   pub come : PumpProgress
   pub part : come.some < length targets
   pub counted : length (deliveries targets 0 come.whole come.some) ≡ done
   pub sent : List Message
   pub refines : Refines AnyPart after sent (steps definition_eq w (deliveries targets 0 come.whole come.some))
-  pub ended : IsEnd stopped come sent
+  pub ended : IsDeliveryEnd stopped come sent
 
 module _ {T : Type 0} (tapes : Tape T) where
   -- From whatever world the nodes and the messages were, deliveries of which none was lost, and at which no tape failed, are those of
   -- a pump to every node.
   abbrev pub DeliveredExactly : Type 0
   DeliveredExactly = (nodes after : List (Node T)) (messages : List Message) (done : ℕ) (stopped : Bool) (w : World Definition) (targets : List ℕ) → 0 < length nodes → AreTargets (length nodes) [] targets →
-      StandInTurn nodes → Refines AnyPart nodes messages w → AreHandedOut tapes nodes messages done 0 stopped after → NoneHalted after → ArePumped targets w done stopped after
+      StandInTurn nodes → Refines AnyPart nodes messages w → AreHandedOut tapes nodes messages done 0 stopped after → NoneHalted after → HaveBeenDelivered targets w done stopped after
 
 -- ---- three new nodes
 

@@ -5,14 +5,14 @@ use Rattle.wf_def.specs.Definition.{Definition}
 use Rattle.wf_model.specs.World.{Event, deliver}
 
 -- whether a node is among the named ones; an empty list names every node
-abbrev pub IsNamed : ℕ → List ℕ → ℕ → Type 0
-IsNamed n [] i = i < n
-IsNamed n (first ∷ rest) i = Contains (first ∷ rest) i
+abbrev pub IsAddressee : ℕ → List ℕ → ℕ → Type 0
+IsAddressee n [] i = i < n
+IsAddressee n (first ∷ rest) i = Contains (first ∷ rest) i
 
 -- the named nodes, each once, ascending
 pub record AreTargets (n : ℕ) (names targets : List ℕ) : Type 0 where
   pub ascending : IsStrictlyIncreasing targets
-  pub named : (i : ℕ) → Contains targets i ↔ IsNamed n names i
+  pub named : (i : ℕ) → Contains targets i ↔ IsAddressee n names i
 
 -- the deliveries of message k to each of these nodes
 unfoldable pub to_each : List ℕ → ℕ → List (Event Definition)

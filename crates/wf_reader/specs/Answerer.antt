@@ -21,12 +21,12 @@ pub record Differ (history : List Definition) (q : Question) : Type 0 where
   pub differ : q.digest ≢ digest_at history q.published
 
 -- the reader is of the same farm, and the answerer isn't too far from a voter
-pub record IsReceived (own : Answerer) (q : Question) : Type 0 where
+pub record IsAnswerable (own : Answerer) (q : Question) : Type 0 where
   pub farm : q.farm ≡ own.farm
   pub near : own.distance ≤ most_distance
 
 pub record IsAnswerTo (own : Answerer) (history : List Definition) (q : Question) (a : ReaderAnswer) : Type 0 where
-  pub received : IsReceived own q
+  pub received : IsAnswerable own q
   pub agree : ¬ Differ history q
   pub distance : a.distance ≡ own.distance
   pub published : a.published ≡ length history
@@ -34,12 +34,12 @@ pub record IsAnswerTo (own : Answerer) (history : List Definition) (q : Question
   pub definitions : a.definitions ≡ next_reported history q.published
 
 -- why a question isn't answered; one of another version isn't read as a question
-abbrev pub IsCause : Answerer → List Definition → Question → QuestionRejection → Type 0
-IsCause own history q causes.OtherFarm = q.farm ≢ own.farm
-IsCause own history q causes.OtherVersion = ⊥
-IsCause own history q causes.TooFar = (q.farm ≡ own.farm) × (most_distance < own.distance)
-IsCause own history q (causes.OtherHistory s) = IsReceived own q × Differ history q × (s ≡ q.published)
+abbrev pub IsQuestionRejection : Answerer → List Definition → Question → QuestionRejection → Type 0
+IsQuestionRejection own history q causes.OtherFarm = q.farm ≢ own.farm
+IsQuestionRejection own history q causes.OtherVersion = ⊥
+IsQuestionRejection own history q causes.TooFar = (q.farm ≡ own.farm) × (most_distance < own.distance)
+IsQuestionRejection own history q (causes.OtherHistory s) = IsAnswerable own q × Differ history q × (s ≡ q.published)
 
 abbrev pub IsReplyTo : Answerer → List Definition → Question → Reply → Type 0
 IsReplyTo own history q (replies.Answer a) = IsAnswerTo own history q a
-IsReplyTo own history q (replies.Rejected why) = IsCause own history q why
+IsReplyTo own history q (replies.Rejected why) = IsQuestionRejection own history q why

@@ -6,8 +6,8 @@ use Rattle.wf_reader.specs.declared.fault.ReplyFault.{ReplyFault}
 use Rattle.wf_reader.specs.declared.fault.ReplyFault.TheVariants.{Memory}
 
 -- it is read, or an allocation failed
-abbrev pub IsReadAs : {X : Type 0} → Result X ReplyFault → X → Type 0
-IsReadAs result x = MatchResult result (λ found. found ≡ x) (λ fault. fault ≡ Memory)
+abbrev pub IsReplyRead : {X : Type 0} → Result X ReplyFault → X → Type 0
+IsReplyRead result x = MatchResult result (λ found. found ≡ x) (λ fault. fault ≡ Memory)
 
 -- the definitions whose texts the bytes are, no more than so many, were appended to the list
 pub record ReadsTexts (bytes : List ℕ) (most : ℕ) (old new : List Definition) : Type 0 where

@@ -1,9 +1,8 @@
 //! Who answers a question, and how.
-ghost use Rattle.std.specs.Prelude.{◌≡◌, ◌+◌, ◌<◌, ◌≤◌, ◌↔◌, ◌++◌, ℕ, List, IfOk, IsTrue, OnErr, OnOk, drop, length, take};
+ghost use Rattle.std.specs.Prelude.{◌≡◌, ◌+◌, ◌<◌, ◌≤◌, ◌↔◌, ◌++◌, List, IfOk, IsTrue, OnErr, OnOk, length};
 ghost use Rattle.std.specs.Option.{option_to_list};
 ghost use Rattle.wf_digest.specs.Digest.{AreDigestsOf};
 ghost use Rattle.wf_model.specs.DurableState.{definition_at};
-ghost use Rattle.wf_model.specs.Table.{most_reports};
 ghost use Rattle.wf_reader.specs.Answerer.{Differ, IsReplyTo, next_reported};
 
 use crate::answer::{MOST_DISTANCE, ReaderAnswer};

@@ -1,5 +1,5 @@
 //! Questions as bytes, and out of bytes.
-ghost use Rattle.std.specs.Prelude.{◌≡◌, ◌≢◌, ◌+◌, ◌<◌, ◌≤◌, ◌++◌, ℕ, List, Ok, Some, length, vec_len, vec_capacity, IfErr, IfNone, IfOk, IfSome, IsErrOf, OnErr, OnOk};
+ghost use Rattle.std.specs.Prelude.{◌≡◌, ◌≢◌, ◌+◌, ◌<◌, ◌≤◌, ◌++◌, ℕ, List, Ok, Some, length, vec_len, vec_capacity, IfErr, IfOk, IfSome, IsErrOf, OnErr, OnOk};
 ghost use Rattle.std.specs.Int.{w16, to_be_bytes};
 ghost use Rattle.wf_reader.specs.Question.{BeginsWithOther, IfOtherVersion, IsOfOtherVersion, IsQuestion, question_body, question_bytes, question_length, reader_version};
 ghost use Rattle.wf_reader.specs.declared.question.Question.{Question as QuestionValue};

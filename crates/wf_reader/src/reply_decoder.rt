@@ -1,17 +1,17 @@
 //! Replies out of bytes.
-ghost use Rattle.std.specs.Prelude.{◌≡◌, ◌≢◌, ◌+◌, ◌<◌, ◌≤◌, ◌^◌, ◌↔◌, ◌∷◌, ◌++◌, ℕ, List, [], Ok, Some, length, take, IfErr, IfNone, IfOk, IfSome, IsErrOf, MatchResult, MatchOption, OnErr, OnOk};
+ghost use Rattle.std.specs.Prelude.{◌≡◌, ◌≢◌, ◌+◌, ◌<◌, ◌≤◌, ◌^◌, ◌↔◌, ◌++◌, ℕ, List, Ok, Some, length, take, IfErr, IfOk, IfSome, IsErrOf, MatchResult, MatchOption, OnOk};
 ghost use Rattle.std.specs.Int.{w32, from_be_bytes, to_be_bytes};
-ghost use Rattle.wf_ballot.specs.Sequence.{IsSequence, seq_bytes};
+ghost use Rattle.wf_ballot.specs.Sequence.{seq_bytes};
 ghost use Rattle.wf_codec.specs.Message.{HasText};
 ghost use Rattle.wf_def.specs.Definition.{Definition};
 ghost use Rattle.wf_frame.specs.Report.{text_bytes};
 ghost use Rattle.wf_model.specs.Table.{most_reports};
 ghost use Rattle.wf_reader.specs.ReaderAnswer.{ReaderAnswer as AnswerValue};
-ghost use Rattle.wf_reader.specs.ReplyReader.{IsReadAs, ReadsTexts};
+ghost use Rattle.wf_reader.specs.ReplyReader.{IsReplyRead, ReadsTexts};
 ghost use Rattle.wf_reader.specs.Reply.{AreTexts, IsAnswer, IsRejection, IsReply, answer_fields, body_bytes, cause_byte, cause_sequence, most_reply_bytes, reply_bytes, texts_bytes};
 ghost use Rattle.wf_reader.specs.declared.rejection.QuestionRejection.{QuestionRejection as RejectionValue};
 ghost use Rattle.wf_reader.specs.declared.reply.Reply.{Reply as ReplyValue};
-ghost use Rattle.wf_spelling.specs.Canon.{canon, most_canon_bytes};
+ghost use Rattle.wf_spelling.specs.Canon.{canon};
 
 use crate::answer::{MOST_DISTANCE, ReaderAnswer};
 use crate::fault::ReplyFault;
@@ -70,7 +70,7 @@ fn stated_length(bytes: &[u8]) -> usize
 pub fn decode_reply(alloc: Global, bytes: &[u8]) -> Result<Reply, ReplyFault>
     ensures reply { IfOk result IsReply }
     ensures bytes { IfOk result (λ reply. bytes.now ≡ reply_bytes reply) }
-    ensures each { (reply : ReplyValue) → IsReply reply → bytes.now ≡ reply_bytes reply → IsReadAs result reply }
+    ensures each { (reply : ReplyValue) → IsReply reply → bytes.now ≡ reply_bytes reply → IsReplyRead result reply }
 {
     if bytes.len() < 4 {
         return Err(ReplyFault::Short);
@@ -87,7 +87,7 @@ pub fn decode_reply(alloc: Global, bytes: &[u8]) -> Result<Reply, ReplyFault>
 fn decode_body(alloc: Global, body: &[u8]) -> Result<Reply, ReplyFault>
     ensures reply { IfOk result IsReply }
     ensures bytes { IfOk result (λ reply. body.now ≡ body_bytes reply) }
-    ensures each { (reply : ReplyValue) → IsReply reply → body.now ≡ body_bytes reply → IsReadAs result reply }
+    ensures each { (reply : ReplyValue) → IsReply reply → body.now ≡ body_bytes reply → IsReplyRead result reply }
 {
     match body {
         [1, distance, rest @ ..] => match answer_of(alloc, *distance, rest) {
@@ -107,7 +107,7 @@ fn answer_of(alloc: Global, distance: u8, bytes: &[u8]) -> Result<ReaderAnswer, 
     ensures answer { IfOk result IsAnswer }
     ensures distance { IfOk result (λ a. a.distance ≡ distance) }
     ensures bytes { IfOk result (λ a. bytes.now ≡ answer_fields a) }
-    ensures each { (a : AnswerValue) → IsAnswer a → a.distance ≡ distance → bytes.now ≡ answer_fields a → IsReadAs result a }
+    ensures each { (a : AnswerValue) → IsAnswer a → a.distance ≡ distance → bytes.now ≡ answer_fields a → IsReplyRead result a }
 {
     if MOST_DISTANCE < distance {
         return Err(ReplyFault::Malformed);
@@ -194,7 +194,7 @@ fn cut_text(bytes: &[u8]) -> Option<(&[u8], &[u8])>
 fn definition_of(alloc: Global, text: &[u8]) -> Result<Canon, ReplyFault>
     ensures text { IfOk result (λ definition. text.now ≡ canon definition) }
     ensures has_text { IfOk result HasText }
-    ensures each { (definition : Definition) → HasText definition → text.now ≡ canon definition → IsReadAs result definition }
+    ensures each { (definition : Definition) → HasText definition → text.now ≡ canon definition → IsReplyRead result definition }
 {
     // The theorem: maps with equal texts are equal.
     one_text_one_map();

@@ -3,7 +3,7 @@ use Rattle.std.proofs.Common.{◌≡◌, ℕ, zero, suc, ◌+◌, ◌<◌, ◌�
 use Rattle.std.proofs.lemmas.Option.{none-some, same_Some}
 use Rattle.wf_def.specs.Definition.{Definition}
 use Rattle.wf_def.specs.Equality.{definition_eq}
-use Rattle.wf_delivery.specs.Delivery.{AnyPart, IsNode}
+use Rattle.wf_delivery.specs.Delivery.{AnyPart, ShowsNode}
 use Rattle.wf_journal.specs.Records.{AreReadOneWay, IsReadAsNone}
 use Rattle.wf_learner.specs.History.{map_at}
 use Rattle.wf_model.specs.DurableState.{Record, definition_at, fold_from, fold, nothing_stored}
@@ -56,7 +56,7 @@ module _ {T : Type 0} (one : AreReadOneWay) (none : IsReadAsNone) (lives : Lives
     first = length before;
     moves = before ++ after;
     are_moves = course_is one (nothing_alone none) lives entries courses tapes n events timeline;
-    running = λ k i node less at. subst (IsNode (AnyPart i) node) (sym (moment_is k i)) (course_seen one (nothing_alone none) lives entries courses tapes n events timeline k i node less at);
+    running = λ k i node less at. subst (ShowsNode (AnyPart i) node) (sym (moment_is k i)) (course_seen one (nothing_alone none) lives entries courses tapes n events timeline k i node less at);
     outputs = course_outputs one (nothing_alone none) lives entries courses tapes n events timeline;
     allowed = allowed;
   }

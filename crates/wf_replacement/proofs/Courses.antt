@@ -9,7 +9,7 @@ use Rattle.wf_codec.specs.Message as message
 use Rattle.wf_codec.specs.declared.message.Message.{Message}
 use Rattle.wf_def.specs.Definition.{Definition}
 use Rattle.wf_def.specs.Equality.{definition_eq}
-use Rattle.wf_delivery.specs.Delivery.{AnyPart, IsNode}
+use Rattle.wf_delivery.specs.Delivery.{AnyPart, ShowsNode}
 use Rattle.wf_journal.specs.Records.{AreReadOneWay}
 use Rattle.wf_model.specs.DurableState.{DurableState, nothing_stored}
 use Rattle.wf_model.specs.World as world
@@ -264,8 +264,8 @@ module _ {T : Type 0} (one : AreReadOneWay) (none : StandOnlyFor nothing_stored 
   course_outputs = whole_course.outputs ∙ ap (λ ms. ms ++ outputs_through shown.moves) (first_quiet lives entries n) ∙ shown.outputs
 
   -- the processes' nodes at each moment
-  pub course_seen : (k i : ℕ) (node : Node T) → i < n → node_at events k i ≡ Some node → IsNode (AnyPart i) node (course_nodes (first ++ take k shown.moves) i)
-  course_seen k i node less at = subst (IsNode (AnyPart i) node) (sym (whole_course.nodes_left i (take k shown.moves) less)) (shown.seen k i less node at)
+  pub course_seen : (k i : ℕ) (node : Node T) → i < n → node_at events k i ≡ Some node → ShowsNode (AnyPart i) node (course_nodes (first ++ take k shown.moves) i)
+  course_seen k i node less at = subst (ShowsNode (AnyPart i) node) (sym (whole_course.nodes_left i (take k shown.moves) less)) (shown.seen k i less node at)
 
   pub course_moment : (k i : ℕ) → course_nodes (take (length first + k) (first ++ shown.moves)) i ≡ course_nodes (first ++ take k shown.moves) i
   course_moment k i = ap (λ (ms : List (Move Definition)). course_nodes ms i) (take-append-add first shown.moves k)

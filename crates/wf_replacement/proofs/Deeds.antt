@@ -26,7 +26,7 @@ use Rattle.wf_safety.specs.Theorems.{IsBeginning}
 use Rattle.wf_tape.specs.declared.tape.Tape.{Ghosts as Tape}
 use Rattle.wf_trace.specs.Deed as deeds
 use Rattle.wf_trace.specs.Deed.{Deed, Crashes, IsDone}
-use Rattle.wf_trace.specs.Trace.{IsInputOf, IsReceived}
+use Rattle.wf_trace.specs.Trace.{IsInputOf, DeliversOneOf}
 
 -- ---- a node in the model
 
@@ -139,7 +139,7 @@ module _ {T : Type 0} (tapes : Tape T) (before : Node T) (input : table.Input De
     -- the step is a deed that leaves this node
     pub record IsDeed : Type 0 where
       pub deed : Deed Definition
-      pub is_received : IsReceived (map message.view sent) deed
+      pub is_received : DeliversOneOf (map message.view sent) deed
       pub done : IsDone definition_eq n i (running before) deed (map message.view outputs) y
 
     same_deed : y ≡ running before → outputs ≡ [] → IsDeed

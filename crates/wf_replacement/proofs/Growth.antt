@@ -6,7 +6,7 @@ use Rattle.wf_career.specs.Run.{Run, last_of, last}
 use Rattle.wf_career.specs.RunTheorems.{last_more}
 use Rattle.wf_codec.specs.declared.message.Message.{Message}
 use Rattle.wf_def.specs.Definition.{Definition}
-use Rattle.wf_delivery.specs.Delivery.{AnyPart, IsNode}
+use Rattle.wf_delivery.specs.Delivery.{AnyPart, ShowsNode}
 use Rattle.wf_model.specs.DurableState.{DurableState}
 use Rattle.wf_model.specs.World as world
 use Rattle.wf_node.specs.Input.{view}
@@ -103,7 +103,7 @@ module _ {T : Type 0} where
 -- ---- from one moment to another
 
 module _ {T : Type 0} (tapes : Tape T) (n : ℕ) (events : List (ProcessEvent T)) (timeline : IsTimeline tapes n events) (i : ℕ) (nodes : ℕ → world.Node Definition)
-    (seen : (k : ℕ) (node : Node T) → node_at events k i ≡ Some node → IsNode (AnyPart i) node (nodes k))
+    (seen : (k : ℕ) (node : Node T) → node_at events k i ≡ Some node → ShowsNode (AnyPart i) node (nodes k))
     (grow : (k l : ℕ) → k ≤ l → IsBeginning (nodes k).stored.history (nodes l).stored.history) where
   abbrev list_at : ℕ → List Definition
   list_at k = shown_list (state_at events k i) (nodes k)

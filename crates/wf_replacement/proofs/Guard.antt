@@ -3,7 +3,7 @@ use Rattle.std.proofs.Common.{◌≡◌, ℕ, zero, suc, ◌+◌, ◌<◌, ◌�
 use Rattle.std.proofs.lemmas.Bool.{both_ways}
 use Rattle.std.proofs.lemmas.Option.{none-some}
 use Rattle.wf_def.specs.Definition.{Definition}
-use Rattle.wf_delivery.specs.Delivery.{AnyPart, IsNode, IsNodeBy}
+use Rattle.wf_delivery.specs.Delivery.{AnyPart, ShowsNode, IsNodeBy}
 use Rattle.wf_model.specs.DurableState.{DurableState}
 use Rattle.wf_model.specs.World as world
 use Rattle.wf_node.specs.Node.{Node, stored_of}
@@ -24,14 +24,14 @@ module _ {T : Type 0} (i : ℕ) (node : Node T) (x : world.Node Definition) wher
   running_by false runs is = ap (λ (y : world.Node Definition). y.stored) is
   running_by true runs is = absurd (both_ways true runs refl)
 
-  pub running_stored : node.halted ≡ false → IsNode (AnyPart i) node x → x.stored ≡ stored_of node
+  pub running_stored : node.halted ≡ false → ShowsNode (AnyPart i) node x → x.stored ≡ stored_of node
   running_stored runs is = running_by node.halted runs is
 
   published_by : (halted : Bool) → IsNodeBy halted (AnyPart i) node x → IsBeginning node.parts.history x.stored.history
   published_by false is = subst (λ (y : world.Node Definition). IsBeginning node.parts.history y.stored.history) (sym is) (begins_itself node.parts.history)
   published_by true is = is.1
 
-  pub node_begins : IsNode (AnyPart i) node x → IsBeginning node.parts.history x.stored.history
+  pub node_begins : ShowsNode (AnyPart i) node x → IsBeginning node.parts.history x.stored.history
   node_begins is = published_by node.halted is
 
 -- ---- moves between two moments
@@ -59,7 +59,7 @@ found (suc j) (suc k) q (y ∷ xs) x is =
 -- ---- one replacement
 
 module _ {T : Type 0} (n : ℕ) (events : List (ProcessEvent T)) (first moves : List (Move Definition)) (are : AreMovesOf events moves)
-    (seen : (k i : ℕ) (node : Node T) → i < n → node_at events k i ≡ Some node → IsNode (AnyPart i) node (course_nodes (first ++ take k moves) i)) where
+    (seen : (k i : ℕ) (node : Node T) → i < n → node_at events k i ≡ Some node → ShowsNode (AnyPart i) node (course_nodes (first ++ take k moves) i)) where
   module _ (k i j : ℕ) (bytes : List ℕ) (stored : DurableState Definition) (own : j ≡ i) (only : StandOnlyFor stored bytes) (may : MayRejoin n events k i bytes) where
     abbrev front : List (Move Definition)
     front = first ++ take may.since moves

@@ -10,7 +10,7 @@ use Rattle.wf_codec.specs.Message as message
 use Rattle.wf_codec.specs.declared.message.Message.{Message}
 use Rattle.wf_def.specs.Definition.{Definition}
 use Rattle.wf_def.specs.Equality.{definition_eq}
-use Rattle.wf_delivery.specs.Delivery.{AnyPart, IsNode, IsNodeBy}
+use Rattle.wf_delivery.specs.Delivery.{AnyPart, ShowsNode, IsNodeBy}
 use Rattle.wf_journal.specs.Records.{AreReadOneWay}
 use Rattle.wf_model.specs.DurableState.{DurableState, Record, fold}
 use Rattle.wf_model.specs.World as world
@@ -25,7 +25,7 @@ use Rattle.wf_tape.specs.declared.tape.Tape.{Ghosts as Tape}
 use Rattle.wf_trace.specs.Course.{Move, Entered, Renewed, process_moved, outputs_of, node_left, IsMove}
 use Rattle.wf_trace.specs.Deed.{Deed, Takes, Crashes, Stops, Restarts}
 use Rattle.wf_trace.specs.Trace.{Entry}
-use Rattle.wf_replacement.specs.Timeline.{ProcessEvent, Opens, Acts, Ends, Loses, Rejoins, process_of, returned_by, ProcessState, Down, Up, Lost, state_after, node_in, HoldsCopy, IsCutAt, IsPossible}
+use Rattle.wf_replacement.specs.Timeline.{ProcessEvent, Opens, Acts, Ends, Loses, Rejoins, process_of, returned_by, ProcessState, Down, Up, Lost, state_after, node_in, HoldsCopy, IsCutInputSent, IsPossible}
 use Rattle.wf_replacement.proofs.Deeds.{node_of, node_eq, running, down, input_view, IsKept, IsDeed, halted_same, running_deed, halting_deed, cut_after, run_id, run_among, run_failed, failed_where}
 
 -- ---- what bytes stand for
@@ -92,7 +92,7 @@ shown_last rest Lost = record { node = down rest; shows = refl }
 -- ---- the process is this node of the model, as the theorems say it
 
 abbrev pub IsSeen : {T : Type 0} → ℕ → ProcessState T → world.Node Definition → Type 0
-IsSeen {T} i state x = (node : Node T) → node_in state ≡ Some node → IsNode (AnyPart i) node x
+IsSeen {T} i state x = (node : Node T) → node_in state ≡ Some node → ShowsNode (AnyPart i) node x
 
 may_store_more : {T : Type 0} (run : Run T) (part : DurableState Definition) → MayStore run part → IsBeginning (last run).parts.history part.history
 may_store_more run part (inl same) = ([], append-nil (last run).parts.history ∙ ap (λ (s : DurableState Definition). s.history) (sym same))
@@ -106,7 +106,7 @@ run_seen i run x true shows = (shows.0, may_store_more run x.stored shows.1, tt)
 
 pub shown_seen : {T : Type 0} (i : ℕ) (rest : DurableState Definition) (state : ProcessState T) (x : world.Node Definition) → Shows rest state x → IsSeen i state x
 shown_seen i rest (Down bytes) x shows = λ node at. absurd (none-some node at)
-shown_seen {T} i rest (Up run) x shows = λ node at. subst (λ (m : Node T). IsNode (AnyPart i) m x) (same_Some (last run) node at) (run_seen i run x (last run).halted shows)
+shown_seen {T} i rest (Up run) x shows = λ node at. subst (λ (m : Node T). ShowsNode (AnyPart i) m x) (same_Some (last run) node at) (run_seen i run x (last run).halted shows)
 shown_seen i rest Lost x shows = λ node at. absurd (none-some node at)
 
 -- ---- a move
@@ -304,7 +304,7 @@ module _ {T : Type 0} (one : AreReadOneWay) (tapes : Tape T) (n : ℕ) (sent : L
         comes = λ y shows. stops (Ends i end left) y refl refl (λ entry. tt) (down part) (shows_halted run (down part) halts refl may) shows;
       }
 
-      ends : (end : End) → HasLeft run end left → IsCutAt sent end → GoesOn tapes n sent rest (Up run) (Ends i end left)
+      ends : (end : End) → HasLeft run end left → IsCutInputSent sent end → GoesOn tapes n sent rest (Up run) (Ends i end left)
       ends Between (runs, stands) cut = ends_running Between runs stands
       ends (Within input) (runs, inl stands) cut = ends_running (Within input) runs stands
       ends (Within input) (runs, inr (none, stands)) cut = ends_within input runs none stands cut

@@ -5,7 +5,7 @@ use Rattle.wf_career.specs.Theorems.{outputs_in}
 use Rattle.wf_codec.specs.Message as message
 use Rattle.wf_def.specs.Definition.{Definition}
 use Rattle.wf_def.specs.Equality.{definition_eq}
-use Rattle.wf_delivery.specs.Delivery.{AnyPart, IsNode}
+use Rattle.wf_delivery.specs.Delivery.{AnyPart, ShowsNode}
 use Rattle.wf_model.specs.DurableState.{definition_at}
 use Rattle.wf_node.specs.Node.{Node}
 use Rattle.wf_safety.specs.Theorems.{IsBeginning}
@@ -24,7 +24,7 @@ pub record IsOneCourse {T : Type 0} (n : ℕ) (events : List (ProcessEvent T)) :
   pub first : ℕ
   pub moves : List (Move Definition)
   pub are_moves : AreMovesFromStart definition_eq n moves
-  pub running : (k i : ℕ) (node : Node T) → i < n → node_at events k i ≡ Some node → IsNode (AnyPart i) node (course_nodes (take (first + k) moves) i)
+  pub running : (k i : ℕ) (node : Node T) → i < n → node_at events k i ≡ Some node → ShowsNode (AnyPart i) node (course_nodes (take (first + k) moves) i)
   pub outputs : outputs_through moves ≡ map message.view (returned_through events)
   pub allowed : EachMayRejoin n events → AreAllowed n [] moves
 

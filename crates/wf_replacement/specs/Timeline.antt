@@ -74,10 +74,10 @@ pub record HoldsCopy (bytes : List ℕ) : Type 0 where
   pub copy : IsCopy stored
 
 -- the input within whose step a run is cut was sent too
-abbrev pub IsCutAt : List Message → End → Type 0
-IsCutAt sent Between = ⊤
-IsCutAt sent (Within input) = IsOneOf sent input
-IsCutAt sent (Failed input) = ⊤
+abbrev pub IsCutInputSent : List Message → End → Type 0
+IsCutInputSent sent Between = ⊤
+IsCutInputSent sent (Within input) = IsOneOf sent input
+IsCutInputSent sent (Failed input) = ⊤
 
 -- An event may happen to a process of n in this state, where these messages were returned before. A
 -- run begins from what the last one left; a run ends as one of `wf_career` does; a process is lost
@@ -90,7 +90,7 @@ IsPossible tapes n sent (Down bytes) (Loses i) = ⊤
 IsPossible tapes n sent (Down bytes) (Rejoins i copy) = ⊥
 IsPossible tapes n sent (Up run) (Opens i node) = ⊥
 IsPossible tapes n sent (Up run) (Acts i act) = IsAct tapes (last run) act × IsOneOf sent act.input
-IsPossible tapes n sent (Up run) (Ends i end left) = HasLeft run end left × IsCutAt sent end
+IsPossible tapes n sent (Up run) (Ends i end left) = HasLeft run end left × IsCutInputSent sent end
 IsPossible tapes n sent (Up run) (Loses i) = ⊤
 IsPossible tapes n sent (Up run) (Rejoins i copy) = ⊥
 IsPossible tapes n sent Lost (Opens i node) = ⊥

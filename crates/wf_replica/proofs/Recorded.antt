@@ -13,7 +13,7 @@ use Rattle.wf_learner.specs.History.{next_of}
 use Rattle.wf_model.specs.DurableState.{Record, Tried, Promised, Accepted, Published}
 use Rattle.wf_safety.specs.Replacement.{published_from}
 use Rattle.wf_tape.specs.declared.tape.Tape.{Ghosts as Tape}
-use Rattle.wf_replica.specs.Recorded.{AreLearned, HasAppended, HasRecorded, HasStayedOrGone, IsBegun, IsBegunAnew, IsFoundOn, IsNextLearned, IsRecorded}
+use Rattle.wf_replica.specs.Recorded.{AreLearned, HasAppended, HasRecorded, HasStayedOrGone, IsRecordedStart, IsBegunAnew, IsFoundOn, IsNextLearned, IsRecorded}
 use Rattle.wf_replica.specs.declared.start.FoundTape.{FoundTape}
 use Rattle.wf_replica.specs.declared.start.FoundTape.TheVariants as found
 
@@ -140,7 +140,7 @@ module _ {T : Type 0} (tapes : Tape T) where
 -- ---- what was found
 
 pub found_begun : AreReadOneWay → (bytes rest : List ℕ) (records : List (Record Definition)) (found : FoundTape) (list : List Definition) → IsTapeOf bytes records rest →
-    IsBegun found records list → IsFoundOn bytes found list
+    IsRecordedStart found records list → IsFoundOn bytes found list
 found_begun one bytes rest records found.Published list tape begun = (rest, subst (λ (rs : List (Record Definition)). IsTapeOf bytes rs rest) begun tape)
 found_begun one bytes rest records found.Damaged list tape begun =
     (λ other end is. begun.0 other (one bytes records (published_from 1 other) (rest, tape.reads) (end, is.reads)), begun.1)
@@ -153,7 +153,7 @@ found_bad one bytes offset found.Failed list bad anew = anew
 
 -- where the replica was begun at all
 pub all_begun : {A E : Type 0} → AreReadOneWay → (bytes rest : List ℕ) (records : List (Record Definition)) (result : Result A E) (kind : A → FoundTape) (list : A → List Definition) →
-    IsTapeOf bytes records rest → IfOk result (λ x. IsBegun (kind x) records (list x)) → IfOk result (λ x. IsFoundOn bytes (kind x) (list x))
+    IsTapeOf bytes records rest → IfOk result (λ x. IsRecordedStart (kind x) records (list x)) → IfOk result (λ x. IsFoundOn bytes (kind x) (list x))
 all_begun one bytes rest records (Ok x) kind list tape begun = found_begun one bytes rest records (kind x) (list x) tape begun
 all_begun one bytes rest records (Err e) kind list tape begun = tt
 
@@ -162,7 +162,7 @@ pub all_bad : {A E : Type 0} → AreReadOneWay → (bytes : List ℕ) (offset : 
 all_bad one bytes offset (Ok x) kind list bad anew = found_bad one bytes offset (kind x) (list x) bad anew
 all_bad one bytes offset (Err e) kind list bad anew = tt
 
-pub begun_anew : (records : List (Record Definition)) (found : FoundTape) (list learned : List Definition) → AreLearned false records learned → IsBegunAnew found list → IsBegun found records list
+pub begun_anew : (records : List (Record Definition)) (found : FoundTape) (list learned : List Definition) → AreLearned false records learned → IsBegunAnew found list → IsRecordedStart found records list
 begun_anew records found.Published list learned none anew = absurd anew
 begun_anew records found.Damaged list learned none anew = (none, anew)
 begun_anew records found.Failed list learned none anew = anew

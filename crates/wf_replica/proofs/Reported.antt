@@ -5,7 +5,7 @@ use Rattle.std.proofs.lemmas.Bool.{cases_eq}
 use Rattle.std.proofs.lemmas.List.{length-take-le, take-append-drop}
 use Rattle.std.proofs.lemmas.Option.{slice_get_within}
 use Rattle.wf_career.specs.Career.{Career}
-use Rattle.wf_career.specs.Replica.{after_learning, IsServed, Empty, Learned, ServedAgree, ServedAnswer}
+use Rattle.wf_career.specs.Replica.{after_learning, IsListOfFarm, Empty, Learned, ServedAgree, ServedAnswer}
 use Rattle.wf_def.specs.Definition.{Definition}
 use Rattle.wf_safety.specs.Theorems.{IsBeginning}
 use Rattle.wf_learner.specs.History.{with_chosen, next_of}
@@ -112,23 +112,23 @@ unfolding reports_from reports reports_of definition_at
 first_reported list k x at = subst (λ (o : Option Definition). IsIn (Chosen (suc k) x) (reports_of (suc k) o ++ reports_from list (suc (suc k)) 7)) (sym at) (inl refl)
 
 module _ {T : Type 0} (n : ℕ) (careers : ℕ → Career T) where
-  served_along : (received : List (Message Definition)) → AreReported n careers received → (list : List Definition) → IsServed n careers list → IsServed n careers (learned list received)
+  served_along : (received : List (Message Definition)) → AreReported n careers received → (list : List Definition) → IsListOfFarm n careers list → IsListOfFarm n careers (learned list received)
   unfolding learned
   served_along [] reports list served = served
   served_along (m ∷ received) reports list served =
       let states = reports m (inl refl) in
       served_along received (λ x is_in. reports x (inr is_in)) (after_learning list m) (Learned list states.source (after_learning list m) states.asked m served states.served states.reports refl)
 
-  next_served : (list : List Definition) → IsServed n careers list → (k : ℕ) → IsServed n careers (take k list) → (o : Option Definition) → slice_get list k ≡ o → IsServed n careers (take (suc k) list)
+  next_served : (list : List Definition) → IsListOfFarm n careers list → (k : ℕ) → IsListOfFarm n careers (take k list) → (o : Option Definition) → slice_get list k ≡ o → IsListOfFarm n careers (take (suc k) list)
   next_served list served k was None at =
-      subst (IsServed n careers) (sym (one_more k list ∙ ap (λ (o : Option Definition). take k list ++ option_to_list o) at ∙ append-nil (take k list))) was
+      subst (IsListOfFarm n careers) (sym (one_more k list ∙ ap (λ (o : Option Definition). take k list ++ option_to_list o) at ∙ append-nil (take k list))) was
   next_served list served k was (Some x) at =
       let within : k < length list = slice_get_within list k x at in
       let size : suc k ≡ next_of (take k list) = omega (arith, length-take-le k list (omega (arith, within))) in
       Learned (take k list) list (take (suc k) list) (suc k) (Chosen (suc k) x) was served (first_reported list k x at)
       (one_more k list ∙ ap (λ (o : Option Definition). take k list ++ option_to_list o) at ∙ sym (learned_own (take k list) (suc k) x size))
 
-  front_served : (list : List Definition) → IsServed n careers list → (k : ℕ) → IsServed n careers (take k list)
+  front_served : (list : List Definition) → IsListOfFarm n careers list → (k : ℕ) → IsListOfFarm n careers (take k list)
   front_served list served zero = Empty [] refl
   front_served list served (suc k) = next_served list served k (front_served list served k) (slice_get list k) refl
 

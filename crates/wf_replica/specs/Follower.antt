@@ -33,7 +33,7 @@ pub record Grows {T : Type 0} {tapes : Tape T} (old new : Follower T tapes) : Ty
   pub begins : IsBeginning (list_of old) (list_of new)
 
 -- it learned nothing
-pub record IsSame {T : Type 0} {tapes : Tape T} (old new : Follower T tapes) : Type 0 where
+pub record HasLearnedNothing {T : Type 0} {tapes : Tape T} (old new : Follower T tapes) : Type 0 where
   pub list : list_of new ≡ list_of old
   pub received : received_by new ≡ received_by old
   pub answers : answers_of new ≡ answers_of old

@@ -44,10 +44,10 @@ AreLearned false records list = (other : List Definition) → records ≡ publis
 
 -- What came of a tape with these records: their maps were learned; or they are none of maps, one after the other, and the tape
 -- began anew, or failed.
-abbrev pub IsBegun : FoundTape → List (Record Definition) → List Definition → Type 0
-IsBegun found.Published records list = AreLearned true records list
-IsBegun found.Damaged records list = AreLearned false records list × (list ≡ [])
-IsBegun found.Failed records list = list ≡ []
+abbrev pub IsRecordedStart : FoundTape → List (Record Definition) → List Definition → Type 0
+IsRecordedStart found.Published records list = AreLearned true records list
+IsRecordedStart found.Damaged records list = AreLearned false records list × (list ≡ [])
+IsRecordedStart found.Failed records list = list ≡ []
 
 -- nothing was learned of a tape
 abbrev pub IsBegunAnew : FoundTape → List Definition → Type 0

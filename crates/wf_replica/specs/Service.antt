@@ -31,15 +31,15 @@ abbrev pub publish_answer : Result Response ErrorResponse
 publish_answer = Err (error_response.Rejected http_error.NotFound)
 
 -- the answer to a request, by what it asks for and its query
-abbrev pub Answers : RequestedResource → List ℕ → List Definition → Result Response ErrorResponse → Type 0
-Answers asked.Wms query history answer = IsServiceGiven history query answer
-Answers asked.Status query history answer = answer ≡ Ok (status_page (length history))
-Answers (asked.Publish bytes) query history answer = answer ≡ publish_answer
+abbrev pub ReplicaAnswers : RequestedResource → List ℕ → List Definition → Result Response ErrorResponse → Type 0
+ReplicaAnswers asked.Wms query history answer = IsServiceGiven history query answer
+ReplicaAnswers asked.Status query history answer = answer ≡ Ok (status_page (length history))
+ReplicaAnswers (asked.Publish bytes) query history answer = answer ≡ publish_answer
 
 -- the answer to a request was written, or a beginning of it where memory failed
 pub record IsAnswered (request : Request) (history : List Definition) (old new : List ℕ) (completion : Outcome) : Type 0 where
   pub answer : Result Response ErrorResponse
-  pub answers : Answers request.asked (query_of request.head.target) history answer
+  pub answers : ReplicaAnswers request.asked (query_of request.head.target) history answer
   pub sends : IsCompleted (response_of answer) (Some old) (Some new) completion
 
 -- the head of the input asks for a publish

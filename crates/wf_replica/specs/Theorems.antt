@@ -1,7 +1,7 @@
 -- Theorems about what replicas learn.
 use Rattle.std.specs.Prelude.{◌≡◌, ◌⊎◌, ℕ, suc, ◌≤◌, List, [], length, take, Some}
 use Rattle.wf_career.specs.Career.{Career, Item, IsFarm}
-use Rattle.wf_career.specs.Replica.{IsServed}
+use Rattle.wf_career.specs.Replica.{IsListOfFarm}
 use Rattle.wf_def.specs.Definition.{Definition}
 use Rattle.wf_safety.specs.Theorems.{IsBeginning}
 use Rattle.wf_model.specs.Chosen.{IsIn}
@@ -31,22 +31,22 @@ abbrev pub NeverGoesBack : Type 0
 NeverGoesBack = (received : List (Message Definition)) (k l : ℕ) → k ≤ l → IsBeginning (learned [] (take k received)) (learned [] (take l received))
 
 -- the message is one by which a list of a node of the farm, or of a replica of it, answered a question
-pub record IsReported {T : Type 0} (n : ℕ) (careers : ℕ → Career T) (m : Message Definition) : Type 0 where
+pub record IsToldByFarm {T : Type 0} (n : ℕ) (careers : ℕ → Career T) (m : Message Definition) : Type 0 where
   pub source : List Definition
-  pub served : IsServed n careers source
+  pub served : IsListOfFarm n careers source
   pub asked : ℕ
   pub reports : IsIn m (reports_from source asked most_reports)
 
 abbrev pub AreReported : {T : Type 0} → ℕ → (ℕ → Career T) → List (Message Definition) → Type 0
-AreReported n careers received = (m : Message Definition) → IsIn m received → IsReported n careers m
+AreReported n careers received = (m : Message Definition) → IsIn m received → IsToldByFarm n careers m
 
 -- So what a replica has learned at any moment is one of the lists of which `wf_career` says that all are beginnings of one history.
 abbrev pub LearnedAreServed : Type 0 → Type 0
-LearnedAreServed T = (n : ℕ) (careers : ℕ → Career T) (received : List (Message Definition)) → AreReported n careers received → (k : ℕ) → IsServed n careers (learned [] (take k received))
+LearnedAreServed T = (n : ℕ) (careers : ℕ → Career T) (received : List (Message Definition)) → AreReported n careers received → (k : ℕ) → IsListOfFarm n careers (learned [] (take k received))
 
 -- A beginning of such a list is one, too: what is read of a tape that a replica wrote.
 abbrev pub BeginningsAreServed : Type 0 → Type 0
-BeginningsAreServed T = (n : ℕ) (careers : ℕ → Career T) (list : List Definition) → IsServed n careers list → (k : ℕ) → IsServed n careers (take k list)
+BeginningsAreServed T = (n : ℕ) (careers : ℕ → Career T) (list : List Definition) → IsListOfFarm n careers list → (k : ℕ) → IsListOfFarm n careers (take k list)
 
 -- No two replicas, at any moments, have different definitions under one sequence.
 abbrev pub LearnedAgree : {T : Type 0} → Tape T → Type 0

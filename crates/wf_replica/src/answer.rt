@@ -1,6 +1,6 @@
 //! What a replica takes of an answer.
 
-ghost use Rattle.std.specs.Prelude.{◌≡◌, [], ◌∷◌, ◌≢◌, ◌+◌, ◌-◌, ◌≤◌, ◌<◌, ◌++◌, ◌↔◌, List, length, take, min, IfErr, IfSome, IsOk, IsTrue, None, Some, OnOk};
+ghost use Rattle.std.specs.Prelude.{◌≡◌, [], ◌∷◌, ◌+◌, ◌-◌, ◌≤◌, ◌<◌, ◌++◌, List, length, min, IfErr, IfSome, IsOk, IsTrue, None, Some, OnOk};
 ghost use Rattle.wf_def.specs.Definition.{Definition};
 ghost use Rattle.wf_digest.specs.Digest.{AreDigestsOf, digest_after, digest_at, next_digest};
 ghost use Rattle.wf_model.specs.Message.{Message};

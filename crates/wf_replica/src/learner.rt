@@ -1,6 +1,6 @@
 //! What a replica learns, and writes on its tape.
 
-ghost use Rattle.std.specs.Prelude.{◌≡◌, ◌≤◌, ◌<◌, ◌+◌, ◌++◌, ◌∷◌, ℕ, List, [], length, map, take, IfOk, IfSome, IsErrOf, None, OnErr, OnOk};
+ghost use Rattle.std.specs.Prelude.{◌≡◌, ◌≤◌, ◌<◌, ◌+◌, ◌++◌, ◌∷◌, ℕ, [], take, IfOk, IfSome, None, OnErr, OnOk};
 ghost use Rattle.wf_ballot.specs.Sequence.{last_sequence};
 ghost use Rattle.wf_career.specs.Replica.{after_learning};
 ghost use Rattle.wf_codec.specs.Message.{view};
@@ -9,7 +9,7 @@ ghost use Rattle.wf_learner.specs.History.{next_of};
 ghost use Rattle.wf_model.specs.Message.{Chosen};
 ghost use Rattle.wf_replica.specs.Fit.{IsQuestionOf};
 ghost use Rattle.wf_replica.specs.Follower.{Grows, Learns, answers_of, received_by, list_of};
-ghost use Rattle.wf_replica.specs.LearnedList.{learned, messages_of, numbered};
+ghost use Rattle.wf_replica.specs.LearnedList.{learned};
 ghost use Rattle.wf_replica.specs.Recorded.{HasAppended, HasStayedOrGone, IsRecorded};
 ghost use Rattle.wf_wms.specs.CachedPictures.{AllCached, most_cached};
 

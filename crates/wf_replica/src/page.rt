@@ -1,6 +1,6 @@
 //! The status of a replica.
 
-ghost use Rattle.std.specs.Prelude.{◌≡◌, ◌≤◌, ◌+◌, ◌++◌, Some, decimal, length};
+ghost use Rattle.std.specs.Prelude.{◌≡◌, Some};
 ghost use Rattle.wf_edge.specs.ErrorResponse.{plain, text_line};
 ghost use Rattle.wf_edge.specs.Page.{page_of};
 ghost use Rattle.wf_edge.specs.Completion.{IsCompleted};

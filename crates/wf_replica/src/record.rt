@@ -1,10 +1,8 @@
 //! The record of a published definition, as it is on tapes.
 
-ghost use Rattle.std.specs.Prelude.{◌≡◌, ◌+◌, ◌≤◌, ◌++◌, length, vec_len, vec_capacity, IfOk};
-ghost use Rattle.wf_journal.specs.Encoding.{Spells, spelling};
-ghost use Rattle.wf_journal.specs.Record.{IsRecord};
+ghost use Rattle.std.specs.Prelude.{◌+◌, length, IfOk};
+ghost use Rattle.wf_journal.specs.Encoding.{Spells};
 ghost use Rattle.wf_model.specs.DurableState.{Published};
-ghost use Rattle.wf_spelling.specs.Canon.{canon};
 
 use std::alloc::{AllocError, Global};
 use wf_ballot::Slot;

@@ -1,7 +1,7 @@
 //! A replica serves the public.
 
-ghost use Rattle.std.specs.Prelude.{◌≡◌, ◌↔◌, IsTrue};
-ghost use Rattle.wf_replica.specs.Follower.{IsSame, list_of};
+ghost use Rattle.std.specs.Prelude.{◌≡◌, IsTrue};
+ghost use Rattle.wf_replica.specs.Follower.{HasLearnedNothing, list_of};
 ghost use Rattle.wf_replica.specs.Service.{AsksToPublish, IsServed, IsUnsent};
 
 use crate::follower::Follower;
@@ -21,7 +21,7 @@ impl<T: Tape> Follower<T> {
     pub fn serve(&mut self, alloc: Global, incoming: &Incoming, outgoing: &mut Outgoing) -> Outcome
         ensures served { IsServed incoming.now.bytes (list_of self.old) outgoing.old.bytes outgoing.new.bytes result }
         ensures unsent { IsUnsent result outgoing.old outgoing.new }
-        ensures same { IsSame self.old self.new }
+        ensures same { HasLearnedNothing self.old self.new }
     {
         serve(alloc, &mut self.shelf, incoming, outgoing)
     }

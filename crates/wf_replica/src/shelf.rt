@@ -1,9 +1,8 @@
 //! The published maps of a replica, with the pictures of them that are cached.
 
-ghost use Rattle.std.specs.Prelude.{◌≡◌, ◌≤◌, List, [], length, IfOk, OnErr, OnOk};
+ghost use Rattle.std.specs.Prelude.{◌≡◌, ◌≤◌, [], IfOk, OnErr, OnOk};
 ghost use Rattle.wf_career.specs.Replica.{IsNews, after_learning};
 ghost use Rattle.wf_codec.specs.Message.{view};
-ghost use Rattle.wf_def.specs.Definition.{Definition};
 ghost use Rattle.wf_replica.specs.Service.{IsAnswered};
 ghost use Rattle.wf_wms.specs.CachedPictures.{AllCached, most_cached};
 

@@ -1,12 +1,11 @@
 //! A replica begins with what its tape has.
 
 ghost use Rattle.std.specs.Prelude.{◌≡◌, ◌≤◌, [], IfOk, IfSome, None, map};
-ghost use Rattle.wf_journal.specs.Journal.{IsBadAt};
 ghost use Rattle.wf_journal.specs.Record.{view};
-ghost use Rattle.wf_journal.specs.Records.{AreRecords, IsTapeOf};
+ghost use Rattle.wf_journal.specs.Records.{AreRecords};
 ghost use Rattle.wf_model.specs.DurableState.{Published};
 ghost use Rattle.wf_replica.specs.Follower.{list_of};
-ghost use Rattle.wf_replica.specs.Recorded.{AreLearned, IsBegun, IsBegunAnew, IsFoundOn, IsNextLearned};
+ghost use Rattle.wf_replica.specs.Recorded.{AreLearned, IsRecordedStart, IsBegunAnew, IsFoundOn, IsNextLearned};
 ghost use Rattle.wf_wms.specs.CachedPictures.{most_cached};
 
 use crate::follower::Follower;
@@ -87,7 +86,7 @@ impl<T: Tape + Drop> Follower<T> {
         requires least { 1 ≤ pictures }
         requires most { pictures ≤ most_cached }
         requires held { T.durable → AreRecords (T.content tape) (map view records.items) }
-        ensures { IfOk result (λ x. IsBegun x.1 (map view records.items) (list_of x.0)) }
+        ensures { IfOk result (λ x. IsRecordedStart x.1 (map view records.items) (list_of x.0)) }
     {
         let mut follower = match Self::new(alloc, pictures) {
             Ok(follower) => follower,

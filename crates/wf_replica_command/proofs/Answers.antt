@@ -4,7 +4,7 @@ use Rattle.std.proofs.Math.Logic.{∥∥₁_map}
 use Rattle.wf_client.specs.Client.{Client}
 use Rattle.wf_client.specs.ResponseBuffer.{Outgoing}
 use Rattle.wf_edge.specs.declared.outcome.Outcome.{Outcome}
-use Rattle.wf_replica.specs.Follower.{IsSame, received_by, list_of}
+use Rattle.wf_replica.specs.Follower.{HasLearnedNothing, received_by, list_of}
 use Rattle.wf_replica.specs.LearnedList.{learned}
 use Rattle.wf_replica.specs.Service.{IsServed}
 use Rattle.wf_replica.specs.declared.follower.Follower.{Follower}
@@ -16,7 +16,7 @@ use Rattle.wf_tape.specs.declared.tape.Tape.{Ghosts as Tape}
 module _ {T : Type 0} (tapes : Tape T) where
   -- what a replica writes is its response
   pub responded : (before after : Follower T tapes) (came : List ℕ) (old new : Outgoing) (outcome : Outcome) → old ≡ nothing → learned [] (received_by before) ≡ list_of before
-      → IsServed came (list_of before) old.bytes new.bytes outcome → IsSame before after → IsResponse tapes before came new.bytes × IsSame before after
+      → IsServed came (list_of before) old.bytes new.bytes outcome → HasLearnedNothing before after → IsResponse tapes before came new.bytes × HasLearnedNothing before after
   responded before after came old new outcome empty lived served same =
       (record { lived = lived; outcome = outcome; served = subst (λ (o : Outgoing). IsServed came (list_of before) o.bytes new.bytes outcome) empty served }, same)
 
@@ -46,6 +46,6 @@ module _ {T : Type 0} (tapes : Tape T) where
 
   -- where a client was answered by this replica
   pub answered_by : (replicas replicas' : List (Renderer T tapes × ℕ)) (clients clients' : List (Client × ℕ)) (replica after : Renderer T tapes) (i : ℕ) → replicas' ≡ replicas ++ (replica, i) ∷ []
-      → (client : Client) × (clients' ≡ clients ++ (client, 0) ∷ []) × (IsResponse tapes replica.follower client.incoming.bytes client.outgoing.bytes × IsSame replica.follower after.follower)
+      → (client : Client) × (clients' ≡ clients ++ (client, 0) ∷ []) × (IsResponse tapes replica.follower client.incoming.bytes client.outgoing.bytes × HasLearnedNothing replica.follower after.follower)
       → ∥ AreAnswered tapes replicas clients ∥₁ → ∥ AreAnswered tapes replicas' clients' ∥₁
   answered_by replicas replicas' clients clients' replica after i is one are = one_more_answered replicas replicas' clients clients' replica one.0 i 0 one.2.0 is one.1 are

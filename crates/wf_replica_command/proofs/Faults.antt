@@ -10,7 +10,7 @@ use Rattle.wf_address.specs.declared.address_option.AddressOption.TheVariants as
 use Rattle.wf_address.specs.declared.list.ListFault.{ListFault}
 use Rattle.wf_address.specs.declared.list.ListFault.TheVariants as lists
 use Rattle.wf_career.specs.Career.{Career}
-use Rattle.wf_career.specs.Replica.{IsServed}
+use Rattle.wf_career.specs.Replica.{IsListOfFarm}
 use Rattle.wf_def.specs.Definition.{Definition}
 use Rattle.wf_line.specs.declared.replica_line.ReplicaLine.{ReplicaLine}
 use Rattle.wf_model.specs.Message.{Message}
@@ -20,7 +20,7 @@ use Rattle.wf_replica.specs.LearnedList.{learned}
 use Rattle.wf_replica_command.specs.Done.{HasServed, IsDone, IsEnd, IsServedUntil}
 use Rattle.wf_replica_command.specs.Fault.{IsFromSystem, IsOfFolder, IsPlanOf, IsReplicaFault, IsAddressTaken, plan_address, fault_of, value_of}
 use Rattle.wf_replica_command.specs.Heard.{Hears}
-use Rattle.wf_replica_command.specs.ReplicaHub.{HasAnswered, HasHeardNothing, HasLived, HasStayed, IsOfFarm, IsOnTape, IsRefused, follower_of}
+use Rattle.wf_replica_command.specs.ReplicaHub.{HasAnsweredByList, HasHeardNothing, HasLearned, HasOnlyGrown, IsOfFarm, IsListOnTape, IsRefused, follower_of}
 use Rattle.wf_replica_command.specs.declared.fault.ReplicaFault.{ReplicaFault}
 use Rattle.wf_replica_command.specs.declared.fault.ReplicaFault.TheVariants as faults
 use Rattle.wf_replica_command.specs.declared.hub.ReplicaHub.{ReplicaHub}
@@ -202,24 +202,24 @@ module _ {T : Type 0} (tapes : Tape T) where
 
   -- ---- what was served
 
-  has_served : (begun hub : ReplicaHub T tapes) → HasHeardNothing tapes begun → Hears begun.asker (follower_of begun) hub.asker (follower_of hub) → HasLived tapes hub → IsOnTape tapes hub → IsOfFarm tapes hub →
-      HasAnswered tapes hub → HasStayed tapes hub → HasServed tapes
+  has_served : (begun hub : ReplicaHub T tapes) → HasHeardNothing tapes begun → Hears begun.asker (follower_of begun) hub.asker (follower_of hub) → HasLearned tapes hub → IsListOnTape tapes hub → IsOfFarm tapes hub →
+      HasAnsweredByList tapes hub → HasOnlyGrown tapes hub → HasServed tapes
   has_served begun hub unheard heard lived recorded of_farm answered stayed =
       record { begun = begun; unheard = unheard; hub = hub; heard = heard; lived = lived; recorded = recorded; of_farm = of_farm; answered = answered; stayed = stayed }
 
-  pub served_to_the_end : (begun hub : ReplicaHub T tapes) → HasHeardNothing tapes begun → Hears begun.asker (follower_of begun) hub.asker (follower_of hub) → HasLived tapes hub → IsOnTape tapes hub → IsOfFarm tapes hub →
-      HasAnswered tapes hub → HasStayed tapes hub → IsServedUntil tapes turns.On
+  pub served_to_the_end : (begun hub : ReplicaHub T tapes) → HasHeardNothing tapes begun → Hears begun.asker (follower_of begun) hub.asker (follower_of hub) → HasLearned tapes hub → IsListOnTape tapes hub → IsOfFarm tapes hub →
+      HasAnsweredByList tapes hub → HasOnlyGrown tapes hub → IsServedUntil tapes turns.On
   served_to_the_end begun hub unheard heard lived recorded of_farm answered stayed = has_served begun hub unheard heard lived recorded of_farm answered stayed
 
-  pub served_until : (why : QuestionRejection) (begun hub : ReplicaHub T tapes) → HasHeardNothing tapes begun → Hears begun.asker (follower_of begun) hub.asker (follower_of hub) → HasLived tapes hub →
-      IsOnTape tapes hub → IsOfFarm tapes hub → HasAnswered tapes hub → HasStayed tapes hub → IsRefused tapes hub → IsServedUntil tapes (turns.Ended why)
+  pub served_until : (why : QuestionRejection) (begun hub : ReplicaHub T tapes) → HasHeardNothing tapes begun → Hears begun.asker (follower_of begun) hub.asker (follower_of hub) → HasLearned tapes hub →
+      IsListOnTape tapes hub → IsOfFarm tapes hub → HasAnsweredByList tapes hub → HasOnlyGrown tapes hub → IsRefused tapes hub → IsServedUntil tapes (turns.Ended why)
   unfolding has_served
   served_until why begun hub unheard heard lived recorded of_farm answered stayed refused =
       record { served = has_served begun hub unheard heard lived recorded of_farm answered stayed; refused = refused }
 
 -- what was learned of answers of a farm is one of its lists
 pub of_farm : {T : Type 0} (list : List Definition) (received : List (Message Definition)) → LearnedAreServed T → learned [] received ≡ list →
-    (n : ℕ) (careers : ℕ → Career T) → AreReported n careers received → IsServed n careers list
+    (n : ℕ) (careers : ℕ → Career T) → AreReported n careers received → IsListOfFarm n careers list
 of_farm list received served lived n careers emitted =
-    subst (λ (l : List Definition). IsServed n careers l) (ap (λ (h : List (Message Definition)). learned [] h) (take-length received) ∙ lived)
+    subst (λ (l : List Definition). IsListOfFarm n careers l) (ap (λ (h : List (Message Definition)). learned [] h) (take-length received) ∙ lived)
     (served n careers received emitted (length received))

@@ -8,10 +8,10 @@ use Rattle.wf_reader.specs.declared.rejection.QuestionRejection.{QuestionRejecti
 use Rattle.wf_reader.specs.declared.reply.Reply.{Reply}
 use Rattle.wf_reader.specs.declared.reply.Reply.TheVariants as replies
 use Rattle.wf_replica.specs.Fit.{IsOtherHistory, AnswerLeaves}
-use Rattle.wf_replica.specs.Follower.{IsSame, answers_of, list_of}
+use Rattle.wf_replica.specs.Follower.{HasLearnedNothing, answers_of, list_of}
 use Rattle.wf_replica.specs.declared.follower.Follower.{Follower}
 use Rattle.wf_replica.specs.declared.misfit.AnswerFault.{AnswerFault}
-use Rattle.wf_replica_command.specs.Continuation.{GoesOn}
+use Rattle.wf_replica_command.specs.Continuation.{IsLaterReplica}
 use Rattle.wf_replica_command.specs.Heard.{AreHeard, Course, Hears, IsFewer, IsGiven, IsHeard, IsKept, IsNoted, IsRefusal, IsRefusing, IsQuiet, IsReplyTaken, course_of}
 use Rattle.wf_replica_command.specs.ReplicaHub.{HasHeardNothing}
 use Rattle.wf_replica_command.specs.declared.asked.Asked.{Asked}
@@ -73,7 +73,7 @@ one_heard a b reply asked heard = (b, heard, settled_itself b)
 
 module _ {T : Type 0} {tapes : Tape T} where
   -- no reply came
-  hears_none : (asker asker' : Asker) (old new : Follower T tapes) → IsSame old new → asker'.heard.items ≡ asker.heard.items → IsFewer asker.refusals asker'.refusals →
+  hears_none : (asker asker' : Asker) (old new : Follower T tapes) → HasLearnedNothing old new → asker'.heard.items ≡ asker.heard.items → IsFewer asker.refusals asker'.refusals →
       Hears asker old asker' new
   hears_none asker asker' old new same log fewer = record {
     goes_on = stays_same old new same;
@@ -101,7 +101,7 @@ module _ {T : Type 0} {tapes : Tape T} where
   hears_end source asker asker' items replica noted log before =
       hears_quiet asker asker' replica (log ∙ before) (noted_fewer source asker.refusals asker.refusals asker'.refusals noted refl)
 
-  hears_once : (asker asker' : Asker) (old new : Follower T tapes) (reply : Reply) (asked : Asked) → GoesOn old new → asker'.heard.items ≡ asker.heard.items ++ (reply, asked) ∷ [] →
+  hears_once : (asker asker' : Asker) (old new : Follower T tapes) (reply : Reply) (asked : Asked) → IsLaterReplica old new → asker'.heard.items ≡ asker.heard.items ++ (reply, asked) ∷ [] →
       IsHeard reply asked (course_of old asker.refusals) (course_of new asker'.refusals) → Hears asker old asker' new
   hears_once asker asker' old new reply asked goes_on log heard = record {
     goes_on = goes_on;
@@ -118,7 +118,7 @@ module _ {T : Type 0} {tapes : Tape T} where
     are = are_heard_twice (course_of a first.refusals) (course_of b second.refusals) (course_of c third.refusals) one.heard two.heard one.are two.are;
   }
 
-  pub hears_reply : (asker asker' : Asker) (items : List (Reply × Asked)) (old new : Follower T tapes) (reply : Reply) (asked : Asked) → GoesOn old new →
+  pub hears_reply : (asker asker' : Asker) (items : List (Reply × Asked)) (old new : Follower T tapes) (reply : Reply) (asked : Asked) → IsLaterReplica old new →
       IsHeard reply asked (course_of old asker.refusals) (course_of new asker'.refusals) → items ≡ asker.heard.items ++ (reply, asked) ∷ [] → asker'.heard.items ≡ items → Hears asker old asker' new
   hears_reply asker asker' items old new reply asked goes_on heard before log = hears_once asker asker' old new reply asked goes_on (log ∙ before) heard
 
@@ -129,7 +129,7 @@ module _ {T : Type 0} {tapes : Tape T} where
       hears_twice first third fourth a b c (hears_twice first second third a b b one (hears_quiet second third b log fewer)) two
 
   -- a question was put, and then something came
-  pub hears_asked : (first second third : Asker) (a b c : Follower T tapes) → IsSame a b → second.heard.items ≡ first.heard.items → IsFewer first.refusals second.refusals →
+  pub hears_asked : (first second third : Asker) (a b c : Follower T tapes) → HasLearnedNothing a b → second.heard.items ≡ first.heard.items → IsFewer first.refusals second.refusals →
       Hears second b third c → Hears first a third c
   hears_asked first second third a b c same log fewer after = hears_twice first second third a b c (hears_none first second a b same log fewer) after
 
@@ -151,12 +151,12 @@ module _ {T : Type 0} {tapes : Tape T} where
       record { taken = record { list = refl; answers = refl }; noted = noted_for source before after noted refuses }
 
   -- what came afterwards leaves the replica as it is
-  pub hears_then : (first second : Asker) (a b c : Follower T tapes) → Hears first a second b → IsSame b c → Hears first a second c
+  pub hears_then : (first second : Asker) (a b c : Follower T tapes) → Hears first a second b → HasLearnedNothing b c → Hears first a second c
   hears_then first second a b c one same =
       hears_twice first second second a b c one (hears_none second second b c same refl (fewer_itself second.refusals))
 
   -- what it hears of its sources, and what leaves it as it is
-  pub acted : (first second : Asker) (a b c d e : Renderer T tapes) → Hears first a.follower second b.follower → c ≡ b → IsSame c.follower d.follower → e ≡ d → Hears first a.follower second e.follower
+  pub acted : (first second : Asker) (a b c d e : Renderer T tapes) → Hears first a.follower second b.follower → c ≡ b → HasLearnedNothing c.follower d.follower → e ≡ d → Hears first a.follower second e.follower
   acted first second a b c d e heard same served kept =
       subst (λ (r : Renderer T tapes). Hears first a.follower second r.follower) (sym kept)
       (hears_then first second a.follower c.follower d.follower (subst (λ (r : Renderer T tapes). Hears first a.follower second r.follower) (sym same) heard) served)

@@ -3,7 +3,7 @@ use Rattle.std.proofs.Common.{◌≡◌, ◌∙◌, ℕ, List, ◌∷◌, ap, in
 use Rattle.std.specs.Prelude.{None, Result, Err}
 use Rattle.wf_line.specs.declared.replica_line.ReplicaLine.{ReplicaLine}
 use Rattle.wf_replica_command.specs.Fault.{IsOfFolder, IsReplicaFault}
-use Rattle.wf_replica_command.specs.Start.{HasRun, IsBegun, IsClaimed, IsRun, IsStarted, IsTapeOpened, IsUnclaimed}
+use Rattle.wf_replica_command.specs.Start.{HasServedClients, IsBegun, IsClaimed, IsReplicaRun, IsStarted, IsTapeLookedFor, IsUnclaimed}
 use Rattle.wf_replica_command.specs.declared.fault.ReplicaFault.{ReplicaFault}
 use Rattle.wf_replica_command.specs.declared.fault.ReplicaFault.TheVariants as faults
 use Rattle.wf_store.specs.Call.{Call, OnlyReads, locked, counted, read, opened, replaced, failed, failed_at}
@@ -27,16 +27,16 @@ unclaimed_at old mid new first second = inr (second ∙ ap (λ (calls : List Cal
 
 -- ---- the tape
 
-pub tape_opened : (old looked new : List Call) → OnlyReads old looked → new ≡ opened ReplicaTape ∷ looked → IsTapeOpened old new
-tape_opened old looked new reads is = subst (λ (calls : List Call). IsTapeOpened old calls) (sym is) (reads, inl refl)
+pub tape_opened : (old looked new : List Call) → OnlyReads old looked → new ≡ opened ReplicaTape ∷ looked → IsTapeLookedFor old new
+tape_opened old looked new reads is = subst (λ (calls : List Call). IsTapeLookedFor old calls) (sym is) (reads, inl refl)
 
-pub tape_unopened : (old looked new : List Call) → OnlyReads old looked → new ≡ failed_at ReplicaTape ∷ looked → IsTapeOpened old new
-tape_unopened old looked new reads is = subst (λ (calls : List Call). IsTapeOpened old calls) (sym is) (reads, inr refl)
+pub tape_unopened : (old looked new : List Call) → OnlyReads old looked → new ≡ failed_at ReplicaTape ∷ looked → IsTapeLookedFor old new
+tape_unopened old looked new reads is = subst (λ (calls : List Call). IsTapeLookedFor old calls) (sym is) (reads, inr refl)
 
 -- ---- a start
 
 -- a folder's errors end no replica that served
-of_folder : (fault : ReplicaFault) → IsOfFolder fault → HasRun (Err fault) → ⊥
+of_folder : (fault : ReplicaFault) → IsOfFolder fault → HasServedClients (Err fault) → ⊥
 of_folder (faults.Ended why) is has = absurd is
 of_folder (faults.BadPeer index) is has = absurd has
 of_folder (faults.PeerCount count) is has = absurd has
@@ -52,7 +52,7 @@ of_folder (faults.Taken option address) is has = absurd has
 of_folder faults.Memory is has = absurd has
 
 -- nor do bad words
-bad_words : (line : ReplicaLine) (fault : ReplicaFault) → IsReplicaFault line fault → HasRun (Err fault) → ⊥
+bad_words : (line : ReplicaLine) (fault : ReplicaFault) → IsReplicaFault line fault → HasServedClients (Err fault) → ⊥
 bad_words line (faults.Ended why) is has = absurd is
 bad_words line (faults.BadPeer index) is has = absurd has
 bad_words line (faults.PeerCount count) is has = absurd has
@@ -68,7 +68,7 @@ bad_words line (faults.Taken option address) is has = absurd has
 bad_words line faults.Memory is has = absurd has
 
 -- a folder that is a replica's, and what came of it
-pub begun_so : (text : List ℕ) (held claimed new : List Call) (result : Result (Unit {0}) ReplicaFault) → IsClaimed text held claimed → IsTapeOpened claimed new → IsBegun text held new result
+pub begun_so : (text : List ℕ) (held claimed new : List Call) (result : Result (Unit {0}) ReplicaFault) → IsClaimed text held claimed → IsTapeLookedFor claimed new → IsBegun text held new result
 begun_so text held claimed new result farm tape =
     let started : IsStarted text held new = record { claimed = claimed; farm = farm; tape = tape } in
     record { served = λ _. started; others = inl started }
@@ -80,15 +80,15 @@ not_begun text held new fault is unclaimed = record { served = λ has. absurd (o
 -- ---- a run
 
 -- the folder was locked
-pub run_so : (text : List ℕ) (old held new : List Call) (result : Result (Unit {0}) ReplicaFault) → held ≡ locked ∷ old → IsBegun text held new result → IsRun text old new result
+pub run_so : (text : List ℕ) (old held new : List Call) (result : Result (Unit {0}) ReplicaFault) → held ≡ locked ∷ old → IsBegun text held new result → IsReplicaRun text old new result
 run_so text old held new result is begun =
     let here : IsBegun text (locked ∷ old) new result = subst (λ (calls : List Call). IsBegun text calls new result) is begun in
     record { served = here.served; others = elim here.others [ inl started ↦ inl started | inr unclaimed ↦ inr (inl unclaimed) ] }
 
 -- it wasn't
-pub not_locked : (text : List ℕ) (old new : List Call) (fault : FolderFault) → new ≡ failed ∷ old → IsRun text old new (Err (faults.Folder fault))
+pub not_locked : (text : List ℕ) (old new : List Call) (fault : FolderFault) → new ≡ failed ∷ old → IsReplicaRun text old new (Err (faults.Folder fault))
 not_locked text old new fault is = record { served = λ has. absurd has; others = inr (inr (inl is)) }
 
 -- a word of the command line is bad
-pub not_run : (text : List ℕ) (calls : List Call) (line : ReplicaLine) (fault : ReplicaFault) → IsReplicaFault line fault → IsRun text calls calls (Err fault)
+pub not_run : (text : List ℕ) (calls : List Call) (line : ReplicaLine) (fault : ReplicaFault) → IsReplicaFault line fault → IsReplicaRun text calls calls (Err fault)
 not_run text calls line fault is = record { served = λ has. absurd (bad_words line fault is has); others = inr (inr (inr refl)) }

@@ -6,7 +6,7 @@ use Rattle.wf_replica.specs.Follower.{received_by, list_of}
 use Rattle.wf_replica.specs.LearnedList.{learned}
 use Rattle.wf_replica.specs.Service.{IsServed}
 use Rattle.wf_replica.specs.declared.follower.Follower.{Follower}
-use Rattle.wf_replica_command.specs.Continuation.{GoesOn}
+use Rattle.wf_replica_command.specs.Continuation.{IsLaterReplica}
 use Rattle.wf_replica_command.specs.declared.renderer.Renderer.{Renderer}
 use Rattle.wf_tape.specs.declared.tape.Tape.{Ghosts as Tape}
 
@@ -35,4 +35,4 @@ module _ {T : Type 0} (tapes : Tape T) where
   -- each of these replicas goes on to the next one, and the last one to the present one
   unfoldable pub AreInOrder : List (Renderer T tapes × ℕ) → Follower T tapes → Type 0
   AreInOrder [] present = ⊤
-  AreInOrder (replica ∷ replicas) present = GoesOn replica.0.follower (first_of replicas present) × AreInOrder replicas present
+  AreInOrder (replica ∷ replicas) present = IsLaterReplica replica.0.follower (first_of replicas present) × AreInOrder replicas present

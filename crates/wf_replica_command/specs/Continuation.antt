@@ -7,6 +7,6 @@ use Rattle.wf_replica.specs.declared.follower.Follower.{Follower}
 use Rattle.wf_tape.specs.declared.tape.Tape.{Ghosts as Tape}
 
 -- It is the same replica later: what it had heard and its list are beginnings of what they are now.
-pub record GoesOn {T : Type 0} {tapes : Tape T} (old new : Follower T tapes) : Type 0 where
+pub record IsLaterReplica {T : Type 0} {tapes : Tape T} (old new : Follower T tapes) : Type 0 where
   pub grows : Grows old new
   pub received : (more : List (Message Definition)) × (received_by new ≡ received_by old ++ more)

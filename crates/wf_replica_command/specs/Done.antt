@@ -3,7 +3,7 @@ use Rattle.std.specs.Prelude.{ℕ, Result, Ok, Err}
 use Rattle.wf_line.specs.declared.replica_line.ReplicaLine.{ReplicaLine}
 use Rattle.wf_replica_command.specs.Fault.{IsFromSystem, IsReplicaFault, fault_status}
 use Rattle.wf_replica_command.specs.Heard.{Hears}
-use Rattle.wf_replica_command.specs.ReplicaHub.{HasAnswered, HasHeardNothing, HasLived, HasStayed, IsOfFarm, IsOnTape, IsRefused, follower_of}
+use Rattle.wf_replica_command.specs.ReplicaHub.{HasAnsweredByList, HasHeardNothing, HasLearned, HasOnlyGrown, IsOfFarm, IsListOnTape, IsRefused, follower_of}
 use Rattle.wf_replica_command.specs.declared.fault.ReplicaFault.{ReplicaFault}
 use Rattle.wf_replica_command.specs.declared.fault.ReplicaFault.TheVariants as faults
 use Rattle.wf_replica_command.specs.declared.hub.ReplicaHub.{ReplicaHub}
@@ -21,11 +21,11 @@ module _ {T : Type 0} (tapes : Tape T) where
     pub unheard : HasHeardNothing tapes begun
     pub hub : ReplicaHub T tapes
     pub heard : Hears begun.asker (follower_of begun) hub.asker (follower_of hub)
-    pub lived : HasLived tapes hub
-    pub recorded : IsOnTape tapes hub
+    pub lived : HasLearned tapes hub
+    pub recorded : IsListOnTape tapes hub
     pub of_farm : IsOfFarm tapes hub
-    pub answered : HasAnswered tapes hub
-    pub stayed : HasStayed tapes hub
+    pub answered : HasAnsweredByList tapes hub
+    pub stayed : HasOnlyGrown tapes hub
 
   -- It has served until each of its sources refused it.
   pub record IsEndedBySources : Type 0 where

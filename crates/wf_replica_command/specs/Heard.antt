@@ -11,7 +11,7 @@ use Rattle.wf_replica.specs.Fit.{IsOtherHistory, AnswerLeaves}
 use Rattle.wf_replica.specs.Follower.{answers_of, list_of}
 use Rattle.wf_replica.specs.declared.follower.Follower.{Follower}
 use Rattle.wf_replica.specs.declared.misfit.AnswerFault.{AnswerFault}
-use Rattle.wf_replica_command.specs.Continuation.{GoesOn}
+use Rattle.wf_replica_command.specs.Continuation.{IsLaterReplica}
 use Rattle.wf_replica_command.specs.declared.asked.Asked.{Asked}
 use Rattle.wf_replica_command.specs.declared.asker.Asker.{Asker}
 use Rattle.wf_tape.specs.declared.tape.Tape.{Ghosts as Tape}
@@ -77,7 +77,7 @@ AreHeard old (x ∷ heard) new = (next : Course) × IsHeard x.0 x.1 old next × 
 
 -- The replica goes on by what it hears of its sources.
 pub record Hears {T : Type 0} {tapes : Tape T} (old_asker : Asker) (old : Follower T tapes) (new_asker : Asker) (new : Follower T tapes) : Type 0 where
-  pub goes_on : GoesOn old new
+  pub goes_on : IsLaterReplica old new
   pub heard : List (Reply × Asked)
   pub logged : new_asker.heard.items ≡ old_asker.heard.items ++ heard
   pub are : AreHeard (course_of old old_asker.refusals) heard (course_of new new_asker.refusals)

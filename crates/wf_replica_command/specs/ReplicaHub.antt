@@ -1,7 +1,7 @@
 -- The replica of a hub, and the clients that it answered.
 use Rattle.std.specs.Prelude.{◌≡◌, ℕ, [], true}
 use Rattle.wf_career.specs.Career.{Career}
-use Rattle.wf_career.specs.Replica.{IsServed}
+use Rattle.wf_career.specs.Replica.{IsListOfFarm}
 use Rattle.wf_replica.specs.Follower.{received_by, list_of}
 use Rattle.wf_replica.specs.Recorded.{IsRecorded}
 use Rattle.wf_replica.specs.Theorems.{AreReported}
@@ -21,25 +21,25 @@ abbrev pub follower_of : {T : Type 0} {tapes : Tape T} → ReplicaHub T tapes �
 follower_of hub = hub.clients.renderer.follower
 
 -- its list is what it has heard, message after message, as `wf_career`'s replica learns it
-abbrev pub HasLived : {T : Type 0} (tapes : Tape T) → ReplicaHub T tapes → Type 0
-HasLived tapes hub = learned [] (received_by (follower_of hub)) ≡ list_of (follower_of hub)
+abbrev pub HasLearned : {T : Type 0} (tapes : Tape T) → ReplicaHub T tapes → Type 0
+HasLearned tapes hub = learned [] (received_by (follower_of hub)) ≡ list_of (follower_of hub)
 
 -- If it has heard only answers of nodes of a farm or of replicas of it, its list is one of those of which `wf_career`'s `replicas_agree`
 -- says that all are beginnings of one history.
 abbrev pub IsOfFarm : {T : Type 0} (tapes : Tape T) → ReplicaHub T tapes → Type 0
-IsOfFarm {T} tapes hub = (n : ℕ) (careers : ℕ → Career T) → AreReported n careers (received_by (follower_of hub)) → IsServed n careers (list_of (follower_of hub))
+IsOfFarm {T} tapes hub = (n : ℕ) (careers : ℕ → Career T) → AreReported n careers (received_by (follower_of hub)) → IsListOfFarm n careers (list_of (follower_of hub))
 
 -- its tape, if it has one that is durable, has the records of its list, in their order, and nothing else
-abbrev pub IsOnTape : {T : Type 0} (tapes : Tape T) → ReplicaHub T tapes → Type 0
-IsOnTape tapes hub = IsRecorded tapes (follower_of hub).tape (list_of (follower_of hub))
+abbrev pub IsListOnTape : {T : Type 0} (tapes : Tape T) → ReplicaHub T tapes → Type 0
+IsListOnTape tapes hub = IsRecorded tapes (follower_of hub).tape (list_of (follower_of hub))
 
 -- each client that was answered was answered by the replica as it then was
-abbrev pub HasAnswered : {T : Type 0} (tapes : Tape T) → ReplicaHub T tapes → Type 0
-HasAnswered tapes hub = ∥ AreAnswered tapes hub.clients.asked.items (responses_of hub.clients.visitors) ∥₁
+abbrev pub HasAnsweredByList : {T : Type 0} (tapes : Tape T) → ReplicaHub T tapes → Type 0
+HasAnsweredByList tapes hub = ∥ AreAnswered tapes hub.clients.asked.items (responses_of hub.clients.visitors) ∥₁
 
 -- from client to client it was one replica, whose list never went back
-abbrev pub HasStayed : {T : Type 0} (tapes : Tape T) → ReplicaHub T tapes → Type 0
-HasStayed tapes hub = ∥ AreInOrder tapes hub.clients.asked.items (follower_of hub) ∥₁
+abbrev pub HasOnlyGrown : {T : Type 0} (tapes : Tape T) → ReplicaHub T tapes → Type 0
+HasOnlyGrown tapes hub = ∥ AreInOrder tapes hub.clients.asked.items (follower_of hub) ∥₁
 
 -- it has heard nothing of its sources yet: none of them refuses it
 pub record HasHeardNothing {T : Type 0} (tapes : Tape T) (hub : ReplicaHub T tapes) : Type 0 where

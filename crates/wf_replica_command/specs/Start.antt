@@ -17,32 +17,32 @@ abbrev pub IsUnclaimed : List Call → List Call → Type 0
 IsUnclaimed old new = OnlyReads old new ⊎ (new ≡ failed_at Farm ∷ counted 0 ∷ read Farm None ∷ old)
 
 -- It was looked for the tape, which was opened then, or couldn't be.
-abbrev pub IsTapeOpened : List Call → List Call → Type 0
-IsTapeOpened old [] = ⊥
-IsTapeOpened old (call ∷ looked) = OnlyReads old looked × ((call ≡ opened ReplicaTape) ⊎ (call ≡ failed_at ReplicaTape))
+abbrev pub IsTapeLookedFor : List Call → List Call → Type 0
+IsTapeLookedFor old [] = ⊥
+IsTapeLookedFor old (call ∷ looked) = OnlyReads old looked × ((call ≡ opened ReplicaTape) ⊎ (call ≡ failed_at ReplicaTape))
 
 -- A replica has started on a folder that is locked: its file `farm` has this text, and only then was the tape opened.
 pub record IsStarted (text : List ℕ) (held new : List Call) : Type 0 where
   pub claimed : List Call
   pub farm : IsClaimed text held claimed
-  pub tape : IsTapeOpened claimed new
+  pub tape : IsTapeLookedFor claimed new
 
 -- The replica served: for all its turns, or until its sources ended it.
-abbrev pub HasRun : Result (Unit {0}) ReplicaFault → Type 0
-HasRun (Ok done) = ⊤
-HasRun (Err (faults.Ended why)) = ⊤
-HasRun (Err fault) = ⊥
+abbrev pub HasServedClients : Result (Unit {0}) ReplicaFault → Type 0
+HasServedClients (Ok done) = ⊤
+HasServedClients (Err (faults.Ended why)) = ⊤
+HasServedClients (Err fault) = ⊥
 
 -- What a run did to a folder that it had locked: a replica started, or, if it didn't serve, the folder wasn't taken.
 pub record IsBegun (text : List ℕ) (held new : List Call) (result : Result (Unit {0}) ReplicaFault) : Type 0 where
-  pub served : HasRun result → IsStarted text held new
+  pub served : HasServedClients result → IsStarted text held new
   pub others : IsStarted text held new ⊎ IsUnclaimed held new
 
 -- What a run did to its folder: it was locked first, and then as above; or, if the replica didn't serve, it wasn't locked, or not touched.
-pub record IsRun (text : List ℕ) (old new : List Call) (result : Result (Unit {0}) ReplicaFault) : Type 0 where
-  pub served : HasRun result → IsStarted text (locked ∷ old) new
+pub record IsReplicaRun (text : List ℕ) (old new : List Call) (result : Result (Unit {0}) ReplicaFault) : Type 0 where
+  pub served : HasServedClients result → IsStarted text (locked ∷ old) new
   pub others : IsStarted text (locked ∷ old) new ⊎ IsUnclaimed (locked ∷ old) new ⊎ (new ≡ failed ∷ old) ⊎ (new ≡ old)
 
 -- what the run of a command line did to its folder: the file `farm` is that of a replica of the line's farm
 abbrev pub IsLineRun : ReplicaLine → List Call → List Call → Result (Unit {0}) ReplicaFault → Type 0
-IsLineRun line old new result = IsRun (replica_text (pad line.farm.now)) old new result
+IsLineRun line old new result = IsReplicaRun (replica_text (pad line.farm.now)) old new result

@@ -1,7 +1,7 @@
 //! A replica and its clients.
 
 ghost use Rattle.std.specs.Prelude.{◌≡◌};
-ghost use Rattle.wf_replica.specs.Follower.{IsSame, received_by, list_of};
+ghost use Rattle.wf_replica.specs.Follower.{HasLearnedNothing, received_by, list_of};
 ghost use Rattle.wf_replica.specs.LearnedList.{learned};
 ghost use Rattle.wf_replica.specs.Recorded.{IsRecorded};
 ghost use Rattle.wf_replica_command.specs.Answer.{AreAnswered, AreInOrder};
@@ -101,7 +101,7 @@ impl<T: Tape + Drop> ReplicaClients<T> {
         &mut self,
         context: &Context<'_, '_, R>,
     ) -> bool
-        ensures { IsSame self.old.renderer.follower self.new.renderer.follower }
+        ensures { HasLearnedNothing self.old.renderer.follower self.new.renderer.follower }
     {
         for _ in 0..MOST_SERVED {
             let Some(index) = self.visitors.next() else {
@@ -119,7 +119,7 @@ impl<T: Tape + Drop> ReplicaClients<T> {
         context: &Context<'_, '_, R>,
         index: usize,
     )
-        ensures { IsSame self.old.renderer.follower self.new.renderer.follower }
+        ensures { HasLearnedNothing self.old.renderer.follower self.new.renderer.follower }
     {
         let asked = self.asked.and(&self.renderer, &0);
         if self.visitors.serve(context, &mut self.renderer, index) {

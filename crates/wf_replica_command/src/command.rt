@@ -1,14 +1,13 @@
 //! Runs a parsed command line.
-ghost use Rattle.std.specs.Prelude.{◌≡◌, ◌≤◌, IfErr};
+ghost use Rattle.std.specs.Prelude.{◌≤◌, IfErr};
 ghost use Rattle.wf_line.specs.ProcessLine.{IsReplicaInRange};
 ghost use Rattle.wf_replica.specs.FarmFile.{replica_text};
 ghost use Rattle.wf_replica_command.specs.Done.{IsDone, IsEnd, IsServedUntil};
 ghost use Rattle.wf_replica_command.specs.Fault.{IsOfFolder, IsPlanOf};
-ghost use Rattle.wf_replica_command.specs.ReplicaHub.{HasAnswered, HasHeardNothing, HasLived, HasStayed, IsOfFarm, IsOnTape};
-ghost use Rattle.wf_replica_command.specs.Start.{IsBegun, IsLineRun, IsTapeOpened};
+ghost use Rattle.wf_replica_command.specs.ReplicaHub.{HasHeardNothing};
+ghost use Rattle.wf_replica_command.specs.Start.{IsBegun, IsLineRun, IsTapeLookedFor};
 ghost use Rattle.wf_store.specs.Call.{OnlyReads};
 
-use crate::asker::Asker;
 use crate::event::ReplicaEvent;
 use crate::fault::ReplicaFault;
 use crate::folder::claim;
@@ -86,7 +85,7 @@ fn begin<R: Files<File = File> + Clock + Eprint + Net + AllocGlobal, S: Store>(
 ) -> Result<(), ReplicaFault>
     requires { IsReplicaInRange line.now }
     ensures end { IsEnd S.Tape.Tape plan result }
-    ensures tape { IsTapeOpened (S.calls store.old) (S.calls store.new) }
+    ensures tape { IsTapeLookedFor (S.calls store.old) (S.calls store.new) }
 {
     match open(rt, store, log, line.cache as usize) {
         Ok(follower) => serve(rt, log, plan, line.state, follower, turns),
@@ -106,7 +105,7 @@ fn open<R: Clock + Eprint + AllocGlobal, S: Store>(
 ) -> Result<Follower<S::Tape>, ReplicaFault>
     requires least { 1 ≤ pictures }
     requires most { pictures ≤ 64 }
-    ensures tape { IsTapeOpened (S.calls store.old) (S.calls store.new) }
+    ensures tape { IsTapeLookedFor (S.calls store.old) (S.calls store.new) }
     ensures fault { IfErr result IsOfFolder }
 {
     let tape = open_tape(store, log);
@@ -122,7 +121,7 @@ fn open<R: Clock + Eprint + AllocGlobal, S: Store>(
 /// The tape of a replica's folder. None: it can't be opened.
 #[tactic(auto, using(crate::proofs::Starting::tape_opened, crate::proofs::Starting::tape_unopened))]
 fn open_tape<R: Clock + Eprint, S: Store>(store: &mut S, log: &Log<'_, R>) -> Option<S::Tape>
-    ensures { IsTapeOpened (S.calls store.old) (S.calls store.new) }
+    ensures { IsTapeLookedFor (S.calls store.old) (S.calls store.new) }
 {
     look_for_tape(store, log);
     match store.open(FileName::ReplicaTape) {

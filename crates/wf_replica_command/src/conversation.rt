@@ -1,14 +1,13 @@
 //! A replica asks its sources, and takes what they reply.
 
-ghost use Rattle.std.specs.Prelude.{◌≡◌, ◌≢◌, [], length, Some, true, slice_get, IfOk, IsSome};
+ghost use Rattle.std.specs.Prelude.{◌≡◌, [], Some, true, IfOk, IsSome};
 ghost use Rattle.std.specs.Option.{ForSome};
 ghost use Rattle.wf_replica.specs.Fit.{IsOfOtherHistory, IsOtherHistory};
-ghost use Rattle.wf_replica.specs.Follower.{IsSame, list_of};
+ghost use Rattle.wf_replica.specs.Follower.{HasLearnedNothing, list_of};
 ghost use Rattle.wf_replica.specs.Refusals.{all_refuse};
-ghost use Rattle.wf_replica_command.specs.Continuation.{GoesOn};
+ghost use Rattle.wf_replica_command.specs.Continuation.{IsLaterReplica};
 ghost use Rattle.wf_replica_command.specs.Heard.{Hears, IsFewer, IsGiven, IsHeard, IsNoted, IsRefusing, course_of};
 
-use crate::asked::Asked;
 use crate::asker::Asker;
 use crate::event::{ReplicaEvent, SourceEnd};
 use crate::source::{SourceConnection, SourceTurn};
@@ -138,7 +137,7 @@ impl Asker {
         question: &Question,
         reply: Reply,
     )
-        ensures goes_on { GoesOn follower.old follower.new }
+        ensures goes_on { IsLaterReplica follower.old follower.new }
         ensures heard { self.new.heard.items ≡ self.old.heard.items }
         ensures reply { IsHeard reply (record { source = self.old.of; question = question.now }) (course_of follower.old self.old.refusals) (course_of follower.new self.new.refusals) }
     {
@@ -163,7 +162,7 @@ impl Asker {
         question: &Question,
         answer: &ReaderAnswer,
     )
-        ensures goes_on { GoesOn follower.old follower.new }
+        ensures goes_on { IsLaterReplica follower.old follower.new }
         ensures heard { self.new.heard.items ≡ self.old.heard.items }
         ensures given { IsGiven question.now answer.now (course_of follower.old self.old.refusals) (course_of follower.new self.new.refusals) }
         ensures noted { IsNoted self.old.of (IsOtherHistory (list_of follower.old) answer.now) self.old.refusals self.new.refusals }
@@ -298,7 +297,7 @@ impl Asker {
         context: &Context<'_, '_, R>,
         follower: &mut Follower<T>,
     )
-        ensures same { IsSame follower.old follower.new }
+        ensures same { HasLearnedNothing follower.old follower.new }
         ensures heard { self.new.heard.items ≡ self.old.heard.items }
         ensures refusals { IsFewer self.old.refusals self.new.refusals }
     {

@@ -2,7 +2,7 @@
 ghost use Rattle.std.specs.Prelude.{◌≡◌, [], IfErr, IfOk};
 ghost use Rattle.wf_replica_command.specs.Fault.{IsFromSystem};
 ghost use Rattle.wf_replica_command.specs.Heard.{Hears};
-ghost use Rattle.wf_replica_command.specs.ReplicaHub.{HasAnswered, HasHeardNothing, HasLived, HasStayed, IsOfFarm, IsOnTape, IsTurn, follower_of};
+ghost use Rattle.wf_replica_command.specs.ReplicaHub.{HasAnsweredByList, HasHeardNothing, HasLearned, HasOnlyGrown, IsOfFarm, IsListOnTape, IsTurn, follower_of};
 ghost use Rattle.wf_visitors.specs.Visitors.{responses_of};
 
 use crate::asker::Asker;
@@ -115,11 +115,11 @@ impl<T: Tape + Drop> ReplicaHub<T> {
     /// and it never went back, always. The call does nothing.
     #[tactic(auto, using(crate::proofs::Faults::of_farm))]
     pub(crate) fn always_lived(&self)
-        ensures lived { HasLived T.Tape self.now }
-        ensures recorded { IsOnTape T.Tape self.now }
+        ensures lived { HasLearned T.Tape self.now }
+        ensures recorded { IsListOnTape T.Tape self.now }
         ensures of_farm { IsOfFarm T.Tape self.now }
-        ensures answered { HasAnswered T.Tape self.now }
-        ensures stayed { HasStayed T.Tape self.now }
+        ensures answered { HasAnsweredByList T.Tape self.now }
+        ensures stayed { HasOnlyGrown T.Tape self.now }
     {
         what_is_learned_is_served::<T>();
         self.clients.always_served();
@@ -132,13 +132,13 @@ impl<T: Tape + Drop> ReplicaHub<T> {
         log: &Log<'_, R>,
     ) -> Turn
         // Whatever came, the list is what was heard, message after message, and what the tape has.
-        ensures lived { HasLived T.Tape self.new }
-        ensures recorded { IsOnTape T.Tape self.new }
+        ensures lived { HasLearned T.Tape self.new }
+        ensures recorded { IsListOnTape T.Tape self.new }
         ensures of_farm { IsOfFarm T.Tape self.new }
         // Each response that any client was sent is the one to exactly what had come of its request, over the list as it then was.
-        ensures answered { HasAnswered T.Tape self.new }
+        ensures answered { HasAnsweredByList T.Tape self.new }
         // It never goes back, and goes on by what it hears of its sources.
-        ensures stayed { HasStayed T.Tape self.new }
+        ensures stayed { HasOnlyGrown T.Tape self.new }
         ensures heard { Hears self.old.asker (follower_of self.old) self.new.asker (follower_of self.new) }
         // It has to end only where all of its sources refuse it.
         ensures ended { IsTurn T.Tape result self.new }

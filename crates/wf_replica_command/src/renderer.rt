@@ -1,6 +1,6 @@
 //! How a replica answers clients.
 
-ghost use Rattle.wf_replica.specs.Follower.{IsSame};
+ghost use Rattle.wf_replica.specs.Follower.{HasLearnedNothing};
 ghost use Rattle.wf_replica_command.specs.Answer.{IsResponse};
 
 use std::alloc::Global;
@@ -19,9 +19,9 @@ pub struct Renderer<T: Tape> {
 }
 
 impl<T: Tape + Drop> Server for Renderer<T> {
-    ghost responds = { λ before came _ response after. IsResponse T.Tape before.follower came response × IsSame before.follower after.follower };
+    ghost responds = { λ before came _ response after. IsResponse T.Tape before.follower came response × HasLearnedNothing before.follower after.follower };
 
-    ghost stays = { λ before after. IsSame before.follower after.follower };
+    ghost stays = { λ before after. HasLearnedNothing before.follower after.follower };
 
     #[tactic(auto, using(crate::proofs::Answers::responded))]
     fn answer(

@@ -1,6 +1,6 @@
 //! The connection to the source that is asked.
 
-ghost use Rattle.std.specs.Prelude.{◌≡◌, OnOk};
+ghost use Rattle.std.specs.Prelude.{OnOk};
 ghost use Rattle.wf_replica_command.specs.Source.{IsLogged, IsOpenQuestion, IsOpenReply};
 
 use crate::asked::Asked;

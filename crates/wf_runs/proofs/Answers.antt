@@ -21,7 +21,7 @@ use Rattle.wf_wms.specs.Answer.{IsAnswerOf}
 use Rattle.wf_tape.specs.declared.tape.Tape.{Ghosts as Tape}
 use Rattle.wf_serve.specs.Agreement.{AskedAlike, AtOneSequence, ForOneMap}
 use Rattle.wf_runs.specs.Session.{Session}
-use Rattle.wf_runs.specs.Folder.{IsHeld}
+use Rattle.wf_runs.specs.Folder.{WasOnce}
 use Rattle.wf_runs.specs.Theorems.{IsOneFarm, FolderIsOneFarm, HasOneHistory, HaveOneDefinition, NoneGoesBack, IsQueryTo, HasResponded, IsReply, RespondAlike, GetAlike, SessionsAreOneFarm}
 
 -- ---- the page of a query
@@ -64,7 +64,7 @@ module _ {T : Type 0} (tapes : Tape T) where
 -- ---- the theorems
 
 module _ {T : Type 0} (tapes : Tape T) (n : ℕ) (sessions : List (Session T)) (is : IsOneFarm tapes n sessions) where
-  held : (node : Node T) → IsHeld sessions node → career.IsHeld n is.careers node
+  held : (node : Node T) → WasOnce sessions node → career.IsHeld n is.careers node
   held node h =
       let same = is.order h.moment h.moment h.node_index node node (omega arith) h.at h.at in
       record { process = h.node_index; is_member = same.is_member; moment = same.moment; at = same.at }
@@ -85,7 +85,7 @@ module _ {T : Type 0} (tapes : Tape T) (n : ℕ) (sessions : List (Session T)) (
       theorem n i (is.careers i) so.moment so.later node next (is.farm.each i so.is_member) so.order so.at so.then
 
   module _ (one : career.OneAnswer tapes) (one_map : career.OneMapAnswer tapes) where
-    pages_alike : (node other : Node T) (query : List ℕ) (page another : Response) → IsHeld sessions node → IsHeld sessions other → AskedAlike query node.parts.history other.parts.history →
+    pages_alike : (node other : Node T) (query : List ℕ) (page another : Response) → WasOnce sessions node → WasOnce sessions other → AskedAlike query node.parts.history other.parts.history →
         IsServicePage node.parts.history query page → IsServicePage other.parts.history query another → another ≡ page
     pages_alike node other query page another h also (AtOneSequence long) is_page is_other =
         let same = one n is.careers is.items is.farm node other (held node h) (held other also) (length node.parts.history) query is_page.answer is_other.answer refl long
@@ -106,8 +106,8 @@ module _ {T : Type 0} (tapes : Tape T) (n : ℕ) (sessions : List (Session T)) (
     get = λ k l nodes others query response another at then one two alike fine fine_too.
         let before = one.connection.before in
         let other = two.connection.before in
-        let h : IsHeld sessions before = record { moment = k; node_index = one.node_index; at = record { nodes = nodes; then = at; there = one.connection.changed.was } } in
-        let also : IsHeld sessions other = record { moment = l; node_index = two.node_index; at = record { nodes = others; then = then; there = two.connection.changed.was } } in
+        let h : WasOnce sessions before = record { moment = k; node_index = one.node_index; at = record { nodes = nodes; then = at; there = one.connection.changed.was } } in
+        let also : WasOnce sessions other = record { moment = l; node_index = two.node_index; at = record { nodes = others; then = then; there = two.connection.changed.was } } in
         respond before other query response another h also alike
         (responded tapes one.input one.old one.new before one.connection.after one.outputs one.outcome one.connection.served query response one.reply)
         (responded tapes two.input two.old two.new other two.connection.after two.outputs two.outcome two.connection.served query another two.reply) fine fine_too

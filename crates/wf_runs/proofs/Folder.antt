@@ -9,7 +9,7 @@ use Rattle.wf_journal.specs.Records.{AreReadOneWay}
 use Rattle.wf_node.specs.Node.{Node}
 use Rattle.wf_tape.specs.declared.tape.Tape.{Ghosts as Tape}
 use Rattle.wf_runs.specs.Session.{Session}
-use Rattle.wf_runs.specs.Folder.{IsNewTape, IsFolder, moments, IsAt}
+use Rattle.wf_runs.specs.Folder.{IsNewTape, IsFolder, moments, WasAt}
 use Rattle.wf_runs.specs.Theorems.{IsOneFarm, FolderIsOneFarm}
 use Rattle.wf_runs.proofs.Careers.{Lived, lived}
 use Rattle.wf_runs.proofs.Items.{all_items}
@@ -23,7 +23,7 @@ nothing_own : (T : Type 0) (i : ℕ) → items_of i [] ≡ items_in {T = T} i []
 unfolding items_of items_in
 nothing_own T i = refl
 
-no_moment : {T : Type 0} (k i : ℕ) (node : Node T) → IsAt [] k i node → ⊥
+no_moment : {T : Type 0} (k i : ℕ) (node : Node T) → WasAt [] k i node → ⊥
 unfolding moments
 no_moment k i node at = none-some at.nodes at.then
 
@@ -71,14 +71,14 @@ module _ {T : Type 0} (theorem : AreReadOneWay) (tapes : Tape T) (n : ℕ) (sess
   its_items i (inl it) less = (life i it).items
   its_items i (inr beyond) less = absurd (none_beyond i less beyond)
 
-  shown_by : (k l i : ℕ) (node next : Node T) → k ≤ l → IsAt (session ∷ later) k i node → IsAt (session ∷ later) l i next → (d : (i < n) ⊎ (n ≤ i)) → i < n →
+  shown_by : (k l i : ℕ) (node next : Node T) → k ≤ l → WasAt (session ∷ later) k i node → WasAt (session ∷ later) l i next → (d : (i < n) ⊎ (n ≤ i)) → i < n →
       ShownBoth i (values_of (career_by i d).ended (career_by i d).now) node next
   unfolding career_by
   shown_by k l i node next order at then (inl it) less =
       shown_both i (moments (session ∷ later)) (values_of (life i it).ended (life i it).now) k l at.nodes then.nodes node next (life i it).show order at.then at.there then.then then.there
   shown_by k l i node next order at then (inr beyond) less = absurd (none_beyond i less beyond)
 
-  member : (k i : ℕ) (node : Node T) → IsAt (session ∷ later) k i node → i < n
+  member : (k i : ℕ) (node : Node T) → WasAt (session ∷ later) k i node → i < n
   member k i node at =
       let long = long_at n (moments (session ∷ later)) k at.nodes (all_long tapes n IsNewTape (session ∷ later) are) at.then in
       subst (λ m. i < m) long (slice_get_within at.nodes i node at.there)

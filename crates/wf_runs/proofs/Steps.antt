@@ -5,7 +5,7 @@ use Rattle.std.specs.declared.alloc.Global.{Global}
 use Rattle.wf_career.specs.Run.{Act, Input, IsAct}
 use Rattle.wf_career.specs.Career.{IsOneOf}
 use Rattle.wf_codec.specs.declared.message.Message.{Message}
-use Rattle.wf_edge.specs.StepResult.{IsAnswer}
+use Rattle.wf_edge.specs.StepResult.{IsStepResult}
 use Rattle.wf_edge.specs.RequestEffect.{HandsOut}
 use Rattle.wf_catch_up.specs.CatchUp.{IsTaken as WasTaken, HasReceived, IsQuestion, HaveAsked, Rests, Asks}
 use Rattle.wf_delivery.specs.declared.progress.PumpProgress.{PumpProgress}
@@ -211,7 +211,7 @@ module _ {T : Type 0} (tapes : Tape T) where
   hands_outputs (Err why) sent hands = hands
 
   pub asked_step : StepIsAnswered tapes → (nodes : List (Node T)) (i : ℕ) (before after : Node T) (input : Input) (result : Result (Vec Message Global) NodeFault) (sent : Vec Message Global) →
-      slice_get nodes i ≡ Some before → IsOneOf [] input → IsAnswer tapes (view input) before result after → HandsOut result sent → Asked nodes (slice_set nodes i after) sent.items
+      slice_get nodes i ≡ Some before → IsOneOf [] input → IsStepResult tapes (view input) before result after → HandsOut result sent → Asked nodes (slice_set nodes i after) sent.items
   unfolding one_act one_taken
   asked_step theorem nodes i before after input result sent at own answer hands =
       let act : Act T = record { input = input; outputs = outputs_by result; after = after } in

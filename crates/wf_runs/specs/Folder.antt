@@ -67,13 +67,13 @@ moments [] = []
 moments (session ∷ later) = moments_from session.nodes session.steps ++ moments later
 
 -- At this moment the node at that index was this one.
-pub record IsAt {T : Type 0} (sessions : List (Session T)) (moment node_index : ℕ) (node : Node T) : Type 0 where
+pub record WasAt {T : Type 0} (sessions : List (Session T)) (moment node_index : ℕ) (node : Node T) : Type 0 where
   pub nodes : List (Node T)
   pub then : slice_get (moments sessions) moment ≡ Some nodes
   pub there : slice_get nodes node_index ≡ Some node
 
 -- it was so at some moment
-pub record IsHeld {T : Type 0} (sessions : List (Session T)) (node : Node T) : Type 0 where
+pub record WasOnce {T : Type 0} (sessions : List (Session T)) (node : Node T) : Type 0 where
   pub moment : ℕ
   pub node_index : ℕ
-  pub at : IsAt sessions moment node_index node
+  pub at : WasAt sessions moment node_index node

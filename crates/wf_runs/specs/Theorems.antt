@@ -19,7 +19,7 @@ use Rattle.wf_serve.specs.Agreement.{AskedAlike}
 use Rattle.wf_serve.specs.ConnectionEffect.{IsServedAt}
 use Rattle.wf_tape.specs.declared.tape.Tape.{Ghosts as Tape}
 use Rattle.wf_runs.specs.Session.{Session}
-use Rattle.wf_runs.specs.Folder.{IsFolder, moments, IsAt, IsHeld}
+use Rattle.wf_runs.specs.Folder.{IsFolder, moments, WasAt, WasOnce}
 
 -- ---- one farm of processes
 
@@ -37,7 +37,7 @@ pub record IsOneFarm {T : Type 0} (tapes : Tape T) (n : ℕ) (sessions : List (S
   pub careers : ℕ → Career T
   pub items : List Item
   pub farm : IsFarm tapes n careers items
-  pub order : (moment later node_index : ℕ) (node next : Node T) → moment ≤ later → IsAt sessions moment node_index node → IsAt sessions later node_index next → AreInOrder n careers node_index node next
+  pub order : (moment later node_index : ℕ) (node next : Node T) → moment ≤ later → WasAt sessions moment node_index node → WasAt sessions later node_index next → AreInOrder n careers node_index node next
 
 abbrev pub FolderIsOneFarm : {T : Type 0} → Tape T → Type 0
 FolderIsOneFarm {T} tapes = (n : ℕ) (sessions : List (Session T)) → IsFolder tapes n sessions → IsOneFarm tapes n sessions
@@ -47,17 +47,17 @@ FolderIsOneFarm {T} tapes = (n : ℕ) (sessions : List (Session T)) → IsFolder
 -- There is one history, and what any node had published at any moment is a beginning of it.
 pub record HasOneHistory {T : Type 0} (sessions : List (Session T)) : Type 0 where
   pub history : List Definition
-  pub each : (node : Node T) → IsHeld sessions node → IsBeginning node.parts.history history
+  pub each : (node : Node T) → WasOnce sessions node → IsBeginning node.parts.history history
 
 -- No two nodes, at any two moments, have published different definitions under one sequence.
 unfoldable pub HaveOneDefinition : {T : Type 0} → List (Session T) → Type 0
-HaveOneDefinition {T} sessions = (node other : Node T) → IsHeld sessions node → IsHeld sessions other → (s : ℕ) (c d : Definition) →
+HaveOneDefinition {T} sessions = (node other : Node T) → WasOnce sessions node → WasOnce sessions other → (s : ℕ) (c d : Definition) →
     definition_at node.parts.history s ≡ Some c → definition_at other.parts.history s ≡ Some d → c ≡ d
 
 -- What the node at an index had published at one moment is a beginning of what it had published at each later one: no published sequence
 -- goes back, whether in one session or across restarts.
 unfoldable pub NoneGoesBack : {T : Type 0} → List (Session T) → Type 0
-NoneGoesBack {T} sessions = (moment later node_index : ℕ) (node next : Node T) → moment ≤ later → IsAt sessions moment node_index node → IsAt sessions later node_index next →
+NoneGoesBack {T} sessions = (moment later node_index : ℕ) (node next : Node T) → moment ≤ later → WasAt sessions moment node_index node → WasAt sessions later node_index next →
     IsBeginning node.parts.history next.parts.history
 
 -- ---- what clients get
@@ -97,7 +97,7 @@ module _ {T : Type 0} (tapes : Tape T) where
 
 -- Two nodes, or one at two moments, respond to equal queries with equal bytes, if neither responds that an allocation failed (503).
 unfoldable pub RespondAlike : {T : Type 0} → Tape T → List (Session T) → Type 0
-RespondAlike {T} tapes sessions = (node other : Node T) (query : List ℕ) (response another : Response) → IsHeld sessions node → IsHeld sessions other →
+RespondAlike {T} tapes sessions = (node other : Node T) (query : List ℕ) (response another : Response) → WasOnce sessions node → WasOnce sessions other →
     AskedAlike query node.parts.history other.parts.history → HasResponded tapes node query response → HasResponded tapes other query another →
     response.status ≢ 503 → another.status ≢ 503 → response_bytes another ≡ response_bytes response
 

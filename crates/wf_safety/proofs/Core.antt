@@ -7,7 +7,7 @@ use Rattle.wf_ballot.specs.OrderTheorems.{below-total, below-induction, not_belo
 use Rattle.wf_ballot.specs.QuorumTheorems.{majorities_meet}
 use Rattle.wf_model.specs.Message.{Vote, Message, Accept}
 use Rattle.wf_model.specs.Chosen.{IsIn, Voted, IsChosen}
-use Rattle.wf_safety.specs.Theorems.{VoteNotBelow, IsWithin, HasPromised, IsReported, BestIsReported, IsCarried, IsBacked}
+use Rattle.wf_safety.specs.Theorems.{VoteNotBelow, AreReportsWithin, HasPromised, IsReported, BestIsReported, IsVoteCarried, IsBacked}
 use Rattle.wf_safety.proofs.Facts.{MessageFacts}
 
 module _ {V : Type 0} (n : ℕ) (sent : List (Message V)) (facts : MessageFacts n sent) (s : ℕ) (b : Ballot) (d : V) (chosen : Majority n (Voted sent s b d)) where
@@ -35,7 +35,7 @@ module _ {V : Type 0} (n : ℕ) (sent : List (Message V)) (facts : MessageFacts 
 
   -- a vote not below b was reported, and the best one isn't below that
   by_best : (base : ℕ) (c : Ballot) (e : V) (best vote : Option (Vote V)) (nodes : ℕ → Bool) → ((a : Ballot) → below a c ≡ true → Carries a) → VoteNotBelow vote b →
-      IsWithin vote best → BestIsReported sent base s c nodes best → IsCarried best e → e ≡ d
+      AreReportsWithin vote best → BestIsReported sent base s c nodes best → IsVoteCarried best e → e ≡ d
   by_best base c e best None nodes earlier not_below within reports carried = absurd not_below
   by_best base c e None (Some vote) nodes earlier not_below within reports carried = absurd within
   by_best base c e (Some best) (Some vote) nodes earlier not_below within reports carried =

@@ -13,7 +13,7 @@ use Rattle.wf_model.specs.VolatileState.{Phase, Preparing, Accepting, Proposal, 
 use Rattle.wf_model.specs.Table.{Transition, StepRejection, SequenceFull, Input, Propose, Retry, CatchUp, Deliver, store, quiet, only_sends, stores, running_transition, when_running, with_proposal, round_known, reject_proposal, step_rejection, begin_at, ask_votes, lead, propose_by, on_propose, on_retry, on_catch_up, is_new_response, with_promise, asking_votes, leadership_of, promised, on_promise, with_vote, on_nack, ended, ends, after_publishing, voted, on_accepted, on_chosen, on_message, transition}
 use Rattle.wf_model.specs.Chosen.{IsIn, Reported, IsChosen}
 use Rattle.wf_model.specs.VotesTheorems.{reports_vote, IsItsVote, reported_vote, first_vote-of, vote_of-better}
-use Rattle.wf_safety.specs.Theorems.{IsWithin, IsInWindow, HasPromised, IsReported, BestIsReported, IsCarried, IsBacked}
+use Rattle.wf_safety.specs.Theorems.{AreReportsWithin, IsInWindow, HasPromised, IsReported, BestIsReported, IsVoteCarried, IsBacked}
 use Rattle.wf_safety.proofs.Members.{member-split, member-last}
 use Rattle.wf_safety.proofs.Facts.{IsNext, DurableFacts, PreparingFacts, AcceptingFacts, PhaseFacts, ProposalFacts, ProposingFacts, LeadershipFacts, LeadingFacts, last_asked, IsWhole, VolatileFacts, IsKnown, MaySend, NodeFacts, IsOwnAsk, TransitionFacts}
 use Rattle.wf_safety.proofs.RecordFacts.{store_tried, published-more, published-tried, next_is_next, store_published}
@@ -23,26 +23,26 @@ use Rattle.wf_safety.proofs.Ballots.{and_node-true, and_node-self, and_node-old,
 
 -- ---- the best of the reported votes
 
-within_by : {V : Type 0} (best vote : Vote V) (higher : Bool) → below best.ballot vote.ballot ≡ higher → IsWithin (Some vote) (better (Some best) (Some vote))
+within_by : {V : Type 0} (best vote : Vote V) (higher : Bool) → below best.ballot vote.ballot ≡ higher → AreReportsWithin (Some vote) (better (Some best) (Some vote))
 unfolding better
 within_by best vote true e = rw e (below-irreflexive vote.ballot)
 within_by best vote false e = rw e e
 
 -- the best vote isn't below the one that is reported now
-within_self : {V : Type 0} (best vote : Option (Vote V)) → IsWithin vote (better best vote)
+within_self : {V : Type 0} (best vote : Option (Vote V)) → AreReportsWithin vote (better best vote)
 unfolding better
 within_self best None = tt
 within_self None (Some vote) = below-irreflexive vote.ballot
 within_self (Some best) (Some vote) = within_by best vote (below best.ballot vote.ballot) refl
 
 kept_within : {V : Type 0} (best vote old : Vote V) (higher : Bool) → below best.ballot vote.ballot ≡ higher → below best.ballot old.ballot ≡ false →
-    IsWithin (Some old) (better (Some best) (Some vote))
+    AreReportsWithin (Some old) (better (Some best) (Some vote))
 unfolding better
 kept_within best vote old true e h = rw e (below-asymmetric old.ballot vote.ballot (not_below-below old.ballot best.ballot vote.ballot h e))
 kept_within best vote old false e h = rw e h
 
 -- and it isn't below those reported before
-within_better : {V : Type 0} (best vote old : Option (Vote V)) → IsWithin old best → IsWithin old (better best vote)
+within_better : {V : Type 0} (best vote old : Option (Vote V)) → AreReportsWithin old best → AreReportsWithin old (better best vote)
 unfolding better
 within_better best vote None h = tt
 within_better None vote (Some old) h = absurd h
@@ -71,7 +71,7 @@ module _ {V : Type 0} (sent : List (Message V)) (base s : ℕ) (b : Ballot) (nod
   reported_better (Some best) None h stated = still_reported best h
   reported_better (Some best) (Some vote) h stated = reported_higher best vote (below best.ballot vote.ballot) refl h (stated vote refl)
 
-carried_is : {V : Type 0} (best : Option (Vote V)) (own : V) → IsCarried best (carried best own)
+carried_is : {V : Type 0} (best : Option (Vote V)) (own : V) → IsVoteCarried best (carried best own)
 unfolding carried
 carried_is None own = tt
 carried_is (Some best) own = refl
@@ -198,7 +198,7 @@ module _ {V : Type 0} (n i : ℕ) (stored : DurableState V) (sent : List (Messag
         best = vote_of l.base l.best p.sequence;
         majority = record { nodes = led.nodes; is_majority = led.is_majority; each = λ j is_node is_in. led.responders j p.sequence is_in in_window };
         reports = led.reports p.sequence;
-        carried = subst (λ o. IsCarried o d) best (carried_is (first_vote p.best) p.own);
+        carried = subst (λ o. IsVoteCarried o d) best (carried_is (first_vote p.best) p.own);
       } in
       record {
         stored = facts;
@@ -261,7 +261,7 @@ module _ {V : Type 0} (n i : ℕ) (stored : DurableState V) (sent : List (Messag
           | inl e ↦ subst (HasPromised sent p.sequence t p.ballot (better (vote_of p.sequence p.best t) (vote_of p.sequence votes t))) (sym e) (record {
             vote = vote;
             stated = record { votes = votes; stated = stated; reported = reported };
-            within = subst (λ o. IsWithin o (better (vote_of p.sequence p.best t) (vote_of p.sequence votes t))) its.is_it
+            within = subst (λ o. AreReportsWithin o (better (vote_of p.sequence p.best t) (vote_of p.sequence votes t))) its.is_it
                 (within_self (vote_of p.sequence p.best t) (vote_of p.sequence votes t));
           })
           | inr old ↦ (let o : HasPromised sent p.sequence t p.ballot (vote_of p.sequence p.best t) j = facts.responders j t old in_window in

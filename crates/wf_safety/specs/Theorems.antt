@@ -116,15 +116,15 @@ VoteNotBelow None b = ⊥
 VoteNotBelow (Some vote) b = below vote.ballot b ≡ false
 
 -- a reported vote isn't above the best one; where there is no best one, no vote was reported
-abbrev pub IsWithin : {V : Type 0} → Option (Vote V) → Option (Vote V) → Type 0
-IsWithin None best = ⊤
-IsWithin (Some vote) best = VoteNotBelow best vote.ballot
+abbrev pub AreReportsWithin : {V : Type 0} → Option (Vote V) → Option (Vote V) → Type 0
+AreReportsWithin None best = ⊤
+AreReportsWithin (Some vote) best = VoteNotBelow best vote.ballot
 
 -- node i promised at the ballot from `base` on, and reported for the sequence a vote not above the best one, or none
 pub record HasPromised {V : Type 0} (sent : List (Message V)) (base s : ℕ) (b : Ballot) (best : Option (Vote V)) (i : ℕ) : Type 0 where
   pub vote : Option (Vote V)
   pub stated : Reported sent base s b vote i
-  pub within : IsWithin vote best
+  pub within : AreReportsWithin vote best
 
 -- one of these nodes reported the vote for the sequence
 pub record IsReported {V : Type 0} (sent : List (Message V)) (base s : ℕ) (b : Ballot) (nodes : ℕ → Bool) (vote : Vote V) : Type 0 where
@@ -138,9 +138,9 @@ BestIsReported sent base s b nodes None = ⊤
 BestIsReported sent base s b nodes (Some vote) = IsReported sent base s b nodes vote
 
 -- d is the definition of the best vote, if there is one
-abbrev pub IsCarried : {V : Type 0} → Option (Vote V) → V → Type 0
-IsCarried None d = ⊤
-IsCarried (Some vote) d = d ≡ vote.definition
+abbrev pub IsVoteCarried : {V : Type 0} → Option (Vote V) → V → Type 0
+IsVoteCarried None d = ⊤
+IsVoteCarried (Some vote) d = d ≡ vote.definition
 
 -- The sequence is one of those at which a Promise from `base` on reports votes.
 pub record IsInWindow (base s : ℕ) : Type 0 where
@@ -156,7 +156,7 @@ pub record IsBacked {V : Type 0} (n : ℕ) (sent : List (Message V)) (s : ℕ) (
   pub best : Option (Vote V)
   pub majority : Majority n (HasPromised sent base s b best)
   pub reports : BestIsReported sent base s b majority.nodes best
-  pub carried : IsCarried best d
+  pub carried : IsVoteCarried best d
 
 pub record PromisedMajorityIn {V : Type 0} (n : ℕ) (sent : List (Message V)) : Type 0 where
   pub backed : (s : ℕ) (b : Ballot) (d : V) → IsIn (Accept s b d) sent → IsBacked n sent s b d

@@ -3,7 +3,7 @@ use Rattle.std.proofs.Common.{◌≡◌, ◌∙◌, ℕ, List, Some, None, sym, 
 use Rattle.std.specs.Prelude.{Result, Ok, Err, false}
 use Rattle.wf_script.specs.Fault.{is_memory}
 use Rattle.wf_script.specs.Lines.{Lines, lines, over_limit}
-use Rattle.wf_script.specs.ReadContract.{◌>>=◌, Reports}
+use Rattle.wf_script.specs.ReadContract.{◌>>=◌, ReportsWithLine}
 use Rattle.wf_script.specs.Script.{Script}
 use Rattle.wf_script.specs.Text.{State, ended, head_from, nothing_meant, on_from, script, script_of, unless_over}
 use Rattle.wf_script.specs.declared.fault.ScriptFault.{ScriptFault}
@@ -37,9 +37,9 @@ none_meant text ls now nodes fault are head rest =
     ∙ ap (λ (found : Result State ScriptFault). found >>= (λ t. ended nodes t)) rest
 
 pub no_head_reported : {X : Type 0} (view : X → Script) (result : Result X ScriptFault) (fault : ScriptFault) (text : List ℕ) (ls : Lines) → result ≡ Err fault → AreLinesOf text ls
-    → (is_memory fault ≡ false → head_from ls ≡ Err fault) → Reports view result (script (record { number = 0; left = lines text }))
+    → (is_memory fault ≡ false → head_from ls ≡ Err fault) → ReportsWithLine view result (script (record { number = 0; left = lines text }))
 no_head_reported view result fault text ls is are why =
-    subst (λ r. Reports view r (script (record { number = 0; left = lines text }))) (sym is) (λ isnt. from_first text ls are ∙ behind_head ls (Err fault) (why isnt))
+    subst (λ r. ReportsWithLine view r (script (record { number = 0; left = lines text }))) (sym is) (λ isnt. from_first text ls are ∙ behind_head ls (Err fault) (why isnt))
 
 pub over_is_none : (text : List ℕ) (line : ℕ) → over_limit text ≡ Some line → script_of text ≡ Err (OverLimit line)
 unfolding script_of

@@ -29,12 +29,12 @@ Gives view (Ok x) meant = meant ≡ Ok (view x)
 Gives view (Err wrong) meant = wants_memory wrong ≡ false → meant ≡ Err wrong
 
 -- the same of an error of the script, with its line
-abbrev pub Reports : {X Y : Type 0} → (X → Y) → Result X ScriptFault → Result Y ScriptFault → Type 0
-Reports view (Ok x) meant = meant ≡ Ok (view x)
-Reports view (Err fault) meant = is_memory fault ≡ false → meant ≡ Err fault
+abbrev pub ReportsWithLine : {X Y : Type 0} → (X → Y) → Result X ScriptFault → Result Y ScriptFault → Type 0
+ReportsWithLine view (Ok x) meant = meant ≡ Ok (view x)
+ReportsWithLine view (Err fault) meant = is_memory fault ≡ false → meant ≡ Err fault
 
 -- After Ok what is meant from here on is what is meant from there on; an error other than allocation failure is the one that is
 -- meant, at the line of this number.
-abbrev pub GoesOn : {X Y : Type 0} → ℕ → Result X Wrong → Result Y ScriptFault → Result Y ScriptFault → Type 0
-GoesOn n (Ok x) here there = here ≡ there
-GoesOn n (Err wrong) here there = wants_memory wrong ≡ false → here ≡ Err (fault_of wrong n)
+abbrev pub ReadsFurther : {X Y : Type 0} → ℕ → Result X Wrong → Result Y ScriptFault → Result Y ScriptFault → Type 0
+ReadsFurther n (Ok x) here there = here ≡ there
+ReadsFurther n (Err wrong) here there = wants_memory wrong ≡ false → here ≡ Err (fault_of wrong n)

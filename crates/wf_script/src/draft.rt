@@ -1,11 +1,11 @@
 //! A script while it is read: its maps and orders so far.
 
-ghost use Rattle.std.specs.Prelude.{◌≡◌, ◌≤◌, ◌+◌, [], length, map, IfErr, Some, None};
+ghost use Rattle.std.specs.Prelude.{◌≡◌, ◌≤◌, ◌+◌, length, map, IfErr, Some, None};
 ghost use Rattle.wf_script.specs.Drafts.{Closes};
 ghost use Rattle.wf_script.specs.Fault.{IsAtLine};
 ghost use Rattle.wf_script.specs.Lines.{total};
 ghost use Rattle.wf_script.specs.Script.{name};
-ghost use Rattle.wf_script.specs.ReadContract.{Gives, GoesOn, Reports};
+ghost use Rattle.wf_script.specs.ReadContract.{Gives, ReadsFurther, ReportsWithLine};
 ghost use Rattle.wf_script.specs.Text.{a_new_name, closed, line_on, map_on, nothing_meant, on_from, state, with_order};
 
 use crate::fault::{ScriptFault, Wrong};
@@ -41,7 +41,7 @@ impl ScriptDraft {
         alloc: Global,
         lines: &mut Lines<'_>,
     ) -> Result<(), ScriptFault>
-        ensures value { Reports
+        ensures value { ReportsWithLine
             (λ _. state self.new.maps.named.items self.new.orders.items) result
             (on_from None
             (state self.old.maps.named.items self.old.orders.items) lines.old) }
@@ -61,7 +61,7 @@ impl ScriptDraft {
     /// Reads the line that was returned last; where a map begins there, the lines of the map too.
     #[tactic(auto, unfolding(crate::specs::Text::line_on, crate::specs::Text::line_means, crate::specs::Text::line_meaning, crate::specs::Text::meant_by, crate::specs::Text::map_on))]
     fn take_line(&mut self, alloc: Global, line: &[u8], lines: &mut Lines<'_>) -> Result<(), Wrong>
-        ensures value { GoesOn lines.old.number result
+        ensures value { ReadsFurther lines.old.number result
             (line_on None
             (state self.old.maps.named.items self.old.orders.items)
             line.now lines.old)
@@ -114,7 +114,7 @@ impl ScriptDraft {
         words: &mut Words<'_>,
         lines: &mut Lines<'_>,
     ) -> Result<(), Wrong>
-        ensures value { GoesOn lines.old.number result
+        ensures value { ReadsFurther lines.old.number result
             (map_on
             (state self.old.maps.named.items self.old.orders.items)
             words.old lines.old)

@@ -1,6 +1,6 @@
 //! The line at which a text is over a limit of scripts.
 
-ghost use Rattle.std.specs.Prelude.{◌≡◌, ◌≤◌, length};
+ghost use Rattle.std.specs.Prelude.{◌≡◌, length};
 ghost use Rattle.wf_script.specs.Lines.{lesser, lines, over_bytes, over_limit, over_lines};
 
 use crate::lines::lines_ended;

@@ -1,6 +1,6 @@
 //! The lines of a script, one after the other.
 
-ghost use Rattle.std.specs.Prelude.{◌≡◌, ◌≤◌, ◌+◌, length, take, drop, not, ◌==◌, [], IfSome, IfNone};
+ghost use Rattle.std.specs.Prelude.{◌≡◌, ◌≤◌, ◌+◌, length, ◌==◌, [], IfSome, IfNone};
 ghost use Rattle.std.specs.List.{prefix_len};
 ghost use Rattle.wf_script.specs.Lines.{line_feeds, lines, without_return, is_in_line};
 

@@ -5,7 +5,6 @@ ghost use Rattle.wf_script.specs.Script.{name};
 ghost use Rattle.wf_script.specs.Order.{view};
 ghost use Rattle.wf_script.specs.Orders.{a_kept, a_map, a_step, cut_order, definition_order, deliver_order, equal_order, get_order, numbers, order_by, order_of, proposal_order, pump_order, restart_order, some_numbers, step_by, step_order, stop_order, torn_order};
 ghost use Rattle.wf_script.specs.ReadContract.{Gives};
-ghost use Rattle.wf_script.specs.Words.{a_word};
 
 use crate::fault::Wrong;
 use crate::maps::Maps;

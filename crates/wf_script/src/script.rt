@@ -1,10 +1,10 @@
 //! A script, read whole.
 
-ghost use Rattle.std.specs.Prelude.{◌≡◌, ◌≤◌, ◌<◌, ◌+◌, ◌↔◌, length, slice_get, option_map, option_copied, IsTrue, max, Err, None, IfOk, IfErr, OnOk, OnErr, IfNone, IfSome};
+ghost use Rattle.std.specs.Prelude.{◌≡◌, ◌≤◌, ◌<◌, ◌↔◌, length, slice_get, option_map, option_copied, IsTrue, Err, None, IfOk, IfErr, OnOk, IfSome};
 ghost use Rattle.wf_ballot.specs.Node.{most_nodes};
 ghost use Rattle.wf_script.specs.Fault.{IsAtLine};
-ghost use Rattle.wf_script.specs.Lines.{line_feeds, lines, most_script_bytes, most_lines, most_maps, over_limit, total};
-ghost use Rattle.wf_script.specs.ReadContract.{Gives, Reports};
+ghost use Rattle.wf_script.specs.Lines.{line_feeds, lines, most_script_bytes, most_lines, over_limit, total};
+ghost use Rattle.wf_script.specs.ReadContract.{Gives, ReportsWithLine};
 ghost use Rattle.wf_script.specs.Text.{head_from, nodes_of, script, script_of};
 
 use crate::draft::ScriptDraft;
@@ -74,7 +74,7 @@ impl Script {
     /// bytes, or at line 1 where they have none.
     #[tactic(auto, using(crate::proofs::LineCount::over_at, crate::proofs::LineCount::bytes_fit, crate::proofs::LineCount::lines_fit))]
     pub fn read(alloc: Global, bytes: &[u8]) -> Result<Script, ScriptFault>
-        ensures value { Reports (λ s. s) result (script_of bytes.now) }
+        ensures value { ReportsWithLine (λ s. s) result (script_of bytes.now) }
         ensures bytes { OnOk result (length bytes.now ≤ most_script_bytes) }
         ensures lines { OnOk result (line_feeds bytes.now ≤ most_lines) }
         ensures over { IfSome
@@ -140,7 +140,7 @@ impl Script {
 #[tactic(auto, using(crate::proofs::Faults::at_line_of))]
 fn read_lines(alloc: Global, bytes: &[u8]) -> Result<Script, ScriptFault>
     requires { length (lines bytes.now) ≤ most_lines }
-    ensures value { Reports (λ s. s) result (script (record { number = 0; left = lines bytes.now })) }
+    ensures value { ReportsWithLine (λ s. s) result (script (record { number = 0; left = lines bytes.now })) }
     ensures at { IfErr result (IsAtLine (length (lines bytes.now))) }
 {
     let mut lines = Lines::new(bytes);
@@ -165,7 +165,7 @@ fn read_lines(alloc: Global, bytes: &[u8]) -> Result<Script, ScriptFault>
 /// The number of nodes, from the first line that isn't skipped.
 #[tactic(auto, using(crate::proofs::Faults::wrong_at, crate::proofs::LineSteps::same_want, crate::proofs::LineSteps::head_line, crate::proofs::LineSteps::head_skipped, crate::proofs::LineSteps::no_head))]
 fn first_line(lines: &mut Lines<'_>) -> Result<u8, ScriptFault>
-    ensures value { Reports (λ nodes. (nodes, lines.new)) result (head_from lines.old) }
+    ensures value { ReportsWithLine (λ nodes. (nodes, lines.new)) result (head_from lines.old) }
     ensures nodes { IfOk result (λ nodes. (1 ≤ nodes) × (nodes ≤ most_nodes)) }
     ensures at { IfErr result (IsAtLine (total lines.old)) }
     ensures total { total lines.new ≡ total lines.old }

@@ -13,7 +13,7 @@ use Rattle.wf_node.specs.Growth.{IsGrown}
 use Rattle.wf_node.specs.Node.{Node}
 use Rattle.wf_serve.specs.Connections.{HaveCome, IsAnswered, MayBeAnswered}
 use Rattle.wf_serve.specs.First.{FirstIsPublished, IfAccepted}
-use Rattle.wf_serve.specs.Publication.{HavePublished}
+use Rattle.wf_serve.specs.Publication.{HavePublishedTheMap}
 use Rattle.wf_serve.specs.ConnectionEffect.{IsRetried}
 use Rattle.wf_serve.proofs.Reachable.{asked_turn, moved_reaches}
 use Rattle.wf_serve.proofs.Published.{accepted_is_published}
@@ -84,7 +84,7 @@ module _ {T : Type 0} (tapes : Tape T) (catches : CatchUpIsReachable tapes) wher
   module _ (rests : LevelRests tapes) (theorem : PublishedOnAll tapes) (nodes first after : List (Node T)) (long : length nodes ≡ 3) (turns : StandInTurn nodes) (fresh : AreFresh nodes) (keeps : KeepTurn first after) where
     if_accepted : (answer : MayBeAnswered tapes 0 nodes first) → IfAccepted tapes answer after
     if_accepted (inl answered) = λ accepted lost stopped none.
-        let done : HavePublished answered.input first =
+        let done : HavePublishedTheMap answered.input first =
         accepted_is_published tapes rests theorem 0 answered.input answered.written answered.written_after nodes first answered.outcome long turns fresh answered.connection accepted lost stopped none in
         record { request = done.request; received = done.received; map = done.map; is_map = done.is_map; published = still_published first after keeps done.map done.published }
     if_accepted (inr same) = tt

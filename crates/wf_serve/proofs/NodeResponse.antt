@@ -5,7 +5,7 @@ use Rattle.std.proofs.lemmas.Option.{same_Some}
 use Rattle.wf_def.specs.Definition.{Definition}
 use Rattle.wf_edge.specs.Page.{status_at}
 use Rattle.wf_edge.specs.Request.{Request}
-use Rattle.wf_edge.specs.RequestEffect.{IsRead, IsReading}
+use Rattle.wf_edge.specs.RequestEffect.{IsReadAnswered, IsReading}
 use Rattle.wf_edge.specs.declared.outcome.Outcome.{Outcome}
 use Rattle.wf_edge.specs.declared.resource.RequestedResource.{RequestedResource}
 use Rattle.wf_edge.specs.declared.resource.RequestedResource.TheVariants.{Status, Wms}
@@ -32,7 +32,7 @@ still_cached {T} nodes node_index node history cache at same cached = λ other t
 
 pub read_response : {T K : Type 0} (tapes : Tape T) (sinks : Sink K) (node_index : ℕ) (arrived : Result Request RequestFault) (sink sink_after : K) (nodes : List (Node T)) (outcome : ConnectionOutcome)
     (request : Request) (node : Node T) (history : List Definition) (shown : status.Status) (answer : Outcome) →
-    arrived ≡ Ok request → slice_get nodes node_index ≡ Some node → history ≡ node.parts.history → shown ≡ status_at node → IsRead sinks request history shown sink sink_after answer →
+    arrived ≡ Ok request → slice_get nodes node_index ≡ Some node → history ≡ node.parts.history → shown ≡ status_at node → IsReadAnswered sinks request history shown sink sink_after answer →
     outcome.request ≡ answer → outcome.deliveries ≡ no_deliveries → IsResponse tapes sinks node_index arrived sink sink_after nodes outcome nodes
 read_response tapes sinks node_index arrived sink sink_after nodes outcome request node history shown answer received at same_history same_status read is quiet =
     subst (λ (a : Result Request RequestFault). IsResponse tapes sinks node_index a sink sink_after nodes outcome nodes) (sym received)
@@ -40,8 +40,8 @@ read_response tapes sinks node_index arrived sink sink_after nodes outcome reque
       record {
         node = node;
         at = at;
-        read = subst (λ (o : Outcome). IsRead sinks request node.parts.history (status_at node) sink sink_after o) (sym is)
-            (subst₂ (λ h s. IsRead sinks request h s sink sink_after answer) same_history same_status read);
+        read = subst (λ (o : Outcome). IsReadAnswered sinks request node.parts.history (status_at node) sink sink_after o) (sym is)
+            (subst₂ (λ h s. IsReadAnswered sinks request h s sink sink_after answer) same_history same_status read);
       },
       quiet,
       refl,

@@ -11,7 +11,7 @@ use Rattle.wf_delivery.specs.DeliveryTheorems.{keeps_turn_twice}
 use Rattle.wf_delivery.specs.NodeInput.{IsSturdy}
 use Rattle.wf_farm.specs.Exchange.{ReachabilityGoesOn}
 use Rattle.wf_delivery.specs.SturdyTheorems.{same_sturdy, step_sturdy}
-use Rattle.wf_delivery.specs.Reachability.{AreReachableSending, IsOwn, outputs_by}
+use Rattle.wf_delivery.specs.Reachability.{AreReachableSending, IsOwnInput, outputs_by}
 use Rattle.wf_delivery.specs.IndexTheorems.{set_same}
 use Rattle.wf_node.specs.Node.{Node}
 use Rattle.wf_node.specs.declared.fault.NodeFault.{NodeFault}
@@ -25,7 +25,7 @@ hands_outputs (Err why) outputs is = sym is
 module _ {T : Type 0} (tapes : Tape T)
     (nodes : List (Node T)) (i : ℕ) (before after : Node T) (at : slice_get nodes i ≡ Some before) (turns : StandInTurn nodes) (outputs : Vec Message Global) where
   -- it was asked for a step
-  pub asked_reaches : (input : table.Input Definition) → IsOwn input → IsAsked tapes input before outputs after →
+  pub asked_reaches : (input : table.Input Definition) → IsOwnInput input → IsAsked tapes input before outputs after →
       AreReachableSending tapes nodes outputs.items (slice_set nodes i after)
   asked_reaches input own asked =
       subst (λ ms. AreReachableSending tapes nodes ms (slice_set nodes i after)) (hands_outputs asked.answer outputs asked.hands)
@@ -43,7 +43,7 @@ module _ {T : Type 0} (tapes : Tape T)
 
 -- A node that was asked leads any nodes on among which it is, and isn't halted where its tape won't fail.
 module _ {T : Type 0} (tapes : Tape T) (before after : Node T) (outputs : Vec Message Global) where
-  pub asked_reaches_on : (input : table.Input Definition) → IsOwn input → IsAsked tapes input before outputs after → ReachabilityGoesOn tapes before outputs.items after
+  pub asked_reaches_on : (input : table.Input Definition) → IsOwnInput input → IsAsked tapes input before outputs after → ReachabilityGoesOn tapes before outputs.items after
   unfolding ReachabilityGoesOn
   asked_reaches_on input own asked = λ nodes i at turns. asked_reaches tapes nodes i before after at turns outputs input own asked
 
@@ -60,7 +60,7 @@ module _ {T : Type 0} (tapes : Tape T) (before after : Node T) (outputs : Vec Me
   moved_sturdy (Proposes d result proposed hands) = step_sturdy tapes before after (table.Propose d) result proposed.steps proposed.sturdy proposed.sound
 
 -- A node was asked for a step of its own, and its messages were delivered: each node keeps its index and what it published.
-module _ {T : Type 0} (tapes : Tape T) (node_index : ℕ) (input : table.Input Definition) (own : IsOwn input)
+module _ {T : Type 0} (tapes : Tape T) (node_index : ℕ) (input : table.Input Definition) (own : IsOwnInput input)
     (nodes after : List (Node T)) (turns : StandInTurn nodes) (one : IsAskedAndArrived tapes node_index input nodes after) where
   asked_reachable : AreReachableSending tapes nodes one.outputs.items one.asked
   asked_reachable =

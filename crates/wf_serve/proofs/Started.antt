@@ -7,7 +7,7 @@ use Rattle.wf_folder.specs.declared.admission.Start.{Start}
 use Rattle.wf_folder.specs.declared.farm_file.Beginning.{Beginning}
 use Rattle.wf_folder.specs.declared.farm_file.FarmFile.{FarmFile}
 use Rattle.wf_folder.specs.declared.presence.Presence.{Presence}
-use Rattle.wf_serve.specs.Start.{HaveOpened, IsDrawn, IsFarmAdmitted, IsFarmBegun, IsFarmRejected, IsFarmStarted, IsFiled, IsStoppedAt, IsSurveyed, IsTapeOpened, IsTapeStopped, IsUnwritten, IsWritten, is_early, tape_opens}
+use Rattle.wf_serve.specs.Start.{HaveOpened, IsMarkDrawn, IsFarmAdmitted, IsFarmBegun, IsFarmRejected, IsFarmStarted, IsFiled, IsStoppedAt, IsSurveyed, IsTapeOpened, IsTapeStopped, IsFarmUnwritten, IsWritten, is_early, tape_opens}
 use Rattle.wf_serve.specs.TapeCheck.{AreTapesChecked}
 use Rattle.wf_serve.specs.declared.event.Cause.{Cause}
 use Rattle.wf_serve.specs.declared.event.Cause.TheVariants.{Memory}
@@ -109,10 +109,10 @@ tapes_stopped n number cause old middle new within have stopped = elim stopped.c
 
 -- ---- the file `farm`
 
-pub no_text : (calls : List Call) → IsUnwritten Memory calls calls
+pub no_text : (calls : List Call) → IsFarmUnwritten Memory calls calls
 no_text calls = record { left = inl refl; late = refl }
 
-pub not_written : (cause : Cause) (old new : List Call) → new ≡ failed_at Farm ∷ old → is_early cause ≡ false → IsUnwritten cause old new
+pub not_written : (cause : Cause) (old new : List Call) → new ≡ failed_at Farm ∷ old → is_early cause ≡ false → IsFarmUnwritten cause old new
 not_written cause old new is late = record { left = inr is; late = late }
 
 pub written_last : (n : ℕ) (file : FarmFile) (old before new : List Call) → HaveOpened n old before → new ≡ replaced Farm (farm_text file) ∷ before → IsWritten n file old new
@@ -130,7 +130,7 @@ left_changes n before mid new opened left = elim left [
   | inr failed ↦ inr (inr (ap changes failed ∙ ap (λ (calls : List Call). failed_at Farm ∷ calls) opened))
 ]
 
-pub unwritten : (n : ℕ) (cause : Cause) (old before new : List Call) → HaveOpened n old before → IsUnwritten cause before new → IsFarmRejected n cause old new
+pub unwritten : (n : ℕ) (cause : Cause) (old before new : List Call) → HaveOpened n old before → IsFarmUnwritten cause before new → IsFarmRejected n cause old new
 unwritten n cause old before new opened left = record {
   after = after_both old before new opened.after (left_after before new left.left);
   count = n;
@@ -196,7 +196,7 @@ admitted n (Ok x) survey tapes start old checked new same were begun = record {
 admitted n (Err cause) survey tapes start old checked new same were begun = tt
 
 -- with a mark that was drawn
-pub filed : {A : Type 0} (n : ℕ) (result : Result A Cause) (beginning : Beginning) (file : FarmFile) (old marked new : List Call) → IsDrawn n beginning file old marked →
+pub filed : {A : Type 0} (n : ℕ) (result : Result A Cause) (beginning : Beginning) (file : FarmFile) (old marked new : List Call) → IsMarkDrawn n beginning file old marked →
     OnOk result (IsWritten n file marked new) → OnOk result (IsFiled n beginning old new)
 filed n (Ok x) beginning file old marked new drawn written = record { file = file; marked = marked; drawn = drawn; written = written }
 filed n (Err cause) beginning file old marked new drawn written = tt

@@ -2,7 +2,7 @@
 use Rattle.std.proofs.Common.{◌≡◌, ◌≢◌, ◌∙◌, ℕ, suc, List, [], ◌∷◌, ap, inl, inr, refl, subst, sym}
 use Rattle.std.specs.Prelude.{Option, Some, None, Result, Ok, Err, IfErr, IfOk, IfSome}
 use Rattle.wf_def.specs.Definition.{Definition}
-use Rattle.wf_folder.specs.Admission.{IsRejection}
+use Rattle.wf_folder.specs.Admission.{IsAdmissionFault}
 use Rattle.wf_folder.specs.declared.admission.StartRejection.{StartRejection}
 use Rattle.wf_journal.specs.declared.open_error.OpenFault.{OpenFault}
 use Rattle.wf_journal.specs.declared.open_error.OpenFault.TheVariants as open_faults
@@ -11,7 +11,7 @@ use Rattle.wf_node.specs.Node.{stored_of}
 use Rattle.wf_node.specs.OpenedNode.{IsFoldOf, IsWhyBad}
 use Rattle.wf_serve.proofs.Checked.{all_agree, have_next}
 use Rattle.wf_serve.specs.Difference.{DifferAt}
-use Rattle.wf_serve.specs.LongestTape.{AreTaken, AreTakenOr, HasTaken, IsKeptOrNext, IsNextLongest, IsOfTape, IsOneOf, IsRejected, IsWhyDifferent, IsWhyNoNode, IsWhyNotNext, IsWhyUnlike, cause_of}
+use Rattle.wf_serve.specs.LongestTape.{AreTaken, AreTakenOr, HasTakenTapes, IsKeptOrNext, IsNextLongest, IsOfTape, IsOneOfTwo, HasFoundCause, IsWhyDifferent, IsWhyNoNode, IsWhyNotNext, IsWhyUnlike, cause_of}
 use Rattle.wf_serve.specs.StartCause.{IsStartCause, start_cause}
 use Rattle.wf_serve.specs.TapesTaken.{AreFolds, AreSoundOr, HasTape, IsTapeCause, NumberedTape}
 use Rattle.wf_serve.specs.declared.check.Longest.{Longest}
@@ -50,21 +50,21 @@ next_unlike (Err cause) number bytes before longest state there folds why =
 pub first_kept : (number : ℕ) (bytes : List ℕ) (longest : Option Longest) (longer : Longest) → longer.number ≡ number → IsFoldOf (stored_of longer.node) bytes → IsKeptOrNext number bytes longest longer
 first_kept number bytes longest longer at folds = inr (at, folds)
 
-pub is_first : (first second : Longest) → IsOneOf first second first
+pub is_first : (first second : Longest) → IsOneOfTwo first second first
 is_first first second = inl refl
 
-pub is_second : (first second : Longest) → IsOneOf first second second
+pub is_second : (first second : Longest) → IsOneOfTwo first second second
 is_second first second = inr refl
 
 one_kept : (number : ℕ) (bytes : List ℕ) (before : Option Longest) (longest next longer : Longest) → before ≡ Some longest → next.number ≡ number → IsFoldOf (stored_of next.node) bytes →
-    IsOneOf longest next longer → IsKeptOrNext number bytes before longer
+    IsOneOfTwo longest next longer → IsKeptOrNext number bytes before longer
 one_kept number bytes before longest next longer there at folds one = elim one [
   | inl first ↦ inl (there ∙ ap (λ (l : Longest). Some l) (sym first))
   | inr second ↦ inr (ap (λ (l : Longest). l.number) second ∙ at, subst (λ (l : Longest). IsFoldOf (stored_of l.node) bytes) (sym second) folds)
 ]
 
 pub next_kept : (result : Result Longest Cause) (number : ℕ) (bytes : List ℕ) (before : Option Longest) (longest next : Longest) → before ≡ Some longest → next.number ≡ number →
-    IsFoldOf (stored_of next.node) bytes → IfOk result (IsOneOf longest next) → IfOk result (IsKeptOrNext number bytes before)
+    IsFoldOf (stored_of next.node) bytes → IfOk result (IsOneOfTwo longest next) → IfOk result (IsKeptOrNext number bytes before)
 next_kept (Ok longer) number bytes before longest next there at folds one = one_kept number bytes before longest next longer there at folds one
 next_kept (Err cause) number bytes before longest next there at folds one = tt
 
@@ -143,8 +143,8 @@ taken_with_cause tapes number bytes longest cause other were why = elim why [
   | inr unlike ↦ different_taken tapes number bytes longest cause were unlike
 ]
 
-pub rejected_taken : {E : Type 0} (result : Result TapeCheck E) (tapes : List NumberedTape) (number : ℕ) (bytes : List ℕ) (longest : Option Longest) (cause : Cause) → IfOk result (IsRejected cause) →
-    AreTaken tapes longest → IsWhyNotNext number bytes longest cause → IfOk result (HasTaken ((number, bytes) ∷ tapes))
+pub rejected_taken : {E : Type 0} (result : Result TapeCheck E) (tapes : List NumberedTape) (number : ℕ) (bytes : List ℕ) (longest : Option Longest) (cause : Cause) → IfOk result (HasFoundCause cause) →
+    AreTaken tapes longest → IsWhyNotNext number bytes longest cause → IfOk result (HasTakenTapes ((number, bytes) ∷ tapes))
 rejected_taken (Ok check) tapes number bytes longest cause rejected were why =
     subst (λ (c : Option Cause). AreTakenOr ((number, bytes) ∷ tapes) check.longest c) (sym rejected.0) (taken_with_cause tapes number bytes longest cause rejected.1 were why)
 rejected_taken (Err error) tapes number bytes longest cause rejected were why = tt
@@ -163,5 +163,5 @@ sound_or tapes longest (Some cause) why = why
 
 -- ---- a rejected start
 
-pub start_caused : (survey : Survey) (nodes : ℕ) (why : StartRejection) (cause : Cause) → IsRejection nodes survey.found survey.tapes why → cause ≡ start_cause why → IsStartCause survey cause
+pub start_caused : (survey : Survey) (nodes : ℕ) (why : StartRejection) (cause : Cause) → IsAdmissionFault nodes survey.found survey.tapes why → cause ≡ start_cause why → IsStartCause survey cause
 start_caused survey nodes why cause rejected is = (nodes, why, rejected, is)

@@ -4,7 +4,7 @@ use Rattle.std.specs.Prelude.{◌≡◌, ◌≢◌, ◌⊎◌, ◌<◌, ℕ, Boo
 use Rattle.std.specs.declared.alloc.Global.{Global}
 use Rattle.wf_codec.specs.declared.message.Message.{Message}
 use Rattle.wf_def.specs.Definition.{Definition}
-use Rattle.wf_edge.specs.StepResult.{IsAnswer}
+use Rattle.wf_edge.specs.StepResult.{IsStepResult}
 use Rattle.wf_edge.specs.Page.{proposal_state_at}
 use Rattle.wf_edge.specs.RequestEffect.{HandsOut, IsOutcome, MovesOnce}
 use Rattle.wf_edge.specs.declared.outcome.Outcome.{Outcome}
@@ -66,7 +66,7 @@ module _ {T : Type 0} (tapes : Tape T) where
   -- The messages of a node that is asked for a step: exactly the step's, none if the step was rejected or failed.
   pub record IsAsked (input : Input Definition) (before : Node T) (outputs : Vec Message Global) (after : Node T) : Type 0 where
     pub answer : Result (Vec Message Global) NodeFault
-    pub answers : IsAnswer tapes input before answer after
+    pub answers : IsStepResult tapes input before answer after
     pub hands : HandsOut answer outputs
 
   -- The node at index `node_index` was asked so.

@@ -76,14 +76,14 @@ abbrev pub IsWhyNotNext : ℕ → List ℕ → Option Longest → Cause → Type
 IsWhyNotNext number bytes longest cause = IsWhyNoNode number bytes cause ⊎ IsWhyUnlike number bytes longest cause
 
 -- a check has found this cause, which isn't that an allocation failed
-abbrev pub IsRejected : Cause → TapeCheck → Type 0
-IsRejected cause check = (check.cause ≡ Some cause) × (cause ≢ causes.Memory)
+abbrev pub HasFoundCause : Cause → TapeCheck → Type 0
+HasFoundCause cause check = (check.cause ≡ Some cause) × (cause ≢ causes.Memory)
 
 -- ---- whose tape the kept one's is
 
 -- it is one of the two
-abbrev pub IsOneOf : Longest → Longest → Longest → Type 0
-IsOneOf first second longer = (longer ≡ first) ⊎ (longer ≡ second)
+abbrev pub IsOneOfTwo : Longest → Longest → Longest → Type 0
+IsOneOfTwo first second longer = (longer ≡ first) ⊎ (longer ≡ second)
 
 -- it is the one that was kept, or that of the tape of a node with these bytes
 abbrev pub IsKeptOrNext : ℕ → List ℕ → Option Longest → Longest → Type 0
@@ -108,5 +108,5 @@ AreTakenOr tapes longest None = AreTaken tapes longest
 AreTakenOr tapes longest (Some cause) = IsTapeCause tapes cause
 
 -- The check has taken these tapes, the latest first.
-abbrev pub HasTaken : List NumberedTape → TapeCheck → Type 0
-HasTaken tapes check = AreTakenOr tapes check.longest check.cause
+abbrev pub HasTakenTapes : List NumberedTape → TapeCheck → Type 0
+HasTakenTapes tapes check = AreTakenOr tapes check.longest check.cause

@@ -6,7 +6,7 @@ use Rattle.wf_edge.specs.ResponseEnd.{IsFaultEnded}
 use Rattle.wf_edge.specs.Page.{status_at}
 use Rattle.wf_edge.specs.Request.{Request}
 use Rattle.wf_edge.specs.Completion.{CountsCompleting, IsErrorCompleted}
-use Rattle.wf_edge.specs.RequestEffect.{IsRead, IsServed}
+use Rattle.wf_edge.specs.RequestEffect.{IsReadAnswered, IsServed}
 use Rattle.wf_edge.specs.declared.outcome.Outcome.{Outcome}
 use Rattle.wf_delivery.specs.declared.delivery.Pumped.{Pumped}
 use Rattle.wf_http.specs.declared.fault.RequestFault.{RequestFault}
@@ -25,7 +25,7 @@ module _ {T K : Type 0} (tapes : Tape T) (sinks : Sink K) where
   pub record IsReadAt (node_index : ℕ) (request : Request) (sink sink_after : K) (nodes : List (Node T)) (outcome : Outcome) : Type 0 where
     pub node : Node T
     pub at : slice_get nodes node_index ≡ Some node
-    pub read : IsRead sinks request node.parts.history (status_at node) sink sink_after outcome
+    pub read : IsReadAnswered sinks request node.parts.history (status_at node) sink sink_after outcome
 
   -- The node at index `node_index` answered the request, and its messages were delivered.
   pub record IsAnsweredAt (node_index : ℕ) (request : Request) (sink sink_after : K) (nodes : List (Node T)) (outcome : Outcome) (pumped : Pumped) (nodes_after : List (Node T)) : Type 0 where

@@ -27,7 +27,7 @@ WasAccepted outcome.ReadFailed = ⊥
 WasAccepted outcome.NoRequest = ⊥
 
 -- Each node has published the map that the body of the request means, under sequence 1, and no proposal is running.
-pub record HavePublished {T : Type 0} (input : Option (List ℕ)) (nodes : List (Node T)) : Type 0 where
+pub record HavePublishedTheMap {T : Type 0} (input : Option (List ℕ)) (nodes : List (Node T)) : Type 0 where
   pub request : Request
   -- the request that was received, if what was received is known
   pub received : IfSome input (λ bytes. BeginsWith bytes request)
@@ -39,7 +39,7 @@ pub record HavePublished {T : Type 0} (input : Option (List ℕ)) (nodes : List 
 -- was left, and no node is halted.
 abbrev pub AcceptedMeansPublished : {T : Type 0} → Option (List ℕ) → List (Node T) → ConnectionOutcome → List (Node T) → Type 0
 AcceptedMeansPublished input nodes outcome nodes_after =
-    length nodes ≡ 3 → AreFresh nodes → WasAccepted outcome.request → outcome.deliveries.lost ≡ 0 → outcome.deliveries.stopped ≡ false → NoneHalted nodes_after → HavePublished input nodes_after
+    length nodes ≡ 3 → AreFresh nodes → WasAccepted outcome.request → outcome.deliveries.lost ≡ 0 → outcome.deliveries.stopped ≡ false → NoneHalted nodes_after → HavePublishedTheMap input nodes_after
 
 module _ {T : Type 0} (tapes : Tape T) where
   -- A connection to one of three new nodes was answered so; none of the deliveries of the node's messages was lost, they went on until
@@ -47,7 +47,7 @@ module _ {T : Type 0} (tapes : Tape T) where
   abbrev pub AcceptedIsPublished : Type 0
   AcceptedIsPublished = (node_index : ℕ) (input old new : Option (List ℕ)) (nodes nodes_after : List (Node T)) (outcome : Outcome) →
       length nodes ≡ 3 → StandInTurn nodes → AreFresh nodes → (connection : IsConnection tapes node_index input old new nodes outcome nodes_after) → WasAccepted outcome →
-      connection.receiving.lost ≡ 0 → connection.receiving.stopped ≡ false → NoneHalted connection.arrived → HavePublished input nodes_after
+      connection.receiving.lost ≡ 0 → connection.receiving.stopped ≡ false → NoneHalted connection.arrived → HavePublishedTheMap input nodes_after
 
   -- New nodes that caught up are new still.
   abbrev pub CaughtUpAreNew : Type 0

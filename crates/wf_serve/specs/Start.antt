@@ -60,7 +60,7 @@ pub record HaveOpened (count : ℕ) (old new : List Call) : Type 0 where
   pub changed : changes new ≡ tape_opens count (changes old)
 
 -- A mark was drawn for a file `farm` of n nodes.
-pub record IsDrawn (n : ℕ) (beginning : Beginning) (file : FarmFile) (old new : List Call) : Type 0 where
+pub record IsMarkDrawn (n : ℕ) (beginning : Beginning) (file : FarmFile) (old new : List Call) : Type 0 where
   pub is_file : IsFarmFile file
   pub of : file.nodes ≡ n
   pub begun : file.beginning ≡ beginning
@@ -76,7 +76,7 @@ pub record IsWritten (n : ℕ) (file : FarmFile) (old new : List Call) : Type 0 
 pub record IsFiled (n : ℕ) (beginning : Beginning) (old new : List Call) : Type 0 where
   pub file : FarmFile
   pub marked : List Call
-  pub drawn : IsDrawn n beginning file old marked
+  pub drawn : IsMarkDrawn n beginning file old marked
   pub written : IsWritten n file marked new
 
 -- in a folder of the farm's own its tapes were opened; one that is new, or taken over, got its file too
@@ -139,6 +139,6 @@ pub record IsTapeStopped (number : ℕ) (cause : Cause) (old new : List Call) : 
   pub late : is_early cause ≡ false
 
 -- The file `farm` isn't written: its text wasn't made, or to write it failed.
-pub record IsUnwritten (cause : Cause) (old new : List Call) : Type 0 where
+pub record IsFarmUnwritten (cause : Cause) (old new : List Call) : Type 0 where
   pub left : (new ≡ old) ⊎ (new ≡ failed_at Farm ∷ old)
   pub late : is_early cause ≡ false

@@ -1,6 +1,6 @@
 -- Why the nodes of a folder's farm wouldn't start, by its file and by which tapes are there.
 use Rattle.std.specs.Prelude.{◌≡◌, ℕ}
-use Rattle.wf_folder.specs.Admission.{IsRejection}
+use Rattle.wf_folder.specs.Admission.{IsAdmissionFault}
 use Rattle.wf_folder.specs.declared.admission.StartRejection.{StartRejection}
 use Rattle.wf_folder.specs.declared.admission.StartRejection.TheVariants as rejections
 use Rattle.wf_serve.specs.declared.event.Cause.{Cause}
@@ -16,4 +16,4 @@ start_cause (rejections.MissingTape tape) = causes.TapeMissing tape
 
 -- of some number of nodes, on a folder with this in it
 abbrev pub IsStartCause : Survey → Cause → Type 0
-IsStartCause survey cause = (nodes : ℕ) × (why : StartRejection) × IsRejection nodes survey.found survey.tapes why × (cause ≡ start_cause why)
+IsStartCause survey cause = (nodes : ℕ) × (why : StartRejection) × IsAdmissionFault nodes survey.found survey.tapes why × (cause ≡ start_cause why)

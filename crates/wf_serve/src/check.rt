@@ -5,7 +5,7 @@ ghost use Rattle.wf_node.specs.Node.{stored_of};
 ghost use Rattle.wf_node.specs.OpenedNode.{IsFoldOf};
 ghost use Rattle.wf_serve.specs.Difference.{Agree, AgreeAt, DifferAt};
 ghost use Rattle.wf_serve.specs.TapeCheck.{AreTapesChecked, IsTapeRead};
-ghost use Rattle.wf_serve.specs.LongestTape.{IsKeptOrNext, IsLongerOf, IsNextChecked, IsNextLongest, IsOneOf, IsWhyDifferent, IsWhyNoNode, IsWhyNotNext, cause_of};
+ghost use Rattle.wf_serve.specs.LongestTape.{IsKeptOrNext, IsLongerOf, IsNextChecked, IsNextLongest, IsOneOfTwo, IsWhyDifferent, IsWhyNoNode, IsWhyNotNext, cause_of};
 ghost use Rattle.wf_serve.specs.StartCause.{IsStartCause, start_cause};
 ghost use Rattle.wf_store.specs.Call.{OnlyReads, read};
 ghost use Rattle.wf_store.specs.declared.file_name.FileName.TheVariants.{NodeTape};
@@ -201,7 +201,7 @@ pub(crate) fn with_next(
 fn longer(first: Longest, second: Longest) -> Result<Longest, Cause>
     ensures longer { IfOk result (λ longer.
         IsLongerOf (stored_of first.node) (stored_of second.node) (stored_of longer.node)) }
-    ensures one { IfOk result (IsOneOf first second) }
+    ensures one { IfOk result (IsOneOfTwo first second) }
     ensures cause { IfErr result (IsWhyDifferent first.number second.number
         (stored_of first.node) (stored_of second.node)) }
 {

@@ -12,7 +12,7 @@ use crate::linger_close::part;
 use crate::timed_reader::TimedReader;
 use crate::timed_writer::TimedWriter;
 use crate::watch::Watch;
-use std::net::{TcpListener, TcpStream};
+use std::net::TcpListener;
 use std::time::{Clock, Duration};
 use wf_farm::Farm;
 use wf_tape::Tape;

@@ -1,6 +1,6 @@
 //! What asks a node of a farm: a publish over a connection, or the farm itself.
 ghost use Rattle.std.specs.Prelude.{◌≡◌};
-ghost use Rattle.wf_edge.specs.StepResult.{IsAnswer};
+ghost use Rattle.wf_edge.specs.StepResult.{IsStepResult};
 ghost use Rattle.wf_model.specs.Table.{Retry};
 ghost use Rattle.wf_node.specs.Input.{view};
 ghost use Rattle.wf_serve.specs.ConnectionEffect.{IsAsked};
@@ -70,7 +70,7 @@ fn answer<T: Tape>(
     node: &mut Node<T>,
     input: Input,
 ) -> Result<Vec<Message>, NodeFault>
-    ensures { IsAnswer T.Tape (view input) node.old result node.new }
+    ensures { IsStepResult T.Tape (view input) node.old result node.new }
 {
     node.step(alloc, input)
 }

@@ -5,7 +5,7 @@ ghost use Rattle.wf_farm.specs.Nodes.{AllRun, nodes_in};
 ghost use Rattle.wf_folder.specs.Admission.{IsStart};
 ghost use Rattle.wf_folder.specs.FarmFile.{IsFarmFile, farm_text};
 ghost use Rattle.wf_serve.specs.OpenedNodes.{AreOpened, WasRead, WereRead};
-ghost use Rattle.wf_serve.specs.Start.{HaveOpened, IsDrawn, IsFarmAdmitted, IsFarmBegun, IsFarmRejected, IsFarmStarted, IsFiled, IsTapeOpened, IsTapeStopped, IsUnwritten, IsWritten};
+ghost use Rattle.wf_serve.specs.Start.{HaveOpened, IsMarkDrawn, IsFarmAdmitted, IsFarmBegun, IsFarmRejected, IsFarmStarted, IsFiled, IsTapeOpened, IsTapeStopped, IsFarmUnwritten, IsWritten};
 ghost use Rattle.wf_store.specs.Call.{OnlyReads, locked, replaced};
 
 use crate::check::{cause_of_rejection, check_tapes};
@@ -170,7 +170,7 @@ fn draw_file<S: Store>(store: &mut S, n: u8, beginning: Beginning) -> Result<Far
     requires some { 1 ≤ n }
     requires most { n ≤ 64 }
     ensures drawn { IfOk result
-        (λ file. IsDrawn n beginning file (S.calls store.old) (S.calls store.new)) }
+        (λ file. IsMarkDrawn n beginning file (S.calls store.old) (S.calls store.new)) }
     ensures reads { OnlyReads (S.calls store.old) (S.calls store.new) }
 {
     match store.draw() {
@@ -230,7 +230,7 @@ fn write_file<S: Store>(alloc: Global, store: &mut S, file: &FarmFile) -> Result
     ensures written { OnOk result
         (S.calls store.new ≡ replaced FileName.Farm (farm_text file.now) ∷ S.calls store.old) }
     ensures unwritten { IfErr result
-        (λ cause. IsUnwritten cause (S.calls store.old) (S.calls store.new)) }
+        (λ cause. IsFarmUnwritten cause (S.calls store.old) (S.calls store.new)) }
 {
     let Ok(text) = file.text(alloc) else {
         return Err(Cause::Memory);

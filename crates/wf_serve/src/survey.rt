@@ -2,7 +2,7 @@
 ghost use Rattle.std.specs.Prelude.{◌≡◌, ◌∷◌, Some, length, IfOk};
 ghost use Rattle.wf_folder.specs.declared.presence.Presence.TheVariants.{Absent};
 ghost use Rattle.wf_serve.specs.Start.{HasFound, IsFarmFound, IsSurveyed, looks};
-ghost use Rattle.wf_store.specs.Call.{OnlyReads, bytes_of, read, seen};
+ghost use Rattle.wf_store.specs.Call.{OnlyReads, read, seen};
 ghost use Rattle.wf_store.specs.declared.file_name.FileName.TheVariants.{Farm, NodeTape};
 
 use crate::event::Cause;

@@ -1,7 +1,7 @@
 //! The tapes of a folder, taken one after the other from whoever reads them.
-ghost use Rattle.std.specs.Prelude.{◌≡◌, ◌<◌, ◌∷◌, [], List, None, Some, IfOk};
-ghost use Rattle.wf_serve.specs.LongestTape.{AreTaken, HasTaken, IsRejected};
-ghost use Rattle.wf_serve.specs.TapesTaken.{AreSoundOr, IsTapeCause, NumberedTape};
+ghost use Rattle.std.specs.Prelude.{◌<◌, ◌∷◌, [], List, None, Some, IfOk};
+ghost use Rattle.wf_serve.specs.LongestTape.{AreTaken, HasTakenTapes, HasFoundCause};
+ghost use Rattle.wf_serve.specs.TapesTaken.{AreSoundOr, NumberedTape};
 
 use crate::check::{Longest, with_next};
 use crate::event::Cause;
@@ -19,7 +19,7 @@ impl TapeCheck {
     /// No tape was taken.
     #[tactic(auto, using(crate::proofs::Taken::none_taken))]
     pub fn new() -> TapeCheck
-        ensures { HasTaken [] result }
+        ensures { HasTakenTapes [] result }
     {
         TapeCheck {
             longest: None,
@@ -30,8 +30,8 @@ impl TapeCheck {
     /// Takes the tape of one more node, with these bytes. The only error is allocation failure.
     pub fn take(self, alloc: Global, number: u8, bytes: Vec<u8>) -> Result<TapeCheck, AllocError>
         requires { number < 64 }
-        ensures { (tapes : List NumberedTape) → HasTaken tapes self →
-            IfOk result (HasTaken ((number, bytes.items) ∷ tapes)) }
+        ensures { (tapes : List NumberedTape) → HasTakenTapes tapes self →
+            IfOk result (HasTakenTapes ((number, bytes.items) ∷ tapes)) }
     {
         let TapeCheck { longest, cause } = self;
         match cause {
@@ -51,7 +51,7 @@ impl TapeCheck {
     /// each other.
     #[tactic(auto, using(crate::proofs::Taken::sound_or))]
     pub fn cause(&self) -> Option<Cause>
-        ensures { (tapes : List NumberedTape) → HasTaken tapes self.now → AreSoundOr tapes result }
+        ensures { (tapes : List NumberedTape) → HasTakenTapes tapes self.now → AreSoundOr tapes result }
     {
         self.cause
     }
@@ -66,7 +66,7 @@ fn take_sound(
 ) -> Result<TapeCheck, AllocError>
     requires { number < 64 }
     ensures { (tapes : List NumberedTape) → AreTaken tapes longest →
-        IfOk result (HasTaken ((number, bytes.items) ∷ tapes)) }
+        IfOk result (HasTakenTapes ((number, bytes.items) ∷ tapes)) }
 {
     match with_next(alloc, longest, bytes, number, NODES) {
         Ok(longer) => Ok(TapeCheck {
@@ -79,7 +79,7 @@ fn take_sound(
 
 /// The check that has found a cause, unless that is allocation failure.
 fn rejected(cause: Cause) -> Result<TapeCheck, AllocError>
-    ensures { IfOk result (IsRejected cause) }
+    ensures { IfOk result (HasFoundCause cause) }
 {
     match cause {
         Cause::Memory => Err(AllocError),

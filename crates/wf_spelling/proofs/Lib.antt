@@ -2,3 +2,4 @@ pub mod ScannedBlock
 pub mod ScannedNumber
 pub mod ScanSequences
 pub mod WriteSequences
+pub mod ExcessTheorem

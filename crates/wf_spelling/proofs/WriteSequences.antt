@@ -30,10 +30,10 @@ whole_text empty written = written.behind [] empty
 
 -- if the count is over the limit, so is the text
 pub is_long : {d : Draft} {text : List ℕ} → IsDraftOf d text → nat_lt most_canon_bytes d.length ≡ true → most_canon_bytes < length text
-is_long is long = grind (arith, nat_tests, is.counted)
+is_long is long = grind (arith, nat_tests, is.total)
 
 pub is_short : {d : Draft} {text : List ℕ} → IsDraftOf d text → nat_lt most_canon_bytes d.length ≡ false → length text ≤ most_canon_bytes
-is_short is short = grind (arith, nat_tests, is.counted)
+is_short is short = grind (arith, nat_tests, is.total)
 
 -- ---- lines
 

@@ -1,6 +1,6 @@
 -- The canonical text of a map definition: one item a line, each line ended by LF, single spaces, keywords and choices in
 -- capitals, every default filled in. An optional value has a line only if it is present.
-use Rattle.std.specs.Prelude.{◌≡◌, ℕ, ℤ, ◌≤◌, length, Bool, true, false, List, [], ◌∷◌, ◌++◌, map, Option, Some, None, codes, ◌<◌}
+use Rattle.std.specs.Prelude.{◌≡◌, ℕ, ℤ, ◌≤◌, length, Bool, true, false, List, [], ◌∷◌, ◌++◌, map, Option, Some, None, codes, ◌<◌, min}
 use Rattle.std.specs.List.{flat_map}
 use Rattle.std.specs.Fmt.{decimal}
 use Rattle.wf_def.specs.Definition.{Definition, LayerDefinition, ClassDefinition, ExpressionDefinition, StyleDefinition, LabelDefinition, FeatureDefinition}
@@ -210,6 +210,10 @@ canon d = text_of (map_lines d)
 -- the longest canonical text, in bytes
 abbrev pub most_canon_bytes : ℕ
 most_canon_bytes = 65536
+
+-- a number of bytes as it is counted: up to 2^64 - 1
+abbrev pub counted : ℕ → ℕ
+counted bytes = min bytes 18_446_744_073_709_551_615
 
 -- the text is a map's canonical text, within the limit
 pub record IsCanon (text : List ℕ) (d : Definition) : Type 0 where

@@ -1,3 +1,4 @@
 pub mod Canon
 pub mod Draft
+pub mod Excess
 pub mod Scan

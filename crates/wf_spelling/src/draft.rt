@@ -2,7 +2,7 @@
 
 ghost use Rattle.std.specs.Prelude.{◌≡◌, ◌≤◌, ◌+◌, ◌++◌, ℕ, List, [], nat_lt, true, IfOk, IsOk, is_ok, length, vec_len, vec_capacity, if◌then◌else◌};
 ghost use Rattle.wf_spelling.specs.Canon.{most_canon_bytes};
-ghost use Rattle.wf_spelling.specs.Draft.{HasRoomFor, IsDraftOf, Writes};
+ghost use Rattle.wf_spelling.specs.Draft.{HasRoomForBytes, IsDraftOf, Writes};
 
 use crate::text::MOST_CANON_BYTES;
 use std::alloc::{AllocError, Global};
@@ -12,7 +12,7 @@ use std::alloc::{AllocError, Global};
 #[derive(Drop)]
 pub struct Draft {
     text: Vec<u8>,
-    /// The number of bytes written, up to one over the limit.
+    /// The number of bytes written, up to 2^64 - 1.
     length: usize,
     /// Whether `text` holds all of them.
     is_whole: bool,
@@ -34,22 +34,38 @@ impl Draft {
         }
     }
 
+    /// The empty text, of which only the length is counted.
+    pub fn counting(alloc: Global) -> Self
+        ensures { IsDraftOf result [] }
+    {
+        Draft {
+            text: Vec::new(alloc),
+            length: 0,
+            is_whole: false,
+        }
+    }
+
     /// Appends bytes. Allocation can fail only if the text must grow for them.
     pub fn push(&mut self, bytes: &[u8])
         ensures bytes { Writes self.old bytes.now self.new }
-        ensures room { self.old.is_whole ≡ true → HasRoomFor bytes.now self.old →
+        ensures room { self.old.is_whole ≡ true → HasRoomForBytes bytes.now self.old →
             self.new.is_whole ≡ true }
     {
-        let room = MOST_CANON_BYTES.saturating_sub(self.length);
-        if self.length > MOST_CANON_BYTES || bytes.len() > room {
-            self.length = MOST_CANON_BYTES + 1;
+        self.length = self.length.saturating_add(bytes.len());
+        if self.length > MOST_CANON_BYTES {
             self.is_whole = false;
             return;
         }
-        self.length += bytes.len();
         if self.is_whole && append(&mut self.text, bytes).is_err() {
             self.is_whole = false;
         }
+    }
+
+    /// The number of bytes written, up to 2^64 - 1.
+    pub fn length(&self) -> usize
+        ensures { result ≡ self.now.length }
+    {
+        self.length
     }
 
     /// Whether the text is over the limit.

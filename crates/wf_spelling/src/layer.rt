@@ -5,6 +5,7 @@ ghost use Rattle.std.specs.List.{flat_map};
 ghost use Rattle.wf_spelling.specs.Canon.{kind_word, with_text, metadata_lines, feature_lines, class_lines, layer_lines};
 ghost use Rattle.wf_token.specs.Spelling.{line, text_of};
 ghost use Rattle.wf_spelling.specs.Draft.{Writes};
+ghost use Rattle.wf_spelling.specs.Excess.{layer_opening_lines};
 
 use crate::class::push_class;
 use crate::draft::Draft;
@@ -57,7 +58,7 @@ fn push_classes(out: &mut Draft, classes: &[Class])
 }
 
 /// Writes features, one after the other.
-fn push_features(out: &mut Draft, features: &[Feature])
+pub fn push_features(out: &mut Draft, features: &[Feature])
     ensures { Writes out.old (text_of (flat_map feature_lines features.now)) out.new }
 {
     for feature in features {
@@ -65,9 +66,9 @@ fn push_features(out: &mut Draft, features: &[Feature])
     }
 }
 
-/// Writes a layer with its name.
-pub fn push_layer(out: &mut Draft, name: &Text, layer: &Layer)
-    ensures { Writes out.old (text_of (layer_lines (name.now, layer.now))) out.new }
+/// Writes a layer with its name as far as its features.
+pub fn push_layer_opening(out: &mut Draft, name: &Text, layer: &Layer)
+    ensures { Writes out.old (text_of (layer_opening_lines (name.now, layer.now))) out.new }
 {
     push_alone(out, "LAYER");
     push_with_text(out, "NAME", name.as_bytes());
@@ -77,6 +78,13 @@ pub fn push_layer(out: &mut Draft, name: &Text, layer: &Layer)
     push_attribute_names(out, layer.items().as_bytes());
     push_metadata(out, layer.title().as_bytes());
     push_classes(out, layer.classes());
+}
+
+/// Writes a layer with its name.
+pub fn push_layer(out: &mut Draft, name: &Text, layer: &Layer)
+    ensures { Writes out.old (text_of (layer_lines (name.now, layer.now))) out.new }
+{
+    push_layer_opening(out, name, layer);
     push_features(out, layer.features());
     push_alone(out, "END");
 }

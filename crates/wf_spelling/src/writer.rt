@@ -1,11 +1,12 @@
 //! Appends the canonical text of a map.
 
-ghost use Rattle.std.specs.Prelude.{◌≡◌, ◌++◌};
+ghost use Rattle.std.specs.Prelude.{◌≡◌};
 ghost use Rattle.std.specs.List.{flat_map};
 ghost use Rattle.wf_def.specs.Limits.{IsWithinLimits};
 ghost use Rattle.wf_spelling.specs.Canon.{projection_text, heading_lines, projection_lines, web_lines, layer_lines, canon};
 ghost use Rattle.wf_token.specs.Spelling.{text_of};
 ghost use Rattle.wf_spelling.specs.Draft.{Writes};
+ghost use Rattle.wf_spelling.specs.Excess.{opening_lines};
 
 use crate::draft::Draft;
 use crate::layer::push_layer;
@@ -66,14 +67,22 @@ fn push_layers(out: &mut Draft, map: &MapDef)
     }
 }
 
-/// Writes a map.
-pub(crate) fn push_map(out: &mut Draft, map: &MapDef)
-    ensures written { Writes out.old (canon map.now) out.new }
+/// Writes a map as far as its layers.
+pub(crate) fn push_opening(out: &mut Draft, map: &MapDef)
+    ensures written { Writes out.old (text_of (opening_lines map.now)) out.new }
     ensures within { IsWithinLimits map.now }
 {
     push_heading(out, map);
     push_projection(out, map.projection());
     push_web(out, map);
+}
+
+/// Writes a map.
+pub(crate) fn push_map(out: &mut Draft, map: &MapDef)
+    ensures written { Writes out.old (canon map.now) out.new }
+    ensures within { IsWithinLimits map.now }
+{
+    push_opening(out, map);
     push_layers(out, map);
     push_alone(out, "END");
 }

@@ -8,7 +8,7 @@ use Rattle.wf_tape.specs.declared.fault.TapeFault.TheVariants.{Device, Memory}
 use Rattle.wf_tape.specs.declared.memory.Fuse.{Fuse}
 use Rattle.wf_tape.specs.Fuse.{count_down, burn}
 use Rattle.wf_tape.specs.Tape.{Call, Read, Append, Sync, Replace, error_of, IsOnlyImage, IsUnchanged, LeavesNoOther, IsExtended, LeavesOldOr, LeavesOldOrCut, LeavesOldOrNew, Elapses, HasRisen, HasCause, IsNotMemory, last_count}
-use Rattle.wf_tape.specs.MemoryTape.{TapeValue, IsImageOf, IsLeftSince, state_of, moment_of, NeverFails, counted, risen, failed_once, appended, replaced, settled, done, cut_short, IsLeft, IsCalled}
+use Rattle.wf_tape.specs.MemoryTape.{TapeValue, IsImageNow, IsLeftSince, state_of, moment_of, NeverFails, counted, risen, failed_once, appended, replaced, settled, done, cut_short, IsLeft, IsCalled}
 use Rattle.wf_tape.proofs.Images.{content_is_image, only_synced, sync_leaves, append_leaves, not_extended, unchanged}
 use Rattle.wf_tape.proofs.Noted.{time_changed, time_same, inside_changed, inside_same, inside_synced, inside_replaced, settled_same}
 
@@ -134,36 +134,36 @@ all_synced synced length within none = grind (arith, nat_tests, within, none)
 -- ---- the contract of each kind of call
 
 pub record IsRead {A : Type 0} (old new : TapeValue) (result : Result A TapeFault) : Type 0 where
-  pub same : IsUnchanged old.bytes new.bytes (IsImageOf old) (IsImageOf new)
+  pub same : IsUnchanged old.bytes new.bytes (IsImageNow old) (IsImageNow new)
   pub time : Elapses (moment_of old) (moment_of new) (IsLeftSince old) (IsLeftSince new)
-  pub inside : LeavesNoOther (IsImageOf old) (IsLeftSince new (moment_of old))
+  pub inside : LeavesNoOther (IsImageNow old) (IsLeftSince new (moment_of old))
   pub cause : HasCause old.failures new.failures result
 
 pub record IsAppend {A : Type 0} (old new : TapeValue) (bytes : List ℕ) (result : Result A TapeFault) : Type 0 where
   pub ok : OnOk result (new.bytes ≡ old.bytes ++ bytes)
   pub err : OnErr result (IsExtended old.bytes bytes new.bytes)
-  pub images : IsNotMemory result → LeavesOldOrCut new.bytes (IsImageOf old) (IsImageOf new)
-  pub memory : IsErrOf result Memory → IsUnchanged old.bytes new.bytes (IsImageOf old) (IsImageOf new)
+  pub images : IsNotMemory result → LeavesOldOrCut new.bytes (IsImageNow old) (IsImageNow new)
+  pub memory : IsErrOf result Memory → IsUnchanged old.bytes new.bytes (IsImageNow old) (IsImageNow new)
   pub time : Elapses (moment_of old) (moment_of new) (IsLeftSince old) (IsLeftSince new)
-  pub inside : LeavesOldOrNew (IsImageOf old) (IsImageOf new) (IsLeftSince new (moment_of old))
+  pub inside : LeavesOldOrNew (IsImageNow old) (IsImageNow new) (IsLeftSince new (moment_of old))
   pub cause : HasCause old.failures new.failures result
 
 pub record IsSync {A : Type 0} (old new : TapeValue) (result : Result A TapeFault) : Type 0 where
-  pub ok : OnOk result (IsOnlyImage new.bytes (IsImageOf new))
+  pub ok : OnOk result (IsOnlyImage new.bytes (IsImageNow new))
   pub same : new.bytes ≡ old.bytes
-  pub images : LeavesNoOther (IsImageOf old) (IsImageOf new)
+  pub images : LeavesNoOther (IsImageNow old) (IsImageNow new)
   pub time : Elapses (moment_of old) (moment_of new) (IsLeftSince old) (IsLeftSince new)
-  pub inside : LeavesNoOther (IsImageOf old) (IsLeftSince new (moment_of old))
+  pub inside : LeavesNoOther (IsImageNow old) (IsLeftSince new (moment_of old))
   pub cause : HasCause old.failures new.failures result
 
 pub record IsReplace {A : Type 0} (old new : TapeValue) (bytes : List ℕ) (result : Result A TapeFault) : Type 0 where
   pub ok : OnOk result (new.bytes ≡ bytes)
-  pub synced : OnOk result (IsOnlyImage bytes (IsImageOf new))
+  pub synced : OnOk result (IsOnlyImage bytes (IsImageNow new))
   pub err : OnErr result ((new.bytes ≡ old.bytes) ⊎ (new.bytes ≡ bytes))
-  pub images : OnErr result (LeavesOldOr bytes (IsImageOf old) (IsImageOf new))
-  pub memory : IsErrOf result Memory → IsUnchanged old.bytes new.bytes (IsImageOf old) (IsImageOf new)
+  pub images : OnErr result (LeavesOldOr bytes (IsImageNow old) (IsImageNow new))
+  pub memory : IsErrOf result Memory → IsUnchanged old.bytes new.bytes (IsImageNow old) (IsImageNow new)
   pub time : Elapses (moment_of old) (moment_of new) (IsLeftSince old) (IsLeftSince new)
-  pub inside : LeavesOldOr bytes (IsImageOf old) (IsLeftSince new (moment_of old))
+  pub inside : LeavesOldOr bytes (IsImageNow old) (IsLeftSince new (moment_of old))
   pub cause : HasCause old.failures new.failures result
 
 -- ---- reading
@@ -249,7 +249,7 @@ appends old new bytes result within called =
 
 -- nothing was synced, or it was already
 sync_stays : {A : Type 0} (tape left new : TapeValue) (result : Result A TapeFault) → new ≡ left → left.bytes ≡ tape.bytes → left.synced ≡ tape.synced → OnOk result (tape.synced ≡ length tape.bytes) →
-    Elapses (moment_of tape) (moment_of new) (IsLeftSince tape) (IsLeftSince new) → LeavesNoOther (IsImageOf tape) (IsLeftSince new (moment_of tape)) → HasCause tape.failures new.failures result → IsSync tape new result
+    Elapses (moment_of tape) (moment_of new) (IsLeftSince tape) (IsLeftSince new) → LeavesNoOther (IsImageNow tape) (IsLeftSince new (moment_of tape)) → HasCause tape.failures new.failures result → IsSync tape new result
 sync_stays tape left new result is bytes synced all time inside cause =
     let same_bytes : new.bytes ≡ tape.bytes = ap (λ (k : TapeValue). k.bytes) is ∙ bytes in
     let same_synced : new.synced ≡ tape.synced = ap (λ (k : TapeValue). k.synced) is ∙ synced in
@@ -315,11 +315,11 @@ replace_short tape new bytes is =
     }
 
 -- the new content is there, and all of it is synced
-put_synced : (tape new : TapeValue) (bytes : List ℕ) → new.bytes ≡ bytes → new.synced ≡ length bytes → new.past ≡ state_of tape ∷ tape.past → IsOnlyImage bytes (IsImageOf new) × LeavesOldOr bytes (IsImageOf tape) (IsLeftSince new (moment_of tape))
+put_synced : (tape new : TapeValue) (bytes : List ℕ) → new.bytes ≡ bytes → new.synced ≡ length bytes → new.past ≡ state_of tape ∷ tape.past → IsOnlyImage bytes (IsImageNow new) × LeavesOldOr bytes (IsImageNow tape) (IsLeftSince new (moment_of tape))
 put_synced tape new bytes content synced ended =
     let all : new.synced ≡ length new.bytes = synced ∙ ap length (sym content) in (
-      subst (λ (t : List ℕ). IsOnlyImage t (IsImageOf new)) content (only_synced new all),
-      subst (λ (t : List ℕ). LeavesOldOr t (IsImageOf tape) (IsLeftSince new (moment_of tape))) content (inside_replaced tape new ended all),
+      subst (λ (t : List ℕ). IsOnlyImage t (IsImageNow new)) content (only_synced new all),
+      subst (λ (t : List ℕ). LeavesOldOr t (IsImageNow tape) (IsLeftSince new (moment_of tape))) content (inside_replaced tape new ended all),
     )
 
 -- The replacement failed: nothing was replaced, or all.
@@ -379,7 +379,7 @@ replaces old new bytes result called =
 -- ---- what is returned
 
 -- the content is an image, also where it is read
-pub content_read : {A : Type 0} (old : TapeValue) (result : Result A TapeFault) → OnOk result (IsImageOf old old.bytes)
+pub content_read : {A : Type 0} (old : TapeValue) (result : Result A TapeFault) → OnOk result (IsImageNow old old.bytes)
 content_read old (Ok x) = content_is_image old
 content_read old (Err fault) = tt
 

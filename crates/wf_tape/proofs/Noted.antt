@@ -6,7 +6,7 @@ use Rattle.wf_tape.specs.declared.memory.Earlier.{Earlier}
 use Rattle.wf_tape.specs.declared.memory.Earlier.TheVariants.{Front, Replaced}
 use Rattle.wf_tape.specs.declared.memory.Fuse.{Fuse}
 use Rattle.wf_tape.specs.Tape.{LeavesNoOther, LeavesOldOr, LeavesOldOrNew, Elapses}
-use Rattle.wf_tape.specs.MemoryTape.{State, TapeValue, IsImageOf, WasLeft, state_of, moment_of, IsLeftSince, states_before, appended, replaced, settled}
+use Rattle.wf_tape.specs.MemoryTape.{State, TapeValue, IsImageNow, WasLeft, state_of, moment_of, IsLeftSince, states_before, appended, replaced, settled}
 use Rattle.wf_tape.specs.MemoryMoments.{none_later}
 use Rattle.wf_tape.proofs.Images.{only_synced, sync_leaves}
 
@@ -62,7 +62,7 @@ time_changed old new ended = record {
 }
 
 -- Inside it a crash leaves what one could before, or what one can after.
-pub inside_changed : (old new : TapeValue) → new.past ≡ state_of old ∷ old.past → LeavesOldOrNew (IsImageOf old) (IsImageOf new) (IsLeftSince new (moment_of old))
+pub inside_changed : (old new : TapeValue) → new.past ≡ state_of old ∷ old.past → LeavesOldOrNew (IsImageNow old) (IsImageNow new) (IsLeftSince new (moment_of old))
 unfolding WasLeft
 inside_changed old new ended image left = elim left [
   | inl now ↦ inr now.1
@@ -73,14 +73,14 @@ inside_changed old new ended image left = elim left [
 ]
 
 -- Inside a sync it leaves what one could before.
-pub inside_synced : (old new : TapeValue) → new.past ≡ state_of old ∷ old.past → new.bytes ≡ old.bytes → new.synced ≡ length new.bytes → LeavesNoOther (IsImageOf old) (IsLeftSince new (moment_of old))
+pub inside_synced : (old new : TapeValue) → new.past ≡ state_of old ∷ old.past → new.bytes ≡ old.bytes → new.synced ≡ length new.bytes → LeavesNoOther (IsImageNow old) (IsLeftSince new (moment_of old))
 inside_synced old new ended same all image left = elim (inside_changed old new ended image left) [
   | inl was ↦ was
   | inr is ↦ sync_leaves old new same all image is
 ]
 
 -- Inside a replacement it leaves what one could before, or the new content.
-pub inside_replaced : (old new : TapeValue) → new.past ≡ state_of old ∷ old.past → new.synced ≡ length new.bytes → LeavesOldOr new.bytes (IsImageOf old) (IsLeftSince new (moment_of old))
+pub inside_replaced : (old new : TapeValue) → new.past ≡ state_of old ∷ old.past → new.synced ≡ length new.bytes → LeavesOldOr new.bytes (IsImageNow old) (IsLeftSince new (moment_of old))
 inside_replaced old new ended all image left = elim (inside_changed old new ended image left) [
   | inl was ↦ inl was
   | inr is ↦ inr ((only_synced new all).no_other image is)
@@ -94,7 +94,7 @@ time_same old new same = record {
   nothing_else = λ moment image before left. inl (subst (λ (k : TapeValue). IsLeftSince k moment image) same left);
 }
 
-pub inside_same : (old new : TapeValue) → new ≡ old → LeavesNoOther (IsImageOf old) (IsLeftSince new (moment_of old))
+pub inside_same : (old new : TapeValue) → new ≡ old → LeavesNoOther (IsImageNow old) (IsLeftSince new (moment_of old))
 unfolding WasLeft
 inside_same old new same image left = elim (subst (λ (k : TapeValue). IsLeftSince k (moment_of old) image) same left) [
   | inl now ↦ now.1

@@ -19,7 +19,7 @@ abbrev pub IsSure : Option File → Type 0
 IsSure file = (there : File) → file ≡ Some there → there.doubtful ≡ false
 
 -- what the tape knows of its folder
-pub record IsKnown (are_names_synced doubtful : Bool) (folder : Folder) : Type 0 where
+pub record IsKnownOfFolder (are_names_synced doubtful : Bool) (folder : Folder) : Type 0 where
   pub names : are_names_synced ≡ true → folder.earlier ≡ []
   pub sure : doubtful ≡ false → IsSure folder.own
 
@@ -42,7 +42,7 @@ abbrev pub placed : Folder → Folder
 placed folder = record { own = folder.second; second = None; earlier = [] }
 
 -- Calls in turn: time goes on, and a power cut inside them leaves only what P says.
-pub record Passes {D : Type 0} (disks : Disk D) (P : List ℕ → Type 0) (old new : D) : Type 0 where
+pub record LeavesOnly {D : Type 0} (disks : Disk D) (P : List ℕ → Type 0) (old new : D) : Type 0 where
   pub time : Elapses (disks.moment old) (disks.moment new) (disks.left_since old) (disks.left_since new)
   pub inside : (image : List ℕ) → disks.left_since new (disks.moment old) image → P image
 

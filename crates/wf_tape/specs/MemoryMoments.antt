@@ -1,8 +1,8 @@
 -- Theorems about the moments of a tape in memory.
 use Rattle.std.specs.Prelude.{ℕ, ◌≤◌, List, [], ◌∷◌, length}
 use Rattle.std.proofs.Common.{inl, inr, le_refl, le_trans, le_of_lt, lt_irrefl, lt_of_lt_of_le}
-use Rattle.wf_tape.specs.Tape.{IsNow, AreNested}
-use Rattle.wf_tape.specs.MemoryTape.{State, TapeValue, IsImageOf, IsLeftSince, WasLeft, state_of, moment_of}
+use Rattle.wf_tape.specs.Tape.{LeavesNow, AreNested}
+use Rattle.wf_tape.specs.MemoryTape.{State, TapeValue, IsImageNow, IsLeftSince, WasLeft, state_of, moment_of}
 
 -- no state stood at a moment that hasn't come
 pub none_later : (states : List State) (moment : ℕ) (image : List ℕ) → length states ≤ moment → WasLeft states moment image → ⊥
@@ -13,7 +13,7 @@ none_later (state ∷ older) moment image late left = elim left [
   | inr before ↦ none_later older moment image (le_of_lt late) before
 ]
 
-pub memory_now : (tape : TapeValue) → IsNow (IsImageOf tape) (IsLeftSince tape (moment_of tape))
+pub memory_now : (tape : TapeValue) → LeavesNow (IsImageNow tape) (IsLeftSince tape (moment_of tape))
 unfolding WasLeft
 memory_now tape = record {
   counts = λ image is. inl (le_refl (length tape.past), is);

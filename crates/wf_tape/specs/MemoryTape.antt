@@ -26,8 +26,8 @@ abbrev pub IsLeftBy : State → List ℕ → Type 0
 IsLeftBy state image = IsBeginning image state.bytes × IsBeginning (take state.synced state.bytes) image
 
 -- what a crash now may leave, likewise
-abbrev pub IsImageOf : TapeValue → List ℕ → Type 0
-IsImageOf kept image = IsBeginning image kept.bytes × IsBeginning (take kept.synced kept.bytes) image
+abbrev pub IsImageNow : TapeValue → List ℕ → Type 0
+IsImageNow kept image = IsBeginning image kept.bytes × IsBeginning (take kept.synced kept.bytes) image
 
 -- Of states in order, the latest first, the earliest stood at moment 0, the next one at moment 1, and so on. A crash in one of
 -- them, at this moment or a later one, may leave the image.

@@ -1,6 +1,6 @@
 -- A tape's content, its images, and the effect of each call on both. An image is a content that a crash now may leave.
 use Rattle.std.specs.Prelude.{◌≡◌, ◌⊎◌, ◌≤◌, ℕ, List, ◌++◌, Option, Some, None, Result, Ok, Err, IsErrOf}
-pub use Rattle.wf_disk.specs.Moments.{IsBeginning, LeavesNoOther, LeavesOldOr, LeavesOldOrNew, Elapses, IsNow, AreNested, last_count, HasRisen}
+pub use Rattle.wf_disk.specs.Moments.{IsBeginning, LeavesNoOther, LeavesOldOr, LeavesOldOrNew, Elapses, LeavesNow, AreNested, last_count, HasRisen}
 use Rattle.wf_tape.specs.declared.fault.TapeFault.{TapeFault}
 use Rattle.wf_tape.specs.declared.fault.TapeFault.TheVariants.{Device, Memory}
 

@@ -5,8 +5,8 @@ ghost use Rattle.wf_disk.specs.declared.fault.DiskFault.TheVariants.{Memory};
 ghost use Rattle.wf_disk.specs.declared.folder.Name.TheVariants.{Own};
 ghost use Rattle.wf_disk.specs.Moments.{LeavesNoOther, LeavesOldOr};
 ghost use Rattle.wf_disk.specs.Folder.{whole, IsLeftOf, MayLeave, IsSynced};
-ghost use Rattle.wf_disk.specs.Call.{Rename, Sync, SyncNames, done, IsThere, IsCounted, IsNotMemory};
-ghost use Rattle.wf_tape.specs.DiskTape.{unsynced, IsButSecond, placed, Passes, images_of, content_of};
+ghost use Rattle.wf_disk.specs.Call.{Rename, Sync, done, IsThere, IsCounted, IsNotMemory};
+ghost use Rattle.wf_tape.specs.DiskTape.{unsynced, IsButSecond, placed, LeavesOnly, images_of, content_of};
 
 use wf_disk::{Disk, DiskFault, Name};
 
@@ -16,7 +16,7 @@ pub(crate) fn open<D: Disk>(disk: &mut D) -> Result<(), DiskFault>
     ensures content { D.durable → content_of D.Disk disk.new ≡ content_of D.Disk disk.old }
     ensures images { D.durable →
         LeavesNoOther (images_of D.Disk disk.old) (images_of D.Disk disk.new) }
-    ensures passes { D.durable → Passes D.Disk (images_of D.Disk disk.old) disk.old disk.new }
+    ensures passes { D.durable → LeavesOnly D.Disk (images_of D.Disk disk.old) disk.old disk.new }
     ensures cause { IsCounted (D.failed disk.old) (D.failed disk.new) result }
 {
     match disk.open() {
@@ -35,7 +35,7 @@ pub(crate) fn sync<D: Disk>(disk: &mut D, are_names_synced: bool) -> Result<(), 
     ensures content { D.durable → content_of D.Disk disk.new ≡ content_of D.Disk disk.old }
     ensures images { D.durable →
         LeavesNoOther (images_of D.Disk disk.old) (images_of D.Disk disk.new) }
-    ensures passes { D.durable → Passes D.Disk (images_of D.Disk disk.old) disk.old disk.new }
+    ensures passes { D.durable → LeavesOnly D.Disk (images_of D.Disk disk.old) disk.old disk.new }
     ensures memory { IsNotMemory result }
     ensures cause { IsCounted (D.failed disk.old) (D.failed disk.new) result }
 {
@@ -53,7 +53,7 @@ fn sync_names<D: Disk>(disk: &mut D, are_names_synced: bool) -> Result<(), DiskF
     ensures stay { D.durable → (D.folder disk.old).earlier ≡ [] → (D.folder disk.new).earlier ≡ [] }
     ensures images { D.durable →
         LeavesNoOther (images_of D.Disk disk.old) (images_of D.Disk disk.new) }
-    ensures passes { D.durable → Passes D.Disk (images_of D.Disk disk.old) disk.old disk.new }
+    ensures passes { D.durable → LeavesOnly D.Disk (images_of D.Disk disk.old) disk.old disk.new }
     ensures memory { IsNotMemory result }
     ensures cause { IsCounted (D.failed disk.old) (D.failed disk.new) result }
 {
@@ -72,7 +72,7 @@ pub(crate) fn replace<D: Disk>(disk: &mut D, bytes: &[u8]) -> Result<(), DiskFau
         LeavesOldOr bytes.now (images_of D.Disk disk.old) (images_of D.Disk disk.new) }
     ensures memory { D.durable → IsErrOf result Memory →
         IsButSecond (D.folder disk.old) (D.folder disk.new) }
-    ensures passes { D.durable → Passes D.Disk
+    ensures passes { D.durable → LeavesOnly D.Disk
         (λ image. images_of D.Disk disk.old image ⊎ (image ≡ bytes.now)) disk.old disk.new }
     ensures cause { IsCounted (D.failed disk.old) (D.failed disk.new) result }
 {
@@ -86,7 +86,7 @@ pub(crate) fn replace<D: Disk>(disk: &mut D, bytes: &[u8]) -> Result<(), DiskFau
 fn put_second<D: Disk>(disk: &mut D, bytes: &[u8]) -> Result<(), DiskFault>
     ensures ok { D.durable → OnOk result ((D.folder disk.new).second ≡ Some (whole bytes.now)) }
     ensures kept { D.durable → IsButSecond (D.folder disk.old) (D.folder disk.new) }
-    ensures passes { D.durable → Passes D.Disk (images_of D.Disk disk.old) disk.old disk.new }
+    ensures passes { D.durable → LeavesOnly D.Disk (images_of D.Disk disk.old) disk.old disk.new }
     ensures cause { IsCounted (D.failed disk.old) (D.failed disk.new) result }
 {
     match write_second(disk, bytes) {
@@ -99,7 +99,7 @@ fn put_second<D: Disk>(disk: &mut D, bytes: &[u8]) -> Result<(), DiskFault>
 fn write_second<D: Disk>(disk: &mut D, bytes: &[u8]) -> Result<(), DiskFault>
     ensures ok { D.durable → OnOk result ((D.folder disk.new).second ≡ Some (unsynced bytes.now)) }
     ensures kept { D.durable → IsButSecond (D.folder disk.old) (D.folder disk.new) }
-    ensures passes { D.durable → Passes D.Disk (images_of D.Disk disk.old) disk.old disk.new }
+    ensures passes { D.durable → LeavesOnly D.Disk (images_of D.Disk disk.old) disk.old disk.new }
     ensures cause { IsCounted (D.failed disk.old) (D.failed disk.new) result }
 {
     match disk.make() {
@@ -114,7 +114,7 @@ fn place_second<D: Disk>(disk: &mut D) -> Result<(), DiskFault>
     ensures err { D.durable → OnErr result ((D.folder disk.new ≡ D.folder disk.old)
         ⊎ (D.folder disk.new ≡ done Rename (D.folder disk.old))) }
     ensures memory { D.durable → IsErrOf result Memory → D.folder disk.new ≡ D.folder disk.old }
-    ensures passes { D.durable → Passes D.Disk (λ image. MayLeave (D.folder disk.old) image
+    ensures passes { D.durable → LeavesOnly D.Disk (λ image. MayLeave (D.folder disk.old) image
         ⊎ IsLeftOf (D.folder disk.old).second image) disk.old disk.new }
     ensures cause { IsCounted (D.failed disk.old) (D.failed disk.new) result }
 {

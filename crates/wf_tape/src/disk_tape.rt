@@ -1,8 +1,8 @@
 //! A tape on a disk.
 
-ghost use Rattle.std.specs.Prelude.{◌≡◌, ◌≤◌, true, [], IfOk, IfErr};
+ghost use Rattle.std.specs.Prelude.{◌≡◌, true, [], IfOk, IfErr};
 ghost use Rattle.wf_disk.specs.Moments.{LeavesNoOther, HasRisen};
-ghost use Rattle.wf_tape.specs.DiskTape.{tape_fault, images_of, content_of, Passes};
+ghost use Rattle.wf_tape.specs.DiskTape.{tape_fault, images_of, content_of, LeavesOnly};
 
 use crate::calls;
 use crate::fault::TapeFault;
@@ -26,13 +26,13 @@ pub struct DiskTape<D: Disk> {
 }
 
 impl<D: Disk> Model for DiskTape<D> {
-    ghost use Rattle.wf_tape.specs.DiskTape.{DiskTape, IsKnown};
+    ghost use Rattle.wf_tape.specs.DiskTape.{DiskTape, IsKnownOfFolder};
 
     ghost Value = { DiskTape D };
 
     ghost view = { λ t. record { disk = t.disk; are_names_synced = t.are_names_synced; doubtful = t.doubtful } };
 
-    ghost invariant = { λ t. D.durable → IsKnown t.are_names_synced t.doubtful (D.folder t.disk) };
+    ghost invariant = { λ t. D.durable → IsKnownOfFolder t.are_names_synced t.doubtful (D.folder t.disk) };
 }
 
 impl<R: Files + Drop> DiskTape<SystemDisk<R>> {
@@ -87,9 +87,9 @@ impl<D: Disk> DiskTape<D> {
         ensures images_err { D.durable → IfErr result
             (λ e. LeavesNoOther (images_of D.Disk disk) (images_of D.Disk e.0)) }
         ensures passes { D.durable → IfOk result
-            (λ tape. Passes D.Disk (images_of D.Disk disk) disk tape.disk) }
+            (λ tape. LeavesOnly D.Disk (images_of D.Disk disk) disk tape.disk) }
         ensures passes_err { D.durable → IfErr result
-            (λ e. Passes D.Disk (images_of D.Disk disk) disk e.0) }
+            (λ e. LeavesOnly D.Disk (images_of D.Disk disk) disk e.0) }
         ensures failed { IfOk result (λ tape. D.failed tape.disk ≡ D.failed disk) }
         ensures cause { IfErr result
             (λ e. e.1 ≡ TapeFault.Device → HasRisen (D.failed disk) (D.failed e.0)) }

@@ -325,7 +325,7 @@ fn first(bytes: &[u8], count: usize) -> &[u8]
 }
 
 impl Tape for MemoryTape {
-    ghost use Rattle.wf_tape.specs.MemoryTape.{IsImageOf, moment_of, IsLeftSince, NeverFails, IsCalled};
+    ghost use Rattle.wf_tape.specs.MemoryTape.{IsImageNow, moment_of, IsLeftSince, NeverFails, IsCalled};
     ghost use Rattle.wf_tape.specs.MemoryMoments.{memory_now, memory_nested};
 
     ghost durable = { Unit {0} };
@@ -334,7 +334,7 @@ impl Tape for MemoryTape {
 
     ghost content = { λ t. t.bytes };
 
-    ghost images = { IsImageOf };
+    ghost images = { IsImageNow };
 
     ghost failed = { λ t. t.failures };
 

@@ -2,7 +2,7 @@ ghost use Rattle.std.specs.Prelude.{◌≡◌, ◌≢◌, ◌⊎◌, ◌++◌, L
 ghost use Rattle.std.specs.declared.io.ErrorKind.{ErrorKind as ErrorKindValue};
 ghost use Rattle.wf_tape.specs.declared.fault.TapeFault.{TapeFault};
 ghost use Rattle.wf_tape.specs.declared.fault.TapeFault.TheVariants.{Device, Memory};
-ghost use Rattle.wf_tape.specs.Tape.{Call, Read, Append, Sync, Replace, error_of, IsOnlyImage, IsUnchanged, LeavesNoOther, IsExtended, LeavesOldOr, LeavesOldOrCut, LeavesOldOrNew, Elapses, IsNow, AreNested, HasCause, IsNotMemory};
+ghost use Rattle.wf_tape.specs.Tape.{Call, Read, Append, Sync, Replace, error_of, IsOnlyImage, IsUnchanged, LeavesNoOther, IsExtended, LeavesOldOr, LeavesOldOrCut, LeavesOldOrNew, Elapses, LeavesNow, AreNested, HasCause, IsNotMemory};
 
 use crate::fault::TapeFault;
 use std::alloc::Global;
@@ -140,7 +140,7 @@ pub trait Tape {
     ghost certain_is_durable: { certain → durable };
 
     /// Since this moment there was no other.
-    ghost is_now: { durable → (tape : Self) → IsNow (images tape) (left_since tape (moment tape)) };
+    ghost is_now: { durable → (tape : Self) → LeavesNow (images tape) (left_since tape (moment tape)) };
 
     /// What could have been left since a moment, could since an earlier one.
     ghost nested: { durable → (tape : Self) → AreNested (left_since tape) };

@@ -1,5 +1,5 @@
 //! Definitions that are put together by calls.
-ghost use Rattle.std.specs.Prelude.{◌<◌, length};
+ghost use Rattle.std.specs.Prelude.{◌<◌};
 
 use crate::canonical::two_texts;
 use crate::mapfiles::write_value;

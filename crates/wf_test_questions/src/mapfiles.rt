@@ -2,7 +2,6 @@
 use crate::mapfile_frame::{CLASS, Wrapping, wrapping_of};
 use crate::shown::{write_class, write_fault, write_layers, write_map};
 use crate::texts::text_of;
-use std::alloc::Global;
 use wf_def::{Class, Feature, Layer, MapDef};
 use wf_mapfile::MapFault;
 use wf_test_table::{Answered, CaseInput, Transcript, Unanswered};

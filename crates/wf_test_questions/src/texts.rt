@@ -1,5 +1,4 @@
 //! Texts and names.
-ghost use Rattle.wf_def.specs.Text.{IsText};
 
 use std::alloc::Global;
 use wf_def::is_layer_name;

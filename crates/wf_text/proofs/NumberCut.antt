@@ -7,7 +7,7 @@ use Rattle.std.proofs.lemmas.Bool.{ne_eqb, lt-ltb, le-leb, and_parts, and_from, 
 use Rattle.std.proofs.lemmas.Bool.Decides.{nat_tests}
 use Rattle.wf_text.specs.declared.fault.NumberFault.TheVariants.{BadNumber, OutOfRange}
 use Rattle.wf_text.specs.Number.{Numeral, is_negative, is_sign, after_sign, leading_digits, after_digits, fraction_digits, after_fraction, spelled_onto, with_sign, is_power_digits, signed_power, power_of, numeral, in_range, number}
-use Rattle.wf_text.specs.NumberForm.{Sign, Unsigned, Plus, Minus, sign_text, is_minus, Fraction, NoPoint, WithPoint, fraction_text, behind_point, SmallE, CapitalE, Ending, NoPower, WithPower, ending_text, power_of_ten, Written, text_of, parts_of, AreDigits, ArePowerDigits, IsEnding, IsWritten, HasParts}
+use Rattle.wf_text.specs.NumberForm.{Sign, Unsigned, Plus, Minus, sign_text, is_minus, Fraction, NoPoint, WithPoint, fraction_text, behind_point, SmallE, CapitalE, Ending, NoPower, WithPower, ending_text, power_of_ten, Written, text_of, parts_of, AreDigits, ArePowerDigits, IsEnding, AreDigitsWritten, HasParts}
 use Rattle.wf_text.proofs.NumberJoined.{has_parts}
 
 -- the text's first byte, if there is one, passes the test
@@ -102,7 +102,7 @@ fraction_begins_with_no_digit (WithPoint digits) ending = refl
 
 -- ---- all parts
 
-written_is_cut : (w : Written) → IsWritten w → numeral (text_of w) ≡ Some (parts_of w)
+written_is_cut : (w : Written) → AreDigitsWritten w → numeral (text_of w) ≡ Some (parts_of w)
 unfolding numeral
 written_is_cut w h =
     let behind_whole : List ℕ = fraction_text w.fraction ++ ending_text w.ending in

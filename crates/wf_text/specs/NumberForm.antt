@@ -86,7 +86,7 @@ IsEnding NoPower = ⊤
 IsEnding (WithPower mark sign digits) = ArePowerDigits digits
 
 -- there are digits where digits belong, and at least one before and after the point together
-pub record IsWritten (w : Written) : Type 0 where
+pub record AreDigitsWritten (w : Written) : Type 0 where
   pub whole : AreDigits w.whole
   pub fraction : AreDigits (behind_point w.fraction)
   pub least : 1 ≤ length w.whole + length (behind_point w.fraction)
@@ -95,7 +95,7 @@ pub record IsWritten (w : Written) : Type 0 where
 -- some written number spells this text and has these parts
 pub record HasParts (text : List ℕ) (parts : Numeral) : Type 0 where
   pub written : Written
-  pub is_written : IsWritten written
+  pub is_written : AreDigitsWritten written
   pub spells : text_of written ≡ text
   pub sends : parts_of written ≡ parts
 

@@ -1,5 +1,5 @@
 //! Coordinates in millionths.
-ghost use Rattle.std.specs.Prelude.{◌≡◌, ◌≤◌, ◌↔◌, IsSome, IfSome, nat_abs};
+ghost use Rattle.std.specs.Prelude.{◌≡◌, ◌↔◌, IsSome, IfSome};
 ghost use Rattle.wf_text.specs.Number.{IsMicro, number};
 
 use crate::fault::NumberFault;

@@ -27,21 +27,21 @@ IsTime c now published = (is_brought_on c.question published ≡ true) ⊎ (c.du
 
 -- ---- who is connected
 
-abbrev pub IsSet : List Bool → ℕ → Type 0
-IsSet flags i = slice_index_or flags i false ≡ true
+abbrev pub IsFlagSet : List Bool → ℕ → Type 0
+IsFlagSet flags i = slice_index_or flags i false ≡ true
 
 -- no flag from an index on is set
 abbrev pub NoneFrom : List Bool → ℕ → Type 0
-NoneFrom flags from = (i : ℕ) → from ≤ i → ¬ IsSet flags i
+NoneFrom flags from = (i : ℕ) → from ≤ i → ¬ IsFlagSet flags i
 
 abbrev pub NoneIsSet : List Bool → Type 0
-NoneIsSet flags = (i : ℕ) → ¬ IsSet flags i
+NoneIsSet flags = (i : ℕ) → ¬ IsFlagSet flags i
 
 -- the first flag from an index on that is set
 pub record IsFirstFlag (flags : List Bool) (from index : ℕ) : Type 0 where
   pub from_there : from ≤ index
-  pub set : IsSet flags index
-  pub first : (i : ℕ) → from ≤ i → i < index → ¬ IsSet flags i
+  pub set : IsFlagSet flags index
+  pub first : (i : ℕ) → from ≤ i → i < index → ¬ IsFlagSet flags i
 
 -- it is the first from there on, or, where none is, the first of all
 abbrev pub IsFirstFrom : List Bool → (from index : ℕ) → Type 0

@@ -1,6 +1,6 @@
 //! Which peer a node asks for the definitions that it lacks.
-ghost use Rattle.std.specs.Prelude.{◌≡◌, ◌≤◌, ◌+◌, ℕ, ◌↔◌, length, IsTrue, IfNone, IfSome};
-ghost use Rattle.wf_timing.specs.CatchUp.{IsAskedOf, IsFirstFlag, IsFirstFrom, IsNotAsked, NoneFrom, NoneIsSet, is_brought_on, whole_answer, turn_of};
+ghost use Rattle.std.specs.Prelude.{◌≡◌, ◌≤◌, ◌+◌, IfNone, IfSome};
+ghost use Rattle.wf_timing.specs.CatchUp.{IsAskedOf, IsFirstFlag, IsFirstFrom, IsNotAsked, NoneFrom, NoneIsSet, is_brought_on, turn_of};
 
 use crate::ticker::SECOND;
 

@@ -12,11 +12,11 @@ tokens_by End = Some []
 tokens_by (Fault kind at) = None
 
 -- the rest is shorter than n bytes; an error is within n bytes of the end
-abbrev pub IsWithin : ℕ → Lexeme → Type 0
-IsWithin n (Gap after) = length after.now < n
-IsWithin n (Found kind text after) = length after.now < n
-IsWithin n End = ⊤
-IsWithin n (Fault kind at) = length at.now ≤ n
+abbrev pub IsNearEnd : ℕ → Lexeme → Type 0
+IsNearEnd n (Gap after) = length after.now < n
+IsNearEnd n (Found kind text after) = length after.now < n
+IsNearEnd n End = ⊤
+IsNearEnd n (Fault kind at) = length at.now ≤ n
 
 -- whether an element that passes the test is at the front
 abbrev pub begins : {X : Type 0} → (X → Bool) → List X → Bool

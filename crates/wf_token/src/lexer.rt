@@ -5,7 +5,7 @@ ghost use Rattle.std.specs.List.{prefix_len};
 ghost use Rattle.wf_token.specs.Token.{is_white, is_quote, is_hash, ends_line, is_slash, is_star, is_plain, opens_list, closes_list, Between, LineComment, BlockComment, InWord, InString, InList, tokens_from, tokens, without_mark, token_values};
 ghost use Rattle.wf_text.specs.Text.{is_text};
 ghost use Rattle.wf_text.specs.ValueList.{is_value_list};
-ghost use Rattle.wf_token.specs.Lexeme.{tokens_by, IsWithin, begins, ends_word, goes_on, opens_comment, stays_in_list};
+ghost use Rattle.wf_token.specs.Lexeme.{tokens_by, IsNearEnd, begins, ends_word, goes_on, opens_comment, stays_in_list};
 
 use crate::lexeme::Lexeme;
 use crate::token::{LexFault, LexFaultKind, Token, TokenKind, Tokens};
@@ -177,7 +177,7 @@ fn after_comment(bytes: &[u8]) -> Option<&[u8]>
 fn word(bytes: &[u8]) -> Lexeme<'_>
     requires { begins is_plain bytes.now ≡ true }
     ensures tokens { tokens_by result ≡ tokens_from (InWord []) bytes.now }
-    ensures within { IsWithin (length bytes.now) result }
+    ensures within { IsNearEnd (length bytes.now) result }
 {
     let (text, after) = bytes.split_at(word_length(bytes));
     if ends_word(after) {
@@ -242,7 +242,7 @@ fn refused<'a>(
     requires text { count ≤ length inside.now }
     requires inside { length inside.now ≤ length opening.now }
     ensures tokens { tokens_by result ≡ None }
-    ensures within { IsWithin (length opening.now) result }
+    ensures within { IsNearEnd (length opening.now) result }
 {
     match first_forbidden(kind, &inside[..count]) {
         Some(offset) => Lexeme::Fault {
@@ -265,7 +265,7 @@ fn refused<'a>(
 fn string<'a>(opening: &'a [u8], quote: u8, inside: &'a [u8]) -> Lexeme<'a>
     requires { opening.now ≡ quote ∷ inside.now }
     ensures tokens { tokens_by result ≡ tokens_from (InString quote []) inside.now }
-    ensures within { IsWithin (length opening.now) result }
+    ensures within { IsNearEnd (length opening.now) result }
 {
     let count = string_length(inside, quote);
     let (text, rest) = inside.split_at(count);
@@ -285,7 +285,7 @@ fn string<'a>(opening: &'a [u8], quote: u8, inside: &'a [u8]) -> Lexeme<'a>
 fn list<'a>(opening: &'a [u8], inside: &'a [u8]) -> Lexeme<'a>
     requires { length inside.now < length opening.now }
     ensures tokens { tokens_by result ≡ tokens_from (InList []) inside.now }
-    ensures within { IsWithin (length opening.now) result }
+    ensures within { IsNearEnd (length opening.now) result }
 {
     let count = list_length(inside);
     let (text, rest) = inside.split_at(count);
@@ -319,7 +319,7 @@ fn comment_inside(bytes: &[u8]) -> Option<&[u8]>
 fn block_comment<'a>(opening: &'a [u8], inside: &'a [u8]) -> Lexeme<'a>
     requires { length inside.now < length opening.now }
     ensures tokens { tokens_by result ≡ tokens_from BlockComment inside.now }
-    ensures within { IsWithin (length opening.now) result }
+    ensures within { IsNearEnd (length opening.now) result }
 {
     match after_comment(inside) {
         Some(after) => Lexeme::Gap { after },
@@ -334,7 +334,7 @@ fn block_comment<'a>(opening: &'a [u8], inside: &'a [u8]) -> Lexeme<'a>
 #[tactic(auto, using(crate::proofs::TokenLemmas::between_steps), unfolding(crate::specs::Lexeme::opens_comment))]
 fn lexeme(bytes: &[u8]) -> Lexeme<'_>
     ensures tokens { tokens_by result ≡ tokens_from Between bytes.now }
-    ensures within { IsWithin (length bytes.now) result }
+    ensures within { IsNearEnd (length bytes.now) result }
 {
     let Some((byte, after)) = bytes.split_first() else {
         return Lexeme::End;

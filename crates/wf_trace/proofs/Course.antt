@@ -7,10 +7,10 @@ use Rattle.wf_model.specs.DurableState.{DurableState}
 use Rattle.wf_model.specs.World.{Node, World, Event, with_node, steps, happens, start}
 use Rattle.wf_model.specs.Chosen.{history_of, history}
 use Rattle.wf_safety.specs.Theorems.{IsBeginning}
-use Rattle.wf_safety.specs.Replacement.{Change, Occurs, replace_stopped, after_replacement, world_changed, changes, after_changes, without_loss, IsUpTo, HeldOnce, AreElsewhere, HeldOfHalf, IsGuarded, AreGuarded}
+use Rattle.wf_safety.specs.Replacement.{Change, Occurs, replace_stopped, after_replacement, world_changed, changes, after_changes, without_loss, IsUpTo, HeldOnce, AreElsewhere, IsGuarded, AreGuarded}
 use Rattle.wf_safety.specs.Replacement as change
 use Rattle.wf_trace.specs.Deed.{IsDone, new_node}
-use Rattle.wf_trace.specs.Trace.{Entry, IsReceived, Refines}
+use Rattle.wf_trace.specs.Trace.{Entry, DeliversOneOf, Refines}
 use Rattle.wf_trace.specs.Course.{Move, Entered, Renewed, process_moved, outputs_of, outputs_through, node_left, nodes_with, nodes_after, IsMove, AreMoves, AreOfOthers, WasUpTo, MayReplace, IsAllowed, AreAllowed, CourseIsRun}
 use Rattle.wf_trace.proofs.Nodes.{set_there, set_elsewhere, all_alike}
 use Rattle.wf_trace.proofs.Deeds.{AreEventsOf, Becomes, deed_is_events}
@@ -168,7 +168,7 @@ module _ {V : Type 0} (same : V → V → Bool) (n : ℕ) (sent : List (Message 
   done entry node is_member is =
       let becomes : Becomes same w entry.process node entry.outputs =
       deed_is_events same w entry.process (nodes entry.process) (refines.each entry.process is_member) entry.deed entry.outputs node
-      (subst (λ (ms : List (Message V)). IsReceived ms entry.deed) (sym refines.messages) is.0)
+      (subst (λ (ms : List (Message V)). DeliversOneOf ms entry.deed) (sym refines.messages) is.0)
       (subst (λ k. IsDone same k entry.process (nodes entry.process) entry.deed entry.outputs node) (sym refines.as_many) is.1) in
       record {
         chunk = without_loss becomes.events;

@@ -9,8 +9,8 @@ use Rattle.wf_model.specs.Table.{Action, Input}
 use Rattle.wf_model.specs.World.{Node, World, Event, Act, Stop, Restart, Torn, Kept, Turn, delivered, input_of, with_node, after_turn, after_torn, stop_running, after_stop, restart_stopped, after_restart, turn_of, turn, happens, steps}
 use Rattle.wf_model.specs.Chosen.{IsIn}
 use Rattle.wf_safety.specs.Theorems.{node_of}
-use Rattle.wf_trace.specs.Deed.{Deed, Takes, Crashes, Stops, Restarts, Steps, Tears, IsUnchanged, IsStopped, IsRestarted, IsDone}
-use Rattle.wf_trace.specs.Trace.{IsInputOf, IsReceived}
+use Rattle.wf_trace.specs.Deed.{Deed, Takes, Crashes, Stops, Restarts, Steps, Tears, IsIdleDeed, IsStopped, IsRestarted, IsDone}
+use Rattle.wf_trace.specs.Trace.{IsInputOf, DeliversOneOf}
 use Rattle.wf_trace.proofs.Nodes.{set_itself}
 
 abbrev pub world_of : {V : Type 0} → List (Node V) → List (Message V) → World V
@@ -57,7 +57,7 @@ module _ {V : Type 0} (same : V → V → Bool) (w : World V) (i : ℕ) (before 
       ap (λ x. turn_of same (length w.nodes) i x (input_of w.sent action)) there ∙ ap (λ x. turn_of same (length w.nodes) i (Some before) x) given ∙ effect
 
   -- nothing happens
-  stays : (outputs : List (Message V)) (node : Node V) → IsUnchanged before outputs node → Becomes same w i node outputs
+  stays : (outputs : List (Message V)) (node : Node V) → IsIdleDeed before outputs node → Becomes same w i node outputs
   unfolding steps
   stays outputs node is = record {
     events = [];
@@ -117,7 +117,7 @@ module _ {V : Type 0} (same : V → V → Bool) (w : World V) (i : ℕ) (before 
         (sym (ap (slice_set w.nodes i) is.node)) (sym (ap (λ ms. w.sent ++ ms) is.silent ∙ append-nil w.sent));
   }
 
-  pub deed_is_events : (deed : Deed V) (outputs : List (Message V)) (node : Node V) → IsReceived w.sent deed → IsDone same (length w.nodes) i before deed outputs node → Becomes same w i node outputs
+  pub deed_is_events : (deed : Deed V) (outputs : List (Message V)) (node : Node V) → DeliversOneOf w.sent deed → IsDone same (length w.nodes) i before deed outputs node → Becomes same w i node outputs
   deed_is_events (Takes input) outputs node received (inl step) = acts input outputs node received step
   deed_is_events (Takes input) outputs node received (inr is) = stays outputs node is
   deed_is_events (Crashes input kept) outputs node received tear = crashes input kept outputs node received tear

@@ -6,7 +6,7 @@ use Rattle.wf_model.specs.Message.{Message}
 use Rattle.wf_model.specs.StepsTheorems.{steps_in_turn}
 use Rattle.wf_model.specs.World.{Node, World, steps, start, after}
 use Rattle.wf_trace.specs.Deed.{IsDone, new_node}
-use Rattle.wf_trace.specs.Trace.{Entry, of_process, outputs_by, IsLife, IsReceived, AreReceived, AreMembers, GoOn, Refines}
+use Rattle.wf_trace.specs.Trace.{Entry, of_process, outputs_by, IsLife, DeliversOneOf, AreReceived, AreMembers, GoOn, Refines}
 use Rattle.wf_trace.specs.Theorems.{EntriesAreEvents, IsReachableFrom, TraceIsRun, PartsAreOne}
 use Rattle.wf_trace.proofs.Nodes.{set_there, set_elsewhere, all_alike}
 use Rattle.wf_trace.proofs.Deeds.{Becomes, deed_is_events}
@@ -61,7 +61,7 @@ module _ {V : Type 0} (same : V → V → Bool) (n : ℕ) (sent : List (Message 
   module _ (w : World V) (refines : Refines n nodes sent w) where
     becomes : Becomes same w entry.process middle entry.outputs
     becomes = deed_is_events same w entry.process (nodes entry.process) (refines.each entry.process go.members.0) entry.deed entry.outputs middle
-        (subst (λ (ms : List (Message V)). IsReceived ms entry.deed) (sym refines.messages) go.received.0)
+        (subst (λ (ms : List (Message V)). DeliversOneOf ms entry.deed) (sym refines.messages) go.received.0)
         (subst (λ k. IsDone same k entry.process (nodes entry.process) entry.deed entry.outputs middle) (sym refines.as_many) own_life.1)
 
     there : (j : ℕ) → j < n → slice_get (slice_set w.nodes entry.process middle) j ≡ Some (put_node nodes entry.process middle j)

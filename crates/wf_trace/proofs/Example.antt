@@ -10,7 +10,7 @@ use Rattle.wf_model.specs.Table.{Input, Propose, Deliver, store, quiet, only_sen
 use Rattle.wf_model.specs.World.{Node, Turn, stored_after, kept_part, turn_running, turn_of}
 use Rattle.wf_trace.specs.Deed.{Takes, IsDone, new_node}
 use Rattle.wf_trace.specs.Trace.{of_process, IsLife, IsTrace}
-use Rattle.wf_trace.specs.Examples.{three_publish, IsPublished}
+use Rattle.wf_trace.specs.Examples.{three_publish, EndsPublished}
 
 -- ---- what an input does
 
@@ -200,5 +200,5 @@ each_published zero less = refl
 each_published (suc zero) less = refl
 each_published (suc (suc i)) less = refl
 
-pub three_publish_a : IsPublished three_publish a
+pub three_publish_a : EndsPublished three_publish a
 three_publish_a = record { nodes = last; trace = trace; published = each_published }

@@ -5,8 +5,8 @@ use Rattle.std.proofs.lemmas.Bool.{cases_eq, cases_lt}
 use Rattle.wf_model.specs.Message.{Message}
 use Rattle.wf_model.specs.World.{Node}
 use Rattle.wf_trace.specs.Deed.{Deed, Takes, Crashes, Stops, Restarts, IsDone, new_node}
-use Rattle.wf_trace.specs.Trace.{Entry, of_process, outputs_by, IsLife, IsInputOf, IsReceived, AreReceived, AreMembers}
-use Rattle.wf_trace.specs.Order.{Item, seen_of, seen, items_of, outputs_in, AreTaken, AreOf, LivesAreOneTrace, AreLivesFrom, GoOnAsOne, LivesGoOn}
+use Rattle.wf_trace.specs.Trace.{Entry, of_process, outputs_by, IsLife, IsInputOf, DeliversOneOf, AreReceived, AreMembers}
+use Rattle.wf_trace.specs.Order.{Item, seen_of, seen, items_of, outputs_in, AreCausal, AreOf, LivesAreOneTrace, AreLivesFrom, GoOnAsOne, LivesGoOn}
 use Rattle.wf_trace.proofs.Entries.{own_first, other_first}
 
 -- ---- entries of which nothing is seen
@@ -44,7 +44,7 @@ abbrev AreUnseen : {V : Type 0} → List (Entry V) → Type 0
 AreUnseen [] = ⊤
 AreUnseen (entry ∷ entries) = IsUnseen entry.deed × (entry.outputs ≡ []) × AreUnseen entries
 
-unseen_received : {V : Type 0} (sent : List (Message V)) (deed : Deed V) → IsUnseen deed → IsReceived sent deed
+unseen_received : {V : Type 0} (sent : List (Message V)) (deed : Deed V) → IsUnseen deed → DeliversOneOf sent deed
 unseen_received sent (Takes input) unseen = absurd unseen
 unseen_received sent (Crashes input kept) unseen = absurd unseen
 unseen_received sent Stops unseen = tt
@@ -61,7 +61,7 @@ record Split {V : Type 0} (i : ℕ) (entries : List (Entry V)) (item : Item V) (
   unseen : AreUnseen front
   front_own : AreOf i front
   it_own : it.process ≡ i
-  received : (sent : List (Message V)) → IsInputOf sent item.input → IsReceived sent it.deed
+  received : (sent : List (Message V)) → IsInputOf sent item.input → DeliversOneOf sent it.deed
   outputs : it.outputs ≡ item.outputs
   rest_own : AreOf i rest
   rest_quiet : AreQuiet rest
@@ -77,7 +77,7 @@ module _ {A : Type 0} (x y : A) (xs ys : List A) (e : x ∷ xs ≡ y ∷ ys) whe
 module _ {V : Type 0} (i : ℕ) (item : Item V) (items : List (Item V)) where
   -- the first one is seen
   seen_first : (entry : Entry V) (entries : List (Entry V)) (seen_as : Item V) → entry.process ≡ i → AreOf i entries → AreQuiet entries →
-      ((sent : List (Message V)) → IsInputOf sent seen_as.input → IsReceived sent entry.deed) → entry.outputs ≡ seen_as.outputs → seen_as ∷ seen entries ≡ item ∷ items → Split i (entry ∷ entries) item items
+      ((sent : List (Message V)) → IsInputOf sent seen_as.input → DeliversOneOf sent entry.deed) → entry.outputs ≡ seen_as.outputs → seen_as ∷ seen entries ≡ item ∷ items → Split i (entry ∷ entries) item items
   seen_first entry entries seen_as own rest quiet received outputs e =
       let first : seen_as ≡ item = same_head seen_as item (seen entries) items e in
       record {
@@ -266,7 +266,7 @@ at_put P lives i j life here elsewhere = elim (cases_eq j i) [
   | inr differs ↦ subst (λ es. P j es) (sym (put_other lives i j life differs)) (elsewhere differs)
 ]
 
-module _ {V : Type 0} (n : ℕ) (sent : List (Message V)) (lives : ℕ → List (Entry V)) (item : Item V) (items : List (Item V)) (are : AreSeen n lives (item ∷ items)) (taken : AreTaken n sent (item ∷ items)) where
+module _ {V : Type 0} (n : ℕ) (sent : List (Message V)) (lives : ℕ → List (Entry V)) (item : Item V) (items : List (Item V)) (are : AreSeen n lives (item ∷ items)) (taken : AreCausal n sent (item ∷ items)) where
   abbrev p : ℕ
   p = item.process
 
@@ -327,12 +327,12 @@ module _ {V : Type 0} (n : ℕ) (sent : List (Message V)) (lives : ℕ → List 
       messages = silent_before first.front more first.unseen ∙ more_outputs;
     }
 
-merge : {V : Type 0} (n : ℕ) (items : List (Item V)) (sent : List (Message V)) (lives : ℕ → List (Entry V)) → AreSeen n lives items → AreTaken n sent items → Merged n sent lives items
+merge : {V : Type 0} (n : ℕ) (items : List (Item V)) (sent : List (Message V)) (lives : ℕ → List (Entry V)) → AreSeen n lives items → AreCausal n sent items → Merged n sent lives items
 merge n [] sent lives are taken = merge_last n lives are sent
 merge n (item ∷ items) sent lives are taken =
     merge_one n sent lives item items are taken (merge n items (sent ++ item.outputs) (left n sent lives item items are taken) (left_seen n sent lives item items are taken) taken.2)
 
-module _ {V : Type 0} (same : V → V → Bool) (n : ℕ) (sent : List (Message V)) (nodes after : ℕ → Node V) (items : List (Item V)) (lives : ℕ → List (Entry V)) (are : AreLivesFrom same n nodes items lives after) (taken : AreTaken n sent items) where
+module _ {V : Type 0} (same : V → V → Bool) (n : ℕ) (sent : List (Message V)) (nodes after : ℕ → Node V) (items : List (Item V)) (lives : ℕ → List (Entry V)) (are : AreLivesFrom same n nodes items lives after) (taken : AreCausal n sent items) where
   merged_lives : Merged n sent lives items
   merged_lives = merge n items sent lives (record {
     own = are.own;

@@ -8,7 +8,7 @@ use Rattle.wf_model.specs.Message.{Message}
 use Rattle.wf_model.specs.DurableState.{DurableState, definition_at}
 use Rattle.wf_model.specs.World.{Node}
 use Rattle.wf_trace.specs.Deed.{IsDone, new_node}
-use Rattle.wf_trace.specs.Trace.{Entry, outputs_by, IsReceived, GoOn, Refines}
+use Rattle.wf_trace.specs.Trace.{Entry, outputs_by, DeliversOneOf, GoOn, Refines}
 
 -- A move: a process does what the entry says, and its node is this one then; or a stopped process goes on from this stored state.
 pub data Move (V : Type 0) : Type 0 where
@@ -43,7 +43,7 @@ nodes_after nodes (move ∷ moves) = nodes_after (nodes_with nodes move) moves
 
 -- A process does what its node may do, and each message that is delivered was sent before. Only a stopped process is replaced.
 abbrev pub IsMove : {V : Type 0} → (V → V → Bool) → ℕ → List (Message V) → (ℕ → Node V) → Move V → Type 0
-IsMove same n sent nodes (Entered entry node) = IsReceived sent entry.deed × IsDone same n entry.process (nodes entry.process) entry.deed entry.outputs node
+IsMove same n sent nodes (Entered entry node) = DeliversOneOf sent entry.deed × IsDone same n entry.process (nodes entry.process) entry.deed entry.outputs node
 IsMove same n sent nodes (Renewed i stored) = (nodes i).volatile ≡ None
 
 -- Each is a move of one of the n processes, where these messages were sent and these are the nodes at first.

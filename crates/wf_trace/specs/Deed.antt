@@ -18,7 +18,7 @@ abbrev pub new_node : {V : Type 0} → Node V
 new_node = record { stored = nothing_stored; volatile = Some at_start }
 
 -- nothing happens, and nothing is sent
-pub record IsUnchanged {V : Type 0} (before : Node V) (outputs : List (Message V)) (after : Node V) : Type 0 where
+pub record IsIdleDeed {V : Type 0} (before : Node V) (outputs : List (Message V)) (after : Node V) : Type 0 where
   pub same_node : after ≡ before
   pub silent : outputs ≡ []
 
@@ -52,7 +52,7 @@ module _ {V : Type 0} (same : V → V → Bool) (n i : ℕ) (before : Node V) wh
 
   -- An input that is rejected, or lost for want of memory, changes nothing.
   abbrev pub IsDone : Deed V → List (Message V) → Node V → Type 0
-  IsDone (Takes input) outputs after = Steps input outputs after ⊎ IsUnchanged before outputs after
+  IsDone (Takes input) outputs after = Steps input outputs after ⊎ IsIdleDeed before outputs after
   IsDone (Crashes input kept) outputs after = Tears input kept outputs after
   IsDone Stops outputs after = IsStopped outputs after
   IsDone Restarts outputs after = IsRestarted outputs after

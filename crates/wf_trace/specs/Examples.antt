@@ -40,7 +40,7 @@ three_publish =
     quietly 1 (receives (Chosen 1 a)) ∷ []
 
 -- The entries are a trace of three processes, and it ends with the definition published at each of them.
-pub record IsPublished (entries : List (Entry Map)) (d : Map) : Type 0 where
+pub record EndsPublished (entries : List (Entry Map)) (d : Map) : Type 0 where
   pub nodes : ℕ → Node Map
   pub trace : IsTrace same_map 3 entries nodes
   pub published : (i : ℕ) → i < 3 → (nodes i).stored.history ≡ just d

@@ -35,9 +35,9 @@ outputs_in [] = []
 outputs_in (item ∷ items) = item.outputs ++ outputs_in items
 
 -- Each item is of one of the n processes, and a message that it delivers is one of these or of those that earlier items sent.
-abbrev pub AreTaken : {V : Type 0} → ℕ → List (Message V) → List (Item V) → Type 0
-AreTaken n sent [] = ⊤
-AreTaken n sent (item ∷ items) = (item.process < n) × IsInputOf sent item.input × AreTaken n (sent ++ item.outputs) items
+abbrev pub AreCausal : {V : Type 0} → ℕ → List (Message V) → List (Item V) → Type 0
+AreCausal n sent [] = ⊤
+AreCausal n sent (item ∷ items) = (item.process < n) × IsInputOf sent item.input × AreCausal n (sent ++ item.outputs) items
 
 -- each entry is of process i
 abbrev pub AreOf : {V : Type 0} → ℕ → List (Entry V) → Type 0
@@ -60,7 +60,7 @@ pub record AreOneTrace {V : Type 0} (same : V → V → Bool) (n : ℕ) (items :
 -- Lives of n processes are one trace, if one order of time has what is seen of them, and each message is delivered after it was sent.
 abbrev pub LivesAreOneTrace : Type 0 → Type 0
 LivesAreOneTrace V = (same : V → V → Bool) (n : ℕ) (items : List (Item V)) (lives : ℕ → List (Entry V)) (nodes : ℕ → Node V) →
-    AreLives same n items lives nodes → AreTaken n [] items → AreOneTrace same n items lives nodes
+    AreLives same n items lives nodes → AreCausal n [] items → AreOneTrace same n items lives nodes
 
 -- ---- from any nodes on
 
@@ -82,4 +82,4 @@ pub record GoOnAsOne {V : Type 0} (same : V → V → Bool) (n : ℕ) (sent : Li
 -- and each message is delivered after it was sent.
 abbrev pub LivesGoOn : Type 0 → Type 0
 LivesGoOn V = (same : V → V → Bool) (n : ℕ) (sent : List (Message V)) (nodes after : ℕ → Node V) (items : List (Item V)) (lives : ℕ → List (Entry V)) →
-    AreLivesFrom same n nodes items lives after → AreTaken n sent items → GoOnAsOne same n sent nodes items lives after
+    AreLivesFrom same n nodes items lives after → AreCausal n sent items → GoOnAsOne same n sent nodes items lives after

@@ -48,16 +48,16 @@ IsInputOf sent table.CatchUp = ⊤
 IsInputOf sent (table.Deliver message) = IsIn message sent
 
 -- what a deed delivers is one of these; a stop and a restart deliver nothing
-abbrev pub IsReceived : {V : Type 0} → List (Message V) → Deed V → Type 0
-IsReceived sent (Takes input) = IsInputOf sent input
-IsReceived sent (Crashes input kept) = IsInputOf sent input
-IsReceived sent Stops = ⊤
-IsReceived sent Restarts = ⊤
+abbrev pub DeliversOneOf : {V : Type 0} → List (Message V) → Deed V → Type 0
+DeliversOneOf sent (Takes input) = IsInputOf sent input
+DeliversOneOf sent (Crashes input kept) = IsInputOf sent input
+DeliversOneOf sent Stops = ⊤
+DeliversOneOf sent Restarts = ⊤
 
 -- Each delivered message was sent before: it is one of these, or of those that earlier entries sent, by whichever process.
 abbrev pub AreReceived : {V : Type 0} → List (Message V) → List (Entry V) → Type 0
 AreReceived sent [] = ⊤
-AreReceived sent (entry ∷ entries) = IsReceived sent entry.deed × AreReceived (sent ++ entry.outputs) entries
+AreReceived sent (entry ∷ entries) = DeliversOneOf sent entry.deed × AreReceived (sent ++ entry.outputs) entries
 
 -- ---- all of them
 

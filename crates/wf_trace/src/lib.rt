@@ -29,7 +29,7 @@
 #![tactic(auto)]
 
 ghost use Rattle.wf_model.specs.Examples.{a};
-ghost use Rattle.wf_trace.specs.Examples.{three_publish, IsPublished};
+ghost use Rattle.wf_trace.specs.Examples.{three_publish, EndsPublished};
 ghost use Rattle.wf_trace.specs.Course.{CourseIsRun, CoursesAgree, CoursesAreOne, EntriesAreMoves};
 ghost use Rattle.wf_trace.specs.Order.{LivesAreOneTrace, LivesGoOn};
 ghost use Rattle.wf_trace.specs.Theorems.{EntriesAreEvents, ListsGrow, OneDefinition, OneHistory, PartsAreOne, TraceIsRun};
@@ -111,5 +111,5 @@ pub fn processes_agree<V>()
 /// An example, which shows that the theorems' premises can be met: the proposal of one of three processes is published at each of
 /// them, though one crashes within a step, and another is stopped meanwhile.
 pub fn three_processes_publish()
-    ensures { IsPublished three_publish a }
+    ensures { EndsPublished three_publish a }
 {}

@@ -9,7 +9,7 @@ abbrev pub nothing : Outgoing
 nothing = record { bytes = []; done = 0; failures = 0 }
 
 -- a response was written, as that says, or nothing was
-abbrev pub IsReply : Type 0 → Type 0 → ServerReply → Outgoing → Outgoing → Type 0
-IsReply stays responds (Lacks count) old new = (new ≡ old) × stays
-IsReply stays responds Nothing old new = (new ≡ old) × stays
-IsReply stays responds (Sent status bytes) old new = responds
+abbrev pub IsServerReply : Type 0 → Type 0 → ServerReply → Outgoing → Outgoing → Type 0
+IsServerReply stays responds (Lacks count) old new = (new ≡ old) × stays
+IsServerReply stays responds Nothing old new = (new ≡ old) × stays
+IsServerReply stays responds (Sent status bytes) old new = responds

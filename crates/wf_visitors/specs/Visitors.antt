@@ -2,7 +2,7 @@
 use Rattle.std.specs.Prelude.{◌≡◌, ◌⊎◌, ℕ, Bool, true, false, List, [], ◌∷◌, ◌++◌}
 use Rattle.wf_client.specs.Client.{Client}
 use Rattle.wf_sockets.specs.declared.connection.Connection.{Ghosts as Connection}
-use Rattle.wf_visitors.specs.ServerReply.{nothing, IsReply}
+use Rattle.wf_visitors.specs.ServerReply.{nothing, IsServerReply}
 use Rattle.wf_visitors.specs.declared.server.ServerReply.{ServerReply}
 use Rattle.wf_visitors.specs.declared.server.Server.{Ghosts as Server}
 use Rattle.wf_visitors.specs.declared.visitors.Visitors.{Visitors}
@@ -23,7 +23,7 @@ module _ {S : Type 0} (servers : Server S) where
 
   -- a client was answered, or its request isn't whole; then nothing is to be written to it
   pub record IsResponding (before : S) (old : Client) (reply : ServerReply) (after : S) (new : Client) : Type 0 where
-    pub is_reply : IsReply (servers.stays before after) (servers.responds before old.incoming.bytes old.incoming.is_closed new.outgoing.bytes after) reply nothing new.outgoing
+    pub is_reply : IsServerReply (servers.stays before after) (servers.responds before old.incoming.bytes old.incoming.is_closed new.outgoing.bytes after) reply nothing new.outgoing
     pub phase : new.phase ≡ old.phase
     pub since : new.since ≡ old.since
     pub incoming : new.incoming ≡ old.incoming

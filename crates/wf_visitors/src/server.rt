@@ -1,6 +1,6 @@
 //! What answers requests.
 ghost use Rattle.std.specs.Prelude.{◌≡◌, ℕ, Bool, List};
-ghost use Rattle.wf_visitors.specs.ServerReply.{nothing, IsReply};
+ghost use Rattle.wf_visitors.specs.ServerReply.{nothing, IsServerReply};
 
 use std::alloc::Global;
 use wf_client::{Incoming, Outgoing};
@@ -28,6 +28,6 @@ pub trait Server {
     /// Reads the request of a client, and writes the response.
     fn answer(&mut self, alloc: Global, incoming: &Incoming, outgoing: &mut Outgoing) -> ServerReply
         requires { outgoing.old ≡ nothing }
-        ensures { IsReply (stays self.old self.new) (responds self.old incoming.now.bytes incoming.now.is_closed outgoing.new.bytes self.new)
+        ensures { IsServerReply (stays self.old self.new) (responds self.old incoming.now.bytes incoming.now.is_closed outgoing.new.bytes self.new)
             result outgoing.old outgoing.new };
 }

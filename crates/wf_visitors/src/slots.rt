@@ -1,5 +1,5 @@
 //! The slots of clients.
-ghost use Rattle.std.specs.Prelude.{◌≡◌, ◌<◌, ◌++◌, ◌∷◌, [], ℕ, List, None, IfOk, IfSome, OnOk, length, vec_len};
+ghost use Rattle.std.specs.Prelude.{◌<◌, [], ℕ, List, None, IfOk, IfSome};
 ghost use Rattle.wf_client.specs.Client.{Client as ClientValue};
 ghost use Rattle.wf_visitors.specs.Responses.{AreResponses, MayRespond};
 

@@ -1,5 +1,4 @@
 //! What a client's turn reads and writes.
-ghost use Rattle.std.specs.Prelude.{◌≡◌};
 ghost use Rattle.wf_visitors.specs.Turn.{IsGiving, IsReceiving};
 
 use crate::socket::ClientConnection;

@@ -25,13 +25,13 @@ use Rattle.wf_paint.specs.Pixmap.{PixmapValue, IsPicture}
 use Rattle.wf_geometry.specs.Tile.{tile_view}
 use Rattle.wf_geometry.specs.View.{ViewValue}
 use Rattle.wf_geometry.specs.declared.grid.GridCell.{GridCell}
-use Rattle.wf_picture.specs.Picture.{labelled, IsViewFor, LiesIn}
+use Rattle.wf_picture.specs.Picture.{labelled, IsViewFor, IsPartOfView}
 use Rattle.wf_picture.specs.Request.{RequestValue}
 use Rattle.wf_picture.specs.Tiles.{ShareAView, SharedViewsHaveOnePicture}
 use Rattle.wf_picture.specs.declared.request.Size.{Size}
 use Rattle.wf_wms.specs.Answer.{AnswerValue, picture_answer}
-use Rattle.wf_wms.specs.Plan.{IsAskedOf, IsPictureFor, wanted_in}
-use Rattle.wf_wms.specs.CachedPictures.{AllCached, CacheValue, GrowthKeepsAll, IsAfter, IsCacheAfter, IsCellOf, IsDrawn, IsCached, IsRequestOf, IsTaken, IsTileAt, IsTileOf, IsUnkept, IsUsed, background_of, cache_of, entry_of, others, risen, tile_size}
+use Rattle.wf_wms.specs.Plan.{IsPictureAskedOf, IsPictureFor, wanted_in}
+use Rattle.wf_wms.specs.CachedPictures.{AllCached, CacheValue, GrowthKeepsAll, IsNextCache, IsCacheAfter, IsCellOf, IsDrawn, IsCached, IsRequestOf, IsCutFromCache, IsTileAt, IsTileOf, IsUnkept, IsUsed, background_of, cache_of, entry_of, others, risen, tile_size}
 use Rattle.wf_wms.specs.Requested.{Wanted, requested}
 use Rattle.wf_wms.specs.contracts.cache.KeyPartialEq.TheImpl as keys
 use Rattle.wf_wms.specs.declared.plan.QueriedPicture.{QueriedPicture}
@@ -188,7 +188,7 @@ module _ (key : Key) (es : List (Key × PixmapValue)) where
 
 module _ (key : Key) (cached after : LruCache Key PixmapValue) (drawings taken unkept next : ℕ) where
   taken_from : IsSome (entry_of key cached.entries) → after ≡ lru_cache (promoted (eq key) cached.entries) cached.cap → next ≡ risen taken →
-      IsTaken key (cache_of cached drawings taken unkept) (cache_of after drawings next unkept)
+      IsCutFromCache key (cache_of cached drawings taken unkept) (cache_of after drawings next unkept)
   taken_from some promotes counts =
       let there = there_is (entry_of key cached.entries) some in
       let first : after.entries ≡ there.0 ∷ others key cached.entries = ap (λ (c : LruCache Key PixmapValue). c.entries) promotes ∙ promoted_first key cached.entries there.0 there.1 in
@@ -200,9 +200,9 @@ module _ (key : Key) (cached after : LruCache Key PixmapValue) (drawings taken u
       }
 
   pub taken_of : (old : CacheValue) → cache_of cached drawings taken unkept ≡ old → IsSome (entry_of key old.entries) →
-      after ≡ lru_cache (promoted (eq key) cached.entries) cached.cap → next ≡ risen taken → IsTaken key old (cache_of after drawings next unkept)
+      after ≡ lru_cache (promoted (eq key) cached.entries) cached.cap → next ≡ risen taken → IsCutFromCache key old (cache_of after drawings next unkept)
   taken_of old is some promotes counts =
-      subst (λ (c : CacheValue). IsTaken key c (cache_of after drawings next unkept)) is
+      subst (λ (c : CacheValue). IsCutFromCache key c (cache_of after drawings next unkept)) is
       (taken_from (subst (λ (c : CacheValue). IsSome (entry_of key c.entries)) (sym is) some) promotes counts)
 
 module _ (key : Key) (p : PixmapValue) (cached after : LruCache Key PixmapValue) (drawings taken unkept next : ℕ) (old : CacheValue) (is : cache_of cached drawings taken unkept ≡ old)
@@ -339,7 +339,7 @@ tile_sized : (e box : ExtentValue) (width height : ℕ) (cell : GridCell) → fi
 unfolding fits
 tile_sized e box width height cell found = grind (arith, nat_tests)
 
-module _ (history : List Definition) (asked : QueriedPicture) (of : IsAskedOf history asked) (map : Definition) (there : map_at history asked.sequence ≡ Some map) (cell : GridCell) (view : ViewValue) (key : Key)
+module _ (history : List Definition) (asked : QueriedPicture) (of : IsPictureAskedOf history asked) (map : Definition) (there : map_at history asked.sequence ≡ Some map) (cell : GridCell) (view : ViewValue) (key : Key)
     (found : fits map.extent asked.request.bbox asked.request.size.width asked.request.size.height cell ≡ true) (is : IsViewFor map.extent asked.request view)
     (sequence : key.sequence ≡ asked.sequence) (layers : key.layers.items ≡ asked.request.layers) where
   tile_size_asked : asked.request.size ≡ tile_size
@@ -348,7 +348,7 @@ module _ (history : List Definition) (asked : QueriedPicture) (of : IsAskedOf hi
       λ i. record { width = sized.0 i; height = sized.1 i }
 
   -- the tile's view and its key
-  pub tile_asked : IsCellOf key cell → LiesIn asked.request.size view → IsTileAt history key view
+  pub tile_asked : IsCellOf key cell → IsPartOfView asked.request.size view → IsTileAt history key view
   tile_asked is_cell lies = record {
     within = subst (λ (s : ℕ). s ≤ length history) (sym sequence) of.within;
     map = map;
@@ -359,7 +359,7 @@ module _ (history : List Definition) (asked : QueriedPicture) (of : IsAskedOf hi
     cell = cell;
     is_cell = is_cell;
     is_view = is.tile cell found;
-    lies = subst (λ (s : Size). LiesIn s view) tile_size_asked lies;
+    lies = subst (λ (s : Size). IsPartOfView s view) tile_size_asked lies;
   }
 
   -- the tile's file is the requested picture
@@ -375,7 +375,7 @@ module _ (history : List Definition) (asked : QueriedPicture) (of : IsAskedOf hi
 
   -- so its picture is used
   pub tile_used : IsCellOf key cell → background_of key ≡ asked.request.background → (old new : CacheValue) → IsUsed key old new →
-      IsAfter history (Some (asked.sequence, asked.request)) old new
+      IsNextCache history (Some (asked.sequence, asked.request)) old new
   tile_used is_cell background old new used = λ other other_there.
       let same : map ≡ other = same_Some map other (sym there ∙ other_there) in
       inl (record {
@@ -394,7 +394,7 @@ module _ (history : List Definition) (asked : QueriedPicture) (of : IsAskedOf hi
 -- a picture that is no tile leaves the cache as it was
 pub none_used : (history : List Definition) (asked : QueriedPicture) (map : Definition) (cache : CacheValue) → map_at history asked.sequence ≡ Some map →
     ((cell : GridCell) → fits map.extent asked.request.bbox asked.request.size.width asked.request.size.height cell ≡ false) →
-    IsAfter history (Some (asked.sequence, asked.request)) cache cache
+    IsNextCache history (Some (asked.sequence, asked.request)) cache cache
 none_used history asked map cache there no_tile = λ other other_there.
     let same : map ≡ other = same_Some map other (sym there ∙ other_there) in
     inr (record {
@@ -408,13 +408,13 @@ pub after_ready : (s : ℕ) (history : List Definition) (query : List ℕ) (cach
     wanted_in plan ≡ requested s history query → IsCacheAfter s history query cache cache
 unfolding IsCacheAfter
 after_ready s history query cache plan answer is wanted =
-    subst (λ (w : Option Wanted). IsAfter history w cache cache) (ap wanted_in (sym is) ∙ wanted) refl
+    subst (λ (w : Option Wanted). IsNextCache history w cache cache) (ap wanted_in (sym is) ∙ wanted) refl
 
 pub after_picture : (s : ℕ) (history : List Definition) (query : List ℕ) (old new : CacheValue) (plan : Plan) (asked : QueriedPicture) → plan ≡ Picture asked →
-    wanted_in plan ≡ requested s history query → IsAfter history (Some (asked.sequence, asked.request)) old new → IsCacheAfter s history query old new
+    wanted_in plan ≡ requested s history query → IsNextCache history (Some (asked.sequence, asked.request)) old new → IsCacheAfter s history query old new
 unfolding IsCacheAfter
 after_picture s history query old new plan asked is wanted after =
-    subst (λ (w : Option Wanted). IsAfter history w old new) (ap wanted_in (sym is) ∙ wanted) after
+    subst (λ (w : Option Wanted). IsNextCache history w old new) (ap wanted_in (sym is) ∙ wanted) after
 
 -- ---- what holds, whatever the result
 

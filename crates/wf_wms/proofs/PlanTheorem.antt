@@ -7,7 +7,7 @@ use Rattle.wf_def.specs.Definition.{Definition}
 use Rattle.wf_learner.specs.History.{map_at}
 use Rattle.wf_picture.specs.Request.{RequestValue}
 use Rattle.wf_wms.specs.Answer.{AnswerValue, IsAnswerOn, IsMapAnswer, operation_of, rejection}
-use Rattle.wf_wms.specs.Plan.{IsAsked, IsPlanned, wanted_in}
+use Rattle.wf_wms.specs.Plan.{PictureSatisfies, IsPlanned, wanted_in}
 use Rattle.wf_wms.specs.MapRequest.{map_sequence, picture_in}
 use Rattle.wf_wms.specs.Query.{pairs_of, parameter}
 use Rattle.wf_wms.specs.Requested.{requested, wanted_at, wanted_by, wanted_of}
@@ -38,10 +38,10 @@ picture_rejected history sequence map pairs e answer there rejected is other oth
 -- or they request a picture
 pub picture_wanted : (history : List Definition) (map : Definition) (pairs : List (List ℕ × List ℕ)) (asked : QueriedPicture) → asked.sequence ≤ length history →
     map_at history asked.sequence ≡ Some map → Ok asked.request ≡ picture_in map pairs → All (λ index. index < length map.layers) asked.request.layers →
-    (other : Definition) → map_at history asked.sequence ≡ Some other → IsAsked history (IsMapAnswer other (picture_in other pairs)) asked
+    (other : Definition) → map_at history asked.sequence ≡ Some other → PictureSatisfies history (IsMapAnswer other (picture_in other pairs)) asked
 picture_wanted history map pairs asked within there wanted layers other other_there =
     let same : map ≡ other = same_Some map other (sym there ∙ other_there) in
-    let P : Definition → Type 0 = λ m. IsAsked history (IsMapAnswer m (picture_in m pairs)) asked in
+    let P : Definition → Type 0 = λ m. PictureSatisfies history (IsMapAnswer m (picture_in m pairs)) asked in
     subst P same (record {
       of = record { within = within; map = map; is_published = there; layers = layers };
       answers = λ answer picture.

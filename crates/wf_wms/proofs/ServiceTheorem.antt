@@ -6,7 +6,7 @@ use denote.Ref.{Bor}
 use Rattle.wf_def.specs.Definition.{Definition}
 use Rattle.wf_learner.specs.History.{map_at}
 use Rattle.wf_picture.specs.Picture.{EachRequestHasOneImage}
-use Rattle.wf_wms.specs.Answer.{AnswerValue, AnswersAreDescriptions, AskedMapsAreAnsweredAlike, EachQueryHasOneAnswer, IsAnswerOf, IsAnswerOn, IsMapAnswer, IsAnswerTo, IsPictureOf, description, description_to, metadata_answer, operation_of, or_own, rejection, subject}
+use Rattle.wf_wms.specs.Answer.{AnswerValue, AnswersAreDescriptions, AskedMapsAreAnsweredAlike, EachQueryHasOneAnswer, IsAnswerOf, IsAnswerOn, IsMapAnswer, IsOperationAnswer, IsPictureOf, description, description_to, metadata_answer, operation_of, or_own, rejection, subject}
 use Rattle.wf_picture.specs.Request.{RequestValue}
 use Rattle.wf_wms.specs.MapRequest.{map_request, map_sequence, picture_in}
 use Rattle.wf_wms.specs.Query.{pairs_of, parameter}
@@ -107,7 +107,7 @@ one_map_answer map (Ok request) answer another images is other = one_picture map
 
 -- one answer to an operation at one map
 one_to : (operation : Result WmsOperation Exception) (s : ℕ) (map : Definition) (pairs : List (List ℕ × List ℕ)) (answer another : AnswerValue) →
-    EachRequestHasOneImage → IsAnswerTo operation s map pairs answer → IsAnswerTo operation s map pairs another → another ≡ answer
+    EachRequestHasOneImage → IsOperationAnswer operation s map pairs answer → IsOperationAnswer operation s map pairs another → another ≡ answer
 one_to (Err e) s map pairs answer another images is other = other ∙ sym is
 one_to (Ok Capabilities) s map pairs answer another images is other = other ∙ sym is
 one_to (Ok Map) s map pairs answer another images is other = one_map_answer map (map_request s map pairs) answer another images is other
@@ -116,7 +116,7 @@ pub one_answer : EachRequestHasOneImage → EachQueryHasOneAnswer
 unfolding IsAnswerOf subject
 one_answer images s history other query answer another agree is also =
     let same : is.map ≡ also.map = same_Some is.map also.map (sym is.is_published ∙ agree ∙ also.is_published) in
-    let P : Definition → Type 0 = λ m. IsAnswerTo (operation_of (parameter (codes "REQUEST") (pairs_of query))) s m (pairs_of query) another in
+    let P : Definition → Type 0 = λ m. IsOperationAnswer (operation_of (parameter (codes "REQUEST") (pairs_of query))) s m (pairs_of query) another in
     one_to (operation_of (parameter (codes "REQUEST") (pairs_of query))) s is.map (pairs_of query) answer another images is.is_answer (subst P (sym same) also.is_answer)
 
 -- the answer to an operation other than GetMap depends only on the map

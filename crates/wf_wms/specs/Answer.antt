@@ -107,10 +107,10 @@ IsMapAnswer d (Err e) answer = answer ≡ rejection e
 IsMapAnswer d (Ok request) answer = IsPictureOf d request answer
 
 -- the answer to an operation
-abbrev pub IsAnswerTo : Result WmsOperation Exception → ℕ → Definition → List (List ℕ × List ℕ) → AnswerValue → Type 0
-IsAnswerTo (Err e) s d pairs answer = answer ≡ rejection e
-IsAnswerTo (Ok Capabilities) s d pairs answer = answer ≡ metadata_answer s d pairs
-IsAnswerTo (Ok Map) s d pairs answer = IsMapAnswer d (map_request s d pairs) answer
+abbrev pub IsOperationAnswer : Result WmsOperation Exception → ℕ → Definition → List (List ℕ × List ℕ) → AnswerValue → Type 0
+IsOperationAnswer (Err e) s d pairs answer = answer ≡ rejection e
+IsOperationAnswer (Ok Capabilities) s d pairs answer = answer ≡ metadata_answer s d pairs
+IsOperationAnswer (Ok Map) s d pairs answer = IsMapAnswer d (map_request s d pairs) answer
 
 abbrev pub or_own : ℕ → Result ℕ Exception → ℕ
 or_own s (Ok other) = other
@@ -127,7 +127,7 @@ subject_of (Ok Map) s pairs = or_own s (map_sequence s pairs)
 pub record IsAnswerOn (operation : Result WmsOperation Exception) (s : ℕ) (history : List Definition) (pairs : List (List ℕ × List ℕ)) (answer : AnswerValue) : Type 0 where
   pub map : Definition
   pub is_published : map_at history (subject_of operation s pairs) ≡ Some map
-  pub is_answer : IsAnswerTo operation s map pairs answer
+  pub is_answer : IsOperationAnswer operation s map pairs answer
 
 -- the answer to a query
 unfoldable pub IsAnswerOf : ℕ → List Definition → List ℕ → AnswerValue → Type 0

@@ -14,7 +14,7 @@ use Rattle.wf_paint.specs.Pixmap.{PixmapValue, IsPicture}
 use Rattle.wf_geometry.specs.Tile.{tile_view}
 use Rattle.wf_geometry.specs.View.{ViewValue}
 use Rattle.wf_geometry.specs.declared.grid.GridCell.{GridCell}
-use Rattle.wf_picture.specs.Picture.{labelled, IsImageOf, IsViewFor, LiesIn}
+use Rattle.wf_picture.specs.Picture.{labelled, IsImageOf, IsViewFor, IsPartOfView}
 use Rattle.wf_picture.specs.Request.{RequestValue}
 use Rattle.wf_picture.specs.declared.request.Size.{Size}
 use Rattle.wf_wms.specs.MapRequest.{AreLayersOf}
@@ -89,7 +89,7 @@ unfoldable pub risen : ℕ → ℕ
 risen count = min (count + 1) (2 ^ 64 - 1)
 
 -- A tile is cut out of the key's picture, which is kept. Its entry goes first, and the others stay in their order.
-pub record IsTaken (key : Key) (old new : CacheValue) : Type 0 where
+pub record IsCutFromCache (key : Key) (old new : CacheValue) : Type 0 where
   pub entry : Key × PixmapValue
   pub is_cached : entry_of key old.entries ≡ Some entry
   pub goes_first : new ≡ record old { entries = entry ∷ others key old.entries; taken = risen old.taken }
@@ -107,7 +107,7 @@ pub record IsUnkept (key : Key) (old new : CacheValue) : Type 0 where
 
 -- a tile is cut out of the key's picture
 abbrev pub IsUsed : Key → CacheValue → CacheValue → Type 0
-IsUsed key old new = IsTaken key old new ⊎ (IsDrawn key old new ⊎ IsUnkept key old new)
+IsUsed key old new = IsCutFromCache key old new ⊎ (IsDrawn key old new ⊎ IsUnkept key old new)
 
 -- the key of the picture of this map out of which the requested tile is cut
 pub record IsKeyFor (map : Definition) (wanted : Wanted) (key : Key) : Type 0 where
@@ -130,13 +130,13 @@ pub record UsesNone (map : Definition) (wanted : Wanted) (old new : CacheValue) 
   pub stays : new ≡ old
 
 -- what becomes of the cache when a picture is requested, or none
-abbrev pub IsAfter : List Definition → Option Wanted → CacheValue → CacheValue → Type 0
-IsAfter history None old new = new ≡ old
-IsAfter history (Some wanted) old new = (map : Definition) → map_at history wanted.0 ≡ Some map → UsesTile map wanted old new ⊎ UsesNone map wanted old new
+abbrev pub IsNextCache : List Definition → Option Wanted → CacheValue → CacheValue → Type 0
+IsNextCache history None old new = new ≡ old
+IsNextCache history (Some wanted) old new = (map : Definition) → map_at history wanted.0 ≡ Some map → UsesTile map wanted old new ⊎ UsesNone map wanted old new
 
 -- and when a query is answered, at a server with this history whose last sequence is s
 unfoldable pub IsCacheAfter : ℕ → List Definition → List ℕ → CacheValue → CacheValue → Type 0
-IsCacheAfter s history query old new = IsAfter history (requested s history query) old new
+IsCacheAfter s history query old new = IsNextCache history (requested s history query) old new
 
 -- ---- for the crate's own contracts
 
@@ -150,7 +150,7 @@ pub record IsTileAt (history : List Definition) (key : Key) (view : ViewValue) :
   pub cell : GridCell
   pub is_cell : IsCellOf key cell
   pub is_view : view ≡ tile_view map.extent cell
-  pub lies : LiesIn tile_size view
+  pub lies : IsPartOfView tile_size view
 
 -- the request is one of the key's
 pub record IsRequestOf (key : Key) (request : RequestValue) : Type 0 where

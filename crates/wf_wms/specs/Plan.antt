@@ -11,7 +11,7 @@ use Rattle.wf_wms.specs.declared.plan.Plan.{Plan}
 use Rattle.wf_wms.specs.declared.plan.Plan.TheVariants.{Ready, Picture}
 
 -- The requested picture is of a map that the history has, and its layers are that map's.
-pub record IsAskedOf (history : List Definition) (asked : QueriedPicture) : Type 0 where
+pub record IsPictureAskedOf (history : List Definition) (asked : QueriedPicture) : Type 0 where
   pub within : asked.sequence ≤ length history
   pub map : Definition
   pub is_published : map_at history asked.sequence ≡ Some map
@@ -22,13 +22,13 @@ abbrev pub IsPictureFor : List Definition → QueriedPicture → AnswerValue →
 IsPictureFor history asked answer = (map : Definition) → map_at history asked.sequence ≡ Some map → IsPictureOf map asked.request answer
 
 -- Each answer that is the requested picture satisfies `wanted`.
-pub record IsAsked (history : List Definition) (wanted : AnswerValue → Type 0) (asked : QueriedPicture) : Type 0 where
-  pub of : IsAskedOf history asked
+pub record PictureSatisfies (history : List Definition) (wanted : AnswerValue → Type 0) (asked : QueriedPicture) : Type 0 where
+  pub of : IsPictureAskedOf history asked
   pub answers : (answer : AnswerValue) → IsPictureFor history asked answer → wanted answer
 
 abbrev pub IsPlanned : List Definition → (AnswerValue → Type 0) → Plan → Type 0
 IsPlanned history wanted (Ready answer) = wanted answer
-IsPlanned history wanted (Picture asked) = IsAsked history wanted asked
+IsPlanned history wanted (Picture asked) = PictureSatisfies history wanted asked
 
 -- the picture that is requested
 abbrev pub wanted_in : Plan → Option Wanted

@@ -2,7 +2,7 @@
 ghost use Rattle.std.specs.Prelude.{◌≡◌, IfOk, option_map};
 ghost use Rattle.wf_def.specs.Number.{number};
 ghost use Rattle.wf_picture.specs.Request.{IsLargeEnough};
-ghost use Rattle.wf_wms.specs.MapRequest.{box_along, box_in, box_of, coordinate_of, four_of, is_side, large_enough};
+ghost use Rattle.wf_wms.specs.MapRequest.{box_in, box_of, coordinate_of, is_side, large_enough};
 
 use crate::entries::four_entries;
 use crate::exception::{Exception, Parameter};

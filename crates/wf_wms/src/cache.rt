@@ -4,7 +4,7 @@ ghost use Rattle.lru.specs.LruCache.{lru_cache};
 ghost use Rattle.wf_def.specs.Definition.{Definition};
 ghost use Rattle.wf_geometry.specs.Exact.{quotient};
 ghost use Rattle.wf_geometry.specs.Limit.{shared_tiles};
-ghost use Rattle.wf_wms.specs.CachedPictures.{most_cached, background_of, cache_of, entry_of, risen, AllCached, IsCellOf, IsCached, IsTaken, IsTileAt, IsTileOf, IsUsed};
+ghost use Rattle.wf_wms.specs.CachedPictures.{most_cached, background_of, cache_of, entry_of, risen, AllCached, IsCellOf, IsCached, IsCutFromCache, IsTileAt, IsTileOf, IsUsed};
 
 use crate::maps::MapSource;
 use crate::plan::QueriedPicture;
@@ -163,7 +163,7 @@ impl Cache {
     /// Makes the key's picture the most recently used, and counts a tile that was cut out of it.
     fn touch(&mut self, key: &Key)
         requires { IsSome (entry_of key.now self.old.entries) }
-        ensures taken { IsTaken key.now self.old self.new }
+        ensures taken { IsCutFromCache key.now self.old self.new }
         ensures cached { (history : List Definition) →
             AllCached history self.old → AllCached history self.new }
         ensures capacity { self.new.cap ≡ self.old.cap }

@@ -1,7 +1,7 @@
 //! Draws the requested picture, or cuts it out of a kept one.
 ghost use Rattle.std.specs.Prelude.{◌≡◌, IfOk, OnErr, OnOk, Some};
-ghost use Rattle.wf_wms.specs.Plan.{IsAskedOf, IsPictureFor};
-ghost use Rattle.wf_wms.specs.CachedPictures.{AllCached, IsAfter};
+ghost use Rattle.wf_wms.specs.Plan.{IsPictureAskedOf, IsPictureFor};
+ghost use Rattle.wf_wms.specs.CachedPictures.{AllCached, IsNextCache};
 
 use crate::cache::{Cache, Key};
 use crate::maps::MapSource;
@@ -18,7 +18,7 @@ pub(crate) fn draw_uncached<M: MapSource>(
     maps: &M,
     asked: QueriedPicture,
 ) -> Result<Answer, AllocError>
-    requires { IsAskedOf (M.definitions maps.now) asked }
+    requires { IsPictureAskedOf (M.definitions maps.now) asked }
     ensures { IfOk result (λ answer. IsPictureFor (M.definitions maps.now) asked answer) }
 {
     let map = maps.published_map(asked.sequence);
@@ -33,11 +33,11 @@ pub(crate) fn draw_by(
     history: &History,
     asked: QueriedPicture,
 ) -> Result<Answer, AllocError>
-    requires asked { IsAskedOf history.now.definitions asked }
+    requires asked { IsPictureAskedOf history.now.definitions asked }
     requires cached { AllCached history.now.definitions cache.old }
     ensures answer { IfOk result (λ answer. IsPictureFor history.now.definitions asked answer) }
     ensures cached { AllCached history.now.definitions cache.new }
-    ensures used { OnOk result (IsAfter history.now.definitions
+    ensures used { OnOk result (IsNextCache history.now.definitions
         (Some (asked.sequence, asked.request)) cache.old cache.new) }
     ensures unchanged { OnErr result (cache.new ≡ cache.old) }
     ensures capacity { cache.new.cap ≡ cache.old.cap }

@@ -1,5 +1,5 @@
 //! The parameter LAYERS (OGC 06-042, 7.3.3.3).
-ghost use Rattle.std.specs.Prelude.{◌≡◌, ◌<◌, ◌≤◌, IfOk, IfErr, IfSome, MatchResult, Some, None, filter_map, is_none, length, position};
+ghost use Rattle.std.specs.Prelude.{◌≡◌, ◌<◌, ◌≤◌, IfOk, IfErr, IfSome, Some, None, filter_map, is_none, length, position};
 ghost use Rattle.std.specs.Result.{result_map_both};
 ghost use Rattle.wf_wms.specs.Limit.{most_entries};
 ghost use Rattle.wf_wms.specs.MapRequest.{AreLayersOf, check_layers, entries, layer_of, named_layers};

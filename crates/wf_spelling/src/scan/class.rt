@@ -1,9 +1,9 @@
 //! Scans a class with its styles and its label.
 
-ghost use Rattle.std.specs.Prelude.{◌≡◌, ◌≤◌, length, IfSome};
+ghost use Rattle.std.specs.Prelude.{◌≡◌, IfSome};
 ghost use Rattle.std.specs.List.{flat_map};
-ghost use Rattle.wf_token.specs.Spelling.{line, text_of};
-ghost use Rattle.wf_spelling.specs.Canon.{size_word, position_word, force_word, with_word, style_lines, label_lines, optional_label_lines, class_lines};
+ghost use Rattle.wf_token.specs.Spelling.{text_of};
+ghost use Rattle.wf_spelling.specs.Canon.{size_word, position_word, force_word, style_lines, label_lines, optional_label_lines, class_lines};
 ghost use Rattle.wf_spelling.specs.Scan.{Scans};
 
 use crate::class::{force_word, position_word, size_word};

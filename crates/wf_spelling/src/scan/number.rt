@@ -1,6 +1,6 @@
 //! Scans the numbers of a canonical text.
 
-ghost use Rattle.std.specs.Prelude.{◌≡◌, ◌≢◌, ◌<◌, ◌≤◌, ◌^◌, IfSome};
+ghost use Rattle.std.specs.Prelude.{◌≡◌, ◌≢◌, ◌<◌, IfSome};
 ghost use Rattle.std.specs.Fmt.{decimal};
 ghost use Rattle.wf_text.specs.NumberText.{fraction_digits, fraction_text, magnitude_text, number_text};
 ghost use Rattle.wf_spelling.specs.Scan.{Scans};

@@ -1,6 +1,6 @@
 -- Both nodes run, and the one that is asked has published more.
 use Rattle.std.proofs.Common.{◌≡◌, ◌+◌, ◌∙◌, map, length, sym, arith, Vec}
-use Rattle.wf_catch_up.proofs.Common.{Global, slice_get_within, Message, most_reports, reports_from, Running, IsAnswerTo, nodes_of}
+use Rattle.wf_catch_up.proofs.Common.{Global, slice_get_within, Message, most_reports, reports_from, Running, AreAnswersTo, nodes_of}
 use Rattle.wf_codec.specs.Message.{view}
 use Rattle.wf_farm.proofs.Events.{ok_map}
 use Rattle.wf_catch_up.proofs.Changes.{answer_to, fewer_published, other_rank}
@@ -53,7 +53,7 @@ returns-clause-answer g c =
     let at = index_running c.args.hosts.now c.args.asker c.index-hosts-asker.result asker.0 c.in-Running.node asker.1 (sym c.index-hosts-asker.is ∙ c.in-Running.is) in
     let there = index_running c.args.hosts.now c.args.asked c.index-hosts-asked.result asked.0 c.in-Running-hosts.other asked.1 (sym c.index-hosts-asked.is ∙ c.in-Running-hosts.is) in
     ok_map (λ (answer : Vec Message Global). map view answer.items ≡ reports_from c.in-Running-hosts.other.parts.history (length c.in-Running.node.parts.history + 1) most_reports)
-    (λ (answer : Vec Message Global). IsAnswerTo (nodes_of c.args.hosts.now) c.args.asked c.args.asker answer.items) c.answer.result
+    (λ (answer : Vec Message Global). AreAnswersTo (nodes_of c.args.hosts.now) c.args.asked c.args.asker answer.items) c.answer.result
     (λ answer is. answer_to c.args.hosts.now c.args.asked c.args.asker c.requires.behind c.in-Running.node c.in-Running-hosts.other at there answer.items is) c.answer.ensures.answer
 
 pub returns-clause-most : goal.returns-clause-most

@@ -1,6 +1,6 @@
 -- The step is done, or lost, or the node crashes within it.
 use Rattle.std.proofs.Common.{ap, length, refl, sym, ◌∙◌}
-use Rattle.wf_farm.proofs.Common.{both_ways, stored_of, entry_of, stored_next, TapeValue, IsImageOf}
+use Rattle.wf_farm.proofs.Common.{both_ways, stored_of, entry_of, stored_next, TapeValue, IsImageNow}
 use Rattle.wf_node.specs.Input.{view}
 use Rattle.wf_farm.proofs.Taken.{laid_member, laid_within, tape_cut, taken_fares, taken_member, taken_transition, torn_fares}
 use Rattle.wf_farm.proofs.Tried.{laid_cut, no_fuse_on}
@@ -24,7 +24,7 @@ returns-then-is_halted-clause-fares c =
     (c.crash.ensures.torn entry (stored_of c.args.node) next
     (tape_cut (length c.bytes-long.result.now) entry (stored_of c.args.node) next c.args.node.tape c.set_fuse.new.self.tape (c.tape.ensures.settled tt c.requires.goes.0)
     (ap length (c.bytes-long.ensures ∙ ap (λ (t : TapeValue). t.bytes) c.tape.ensures.value))
-    (laid_cut entry (stored_of c.args.node) next (IsImageOf c.args.node.tape) c.consume-messages.new.node c.set_fuse.new.self c.set_fuse.ensures (c.consume-messages.ensures.cut tt c.requires.goes.0 halted))))
+    (laid_cut entry (stored_of c.args.node) next (IsImageNow c.args.node.tape) c.consume-messages.new.node c.set_fuse.new.self c.set_fuse.ensures (c.consume-messages.ensures.cut tt c.requires.goes.0 halted))))
 
 pub returns-then-is_halted-clause-member : goal.returns-then-is_halted-clause-member
 returns-then-is_halted-clause-member c =

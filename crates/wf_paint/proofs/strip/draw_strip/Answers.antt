@@ -1,6 +1,6 @@
 use Rattle.std.proofs.Common.{◌≡◌, ◌+◌, ◌-◌, ◌*◌, ◌/◌, ℕ, pos, refl, subst, arith}
 use Rattle.wf_geometry.specs.Exact.{opposite, product}
-use Rattle.wf_geometry.specs.Strip.{is_in_strip, AreEnds, IsEnd}
+use Rattle.wf_geometry.specs.Strip.{is_in_strip, AreEnds, IsStripEnd}
 use Rattle.wf_geometry.specs.Limit.{pixel_side}
 use Rattle.wf_paint.proofs.ColoredLemmas.{IsColored-none}
 use Rattle.wf_paint.proofs.RowEndsLemmas.{strip_joined, strip_none, end_leaps, ends_from}
@@ -29,7 +29,7 @@ loop-index-init c =
     let first : strip.rows.from ≡ strip.rows.from + 16 * 0 = omega arith in (
       strip_none levels strip.columns strip.rows.from (strip.rows.from + 16 * 0) c.args.color c.args.canvas.now (omega arith),
       ends_from levels strip.rows.from (strip.rows.from + 16 * 0) ends ends.low are
-          (subst (λ (r : ℕ). IsEnd (opposite levels.margin) levels.origin (product (pos pixel_side) levels.up) ends.step r ends.low) first are.begins)
+          (subst (λ (r : ℕ). IsStripEnd (opposite levels.margin) levels.origin (product (pos pixel_side) levels.up) ends.step r ends.low) first are.begins)
           (omega (arith, are.near)),
     )
 
@@ -38,7 +38,7 @@ draw_block-requires c =
     let levels = c.args.strip.levels in
     let row = c.args.strip.rows.from + 16 * c.loop-index.index in
     let ends = c.loop-index.invariant.1 in
-    let next : IsEnd (opposite levels.margin) levels.origin (product (pos pixel_side) levels.up) c.in-Some.ends.step (row + 16) c.quotient_sum-next.result =
+    let next : IsStripEnd (opposite levels.margin) levels.origin (product (pos pixel_side) levels.up) c.in-Some.ends.step (row + 16) c.quotient_sum-next.result =
     end_leaps levels (opposite levels.margin) row c.in-Some.ends.step c.loop-index.low c.in-Some-leap.leap c.quotient_sum-next.result ends.begins c.in-Some-leap.ensures.value c.quotient_sum-next.ensures.value c.quotient_sum-next.ensures.rest in
     let high = c.loop-index.invariant.0.height in
     let wide = c.loop-index.invariant.0.width in
@@ -75,7 +75,7 @@ loop-index-preserved c =
     let row = from + 16 * c.loop-index.index in
     let more : from + 16 * (c.loop-index.index + 1) ≡ row + 16 = omega arith in
     let ends = c.loop-index.invariant.1 in
-    let next : IsEnd (opposite levels.margin) levels.origin (product (pos pixel_side) levels.up) c.in-Some.ends.step (row + 16) c.quotient_sum-next.result =
+    let next : IsStripEnd (opposite levels.margin) levels.origin (product (pos pixel_side) levels.up) c.in-Some.ends.step (row + 16) c.quotient_sum-next.result =
     end_leaps levels (opposite levels.margin) row c.in-Some.ends.step c.loop-index.low c.in-Some-leap.leap c.quotient_sum-next.result ends.begins c.in-Some-leap.ensures.value c.quotient_sum-next.ensures.value c.quotient_sum-next.ensures.rest in
     rw more (
       strip_joined levels c.args.strip.columns from row (row + 16) c.args.color c.args.canvas.now c.loop-index.canvas c.draw_block.new.canvas (omega arith) (omega arith)

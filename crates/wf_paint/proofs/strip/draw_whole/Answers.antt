@@ -1,7 +1,7 @@
 use Rattle.std.proofs.Common.{◌+◌, pos, ◌+ℤ◌, ◌≤ℤ◌, arith}
 use Rattle.std.proofs.lemmas.Int.{ints}
 use Rattle.wf_geometry.specs.Exact.{opposite, product, plus}
-use Rattle.wf_geometry.specs.Strip.{is_in_strip, IsEnd}
+use Rattle.wf_geometry.specs.Strip.{is_in_strip, IsStripEnd}
 use Rattle.wf_paint.specs.RowPart.{most_between, IsBetween}
 use Rattle.wf_geometry.specs.Limit.{pixel_side}
 use Rattle.wf_paint.proofs.RowsLemmas.{rows_start, rows_end, rows_more}
@@ -60,7 +60,7 @@ loop-row-preserved c =
     let between : IsBetween columns (most_between c.args.ends.gap) c.loop-row.low = c.requires.between.each c.loop-row.row (omega arith) (omega arith) c.loop-row.low edge.ends in
     let most : c.quotient_sum-high.result.whole ≤ℤ (c.loop-row.low.whole +ℤ pos (most_between c.args.ends.gap)) =
     apart_most step c.loop-row.low c.args.ends.gap c.quotient_sum-high.result edge.ends.rest ends.gap_rest c.requires.some c.quotient_sum-high.ensures.value in
-    let upper : IsEnd levels.margin levels.origin (product (pos pixel_side) levels.up) step c.loop-row.row c.quotient_sum-high.result =
+    let upper : IsStripEnd levels.margin levels.origin (product (pos pixel_side) levels.up) step c.loop-row.row c.quotient_sum-high.result =
     end_beyond levels.margin levels.origin (product (pos pixel_side) levels.up) step c.loop-row.row c.loop-row.low c.args.ends.gap c.quotient_sum-high.result edge.ends ends.apart c.quotient_sum-high.ensures.value c.quotient_sum-high.ensures.rest in (
       rows_more (is_in_strip levels rows columns) c.loop-row.row (record { from = c.count.result; to = c.count.result + c.count-in-loop-row.result }) c.args.color
           c.args.canvas.now c.loop-row.canvas c.cover_few.new.self c.loop-row.invariant.0

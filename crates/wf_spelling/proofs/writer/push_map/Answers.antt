@@ -6,8 +6,6 @@ pub returns-clause-written : goal.returns-clause-written
 unfolding canon
 returns-clause-written c =
     simp pieces (simp pieces at
-    (both c.push_heading.ensures.written
-    (both (rw c.projection.ensures.value at c.push_projection.ensures)
-    (both c.push_web.ensures
+    (both c.push_opening.ensures.written
     (both c.push_layers.ensures
-    (last_line _ c.push_alone.ensures))))))
+    (last_line _ c.push_alone.ensures))))

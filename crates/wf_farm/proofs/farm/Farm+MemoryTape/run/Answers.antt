@@ -1,6 +1,6 @@
 -- Whatever has happened, the farm is reached from the start.
 use Rattle.std.proofs.Common.{ℕ, None, map, slice_get, take, refl, subst, arith}
-use Rattle.wf_farm.proofs.Common.{Definition, IsBeginning, DurableState, HasStored, HistoriesGrow, MayAllocateAt, view, MemoryFarm, Moves, ReportsWhy, last_rejected}
+use Rattle.wf_farm.proofs.Common.{Definition, IsBeginning, DurableState, HasDurableState, HistoriesGrow, MayAllocateAt, view, MemoryFarm, Moves, ReportsWhy, last_rejected}
 use Rattle.wf_farm.proofs.TornRuns.{whole_last, whole_moves}
 use Rattle.wf_farm.proofs.Worlds.{farm_moved, grown}
 use Rattle.wf_farm.proofs.farm.Farm+MemoryTape.run.Goals as goal
@@ -18,14 +18,14 @@ invariant_of-self-in-Err c =
 pub returns-in-Ok-clause-grows : goal.returns-in-Ok-clause-grows
 unfolding HistoriesGrow
 returns-in-Ok-clause-grows c =
-    subst (λ (farm : MemoryFarm). (i : ℕ) (old new : DurableState Definition) → HasStored (slice_get farm.hosts i) old → HasStored (slice_get c.run.new.self.hosts.items i) new → IsBeginning old.history new.history) c.self.view_is
+    subst (λ (farm : MemoryFarm). (i : ℕ) (old new : DurableState Definition) → HasDurableState (slice_get farm.hosts i) old → HasDurableState (slice_get c.run.new.self.hosts.items i) new → IsBeginning old.history new.history) c.self.view_is
     (grown c.self.inside.cluster.hosts.items c.run.new.self.hosts.items c.self.inside.cluster.sent.items c.run.new.self.sent.items c.self.inside.complete
     (map view c.args.events.now) c.run.ensures.members.as_many c.self.invariant.reached (whole_moves None (map view c.args.events.now) c.in-Ok.field-0.torn c.self.inside.cluster.hosts.items c.run.new.self.hosts.items c.self.inside.cluster.sent.items c.run.new.self.sent.items refl c.in-Ok.ensures.done.fared))
 
 pub returns-in-Err-clause-grows : goal.returns-in-Err-clause-grows
 unfolding HistoriesGrow
 returns-in-Err-clause-grows c =
-    subst (λ (farm : MemoryFarm). (i : ℕ) (old new : DurableState Definition) → HasStored (slice_get farm.hosts i) old → HasStored (slice_get c.run.new.self.hosts.items i) new → IsBeginning old.history new.history) c.self.view_is
+    subst (λ (farm : MemoryFarm). (i : ℕ) (old new : DurableState Definition) → HasDurableState (slice_get farm.hosts i) old → HasDurableState (slice_get c.run.new.self.hosts.items i) new → IsBeginning old.history new.history) c.self.view_is
     (grown c.self.inside.cluster.hosts.items c.run.new.self.hosts.items c.self.inside.cluster.sent.items c.run.new.self.sent.items c.self.inside.complete
     (take c.in-Err.done (map view c.args.events.now)) c.run.ensures.members.as_many c.self.invariant.reached (c.in-Err.ensures.part refl))
 

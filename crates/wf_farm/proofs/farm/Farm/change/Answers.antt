@@ -1,6 +1,6 @@
 -- The nodes were led on, and so the farm is reached from the start if it was.
 use Rattle.std.proofs.Common.{◌≡◌, ◌++◌, ◌∙◌, ℕ, false, List, length, take, drop, sym, ap, subst, arith}
-use Rattle.wf_farm.proofs.Common.{NodeHost, IsFarm, AreReachableFrom, KeepEntries, KeepHosts, StandInTurn, nodes_in, nodes_of}
+use Rattle.wf_farm.proofs.Common.{NodeHost, IsSoundFarm, AreReachableFrom, KeepEntries, KeepHosts, StandInTurn, nodes_in, nodes_of}
 use Rattle.wf_farm.proofs.Exchanges.{farm_reachable}
 use Rattle.wf_farm.proofs.Nodes.{in_turn_of}
 use Rattle.wf_farm.proofs.Entries.{lent_back}
@@ -24,9 +24,9 @@ change-requires g c = record {
 
 pub invariant_of-self : goal.invariant_of-self
 invariant_of-self g c =
-    subst (λ ps. IsFarm g.T.Tape.durable g.T.Tape.images g.T.Tape.never_fails ps c.replace.new.dest.items 0 false)
+    subst (λ ps. IsSoundFarm g.T.Tape.durable g.T.Tape.images g.T.Tape.never_fails ps c.replace.new.dest.items 0 false)
     (sym (returned g.T.Tape c.self.inside.cluster.hosts.items c.deref_mut.result.now c.change.new.hosts c.self.inside.cluster.hosts.len c.deref_mut.ensures.value c.deref_mut.ensures.len c.change.ensures.entries))
-    (subst (λ ms. IsFarm g.T.Tape.durable g.T.Tape.images g.T.Tape.never_fails c.change.new.hosts ms 0 false) (sym (ap (λ v. v.items) c.replace.ensures.after ∙ c.new.ensures.items))
+    (subst (λ ms. IsSoundFarm g.T.Tape.durable g.T.Tape.images g.T.Tape.never_fails c.change.new.hosts ms 0 false) (sym (ap (λ v. v.items) c.replace.ensures.after ∙ c.new.ensures.items))
     (farm_reachable g.T.Tape c.self.inside.cluster.hosts.items c.change.new.hosts c.self.inside.cluster.sent.items c.self.inside.pumped c.self.inside.complete c.self.invariant
     (entries g.T.Tape c.self.inside.cluster.hosts.items c.deref_mut.result.now c.change.new.hosts c.self.inside.cluster.hosts.len c.deref_mut.ensures.value c.deref_mut.ensures.len c.change.ensures.entries)
     (subst (λ ps. AreReachableFrom g.T.Tape (nodes_of ps) (nodes_of c.change.new.hosts)) c.deref_mut.ensures.value c.change.ensures.reaches)))

@@ -1,6 +1,6 @@
 -- The nodes were led on, and so the farm is reached from the start if it was.
 use Rattle.std.proofs.Common.{◌≡◌, ◌++◌, ◌∙◌, false, length, take, drop, sym, ap, subst, arith}
-use Rattle.wf_farm.proofs.Common.{slice_get_within, Running, IsExchange, IsFarm, AreReachableFrom, KeepEntries, KeepHosts, RunsAt, nodes_in, nodes_of}
+use Rattle.wf_farm.proofs.Common.{slice_get_within, Running, IsExchange, IsSoundFarm, AreReachableFrom, KeepEntries, KeepHosts, RunsAt, nodes_in, nodes_of}
 use Rattle.wf_farm.proofs.Exchanges.{farm_reachable}
 use Rattle.wf_farm.proofs.Entries.{lent_back}
 use Rattle.wf_farm.proofs.farm.Farm.exchange.Given as given
@@ -26,8 +26,8 @@ exchange_in-pumped-requires-clause-runs g c =
 
 pub invariant_of-self : goal.invariant_of-self
 invariant_of-self g c =
-    subst (λ ps. IsFarm g.T.Tape.durable g.T.Tape.images g.T.Tape.never_fails ps c.replace.new.dest.items 0 false) (sym (returned g c))
-    (subst (λ ms. IsFarm g.T.Tape.durable g.T.Tape.images g.T.Tape.never_fails c.exchange_in-pumped.new.hosts ms 0 false) (sym (ap (λ v. v.items) c.replace.ensures.after ∙ c.new.ensures.items))
+    subst (λ ps. IsSoundFarm g.T.Tape.durable g.T.Tape.images g.T.Tape.never_fails ps c.replace.new.dest.items 0 false) (sym (returned g c))
+    (subst (λ ms. IsSoundFarm g.T.Tape.durable g.T.Tape.images g.T.Tape.never_fails c.exchange_in-pumped.new.hosts ms 0 false) (sym (ap (λ v. v.items) c.replace.ensures.after ∙ c.new.ensures.items))
     (farm_reachable g.T.Tape c.self.inside.cluster.hosts.items c.exchange_in-pumped.new.hosts c.self.inside.cluster.sent.items c.self.inside.pumped c.self.inside.complete c.self.invariant
     (entries g c)
     (subst (λ ps. AreReachableFrom g.T.Tape (nodes_of ps) (nodes_of c.exchange_in-pumped.new.hosts)) c.deref_mut.ensures.value c.exchange_in-pumped.ensures.reachable)))

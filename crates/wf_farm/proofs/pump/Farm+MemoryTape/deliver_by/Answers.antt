@@ -1,6 +1,6 @@
 -- One delivery, or none: the farm is reached from the start.
 use Rattle.std.proofs.Common.{ℕ, List, [], ◌∷◌, slice_get, subst, arith}
-use Rattle.wf_farm.proofs.Common.{Definition, IsBeginning, DurableState, Event, deliver, HasStored, HistoriesGrow, TakesStep, ChangesByStep, Moves, MemoryFarm}
+use Rattle.wf_farm.proofs.Common.{Definition, IsBeginning, DurableState, Event, deliver, HasDurableState, HistoriesGrow, TakesStep, ChangesByStep, Moves, MemoryFarm}
 use Rattle.wf_model.specs.Table as table
 use Rattle.wf_farm.proofs.Allocation.{may_step}
 use Rattle.wf_farm.proofs.TriedEvents.{step_by_event}
@@ -47,6 +47,6 @@ returns-clause-idle g c =
 pub returns-clause-grows : goal.returns-clause-grows
 unfolding HistoriesGrow
 returns-clause-grows g c =
-    subst (λ (farm : MemoryFarm). (i : ℕ) (old new : DurableState Definition) → HasStored (slice_get farm.hosts i) old → HasStored (slice_get c.happen-happened.new.self.hosts.items i) new → IsBeginning old.history new.history) c.self.view_is
+    subst (λ (farm : MemoryFarm). (i : ℕ) (old new : DurableState Definition) → HasDurableState (slice_get farm.hosts i) old → HasDurableState (slice_get c.happen-happened.new.self.hosts.items i) new → IsBeginning old.history new.history) c.self.view_is
     (grown c.self.inside.cluster.hosts.items c.happen-happened.new.self.hosts.items c.self.inside.cluster.sent.items c.happen-happened.new.self.sent.items c.self.inside.complete
     (moved g c).0 c.happen-happened.ensures.members.as_many c.self.invariant.reached (moved g c).1)

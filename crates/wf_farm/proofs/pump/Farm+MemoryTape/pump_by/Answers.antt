@@ -1,6 +1,6 @@
 -- Whatever was delivered, the farm is reached from the start.
 use Rattle.std.proofs.Common.{ℕ, ◌≤◌, None, slice_get, length, IfOk, IfErr, refl, sym, subst, arith}
-use Rattle.wf_farm.proofs.Common.{Definition, IsBeginning, DurableState, HasStored, HistoriesGrow, MemoryFarm, IsPumped, IsPumpedPart, deliveries}
+use Rattle.wf_farm.proofs.Common.{Definition, IsBeginning, DurableState, HasDurableState, HistoriesGrow, MemoryFarm, IsPumped, IsPumpedPart, deliveries}
 use Rattle.wf_farm.proofs.TornRuns.{whole_moves}
 use Rattle.wf_farm.proofs.PumpResult.{pump_done, pump_part}
 use Rattle.wf_farm.proofs.Worlds.{farm_moved, grown, grown_still}
@@ -10,7 +10,7 @@ use Rattle.wf_farm.proofs.pump.Farm+MemoryTape.pump_by.Goals as goal
 pub returns-in_default-clause-grows : goal.returns-in_default-clause-grows
 unfolding HistoriesGrow
 returns-in_default-clause-grows g c =
-    subst (λ (farm : MemoryFarm). (i : ℕ) (old new : DurableState Definition) → HasStored (slice_get farm.hosts i) old → HasStored (slice_get farm.hosts i) new → IsBeginning old.history new.history) c.self.view_is
+    subst (λ (farm : MemoryFarm). (i : ℕ) (old new : DurableState Definition) → HasDurableState (slice_get farm.hosts i) old → HasDurableState (slice_get farm.hosts i) new → IsBeginning old.history new.history) c.self.view_is
     (grown_still c.self.inside.cluster.hosts.items c.self.inside.cluster.sent.items c.self.inside.complete c.self.invariant.reached)
 
 -- the farm before and after
@@ -41,6 +41,6 @@ returns-clause-part g c =
 pub returns-clause-grows : goal.returns-clause-grows
 unfolding HistoriesGrow
 returns-clause-grows g c =
-    subst (λ (farm : MemoryFarm). (i : ℕ) (old new : DurableState Definition) → HasStored (slice_get farm.hosts i) old → HasStored (slice_get c.pump-end.new.self.hosts.items i) new → IsBeginning old.history new.history) c.self.view_is
+    subst (λ (farm : MemoryFarm). (i : ℕ) (old new : DurableState Definition) → HasDurableState (slice_get farm.hosts i) old → HasDurableState (slice_get c.pump-end.new.self.hosts.items i) new → IsBeginning old.history new.history) c.self.view_is
     (grown c.self.inside.cluster.hosts.items c.pump-end.new.self.hosts.items c.self.inside.cluster.sent.items c.pump-end.new.self.sent.items c.self.inside.complete
     (deliveries c.deref.result.now c.self.inside.pumped c.pump-end.result.progress.whole c.pump-end.result.progress.some) c.pump-end.ensures.members.as_many c.self.invariant.reached (whole_moves None (deliveries c.deref.result.now c.self.inside.pumped c.pump-end.result.progress.whole c.pump-end.result.progress.some) c.pump-end.result.torn c.self.inside.cluster.hosts.items c.pump-end.new.self.hosts.items c.self.inside.cluster.sent.items c.pump-end.new.self.sent.items refl (c.pump-end.ensures.come tt).fared))

@@ -5,7 +5,7 @@ use Rattle.wf_model.specs.Message as model
 use Rattle.wf_model.specs.Table.{Deliver, Transition}
 use Rattle.wf_proposer.specs.Next.{Sends}
 use Rattle.wf_proposer.specs.Proposer.{transition_of, volatile_of}
-use Rattle.wf_node.specs.Act.{IsOwn}
+use Rattle.wf_node.specs.Act.{IsOwnRecord}
 use Rattle.wf_node.proofs.Acts.{act_done, act_sends, delivered, transition_fits, transition_accepted}
 use Rattle.wf_node.proofs.Transitions.{accepted_own}
 use Rattle.wf_node.proofs.machine.Machine.on_accepted.Goals as goal
@@ -16,7 +16,7 @@ perform-requires-clause-fits g c =
     (c.in-Ok.ensures.transition ∙ transition_accepted c.args.self.now.persistent.parts c.args.self.now.proposer c.args.from c.args.slot c.args.ballot)
 
 pub perform-requires-clause-own : goal.perform-requires-clause-own
-perform-requires-clause-own g c = subst (λ (r : Transition Definition). IsOwn r.entry) (sym c.in-Ok.ensures.transition) (accepted_own c.args.self.now.proposer.nodes (volatile_of c.args.self.now.proposer) c.args.from c.args.slot c.args.ballot)
+perform-requires-clause-own g c = subst (λ (r : Transition Definition). IsOwnRecord r.entry) (sym c.in-Ok.ensures.transition) (accepted_own c.args.self.now.proposer.nodes (volatile_of c.args.self.now.proposer) c.args.from c.args.slot c.args.ballot)
 
 pub returns-in-Ok-clause-act : goal.returns-in-Ok-clause-act
 returns-in-Ok-clause-act g c =

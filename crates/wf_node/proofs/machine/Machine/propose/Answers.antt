@@ -4,7 +4,7 @@ use Rattle.wf_def.specs.Definition.{Definition}
 use Rattle.wf_model.specs.Table.{Propose, Transition, Busy, SequenceFull}
 use Rattle.wf_proposer.specs.Proposer.{transition_of, volatile_of}
 use Rattle.wf_node.specs.declared.fault.NodeFault.TheVariants as fault
-use Rattle.wf_node.specs.Act.{IsOwn}
+use Rattle.wf_node.specs.Act.{IsOwnRecord}
 use Rattle.wf_node.specs.Fault.{TakesMemory}
 use Rattle.wf_node.specs.Parts.{stored_of}
 use Rattle.wf_node.proofs.Acts.{act_done, act_proposer_rejects, act_rejected, step_rejection_propose, transition_fits, transition_propose}
@@ -28,7 +28,7 @@ perform-requires-clause-fits g c =
 
 pub perform-requires-clause-own : goal.perform-requires-clause-own
 perform-requires-clause-own g c =
-    subst (λ (r : Transition Definition). IsOwn r.entry) (sym (c.in-Ok.ensures.transition (stored_of c.args.self.now.persistent.parts) (has_stored (stored_of c.args.self.now.persistent.parts) c.last_round-tried.result c.published-published.result c.last_round-tried.ensures (c.published-published.ensures.value ∙ ap length c.history.ensures)))) (propose_own c.args.self.now.proposer.node (stored_of c.args.self.now.persistent.parts) (volatile_of c.args.self.now.proposer) c.args.own)
+    subst (λ (r : Transition Definition). IsOwnRecord r.entry) (sym (c.in-Ok.ensures.transition (stored_of c.args.self.now.persistent.parts) (has_stored (stored_of c.args.self.now.persistent.parts) c.last_round-tried.result c.published-published.result c.last_round-tried.ensures (c.published-published.ensures.value ∙ ap length c.history.ensures)))) (propose_own c.args.self.now.proposer.node (stored_of c.args.self.now.persistent.parts) (volatile_of c.args.self.now.proposer) c.args.own)
 
 pub returns-in-Ok-clause-act : goal.returns-in-Ok-clause-act
 returns-in-Ok-clause-act g c =

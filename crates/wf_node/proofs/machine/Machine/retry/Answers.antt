@@ -4,7 +4,7 @@ use Rattle.wf_def.specs.Definition.{Definition}
 use Rattle.wf_model.specs.Table.{Retry, Transition}
 use Rattle.wf_proposer.specs.Proposer.{transition_of, volatile_of}
 use Rattle.wf_proposer.specs.StepRejection.{step_rejection_of}
-use Rattle.wf_node.specs.Act.{IsOwn}
+use Rattle.wf_node.specs.Act.{IsOwnRecord}
 use Rattle.wf_node.specs.Fault.{ByEntry}
 use Rattle.wf_node.specs.Parts.{stored_of}
 use Rattle.wf_node.proofs.Acts.{act_done, act_proposer_rejects, step_rejection_retry, transition_fits, transition_retry}
@@ -18,7 +18,7 @@ perform-requires-clause-fits g c =
 
 pub perform-requires-clause-own : goal.perform-requires-clause-own
 perform-requires-clause-own g c =
-    subst (λ (r : Transition Definition). IsOwn r.entry) (sym (c.in-Ok.ensures.transition (stored_of c.args.self.now.persistent.parts) (sym c.last_round.ensures) c.requires.for_next)) (retry_own c.args.self.now.proposer.node (stored_of c.args.self.now.persistent.parts) (volatile_of c.args.self.now.proposer))
+    subst (λ (r : Transition Definition). IsOwnRecord r.entry) (sym (c.in-Ok.ensures.transition (stored_of c.args.self.now.persistent.parts) (sym c.last_round.ensures) c.requires.for_next)) (retry_own c.args.self.now.proposer.node (stored_of c.args.self.now.persistent.parts) (volatile_of c.args.self.now.proposer))
 
 pub returns-in-Ok-clause-act : goal.returns-in-Ok-clause-act
 returns-in-Ok-clause-act g c =

@@ -2,7 +2,7 @@
 use Rattle.std.proofs.Common.{◌≡◌, sym, subst, ap, ◌∙◌}
 use Rattle.wf_journal.specs.Journal.{Journal}
 use Rattle.wf_tape.specs.MemoryTape as memory
-use Rattle.wf_tape.specs.MemoryTape.{IsImageOf, with_fuse}
+use Rattle.wf_tape.specs.MemoryTape.{IsImageNow, with_fuse}
 use Rattle.wf_node.specs.Images.{AllStandFor}
 use Rattle.wf_node.specs.DurablePart.{stored_of}
 use Rattle.wf_node.specs.Node.{Node, view_of}
@@ -13,7 +13,7 @@ invariant_of-self c = record {
   same_node = c.self.invariant.same_node;
   for_next = c.self.invariant.for_next;
   stands = λ durable running.
-      subst (λ (tape : memory.TapeValue). AllStandFor (stored_of c.self.inside.machine.persistent) (IsImageOf tape)) (sym (ap (λ (j : Journal memory.TapeValue). j.tape) c.set_fuse.ensures))
+      subst (λ (tape : memory.TapeValue). AllStandFor (stored_of c.self.inside.machine.persistent) (IsImageNow tape)) (sym (ap (λ (j : Journal memory.TapeValue). j.tape) c.set_fuse.ensures))
       (c.self.invariant.stands durable (sym (ap (λ (j : Journal memory.TapeValue). j.halted) c.set_fuse.ensures) ∙ running));
 }
 

@@ -5,6 +5,8 @@ use Rattle.std.specs.Str.{str_eq_ignore_ascii_case}
 use Rattle.wf_def.specs.Limit.{most_points}
 use Rattle.wf_token.specs.Token.{Token}
 use Rattle.wf_block.specs.Grammar.{◌>>=◌, argument, text, whole}
+use Rattle.wf_block.specs.declared.place.Block.{Block}
+use Rattle.wf_block.specs.declared.place.Block.TheVariants as blocks
 use Rattle.wf_class.specs.Class.{class, class_put, expression, no_class}
 use Rattle.wf_class.specs.Color.{color}
 use Rattle.wf_class.specs.Label.{label, label_put, no_label}
@@ -14,10 +16,8 @@ use Rattle.wf_mapfile.specs.Layer.{layer, layer_name, layer_put, no_layer, proce
 use Rattle.wf_mapfile.specs.Map as maps
 use Rattle.wf_mapfile.specs.Metadata.{metadata}
 use Rattle.wf_mapfile.specs.Web.{no_settings, web, web_put}
-use Rattle.wf_check.specs.declared.grammar.Block.{Block}
-use Rattle.wf_check.specs.declared.grammar.Block.TheVariants as blocks
-use Rattle.wf_check.specs.declared.grammar.Takes.{Takes}
-use Rattle.wf_check.specs.declared.grammar.Takes.TheVariants as takes
+use Rattle.wf_mapfile.specs.declared.keywords.Takes.{Takes}
+use Rattle.wf_mapfile.specs.declared.keywords.Takes.TheVariants as takes
 
 -- the tokens after what is read
 abbrev pub rest_of : {A : Type 0} → Option (A × List Token) → Option (List Token)
@@ -58,9 +58,9 @@ behind (takes.Whole least most) tokens = rest_of (whole least most tokens)
 behind (takes.OneOf words) tokens = behind_word (map (λ word. word.now) words.now) tokens
 
 -- after each of the keywords a reader's step leaves the tokens that follow what the keyword takes
-abbrev pub AreTaken : {S : Type 0} → (List ℕ → List Token → Option (S × List Token)) → List (List ℕ × Takes) → Type 0
-AreTaken put [] = ⊤
-AreTaken put (keyword ∷ others) = ((tokens : List Token) → rest_of (put keyword.0 tokens) ≡ behind keyword.1 tokens) × AreTaken put others
+abbrev pub AreKeywordsTaken : {S : Type 0} → (List ℕ → List Token → Option (S × List Token)) → List (List ℕ × Takes) → Type 0
+AreKeywordsTaken put [] = ⊤
+AreKeywordsTaken put (keyword ∷ others) = ((tokens : List Token) → rest_of (put keyword.0 tokens) ≡ behind keyword.1 tokens) × AreKeywordsTaken put others
 
 -- a word is none of the keywords, without regard to letter case
 abbrev pub IsNoneOf : List ℕ → List (List ℕ × Takes) → Type 0
@@ -70,7 +70,7 @@ IsNoneOf word (keyword ∷ others) = (str_eq_ignore_ascii_case word keyword.0 �
 -- The keywords are exactly those of a reader's step, each with what the step takes: it takes each
 -- of them, and rejects any other word.
 pub record AreRead {S : Type 0} (put : List ℕ → List Token → Option (S × List Token)) (keywords : List (List ℕ × Takes)) : Type 0 where
-  pub taken : AreTaken put keywords
+  pub taken : AreKeywordsTaken put keywords
   pub others : (word : List ℕ) (tokens : List Token) → IsNoneOf word keywords → put word tokens ≡ None
 
 -- the keywords of a block are those of the first step of its reader
@@ -85,3 +85,12 @@ AreKeywordsOf blocks.Style keywords = AreRead (style_put no_style) keywords
 AreKeywordsOf blocks.Label keywords = AreRead (label_put no_label) keywords
 AreKeywordsOf blocks.Feature keywords = AreRead (feature_put most_points no_feature) keywords
 AreKeywordsOf blocks.Points keywords = keywords ≡ []
+
+-- the first keyword that has this name, without regard to ASCII letter case
+abbrev pub keyword_named : List (List ℕ × Takes) → List ℕ → Option (List ℕ × Takes)
+keyword_named [] word = None
+keyword_named (keyword ∷ others) word = if str_eq_ignore_ascii_case word keyword.0 then Some keyword else keyword_named others word
+
+-- the keyword of a block that has this name
+abbrev pub IsKeywordOf : Block → List ℕ → Option (List ℕ × Takes) → Type 0
+IsKeywordOf block word keyword = (keywords : List (List ℕ × Takes)) × AreKeywordsOf block keywords × (keyword ≡ keyword_named keywords word)

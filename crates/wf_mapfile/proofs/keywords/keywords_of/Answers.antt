@@ -11,8 +11,8 @@ use Rattle.wf_mapfile.specs.Layer.{features_left, layer, layer_dropped, layer_ki
 use Rattle.wf_mapfile.specs.Map.{extent, map_dropped, map_once, map_put, projection, two_numbers}
 use Rattle.wf_mapfile.specs.Metadata.{metadata}
 use Rattle.wf_mapfile.specs.Web.{web, web_put}
-use Rattle.wf_check.proofs.Taken.{alone, chosen, kept, kept_in_inner_part, kept_in_part, passed, passed_or, unread}
-use Rattle.wf_check.proofs.grammar.Block.keywords.Goals as goal
+use Rattle.wf_mapfile.proofs.Taken.{alone, chosen, kept, kept_in_inner_part, kept_in_part, passed, passed_or, unread}
+use Rattle.wf_mapfile.proofs.keywords.keywords_of.Goals as goal
 
 pub returns-in-Map : goal.returns-in-Map
 unfolding map_put map_once map_dropped

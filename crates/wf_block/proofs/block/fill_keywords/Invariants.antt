@@ -1,6 +1,6 @@
 use Rattle.std.proofs.Common.{◌≡◌, ◌-◌}
 use Rattle.wf_block.specs.Steps.{fill}
-use Rattle.wf_block.proofs.block.fill_block.Given as goal
+use Rattle.wf_block.proofs.block.fill_keywords.Given as goal
 
 -- filling from the remaining tokens and the slots so far gives the same as filling from the start
 abbrev pub invariant-loop : goal.invariant-loop

@@ -7,7 +7,7 @@ use Rattle.std.specs.Str.{str_eq_ignore_ascii_case}
 use Rattle.wf_def.specs.Limits.{has_layer}
 use Rattle.wf_token.specs.Token.{Token}
 use Rattle.wf_block.specs.Grammar.{◌>>=◌, argument, choice, one_of}
-use Rattle.wf_check.specs.Keywords.{behind_word, rest_of}
+use Rattle.wf_mapfile.specs.Keywords.{behind_word, rest_of}
 
 -- what is kept of what was read changes no token
 pub kept : {A S : Type 0} (keep : A × List Token → S × List Token) → ((x : A × List Token) → (keep x).1 ≡ x.1) → (read : Option (A × List Token))

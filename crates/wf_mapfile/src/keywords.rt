@@ -1,30 +1,14 @@
-//! The blocks of a mapfile, their keywords, and what each keyword takes, for whoever asks what is
-//! allowed.
-ghost use Rattle.std.specs.Prelude.{map};
-ghost use Rattle.wf_check.specs.Keywords.{AreKeywordsOf};
+//! The keywords of each block, and what each takes, for whoever asks what is allowed.
+ghost use Rattle.std.specs.Prelude.{◌≡◌, map, option_map};
+ghost use Rattle.wf_mapfile.specs.Keywords.{AreKeywordsOf, IsKeywordOf, keyword_named};
 
 use std::fmt;
-use wf_block::is_name;
+use wf_block::{Block, is_name};
 use wf_def::{MOST_BUFFER, MOST_PRIORITY, MOST_SIZE, MOST_WIDTH};
-
-/// A block of a mapfile.
-#[derive(Clone, Copy, PartialEq, Eq)]
-pub(crate) enum Block {
-    Map,
-    Projection,
-    Web,
-    Metadata,
-    Layer,
-    Class,
-    Style,
-    Label,
-    Feature,
-    Points,
-}
 
 /// What a keyword takes.
 #[derive(Clone, Copy)]
-pub(crate) enum Takes {
+pub enum Takes {
     /// A block, up to its END.
     Block(Block),
     Text,
@@ -45,7 +29,7 @@ pub(crate) enum Takes {
 }
 
 /// A keyword, with what it takes.
-pub(crate) type Keyword = (&'static str, Takes);
+pub type Keyword = (&'static str, Takes);
 
 static MAP: [Keyword; 11] = [
     ("NAME", Takes::Text),
@@ -119,81 +103,45 @@ static FEATURE: [Keyword; 3] = [
 
 static NO_KEYWORDS: [Keyword; 0] = [];
 
-static NO_NAMES: [&str; 0] = [];
-
-static REQUIRED_IN_MAP: [&str; 2] = ["EXTENT", "PROJECTION"];
-
-static REQUIRED_IN_LAYER: [&str; 2] = ["NAME", "TYPE"];
-
-static REQUIRED_IN_FEATURE: [&str; 1] = ["POINTS"];
-
-impl Block {
-    /// The keyword that begins it.
-    pub(crate) fn name(self) -> &'static str {
-        match self {
-            Block::Map => "MAP",
-            Block::Projection => "PROJECTION",
-            Block::Web => "WEB",
-            Block::Metadata => "METADATA",
-            Block::Layer => "LAYER",
-            Block::Class => "CLASS",
-            Block::Style => "STYLE",
-            Block::Label => "LABEL",
-            Block::Feature => "FEATURE",
-            Block::Points => "POINTS",
-        }
-    }
-
-    /// Its keywords: exactly those that its reader takes, each with what the reader takes after it.
-    /// PROJECTION, METADATA and POINTS have none, but a text, pairs of texts and pairs of numbers.
-    pub(crate) fn keywords(self) -> &'static [Keyword]
-        ensures { AreKeywordsOf self (map (λ k. (k.0.now, k.1)) result.now) }
-    {
-        match self {
-            Block::Map => &MAP,
-            Block::Web => &WEB,
-            Block::Layer => &LAYER,
-            Block::Class => &CLASS,
-            Block::Style => &STYLE,
-            Block::Label => &LABEL,
-            Block::Feature => &FEATURE,
-            Block::Projection => &NO_KEYWORDS,
-            Block::Metadata => &NO_KEYWORDS,
-            Block::Points => &NO_KEYWORDS,
-        }
-    }
-
-    /// The keywords that it needs.
-    pub(crate) fn required(self) -> &'static [&'static str] {
-        match self {
-            Block::Map => &REQUIRED_IN_MAP,
-            Block::Layer => &REQUIRED_IN_LAYER,
-            Block::Feature => &REQUIRED_IN_FEATURE,
-            _ => &NO_NAMES,
-        }
-    }
-
-    /// The keyword that a word is in this block.
-    pub(crate) fn keyword(self, word: &[u8]) -> Option<Keyword> {
-        for (name, takes) in self.keywords() {
-            if is_name(word, name) {
-                return Some((*name, *takes));
-            }
-        }
-        None
+/// The keywords of a block: exactly those that its reader takes, each with what the reader takes
+/// after it. PROJECTION, METADATA and POINTS have none, but a text, pairs of texts and pairs of
+/// numbers.
+pub fn keywords_of(block: Block) -> &'static [Keyword]
+    ensures { AreKeywordsOf block (map (λ k. (k.0.now, k.1)) result.now) }
+{
+    match block {
+        Block::Map => &MAP,
+        Block::Web => &WEB,
+        Block::Layer => &LAYER,
+        Block::Class => &CLASS,
+        Block::Style => &STYLE,
+        Block::Label => &LABEL,
+        Block::Feature => &FEATURE,
+        Block::Projection => &NO_KEYWORDS,
+        Block::Metadata => &NO_KEYWORDS,
+        Block::Points => &NO_KEYWORDS,
     }
 }
 
-impl Takes {
-    /// The number of tokens that it has, unless it is a block. A colour in quotes has one.
-    pub(crate) fn tokens(self) -> u8 {
-        match self {
-            Takes::Extent => 4,
-            Takes::Color => 3,
-            Takes::Size | Takes::Point => 2,
-            _ => 1,
+/// The keyword of a block that has this name, without regard to ASCII letter case.
+#[tactic(auto, using(crate::proofs::Keyword::of_block))]
+pub fn keyword_of(block: Block, word: &[u8]) -> Option<Keyword>
+    ensures { IsKeywordOf block word.now (option_map (λ k. (k.0.now, k.1)) result) }
+{
+    keyword_named(keywords_of(block), word)
+}
+
+/// The first keyword that has this name.
+fn keyword_named(keywords: &'static [Keyword], word: &[u8]) -> Option<Keyword>
+    ensures { option_map (λ k. (k.0.now, k.1)) result ≡
+        keyword_named (map (λ k. (k.0.now, k.1)) keywords.now) word.now }
+{
+    for keyword in keywords {
+        if is_name(word, keyword.0) {
+            return Some(*keyword);
         }
     }
+    None
 }
 
 impl fmt::Display for Takes {
