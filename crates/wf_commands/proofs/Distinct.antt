@@ -17,7 +17,7 @@ use Rattle.wf_serve.specs.TapesTaken.{NumberedTape}
 use Rattle.wf_serve.specs.declared.survey.Survey.{Survey}
 use Rattle.wf_model.specs.DurableState.{Record, Tried, Promised, Accepted, Published}
 use Rattle.wf_commands.specs.Contents.{Contents}
-use Rattle.wf_commands.specs.Folder.{AreListed, IsFolderListing, IsNext, ListingsAreDistinct, tape_line}
+use Rattle.wf_commands.specs.Folder.{AreListed, IsFolderListing, IsNextTape, ListingsAreDistinct, tape_line}
 use Rattle.wf_commands.specs.FolderEnd.{IsLastLine, own_line}
 use Rattle.wf_commands.specs.declared.folder_state.FolderState.{FolderState}
 use Rattle.wf_commands.specs.declared.folder_state.FolderState.TheVariants as states
@@ -70,7 +70,7 @@ abbrev IsFront : List ℕ → Type 0
 IsFront text = (text ≡ []) ⊎ (first_of text ≡ n)
 
 front_after : (contents : Contents) (path : List ℕ) (number : ℕ) (there : Bool) (before after : List NumberedTape) (old new : List ℕ) → IsFront old →
-    IsNext contents path number there before after old new → IsFront new
+    IsNextTape contents path number there before after old new → IsFront new
 front_after contents path number true before after old new (inl empty) (bytes, more, is) =
     inr (ap first_of (more.is ∙ ap (λ front. front ++ (tape_line number ++ more.listing)) empty))
 front_after contents path number true before after old new (inr letter) (bytes, more, is) =

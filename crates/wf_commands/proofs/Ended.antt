@@ -26,7 +26,7 @@ use Rattle.wf_commands.specs.ServeRun.{IsLineServed, IsMachineServing, IsServing
 use Rattle.wf_commands.specs.declared.program.Ending.{Ending}
 use Rattle.wf_commands.specs.declared.fault.RunFault.{RunFault}
 use Rattle.wf_commands.specs.declared.fault.RunFault.TheVariants as faults
-use Rattle.wf_line.specs.CommandLine.{IsRejection}
+use Rattle.wf_line.specs.CommandLine.{IsLineRejection}
 use Rattle.wf_line.specs.declared.command_line.Line.{Line}
 use Rattle.wf_line.specs.declared.command_line.Line.TheVariants as lines
 use Rattle.clap.specs.Simple.{subcommand_of}
@@ -151,9 +151,9 @@ machine_serves inside outside service old new result reported_as served = record
 
 module _ {T : Type 0} (tapes : Tape T) (status : ℕ) where
   pub node_run : (words : List Text) → names_process_command words ≡ true → (command : NodeCommand) → AsksProcess (subcommand_of process_program words) (processes.Node command) →
-      (result : Result (Unit {0}) CommandFault) (none calls : List Call) → none ≡ [] → nodes.IsDone tapes command none calls result → status ≡ nodes.command_status result → IsFarmProcess tapes status
+      (result : Result (Unit {0}) CommandFault) (none calls : List Call) → none ≡ [] → nodes.IsCommandDone tapes command none calls result → status ≡ nodes.command_status result → IsFarmProcess tapes status
   node_run words own command asked result none calls empty done is =
-      let begun : nodes.IsDone tapes command [] calls result = subst (λ (old : List Call). nodes.IsDone tapes command old calls result) empty done in
+      let begun : nodes.IsCommandDone tapes command [] calls result = subst (λ (old : List Call). nodes.IsCommandDone tapes command old calls result) empty done in
       inl (record { words = words; own = own; command = command; asked = asked; result = result; calls = calls; done = begun; is = is })
 
   pub replica_run : (words : List Text) → names_process_command words ≡ true → (line : ReplicaLine) → AsksProcess (subcommand_of process_program words) (processes.Replica line) →
@@ -187,7 +187,7 @@ module _ {T : Type 0} (serves : Serves) (contents : Contents) (tapes : Tape T) (
     is = is;
   })
 
-  pub process_rejected : (words : List Text) (kind : ErrorKind) → IsRejection words kind → (printed : Bool) × (status ≡ rejection_status kind printed) → IsProcess serves contents tapes status
+  pub process_rejected : (words : List Text) (kind : ErrorKind) → IsLineRejection words kind → (printed : Bool) × (status ≡ rejection_status kind printed) → IsProcess serves contents tapes status
   process_rejected words kind why is = inr (inl (record { words = words; kind = kind; why = why; printed = is.0; is = is.1 }))
 
   pub process_unreadable : (kind : IoErrorKind) → status ≡ unreadable_status kind → IsProcess serves contents tapes status

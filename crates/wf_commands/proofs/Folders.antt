@@ -14,13 +14,13 @@ use Rattle.wf_listing.specs.Listing.{IsListing}
 use Rattle.wf_listing.specs.declared.fault.TapeReadFault.{TapeReadFault}
 use Rattle.wf_stream.specs.KnownTheorems.{keeps_same}
 use Rattle.wf_serve.specs.Folder.{tape_path}
-use Rattle.wf_serve.specs.LongestTape.{HasTaken}
+use Rattle.wf_serve.specs.LongestTape.{HasTakenTapes}
 use Rattle.wf_serve.specs.TapesTaken.{AreSoundOr, NumberedTape}
 use Rattle.wf_serve.specs.declared.event.Cause.{Cause}
 use Rattle.wf_serve.specs.declared.survey.Survey.{Survey}
 use Rattle.wf_serve.specs.declared.tape_check.TapeCheck.{TapeCheck}
 use Rattle.wf_commands.specs.Contents.{Contents}
-use Rattle.wf_commands.specs.Folder.{AreListed, AreTakenUpTo, HasListingAppended, HasTakenNext, IsEnded, IsFolderListed, IsFolderListing, IsListedAndTaken, IsNamedAndTaken, IsNamedListing, IsNext, IsNextTaken, IsRejected, tape_line}
+use Rattle.wf_commands.specs.Folder.{AreListed, AreTakenUpTo, HasListingAppended, HasTakenNext, HasLastLine, IsFolderListed, IsFolderListing, IsListedAndTaken, IsNamedAndTaken, IsNamedListing, IsNextTape, IsNextTaken, HasRejection, tape_line}
 use Rattle.wf_commands.specs.FolderEnd.{IsStateOf, is_own, own_tapes, new_line, node_line, own_line, rejection_line, taken_over_line}
 use Rattle.wf_commands.specs.declared.fault.RunFault.{RunFault}
 use Rattle.wf_commands.specs.declared.fault.RunFault.TheVariants as faults
@@ -34,12 +34,12 @@ failed fault = Err fault
 
 module _ (contents : Contents) (path : List ℕ) (tapes : List Presence) (owner : Option NodeFile) where
   -- before the first
-  pub no_tapes : (check : TapeCheck) (text : List ℕ) → HasTaken [] check → text ≡ [] → AreTakenUpTo contents path tapes 0 owner check text
+  pub no_tapes : (check : TapeCheck) (text : List ℕ) → HasTakenTapes [] check → text ≡ [] → AreTakenUpTo contents path tapes 0 owner check text
   unfolding AreListed own_tapes
   no_tapes check text none empty = record { listed = []; are_listed = (refl, empty); taken = none }
 
   next_listed : (number : ℕ) (before after : List NumberedTape) (front text : List ℕ) → AreListed contents path tapes number before front →
-      IsNext contents path number (is_there (slice_index_or tapes number Absent)) before after front text → AreListed contents path tapes (suc number) after text
+      IsNextTape contents path number (is_there (slice_index_or tapes number Absent)) before after front text → AreListed contents path tapes (suc number) after text
   unfolding AreListed
   next_listed number before after front text listed next = (before, front, listed, next)
 
@@ -49,9 +49,9 @@ module _ (contents : Contents) (path : List ℕ) (tapes : List Presence) (owner 
       subst (λ (n : ℕ). AreListed contents path tapes n listed text) same are
 
   more_listed : (number : ℕ) (before after : List NumberedTape) (there : Bool) (front text : List ℕ) → is_there (slice_index_or tapes number Absent) ≡ there →
-      AreListed contents path tapes number before front → IsNext contents path number there before after front text → AreListed contents path tapes (number + 1) after text
+      AreListed contents path tapes number before front → IsNextTape contents path number there before after front text → AreListed contents path tapes (number + 1) after text
   more_listed number before after there front text is listed next =
-      up_to_next number after text (next_listed number before after front text listed (subst (λ (b : Bool). IsNext contents path number b before after front text) (sym is) next))
+      up_to_next number after text (next_listed number before after front text listed (subst (λ (b : Bool). IsNextTape contents path number b before after front text) (sym is) next))
 
   -- one more that is there, and one that isn't
   pub one_more : (number : ℕ) (there : Bool) (check after : TapeCheck) (old new : List ℕ) → is_there (slice_index_or tapes number Absent) ≡ there →
@@ -64,7 +64,7 @@ module _ (contents : Contents) (path : List ℕ) (tapes : List Presence) (owner 
   one_more number false check after old new is have (same, unchanged) = record {
     listed = have.listed;
     are_listed = more_listed number have.listed have.listed false old new is have.are_listed (same, refl);
-    taken = subst (λ (c : TapeCheck). HasTaken (own_tapes owner have.listed) c) (sym unchanged) have.taken;
+    taken = subst (λ (c : TapeCheck). HasTakenTapes (own_tapes owner have.listed) c) (sym unchanged) have.taken;
   }
 
 -- by whether it is there
@@ -90,13 +90,13 @@ unfolding own_tapes
 other_first owner number bytes tapes other = ap (λ (b : Bool). if b then (number, bytes) ∷ own_tapes owner tapes else own_tapes owner tapes) other
 
 pub own_taken : {E : Type 0} (owner : Option NodeFile) (number : ℕ) (bytes : List ℕ) (check : TapeCheck) (result : Result TapeCheck E) → is_own owner number ≡ true →
-    ((tapes : List NumberedTape) → HasTaken tapes check → IfOk result (HasTaken ((number, bytes) ∷ tapes))) → IfOk result (HasTakenNext owner number bytes check)
+    ((tapes : List NumberedTape) → HasTakenTapes tapes check → IfOk result (HasTakenTapes ((number, bytes) ∷ tapes))) → IfOk result (HasTakenNext owner number bytes check)
 own_taken owner number bytes check (Ok after) own takes =
-    λ tapes taken. subst (λ (t : List NumberedTape). HasTaken t after) (sym (own_first owner number bytes tapes own)) (takes (own_tapes owner tapes) taken)
+    λ tapes taken. subst (λ (t : List NumberedTape). HasTakenTapes t after) (sym (own_first owner number bytes tapes own)) (takes (own_tapes owner tapes) taken)
 own_taken owner number bytes check (Err error) own takes = tt
 
 pub other_taken : (owner : Option NodeFile) (number : ℕ) (bytes : List ℕ) (check : TapeCheck) → is_own owner number ≡ false → HasTakenNext owner number bytes check check
-other_taken owner number bytes check other = λ tapes taken. subst (λ (t : List NumberedTape). HasTaken t check) (sym (other_first owner number bytes tapes other)) taken
+other_taken owner number bytes check other = λ tapes taken. subst (λ (t : List NumberedTape). HasTakenTapes t check) (sym (other_first owner number bytes tapes other)) taken
 
 -- the listing of bytes was appended, then also after the tape's name, then with the file's content
 pub listed : (bytes listing old new : List ℕ) → IsListing bytes listing → new ≡ old ++ listing → HasListingAppended bytes old new
@@ -129,32 +129,32 @@ appended contents path file bytes number owner check after old new at known more
 -- ---- the last line
 
 module _ (old new : List ℕ) where
-  pub new_ended : (nodes : ℕ) → new ≡ old ++ new_line → IsEnded (states.Farm nodes starts.New) old new
+  pub new_ended : (nodes : ℕ) → new ≡ old ++ new_line → HasLastLine (states.Farm nodes starts.New) old new
   new_ended nodes is = record { last = new_line; ends = refl; is = is }
 
-  pub taken_over_ended : (nodes : ℕ) → new ≡ old ++ taken_over_line nodes → IsEnded (states.Farm nodes starts.TakenOver) old new
+  pub taken_over_ended : (nodes : ℕ) → new ≡ old ++ taken_over_line nodes → HasLastLine (states.Farm nodes starts.TakenOver) old new
   taken_over_ended nodes is = record { last = taken_over_line nodes; ends = refl; is = is }
 
-  pub own_ended : (nodes : ℕ) (file : FarmFile) → new ≡ old ++ own_line nodes file.beginning → IsEnded (states.Farm nodes (starts.Own file)) old new
+  pub own_ended : (nodes : ℕ) (file : FarmFile) → new ≡ old ++ own_line nodes file.beginning → HasLastLine (states.Farm nodes (starts.Own file)) old new
   own_ended nodes file is = record { last = own_line nodes file.beginning; ends = refl; is = is }
 
-  pub node_ended : (file : NodeFile) → new ≡ old ++ node_line file.node → IsEnded (states.Node file) old new
+  pub node_ended : (file : NodeFile) → new ≡ old ++ node_line file.node → HasLastLine (states.Node file) old new
   node_ended file is = record { last = node_line file.node; ends = refl; is = is }
 
-  pub rejected : (why : List ℕ) → new ≡ old ++ rejection_line why → IsRejected old new
+  pub rejected : (why : List ℕ) → new ≡ old ++ rejection_line why → HasRejection old new
   rejected why is = record { why = why; is = is }
 
-  pub cause_ended : (cause : Cause) → IsRejected old new → IsEnded (states.Rejected cause) old new
+  pub cause_ended : (cause : Cause) → HasRejection old new → HasLastLine (states.Rejected cause) old new
   cause_ended cause more = record { last = rejection_line more.why; ends = (more.why, refl); is = more.is }
 
-  pub rejection_ended : (rejection : NodeRejection) → IsRejected old new → IsEnded (states.NodeRejected rejection) old new
+  pub rejection_ended : (rejection : NodeRejection) → HasRejection old new → HasLastLine (states.NodeRejected rejection) old new
   rejection_ended rejection more = record { last = rejection_line more.why; ends = (more.why, refl); is = more.is }
 
 -- with it the listing is whole
 pub whole : (contents : Contents) (path : List ℕ) (survey : Survey) (owner : Option NodeFile) (check : TapeCheck) (cause : Option Cause) (front new : List ℕ) (state : FolderState) →
     IfSome (contents.owner path) (λ known. owner ≡ known) → AreTakenUpTo contents path survey.tapes (length survey.tapes) owner check front →
-    ((tapes : List NumberedTape) → HasTaken tapes check → AreSoundOr tapes cause) → ((tapes : List NumberedTape) → AreSoundOr tapes cause → IsStateOf survey owner tapes state) →
-    IsEnded state front new → IsFolderListing contents path survey new
+    ((tapes : List NumberedTape) → HasTakenTapes tapes check → AreSoundOr tapes cause) → ((tapes : List NumberedTape) → AreSoundOr tapes cause → IsStateOf survey owner tapes state) →
+    HasLastLine state front new → IsFolderListing contents path survey new
 whole contents path survey owner check cause front new state known have finds state_of more = record {
   owner = owner;
   known = known;

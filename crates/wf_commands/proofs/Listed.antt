@@ -4,7 +4,7 @@ use Rattle.std.specs.Io.KnownBytes.{Appends}
 use Rattle.std.specs.Prelude.{Option, Result, Ok, Err, Some, None, IfSome, Vec}
 use Rattle.std.specs.declared.alloc.Global.{Global}
 use Rattle.wf_listing.specs.Listing.{IsListing}
-use Rattle.wf_listing.specs.Map.{IsTextOf}
+use Rattle.wf_listing.specs.Map.{IsMapTextAt}
 use Rattle.wf_listing.specs.TapeBytes.{most_tape_bytes}
 use Rattle.wf_listing.specs.declared.fault.TapeReadFault.{TapeReadFault}
 use Rattle.wf_listing.specs.declared.fault.TapeReadFault.TheVariants as tapes
@@ -61,15 +61,15 @@ unlisted content old tapes.NoMap why none = absurd (none refl)
 
 -- ---- a map on a tape
 
-pub map_whole : (bytes written : List ℕ) (sequence : ℕ) (text : Vec ℕ Global) (old new : Option (List ℕ)) (result : Unit {0}) → IsTextOf bytes sequence (Some text) → written ≡ text.items
+pub map_whole : (bytes written : List ℕ) (sequence : ℕ) (text : Vec ℕ Global) (old new : Option (List ℕ)) (result : Unit {0}) → IsMapTextAt bytes sequence (Some text) → written ≡ text.items
     → Appends old new written → IsMapWritten (Some bytes) sequence old new (Ok result)
 map_whole bytes written sequence text old new result is same appends = (bytes, (text, refl, is, subst (λ b. Appends old new b) same appends))
 
-pub map_in_part : (bytes written : List ℕ) (sequence : ℕ) (text : Vec ℕ Global) (count : ℕ) (old new : Option (List ℕ)) → IsTextOf bytes sequence (Some text) → written ≡ text.items
+pub map_in_part : (bytes written : List ℕ) (sequence : ℕ) (text : Vec ℕ Global) (count : ℕ) (old new : Option (List ℕ)) → IsMapTextAt bytes sequence (Some text) → written ≡ text.items
     → Appends old new (take count written) → IsMapWritten (Some bytes) sequence old new (failed faults.Write)
 map_in_part bytes written sequence text count old new is same appends = (bytes, (text, refl, is, (count, subst (λ b. Appends old new (take count b)) same appends)))
 
-pub no_map : (bytes : List ℕ) (sequence : ℕ) (old : Option (List ℕ)) → IsTextOf bytes sequence None → IsMapWritten (Some bytes) sequence old old (failed (faults.Tape tapes.NoMap))
+pub no_map : (bytes : List ℕ) (sequence : ℕ) (old : Option (List ℕ)) → IsMapTextAt bytes sequence None → IsMapWritten (Some bytes) sequence old old (failed (faults.Tape tapes.NoMap))
 no_map bytes sequence old is = ((bytes, refl, is), keeps_same old)
 
 pub map_unwritten_for_memory : (content old : Option (List ℕ)) (sequence : ℕ) → IsMapWritten content sequence old old (failed (faults.Tape tapes.Memory))

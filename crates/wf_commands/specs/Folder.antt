@@ -6,7 +6,7 @@ use Rattle.wf_folder.specs.declared.presence.Presence.TheVariants.{Absent}
 use Rattle.wf_folder.specs.declared.node_file.NodeFile.{NodeFile}
 use Rattle.wf_listing.specs.Listing.{IsListing}
 use Rattle.wf_serve.specs.Folder.{tape_path}
-use Rattle.wf_serve.specs.LongestTape.{HasTaken}
+use Rattle.wf_serve.specs.LongestTape.{HasTakenTapes}
 use Rattle.wf_serve.specs.TapesTaken.{NumberedTape}
 use Rattle.wf_serve.specs.declared.survey.Survey.{Survey}
 use Rattle.wf_serve.specs.declared.tape_check.TapeCheck.{TapeCheck}
@@ -21,23 +21,23 @@ abbrev pub tape_line : ℕ → List ℕ
 tape_line number = codes "node-" ++ decimal number ++ codes ".tape\n"
 
 -- The listing of a tape with these bytes was appended, after a line with its name: they are the content of its file, if that is known.
-pub record IsAppended (contents : Contents) (path : List ℕ) (number : ℕ) (bytes old new : List ℕ) : Type 0 where
+pub record IsListingAppended (contents : Contents) (path : List ℕ) (number : ℕ) (bytes old new : List ℕ) : Type 0 where
   pub listing : List ℕ
   pub known : IfSome (contents.file (tape_path path number)) (λ known. bytes ≡ known)
   pub listed : IsListing bytes listing
   pub is : new ≡ old ++ (tape_line number ++ listing)
 
 -- what a tape appends that is there, and one that isn't, and which tapes are listed before and after, the latest first
-abbrev pub IsNext : Contents → List ℕ → ℕ → Bool → List NumberedTape → List NumberedTape → List ℕ → List ℕ → Type 0
-IsNext contents path number true before after old new = (bytes : List ℕ) × IsAppended contents path number bytes old new × (after ≡ (number, bytes) ∷ before)
-IsNext contents path number false before after old new = (new ≡ old) × (after ≡ before)
+abbrev pub IsNextTape : Contents → List ℕ → ℕ → Bool → List NumberedTape → List NumberedTape → List ℕ → List ℕ → Type 0
+IsNextTape contents path number true before after old new = (bytes : List ℕ) × IsListingAppended contents path number bytes old new × (after ≡ (number, bytes) ∷ before)
+IsNextTape contents path number false before after old new = (new ≡ old) × (after ≡ before)
 
 -- The text is the listings of exactly those of the first tapes that are there, in order: of these tapes, the latest first.
 unfoldable pub AreListed : Contents → List ℕ → List Presence → ℕ → List NumberedTape → List ℕ → Type 0
 AreListed contents path tapes zero listed text = (listed ≡ []) × (text ≡ [])
 AreListed contents path tapes (suc number) listed text =
     (before : List NumberedTape) × (front : List ℕ) × AreListed contents path tapes number before front
-    × IsNext contents path number (is_there (slice_index_or tapes number Absent)) before listed front text
+    × IsNextTape contents path number (is_there (slice_index_or tapes number Absent)) before listed front text
 
 -- The text is the listing of a folder with this in it: its tapes', and the one last line of what a start on it would do, by just these
 -- tapes.
@@ -92,17 +92,17 @@ pub record IsNamedListing (bytes : List ℕ) (number : ℕ) (old new : List ℕ)
 pub record AreTakenUpTo (contents : Contents) (path : List ℕ) (tapes : List Presence) (number : ℕ) (owner : Option NodeFile) (check : TapeCheck) (text : List ℕ) : Type 0 where
   pub listed : List NumberedTape
   pub are_listed : AreListed contents path tapes number listed text
-  pub taken : HasTaken (own_tapes owner listed) check
+  pub taken : HasTakenTapes (own_tapes owner listed) check
 
 -- the check has taken one more tape of the folder, if it has to be sound
 abbrev pub HasTakenNext : Option NodeFile → ℕ → List ℕ → TapeCheck → TapeCheck → Type 0
 HasTakenNext owner number bytes check after =
-    (tapes : List NumberedTape) → HasTaken (own_tapes owner tapes) check → HasTaken (own_tapes owner ((number, bytes) ∷ tapes)) after
+    (tapes : List NumberedTape) → HasTakenTapes (own_tapes owner tapes) check → HasTakenTapes (own_tapes owner ((number, bytes) ∷ tapes)) after
 
 -- A tape is listed and taken; before that what is listed is the listing of its bytes.
 pub record IsListedAndTaken (contents : Contents) (path : List ℕ) (number : ℕ) (owner : Option NodeFile) (check after : TapeCheck) (old new : List ℕ) : Type 0 where
   pub bytes : List ℕ
-  pub appended : IsAppended contents path number bytes old new
+  pub appended : IsListingAppended contents path number bytes old new
   pub taken : HasTakenNext owner number bytes check after
 
 pub record IsNamedAndTaken (bytes : List ℕ) (number : ℕ) (owner : Option NodeFile) (check after : TapeCheck) (old new : List ℕ) : Type 0 where
@@ -121,12 +121,12 @@ pub record HasListingAppended (bytes old new : List ℕ) : Type 0 where
   pub is : new ≡ old ++ listing
 
 -- a last line was appended
-pub record IsEnded (state : FolderState) (old new : List ℕ) : Type 0 where
+pub record HasLastLine (state : FolderState) (old new : List ℕ) : Type 0 where
   pub last : List ℕ
   pub ends : IsLastLine state last
   pub is : new ≡ old ++ last
 
 -- a rejection was appended
-pub record IsRejected (old new : List ℕ) : Type 0 where
+pub record HasRejection (old new : List ℕ) : Type 0 where
   pub why : List ℕ
   pub is : new ≡ old ++ rejection_line why

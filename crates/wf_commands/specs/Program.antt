@@ -8,7 +8,7 @@ use Rattle.clap.specs.declared.error.kind.ErrorKind.{ErrorKind}
 use Rattle.wf_serve.specs.declared.fault.ServeFault.{ServeFault}
 use Rattle.wf_service.specs.declared.service.Service.{Service}
 use Rattle.wf_stream.specs.Effects.{TakesUpTo}
-use Rattle.wf_line.specs.CommandLine.{Asks, IsRejection, program}
+use Rattle.wf_line.specs.CommandLine.{Asks, IsLineRejection, program}
 use Rattle.wf_commands.specs.FailureCount.{CountsReads, CountsWrites}
 use Rattle.wf_commands.specs.ProgramEnd.{left_to_report, rejection_status, reported, run_status, unreadable_status}
 use Rattle.wf_commands.specs.Contents.{Contents}
@@ -88,7 +88,7 @@ pub record HasRun (serves : Serves) (contents : Contents) (status : ℕ) : Type 
 pub record WasRejected (status : ℕ) : Type 0 where
   pub words : List Text
   pub kind : ErrorKind
-  pub why : IsRejection words kind
+  pub why : IsLineRejection words kind
   pub printed : Bool
   pub is : status ≡ rejection_status kind printed
 
@@ -107,7 +107,7 @@ pub record HasRunNode {T : Type 0} (tapes : Tape T) (status : ℕ) : Type 0 wher
   pub asked : AsksProcess (subcommand_of process_program words) (processes.Node command)
   pub result : Result (Unit {0}) CommandFault
   pub calls : List Call
-  pub done : nodes.IsDone tapes command [] calls result
+  pub done : nodes.IsCommandDone tapes command [] calls result
   pub is : status ≡ nodes.command_status result
 
 -- It served the replica that its words ask for, by these calls of its folder, and ended with its status.

@@ -22,7 +22,7 @@ use Rattle.wf_play.specs.ScriptRun.{IsFaultOf, IsScriptText, PlaysInput}
 use Rattle.wf_play.specs.declared.fault.PlayFault.TheVariants as plays
 use Rattle.std.specs.declared.alloc.Global.{Global}
 use Rattle.wf_listing.specs.Listing.{IsListing}
-use Rattle.wf_listing.specs.Map.{IsTextOf}
+use Rattle.wf_listing.specs.Map.{IsMapTextAt}
 use Rattle.wf_listing.specs.TapeBytes.{most_tape_bytes}
 use Rattle.wf_listing.specs.declared.fault.TapeReadFault.{TapeReadFault}
 use Rattle.wf_listing.specs.declared.fault.TapeReadFault.TheVariants as tapes
@@ -259,13 +259,13 @@ IsListed content old new result = IsTapeWriting (HasListing content) (IsWhyListl
 
 -- P holds of the text of the map that some bytes have as published under a sequence, those of the file if they are known
 abbrev pub HasMap : Option (List ℕ) → ℕ → (List ℕ → Type 0) → Type 0
-HasMap content sequence P = (bytes : List ℕ) × ((text : Vec ℕ Global) × IfSome content (λ known. bytes ≡ known) × IsTextOf bytes sequence (Some text) × P text.items)
+HasMap content sequence P = (bytes : List ℕ) × ((text : Vec ℕ Global) × IfSome content (λ known. bytes ≡ known) × IsMapTextAt bytes sequence (Some text) × P text.items)
 
 -- why such a map isn't written: the tape can't be read; an allocation failed; or it has none
 abbrev pub IsWhyMapless : Option (List ℕ) → ℕ → TapeReadFault → Type 0
 IsWhyMapless content sequence tapes.Failed = IfSome content (λ known. most_tape_bytes < length known)
 IsWhyMapless content sequence tapes.Memory = Unit {0}
-IsWhyMapless content sequence tapes.NoMap = (bytes : List ℕ) × IfSome content (λ known. bytes ≡ known) × IsTextOf bytes sequence None
+IsWhyMapless content sequence tapes.NoMap = (bytes : List ℕ) × IfSome content (λ known. bytes ≡ known) × IsMapTextAt bytes sequence None
 
 -- What is written of a map on a tape in a file: its canonical text.
 abbrev pub IsMapWritten : Option (List ℕ) → ℕ → Option (List ℕ) → Option (List ℕ) → Result (Unit {0}) RunFault → Type 0

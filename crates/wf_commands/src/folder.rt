@@ -1,7 +1,7 @@
 //! The listing of a folder's tapes.
 ghost use Rattle.std.specs.Prelude.{◌≡◌, ◌<◌, ◌++◌, [], IfOk, OnOk, length, string_bytes};
 ghost use Rattle.wf_commands.specs.FailureCount.{CountsWrites, FailsLast};
-ghost use Rattle.wf_commands.specs.Folder.{AreTakenUpTo, HasListingAppended, HasTakenNext, IsEnded, IsFolderListed, IsFolderListing, IsListedAndTaken, IsNamedAndTaken, IsNamedListing, IsNextTaken, IsRejected, ListingsAreDistinct, tape_line};
+ghost use Rattle.wf_commands.specs.Folder.{AreTakenUpTo, HasListingAppended, HasTakenNext, HasLastLine, IsFolderListed, IsFolderListing, IsListedAndTaken, IsNamedAndTaken, IsNamedListing, IsNextTaken, HasRejection, ListingsAreDistinct, tape_line};
 ghost use Rattle.wf_commands.specs.FolderEnd.{is_own, node_line, own_line, rejection_line, taken_over_line};
 ghost use Rattle.wf_folder.specs.Admission.{is_there};
 ghost use Rattle.wf_serve.specs.Folder.{tape_path};
@@ -290,7 +290,7 @@ fn push_end(
     path: &str,
     state: &FolderState,
 ) -> Result<(), AllocError>
-    ensures { OnOk result (IsEnded state.now (string_bytes text.old) (string_bytes text.new)) }
+    ensures { OnOk result (HasLastLine state.now (string_bytes text.old) (string_bytes text.new)) }
 {
     match state {
         FolderState::Farm(nodes, start) => push_farm(text, *nodes, start),
@@ -303,7 +303,7 @@ fn push_end(
 /// Appends the last line of a folder on which so many nodes of a farm would start.
 #[tactic(auto, using(crate::proofs::Folders::new_ended, crate::proofs::Folders::taken_over_ended, crate::proofs::Folders::own_ended))]
 fn push_farm(text: &mut String, nodes: u8, start: &Start) -> Result<(), AllocError>
-    ensures { OnOk result (IsEnded (FolderState.Farm nodes start.now)
+    ensures { OnOk result (HasLastLine (FolderState.Farm nodes start.now)
         (string_bytes text.old) (string_bytes text.new)) }
 {
     match start {
@@ -342,7 +342,7 @@ fn push_node(text: &mut String, node: u8) -> Result<(), AllocError>
 /// Appends the line of a start that is rejected for a cause.
 #[tactic(auto, using(crate::proofs::Folders::rejected))]
 fn push_cause(alloc: Global, text: &mut String, path: &str, cause: &Cause) -> Result<(), AllocError>
-    ensures { OnOk result (IsRejected (string_bytes text.old) (string_bytes text.new)) }
+    ensures { OnOk result (HasRejection (string_bytes text.old) (string_bytes text.new)) }
 {
     let fault = StartFault {
         cause: *cause,
@@ -364,7 +364,7 @@ fn push_node_rejection(
     text: &mut String,
     rejection: &NodeRejection,
 ) -> Result<(), AllocError>
-    ensures { OnOk result (IsRejected (string_bytes text.old) (string_bytes text.new)) }
+    ensures { OnOk result (HasRejection (string_bytes text.old) (string_bytes text.new)) }
 {
     let why = format!(in alloc; "{rejection}")?;
     let pushed = push_rejection(text, why.as_str());

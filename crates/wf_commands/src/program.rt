@@ -3,7 +3,7 @@ ghost use Rattle.std.specs.Prelude.{◌≡◌, ◌≤◌, Bool, true, IfErr, IfO
 ghost use Rattle.std.specs.IoError.{error_kind};
 ghost use Rattle.clap.specs.Values.{kind_of};
 ghost use Rattle.std.specs.Process.{exit_status};
-ghost use Rattle.wf_line.specs.CommandLine.{IsRejection, IsWhyRejected};
+ghost use Rattle.wf_line.specs.CommandLine.{IsLineRejection, IsWhyLineRejected};
 ghost use Rattle.wf_line.specs.Line.{IsInRange};
 ghost use Rattle.wf_commands.specs.FailureCount.{CountsWrites, FailsLast};
 ghost use Rattle.wf_commands.specs.Contents.{nothing_known};
@@ -177,10 +177,10 @@ pub fn run_words<'a, S: AsStr, I: Source, K: Sink, V: NodeServer + Tapes, C: Car
     ensures low { IfOk result (λ ending. ending.status ≤ 1) }
     // Words that ask for a line are rejected only if an allocation fails.
     ensures rejected { IfErr result
-        (λ error. IsWhyRejected (map S.text words.entry.now) (kind_of error)) }
+        (λ error. IsWhyLineRejected (map S.text words.entry.now) (kind_of error)) }
     // The error's kind is the parser's; by it the program's exit status is known.
     ensures kind { IfErr result
-        (λ error. IsRejection (map S.text words.entry.now) (kind_of error)) }
+        (λ error. IsLineRejection (map S.text words.entry.now) (kind_of error)) }
     ensures unread { OnErr result (source.new ≡ source.old) }
     ensures unwritten { OnErr result (sink.new ≡ sink.old) }
     ensures unused { OnErr result (carrier.new ≡ carrier.old) }

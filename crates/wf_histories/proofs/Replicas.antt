@@ -2,7 +2,7 @@
 use Rattle.std.proofs.Common.{ℕ, List, sym, subst}
 use Rattle.wf_actor.specs.Farm.{Step}
 use Rattle.wf_career.specs.Career.{Career, Item}
-use Rattle.wf_career.specs.Replica.{IsServed, OfNode as HeldList, OneServed, ServedAnswer, ServedMapAnswer}
+use Rattle.wf_career.specs.Replica.{IsListOfFarm, OfNode as HeldList, OneServed, ServedAnswer, ServedMapAnswer}
 use Rattle.wf_def.specs.Definition.{Definition}
 use Rattle.wf_replica.specs.Follower.{received_by}
 use Rattle.wf_replica.specs.Theorems.{LearnedAreServed, NeverGoesBack}
@@ -15,10 +15,10 @@ use Rattle.wf_histories.proofs.Agreement.{held}
 
 module _ {N R : Type 0} (tapes : Tape N) (shelves : Tape R) (n : ℕ) (before : ℕ → Career N) (earlier : List Item) (folders : ℕ → List (NodeProcess tapes)) (steps : List Step)
     (are : AreFarm tapes n before earlier folders steps) where
-  served : LearnedAreServed N → (list : List Definition) → IsList tapes shelves n before earlier folders steps are list → IsServed n are.careers list
+  served : LearnedAreServed N → (list : List Definition) → IsList tapes shelves n before earlier folders steps are list → IsListOfFarm n are.careers list
   served theorem list (OfNode other node ever same) = HeldList list node (held tapes n before earlier folders steps are node ever) same
   served theorem list (OfReplica other replica moment reported same) =
-      subst (λ (l : List Definition). IsServed n are.careers l) (sym same) (theorem n are.careers (received_by (follower_of replica.hub)) reported moment)
+      subst (λ (l : List Definition). IsListOfFarm n are.careers l) (sym same) (theorem n are.careers (received_by (follower_of replica.hub)) reported moment)
 
   pub lists_agree : LearnedAreServed N → OneServed tapes → ServedAnswer tapes → ServedMapAnswer tapes → NeverGoesBack → ListsAgree tapes shelves n before earlier folders steps are
   lists_agree theorem one answers maps stays =

@@ -19,7 +19,7 @@ use Rattle.clap.specs.declared.parser.matches.ArgMatches.TheViews.{out-SubComman
 use Rattle.clap.specs.declared.parser.matches.ArgMatches.{ArgMatches}
 use Rattle.clap.specs.declared.parser.matches.Found.{Found}
 use Rattle.clap.specs.declared.parser.matches.SubCommand.{SubCommand}
-use Rattle.wf_line.specs.CommandLine.{Asks, IsCacheBy, IsCapsOf, IsCheckAsked, IsDrawOf, IsMapBy, IsRejection, IsServeOf, IsServiceOf, IsTapeOf, program, rejections}
+use Rattle.wf_line.specs.CommandLine.{Asks, IsCacheBy, IsCapsOf, IsCheckAsked, IsDrawOf, IsMapBy, IsLineRejection, IsServeOf, IsServiceOf, IsTapeOption, program, rejections}
 use Rattle.wf_ballot.specs.Sequence.{last_sequence}
 use Rattle.wf_line.specs.Line.{IsInRange}
 use Rattle.wf_line.specs.declared.command_line.Line.{Line}
@@ -83,7 +83,7 @@ none_drawn None None rows has named none = λ l asks. asks
 none_drawn None (Some p) rows has named none = draw_asks_of p rows (let is : p.1 ≡ rows = cc in is) (let is : p.0 ≡ codes "draw" = cc in is) none
 
 -- if `tape` was named and no `tape` line has its arguments, they ask for nothing
-tape_asks_of : (p : Text × List Row) (rows : List Row) → p.1 ≡ rows → p.0 ≡ codes "tape" → ((l : Line) → ¬ (IsTapeOf rows l)) → (l : Line) → ¬ (Asks (Some p) l)
+tape_asks_of : (p : Text × List Row) (rows : List Row) → p.1 ≡ rows → p.0 ≡ codes "tape" → ((l : Line) → ¬ (IsTapeOption rows l)) → (l : Line) → ¬ (Asks (Some p) l)
 tape_asks_of p rows has named none (lines.Caps seq query) asks = false≢true (sym (ap (bytes_eq (codes "tape")) (sym named ∙ asks.0)))
 tape_asks_of p rows has named none (lines.Draw query) asks = false≢true (sym (ap (bytes_eq (codes "tape")) (sym named ∙ asks.0)))
 tape_asks_of p rows has named none lines.Canon asks = false≢true (sym (ap (bytes_eq (codes "tape")) (sym named ∙ asks)))
@@ -94,7 +94,7 @@ tape_asks_of p rows has named none lines.Wire asks = false≢true (sym (ap (byte
 tape_asks_of p rows has named none (lines.Serve service) asks = false≢true (sym (ap (bytes_eq (codes "tape")) (sym named ∙ asks.0)))
 
 pub none_listed : (line : Option Line) (met : Option (Text × List Row)) (rows : List Row) → option_map (λ p. p.1) met ≡ Some rows
-    → option_map (λ p. p.0) met ≡ Some (codes "tape") → IfNone line ((l : Line) → ¬ (IsTapeOf rows l)) → IfNone line ((l : Line) → ¬ (Asks met l))
+    → option_map (λ p. p.0) met ≡ Some (codes "tape") → IfNone line ((l : Line) → ¬ (IsTapeOption rows l)) → IfNone line ((l : Line) → ¬ (Asks met l))
 none_listed (Some line) met rows has named none = tt
 none_listed None None rows has named none = λ l asks. asks
 none_listed None (Some p) rows has named none = tape_asks_of p rows (let is : p.1 ≡ rows = cc in is) (let is : p.0 ≡ codes "tape" = cc in is) none
@@ -176,7 +176,7 @@ unfolding clap_on_literals
 free_program = refl
 
 pub kind_on : (app : App) (words : List Text) (error : Error) → app ≡ program → (is_simple_and_free app ≡ true → HasKind (fault_of app words) error)
-    → IsRejection words (kind_of error)
+    → IsLineRejection words (kind_of error)
 unfolding rejections
 kind_on app words error is kinds =
     elim (subst (λ (a : App). HasKind (fault_of a words) error) is (kinds (ap is_simple_and_free is ∙ free_program))) [

@@ -16,7 +16,7 @@ use Rattle.clap.specs.ValueTests.{accepts}
 use Rattle.clap.specs.declared.builder.value_parser.ValueParser.TheVariants.{Signed}
 use Rattle.clap.specs.Walk.{Held, Row, finished, nothing_held, pushed, settled, walk, Rule, Text, Walk, after_step, arg_by_index, first_of, idle, long_or_other, short_or_plain, trailing, to_positional, value, walk_from, walked, word_met}
 use Rattle.wf_line.specs.CommandLine.{caps_shape, draw_shape, tape_shape, PlainCapsIsAsked, PlainDrawIsAsked, PlainCanonIsAsked, PlainRunIsAsked, PlainTapeIsAsked, PlainWireIsAsked, IsMapBy, is_plain, program, PlainCheckIsAsked, JsonCheckIsAsked}
-use Rattle.wf_line.specs.Line.{IsSequence}
+use Rattle.wf_line.specs.Line.{SpellsSequence}
 use Rattle.wf_line.specs.declared.command_line.Line.TheVariants as lines
 
 -- the state of the walk over positionals
@@ -91,7 +91,7 @@ no_minus : (word : Text) → is_plain word ≡ true → starts_with_minus word �
 no_minus [] plain = refl
 no_minus (first ∷ rest) plain = no_hyphen first plain
 
-sequence_accepted : (word : Text) (seq : ℕ) → is_plain word ≡ true → IsSequence word seq → accepts false (Signed (pos 0) (pos 4096)) word ≡ true
+sequence_accepted : (word : Text) (seq : ℕ) → is_plain word ≡ true → SpellsSequence word seq → accepts false (Signed (pos 0) (pos 4096)) word ≡ true
 sequence_accepted word seq plain is =
     let minus = no_minus word plain in
     let bare : without_leading_sign word ≡ without_leading_plus word = ap (λ b. cond b (drop 1 word) (without_leading_plus word)) minus in

@@ -1,5 +1,5 @@
 -- What the arguments of a command line ask for, by the rules of `clap`.
-use Rattle.std.specs.Prelude.{◌≡◌, ◌⊎◌, ℕ, if◌then◌else◌, option_map, ◌==◌, not, Bool, List, [], ◌∷◌, Option, Some, None, false, true, codes, pos}
+use Rattle.std.specs.Prelude.{◌≡◌, ◌⊎◌, ℕ, ℤ, if◌then◌else◌, option_map, ◌==◌, not, Bool, List, [], ◌∷◌, Option, Some, None, false, true, codes, pos}
 use Rattle.clap.specs.Faults.{fault_of}
 use Rattle.clap.specs.Kinds.{IsAmong}
 use Rattle.clap.specs.Matches.{found_of}
@@ -15,7 +15,7 @@ use Rattle.clap.specs.declared.builder.action.ArgAction.TheVariants.{SetTrue}
 use Rattle.clap.specs.declared.builder.value_parser.ValueParser.TheVariants.{Signed}
 use Rattle.std.specs.Str.{bytes_eq}
 use Rattle.wf_ballot.specs.Sequence.{last_sequence}
-use Rattle.wf_line.specs.Line.{IsNumber, IsSequence}
+use Rattle.wf_line.specs.Line.{IsNumber, SpellsSequence}
 use Rattle.wf_line.specs.declared.command_line.Line.{Line}
 use Rattle.wf_service.specs.Service.{last_port, most_nodes, most_requests}
 use Rattle.wf_service.specs.declared.service.Service.{Service}
@@ -37,6 +37,10 @@ sequence_rule = record (new_rule (codes "SEQ")) {
 -- QUERY: a required text
 abbrev pub query_rule : Rule
 query_rule = record (new_rule (codes "QUERY")) { required = true }
+
+-- `--NAME VALUE`: a number from `least` to `most`
+abbrev pub number_rule : Text → (least most : ℤ) → Bool → Rule
+number_rule name least most is_required = record (new_rule name) { long = Some name; value_names = 1; parser = Some (Signed least most); required = is_required }
 
 -- `caps SEQ QUERY`
 abbrev pub caps_shape : Shape
@@ -153,7 +157,7 @@ rows_in found = rows_of (found_of found)
 
 -- The line is `caps` with the number that an argument spells, and this query.
 abbrev pub IsCapsLine : Text → Text → Line → Type 0
-IsCapsLine word query (lines.Caps seq asked) = IsSequence word seq × (asked.now ≡ query)
+IsCapsLine word query (lines.Caps seq asked) = SpellsSequence word seq × (asked.now ≡ query)
 IsCapsLine word query (lines.Draw asked) = ⊥
 IsCapsLine word query lines.Canon = ⊥
 IsCapsLine word query (lines.Check format) = ⊥
@@ -188,8 +192,8 @@ IsMapBy None map = map ≡ None
 IsMapBy (Some word) map = (seq : ℕ) × (map ≡ Some seq) × IsNumber word 1 last_sequence seq
 
 -- the same by the parsed arguments
-abbrev pub IsMapOf : List Row → Option ℕ → Type 0
-IsMapOf rows map = IsMapBy (first_of (codes "map") rows) map
+abbrev pub IsMapOption : List Row → Option ℕ → Type 0
+IsMapOption rows map = IsMapBy (first_of (codes "map") rows) map
 
 -- The line is `tape` with this file, and the map that an argument asks for if there is one.
 abbrev pub IsTapeLine : Text → Option Text → Line → Type 0
@@ -203,8 +207,8 @@ IsTapeLine file word lines.Wire = ⊥
 IsTapeLine file word (lines.Serve service) = ⊥
 
 -- The line is `tape` with the arguments parsed for FILE and `--map`.
-abbrev pub IsTapeOf : List Row → Line → Type 0
-IsTapeOf rows line = (file : Text) × (first_of (codes "FILE") rows ≡ Some file) × IsTapeLine file (first_of (codes "map") rows) line
+abbrev pub IsTapeOption : List Row → Line → Type 0
+IsTapeOption rows line = (file : Text) × (first_of (codes "FILE") rows ≡ Some file) × IsTapeLine file (first_of (codes "map") rows) line
 
 -- the format that a word names
 abbrev pub format_named : Text → Option Format
@@ -279,14 +283,14 @@ Asks (Some named) (lines.Caps seq query) = (named.0 ≡ codes "caps") × IsCapsO
 Asks (Some named) (lines.Draw query) = (named.0 ≡ codes "draw") × IsDrawOf named.1 (lines.Draw query)
 Asks (Some named) lines.Canon = named.0 ≡ codes "canon"
 Asks (Some named) (lines.Check format) = (named.0 ≡ codes "check") × IsCheckAsked named.1 (lines.Check format)
-Asks (Some named) (lines.Tape file map) = (named.0 ≡ codes "tape") × IsTapeOf named.1 (lines.Tape file map)
+Asks (Some named) (lines.Tape file map) = (named.0 ≡ codes "tape") × IsTapeOption named.1 (lines.Tape file map)
 Asks (Some named) lines.Run = named.0 ≡ codes "run"
 Asks (Some named) lines.Wire = named.0 ≡ codes "wire"
 Asks (Some named) (lines.Serve service) = (named.0 ≡ codes "serve") × IsServeOf named.1 (lines.Serve service)
 
 -- why arguments are rejected: if the parser accepts them and they ask for a line, an allocation failed
-abbrev pub IsWhyRejected : List Text → ErrorKind → Type 0
-IsWhyRejected words kind = takes program words ≡ true → (line : Line) → Asks (subcommand_of program words) line → kind ≡ OutOfMemory
+abbrev pub IsWhyLineRejected : List Text → ErrorKind → Type 0
+IsWhyLineRejected words kind = takes program words ≡ true → (line : Line) → Asks (subcommand_of program words) line → kind ≡ OutOfMemory
 
 -- The kinds of error by which the parser rejects arguments, of which one comes: help and the version are among them. None if it
 -- accepts them.
@@ -294,8 +298,8 @@ unfoldable pub rejections : List Text → List ErrorKind
 rejections words = fault_of program words
 
 -- the kind of a rejection: an allocation failed; the parser's; or a value out of range, if the parser accepts the arguments
-abbrev pub IsRejection : List Text → ErrorKind → Type 0
-IsRejection words kind = (kind ≡ OutOfMemory) ⊎ (IsAmong kind (rejections words) ⊎ ((rejections words ≡ []) × (kind ≡ ValueValidation)))
+abbrev pub IsLineRejection : List Text → ErrorKind → Type 0
+IsLineRejection words kind = (kind ≡ OutOfMemory) ⊎ (IsAmong kind (rejections words) ⊎ ((rejections words ≡ []) × (kind ≡ ValueValidation)))
 
 -- the argument doesn't begin with a hyphen, so it isn't an option
 abbrev pub is_plain : Text → Bool

@@ -2,6 +2,7 @@
 use Rattle.std.specs.Prelude.{◌≡◌, ℕ, option_map, Bool, List, [], ◌∷◌, Option, Some, None, false, true, codes, pos}
 use Rattle.clap.specs.Walk.{Row, Rule, Text, first_of}
 use Rattle.clap.specs.Simple.{Shape, new_rule, new_shape}
+use Rattle.clap.specs.declared.builder.action.ArgAction.TheVariants.{SetTrue}
 use Rattle.clap.specs.declared.builder.value_parser.ValueParser.TheVariants.{Signed}
 use Rattle.wf_line.specs.CommandLine.{IsNumberOf, cache_rule, is_set, log_rule}
 use Rattle.wf_line.specs.Line.{IsNumber}
@@ -25,19 +26,28 @@ nodes_rule = record (text_rule (codes "nodes") true) { parser = Some (Signed (po
 abbrev pub clients_rule : Rule
 clients_rule = record (text_rule (codes "clients") false) { parser = Some (Signed (pos 1) (pos most_clients)) }
 
+-- `--NAME`: a flag
+abbrev pub flag_rule : Text → Rule
+flag_rule name = record (new_rule name) { long = Some name; action = Some SetTrue }
+
 -- a command with these arguments
 abbrev pub command_shape : Text → List Rule → Shape
 command_shape name rules = record (new_shape name) { rules = rules }
 
--- `init`, with its first three arguments, and whole
+-- `init`, with its first three arguments, with all that have a value, and whole
 abbrev pub init_shape_start : Shape
 init_shape_start = command_shape (codes "init") (text_rule (codes "state") true ∷ text_rule (codes "farm") true ∷ id_rule ∷ [])
 
-abbrev pub init_shape : Shape
-init_shape = command_shape (codes "init")
+abbrev pub init_shape_values : Shape
+init_shape_values = command_shape (codes "init")
     (text_rule (codes "state") true ∷ text_rule (codes "farm") true ∷ id_rule ∷ nodes_rule ∷ text_rule (codes "from") false ∷ [])
 
--- `node`, with the arguments that it wants, with the addresses that it may have too, and whole
+abbrev pub init_shape : Shape
+init_shape = command_shape (codes "init")
+    (text_rule (codes "state") true ∷ text_rule (codes "farm") true ∷ id_rule ∷ nodes_rule ∷ text_rule (codes "from") false
+    ∷ flag_rule (codes "replace") ∷ [])
+
+-- `node`, with the arguments that it wants, with the addresses that it may have too, with its numbers, and whole
 abbrev pub node_shape_start : Shape
 node_shape_start = command_shape (codes "node") (text_rule (codes "state") true ∷ text_rule (codes "peers") true ∷ text_rule (codes "http") true ∷ [])
 
@@ -46,10 +56,16 @@ node_shape_addresses = command_shape (codes "node")
     (text_rule (codes "state") true ∷ text_rule (codes "peers") true ∷ text_rule (codes "http") true ∷ text_rule (codes "listen") false
     ∷ text_rule (codes "admin") false ∷ text_rule (codes "readers") false ∷ [])
 
+abbrev pub node_shape_numbers : Shape
+node_shape_numbers = command_shape (codes "node")
+    (text_rule (codes "state") true ∷ text_rule (codes "peers") true ∷ text_rule (codes "http") true ∷ text_rule (codes "listen") false
+    ∷ text_rule (codes "admin") false ∷ text_rule (codes "readers") false ∷ cache_rule ∷ clients_rule ∷ [])
+
 abbrev pub node_shape : Shape
 node_shape = command_shape (codes "node")
     (text_rule (codes "state") true ∷ text_rule (codes "peers") true ∷ text_rule (codes "http") true ∷ text_rule (codes "listen") false
-    ∷ text_rule (codes "admin") false ∷ text_rule (codes "readers") false ∷ cache_rule ∷ clients_rule ∷ log_rule ∷ [])
+    ∷ text_rule (codes "admin") false ∷ text_rule (codes "readers") false ∷ cache_rule ∷ clients_rule ∷ log_rule
+    ∷ flag_rule (codes "replace-allowed") ∷ [])
 
 -- `clear`
 abbrev pub clear_shape : Shape
@@ -70,6 +86,7 @@ pub record IsInitLineOf (rows : List Row) (line : InitLine) : Type 0 where
   pub id : IsNumberOf rows (codes "id") 0 63 line.id
   pub nodes : IsNumberOf rows (codes "nodes") 1 most_nodes line.nodes
   pub from : option_map (λ s. s.now) line.from ≡ first_of (codes "from") rows
+  pub replaces : line.replaces ≡ is_set (first_of (codes "replace") rows)
 
 -- The line is that of the arguments parsed for `node`.
 pub record IsNodeLineOf (rows : List Row) (line : NodeLine) : Type 0 where
@@ -82,6 +99,7 @@ pub record IsNodeLineOf (rows : List Row) (line : NodeLine) : Type 0 where
   pub cache : IsNumberOr rows (codes "cache") most_cached 16 line.cache
   pub clients : IsNumberOr rows (codes "clients") most_clients 128 line.clients
   pub log : line.log ≡ is_set (first_of (codes "log") rows)
+  pub may_replace : line.may_replace ≡ is_set (first_of (codes "replace-allowed") rows)
 
 -- The line is that of the arguments parsed for `clear`.
 pub record IsClearLineOf (rows : List Row) (line : ClearLine) : Type 0 where

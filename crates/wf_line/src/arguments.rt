@@ -4,12 +4,13 @@ ghost use Rattle.clap.specs.Simple.{app_of, shape_of, subcommand_of, subcommand_
 ghost use Rattle.clap.specs.Values.{kind_of};
 ghost use Rattle.clap.specs.Walk.{first_of, rule_of};
 ghost use Rattle.clap.specs.declared.builder.command.Command.TheViews.{out-Command};
-ghost use Rattle.wf_line.specs.CommandLine.{Asks, HasSubcommands, IsCacheOf, IsCapsOf, IsDrawOf, IsNumberOf, IsOfShape, IsRejection, IsServeOf, IsServiceOf, IsTapeOf, IsWhyRejected, PlainCanonIsAsked, PlainCapsIsAsked, PlainDrawIsAsked, PlainRunIsAsked, PlainTapeIsAsked, PlainWireIsAsked, program, caps_shape, draw_shape, canon_shape, run_shape, wire_shape, tape_shape, required_serve_shape, serve_shape, rows_in, is_set, IsMapOf, map_rule, log_rule, sequence_rule, query_rule, file_rule, nodes_rule, port_rule, requests_rule, cache_rule, state_rule, PlainCheckIsAsked, JsonCheckIsAsked, check_shape, format_rule, IsCheckAsked, format_by};
-ghost use Rattle.wf_line.specs.Line.{IsInRange, IsNumber, IsSequence};
+ghost use Rattle.wf_line.specs.CommandLine.{Asks, HasSubcommands, IsCacheOf, IsCapsOf, IsDrawOf, IsNumberOf, IsOfShape, IsLineRejection, IsServeOf, IsServiceOf, IsTapeOption, IsWhyLineRejected, PlainCanonIsAsked, PlainCapsIsAsked, PlainDrawIsAsked, PlainRunIsAsked, PlainTapeIsAsked, PlainWireIsAsked, program, caps_shape, draw_shape, canon_shape, run_shape, wire_shape, tape_shape, required_serve_shape, serve_shape, rows_in, is_set, IsMapOption, map_rule, log_rule, sequence_rule, query_rule, file_rule, number_rule, nodes_rule, port_rule, requests_rule, cache_rule, state_rule, PlainCheckIsAsked, JsonCheckIsAsked, check_shape, format_rule, IsCheckAsked, format_by};
+ghost use Rattle.wf_line.specs.Line.{IsInRange, IsNumber, SpellsSequence};
 ghost use Rattle.wf_line.specs.declared.command_line.Line.{Line};
 ghost use Rattle.wf_service.specs.declared.service.Service.{Service};
 
 use crate::command_line::{Format, Line};
+use clap::builder::ValueParser;
 use clap::error::ErrorKind;
 use clap::{Arg, ArgAction, ArgMatches, Command, Error};
 use std::alloc::{AllocError, Global};
@@ -116,8 +117,29 @@ fn seq_argument<'a>(alloc: Global) -> Arg<'a>
     Arg::new(alloc, "SEQ")
         .value_name("SEQ")
         .required(true)
-        .value_parser(clap::value_parser!(u16).range(..=4_096))
+        .value_parser(ValueParser::signed(0, 4_096))
         .help("The update sequence of the map, 0 to 4096")
+}
+
+// `--NAME VALUE`, a number in least..=most.
+pub(crate) fn number_argument<'a>(
+    alloc: Global,
+    name: &'a str,
+    value: &'a str,
+    least: i64,
+    most: i64,
+    is_required: bool,
+    help: &'a str,
+) -> Arg<'a>
+    ensures rule { rule_of result ≡ number_rule name.now least most is_required }
+    ensures local { result.global ≡ false }
+{
+    Arg::new(alloc, name)
+        .long(name)
+        .value_name(value)
+        .required(is_required)
+        .value_parser(ValueParser::signed(least, most))
+        .help(help)
 }
 
 fn query_argument<'a>(alloc: Global) -> Arg<'a>
@@ -215,11 +237,15 @@ fn map_argument<'a>(alloc: Global) -> Arg<'a>
     ensures rule { rule_of result ≡ map_rule }
     ensures local { result.global ≡ false }
 {
-    Arg::new(alloc, "map")
-        .long("map")
-        .value_name("S")
-        .value_parser(clap::value_parser!(u16).range(1..=4_096))
-        .help("Writes the map published under this sequence, 1 to 4096")
+    number_argument(
+        alloc,
+        "map",
+        "S",
+        1,
+        4_096,
+        false,
+        "Writes the map published under this sequence, 1 to 4096",
+    )
 }
 
 // `tape FILE --map S`.
@@ -240,12 +266,15 @@ fn nodes_argument<'a>(alloc: Global) -> Arg<'a>
     ensures rule { rule_of result ≡ nodes_rule }
     ensures local { result.global ≡ false }
 {
-    Arg::new(alloc, "nodes")
-        .long("nodes")
-        .value_name("N")
-        .required(true)
-        .value_parser(clap::value_parser!(u8).range(1..=64))
-        .help("The number of nodes, 1 to 64")
+    number_argument(
+        alloc,
+        "nodes",
+        "N",
+        1,
+        64,
+        true,
+        "The number of nodes, 1 to 64",
+    )
 }
 
 // `--port P`.
@@ -253,12 +282,15 @@ fn port_argument<'a>(alloc: Global) -> Arg<'a>
     ensures rule { rule_of result ≡ port_rule }
     ensures local { result.global ≡ false }
 {
-    Arg::new(alloc, "port")
-        .long("port")
-        .value_name("P")
-        .required(true)
-        .value_parser(clap::value_parser!(u16))
-        .help("The port at 127.0.0.1, 0 to 65535; 0 takes any free port")
+    number_argument(
+        alloc,
+        "port",
+        "P",
+        0,
+        65_535,
+        true,
+        "The port at 127.0.0.1, 0 to 65535; 0 takes any free port",
+    )
 }
 
 // `--requests K`.
@@ -266,12 +298,15 @@ fn requests_argument<'a>(alloc: Global) -> Arg<'a>
     ensures rule { rule_of result ≡ requests_rule }
     ensures local { result.global ≡ false }
 {
-    Arg::new(alloc, "requests")
-        .long("requests")
-        .value_name("K")
-        .required(true)
-        .value_parser(clap::value_parser!(u32).range(..=1_000_000))
-        .help("The number of connections after which the program ends, 0 to 1000000")
+    number_argument(
+        alloc,
+        "requests",
+        "K",
+        0,
+        1_000_000,
+        true,
+        "The number of connections after which the program ends, 0 to 1000000",
+    )
 }
 
 // `--cache C`.
@@ -279,13 +314,15 @@ pub(crate) fn cache_argument<'a>(alloc: Global) -> Arg<'a>
     ensures rule { rule_of result ≡ cache_rule }
     ensures local { result.global ≡ false }
 {
-    Arg::new(alloc, "cache")
-        .long("cache")
-        .value_name("C")
-        .value_parser(clap::value_parser!(u8).range(1..=MOST_CACHE))
-        .help(
-            "The number of pictures that each node or replica keeps, 1 to 64; 16 where it is absent",
-        )
+    number_argument(
+        alloc,
+        "cache",
+        "C",
+        1,
+        MOST_CACHE,
+        false,
+        "The number of pictures that each node or replica keeps, 1 to 64; 16 where it is absent",
+    )
 }
 
 // `--state DIR`.
@@ -410,8 +447,8 @@ fn rejection(alloc: Global) -> Result<Error, AllocError>
 
 // The update sequence that an argument spells.
 fn sequence(word: &str) -> Option<u16>
-    ensures some { IfSome result (IsSequence word.now) }
-    ensures none { IfNone result ((seq : ℕ) → ¬ (IsSequence word.now seq)) }
+    ensures some { IfSome result (SpellsSequence word.now) }
+    ensures none { IfNone result ((seq : ℕ) → ¬ (SpellsSequence word.now seq)) }
 {
     match word.parse::<u16>() {
         Ok(seq) if seq <= SEQUENCES => Some(seq),
@@ -444,8 +481,8 @@ fn draw<'a>(found: &ArgMatches<'a>) -> Option<Line<'a>>
 // The sequence of the map that `tape` is to write, by the parsed arguments.
 #[tactic(auto, using(crate::proofs::Named::word_in_row))]
 fn map<'a>(found: &ArgMatches<'a>) -> Option<Option<u16>>
-    ensures some { IfSome result (IsMapOf (rows_in found.now)) }
-    ensures none { IfNone result ((map : Option ℕ) → ¬ (IsMapOf (rows_in found.now) map)) }
+    ensures some { IfSome result (IsMapOption (rows_in found.now)) }
+    ensures none { IfNone result ((map : Option ℕ) → ¬ (IsMapOption (rows_in found.now) map)) }
 {
     match found.get_str("map") {
         Some(word) => {
@@ -481,8 +518,8 @@ fn check<'a>(found: &ArgMatches<'a>) -> Option<Line<'a>>
 // The `tape` line of the parsed arguments.
 #[tactic(auto, using(crate::proofs::Named::word_in_row))]
 fn tape<'a>(found: &ArgMatches<'a>) -> Option<Line<'a>>
-    ensures some { IfSome result (IsTapeOf (rows_in found.now)) }
-    ensures none { IfNone result ((line : Line) → ¬ (IsTapeOf (rows_in found.now) line)) }
+    ensures some { IfSome result (IsTapeOption (rows_in found.now)) }
+    ensures none { IfNone result ((line : Line) → ¬ (IsTapeOption (rows_in found.now) line)) }
 {
     let word = found.get_str("FILE")?;
     let map = map(found)?;
@@ -592,10 +629,10 @@ pub fn line<'a, S: AsStr>(alloc: Global, words: &'a [S]) -> Result<Line<'a>, Err
     ensures asked { IfOk result (Asks (subcommand_of program (map S.text words.entry.now))) }
     // Arguments that ask for a line are rejected only if an allocation fails.
     ensures rejected { IfErr result
-        (λ error. IsWhyRejected (map S.text words.entry.now) (kind_of error)) }
+        (λ error. IsWhyLineRejected (map S.text words.entry.now) (kind_of error)) }
     // The error's kind is the parser's.
     ensures kind { IfErr result
-        (λ error. IsRejection (map S.text words.entry.now) (kind_of error)) }
+        (λ error. IsLineRejection (map S.text words.entry.now) (kind_of error)) }
 {
     let matches = command(alloc)?.try_get_matches_from(words)?;
     let asked = line_of(&matches);

@@ -2,14 +2,14 @@
 ghost use Rattle.std.specs.Prelude.{◌≡◌, ℕ, IfNone, IfOk, IfSome, codes, false};
 ghost use Rattle.clap.specs.Walk.{rule_of};
 ghost use Rattle.wf_line.specs.CommandLine.{IsOfShape, rows_in};
-ghost use Rattle.wf_line.specs.NodeCommandLine.{IsClearLineOf, IsInitLineOf, IsNodeLineOf, IsNumberOr, clear_shape, clients_rule, id_rule, init_shape, init_shape_start, node_shape, nodes_rule, node_shape_addresses, node_shape_start, text_rule};
+ghost use Rattle.wf_line.specs.NodeCommandLine.{IsClearLineOf, IsInitLineOf, IsNodeLineOf, IsNumberOr, clear_shape, clients_rule, flag_rule, id_rule, init_shape, init_shape_start, init_shape_values, node_shape, node_shape_addresses, node_shape_numbers, node_shape_start, nodes_rule, text_rule};
 ghost use Rattle.wf_line.specs.declared.node_line.ClearLine.{ClearLine};
 ghost use Rattle.wf_line.specs.declared.node_line.InitLine.{InitLine};
 ghost use Rattle.wf_line.specs.declared.node_line.NodeLine.{NodeLine};
 
-use crate::arguments::{cache_argument, is_set, log_argument, number, number_of};
+use crate::arguments::{cache_argument, is_set, log_argument, number, number_argument, number_of};
 use crate::node_line::{ClearLine, InitLine, NodeLine};
-use clap::{Arg, ArgMatches, Command};
+use clap::{Arg, ArgAction, ArgMatches, Command};
 use std::alloc::{AllocError, Global};
 
 /// The number of pictures that a process keeps by default.
@@ -25,6 +25,8 @@ const INIT_HELP: &str =
     "DIR must be empty; it is made if its parent is there. It gets the file farm and the node's tape.
 With --from the tape begins as a copy of TAPE, the tape of the same node of a folder that isn't used any more: one of wfarm serve
 or of wfarm node, of as many nodes. Without a file farm beside TAPE it is taken with a warning.
+With --replace the folder joins in the place of a lost one of this node: it doesn't vote before wfarmctl replace was run and it has
+the maps that it lacks.
 
 Errors: status 2 for a bad command line, else 1, with a line that names the cause";
 
@@ -32,6 +34,7 @@ const NODE_HELP: &str =
     "The list of --peers is the same on every machine, in the order of the nodes' numbers, with the address of each node for
 its peers. GET /wms?QUERY answers a WMS request, POST /publish proposes the mapfile in its body, GET /status reports the node.
 A kept picture takes 3 MB. With --log a line on standard error tells each event: TIME LEVEL EVENT KEY=VALUE ..
+With --replace-allowed the operator's port takes what wfarmctl replace asks, once a node's folder is lost.
 
 Errors: status 2 for a bad command line, else 1, with a line that names the cause";
 
@@ -60,17 +63,23 @@ pub(crate) fn option<'a>(
         .help(help)
 }
 
+// `--NAME`.
+fn flag<'a>(alloc: Global, name: &'a str, help: &'a str) -> Arg<'a>
+    ensures rule { rule_of result ≡ flag_rule name.now }
+    ensures local { result.global ≡ false }
+{
+    Arg::new(alloc, name)
+        .long(name)
+        .action(ArgAction::SetTrue)
+        .help(help)
+}
+
 // `--id I`.
 fn id_argument<'a>(alloc: Global) -> Arg<'a>
     ensures rule { rule_of result ≡ id_rule }
     ensures local { result.global ≡ false }
 {
-    Arg::new(alloc, "id")
-        .long("id")
-        .value_name("I")
-        .required(true)
-        .value_parser(clap::value_parser!(u8).range(0..=63))
-        .help("The node's number, 0 to 63")
+    number_argument(alloc, "id", "I", 0, 63, true, "The node's number, 0 to 63")
 }
 
 // `--nodes N`.
@@ -78,12 +87,15 @@ fn nodes_argument<'a>(alloc: Global) -> Arg<'a>
     ensures rule { rule_of result ≡ nodes_rule }
     ensures local { result.global ≡ false }
 {
-    Arg::new(alloc, "nodes")
-        .long("nodes")
-        .value_name("N")
-        .required(true)
-        .value_parser(clap::value_parser!(u8).range(1..=64))
-        .help("The number of nodes of the farm, 1 to 64")
+    number_argument(
+        alloc,
+        "nodes",
+        "N",
+        1,
+        64,
+        true,
+        "The number of nodes of the farm, 1 to 64",
+    )
 }
 
 // `--clients K`.
@@ -91,11 +103,15 @@ fn clients_argument<'a>(alloc: Global) -> Arg<'a>
     ensures rule { rule_of result ≡ clients_rule }
     ensures local { result.global ≡ false }
 {
-    Arg::new(alloc, "clients")
-        .long("clients")
-        .value_name("K")
-        .value_parser(clap::value_parser!(u16).range(1..=MOST_CLIENTS))
-        .help("The number of clients at once, 1 to 1024; 128 where it is absent")
+    number_argument(
+        alloc,
+        "clients",
+        "K",
+        1,
+        MOST_CLIENTS,
+        false,
+        "The number of clients at once, 1 to 1024; 128 where it is absent",
+    )
 }
 
 // `--readers ADDR:PORT`.
@@ -124,9 +140,9 @@ fn init_start<'a>(alloc: Global) -> Result<Command<'a>, AllocError>
         .arg(id_argument(alloc))
 }
 
-// `init`.
-pub(crate) fn init_command<'a>(alloc: Global) -> Result<Command<'a>, AllocError>
-    ensures { IfOk result (IsOfShape init_shape) }
+// `init`, with all arguments that have a value.
+fn init_values<'a>(alloc: Global) -> Result<Command<'a>, AllocError>
+    ensures { IfOk result (IsOfShape init_shape_values) }
 {
     init_start(alloc)?.arg(nodes_argument(alloc))?.arg(option(
         alloc,
@@ -134,6 +150,17 @@ pub(crate) fn init_command<'a>(alloc: Global) -> Result<Command<'a>, AllocError>
         "TAPE",
         false,
         "The tape to begin with",
+    ))
+}
+
+// `init`.
+pub(crate) fn init_command<'a>(alloc: Global) -> Result<Command<'a>, AllocError>
+    ensures { IfOk result (IsOfShape init_shape) }
+{
+    init_values(alloc)?.arg(flag(
+        alloc,
+        "replace",
+        "The folder joins in the place of one that was lost",
     ))
 }
 
@@ -183,14 +210,24 @@ fn node_addresses<'a>(alloc: Global) -> Result<Command<'a>, AllocError>
         .arg(readers_argument(alloc))
 }
 
+// `node`, with its addresses and numbers.
+fn node_numbers<'a>(alloc: Global) -> Result<Command<'a>, AllocError>
+    ensures { IfOk result (IsOfShape node_shape_numbers) }
+{
+    node_addresses(alloc)?
+        .arg(cache_argument(alloc))?
+        .arg(clients_argument(alloc))
+}
+
 // `node`.
 pub(crate) fn node_arguments<'a>(alloc: Global) -> Result<Command<'a>, AllocError>
     ensures { IfOk result (IsOfShape node_shape) }
 {
-    node_addresses(alloc)?
-        .arg(cache_argument(alloc))?
-        .arg(clients_argument(alloc))?
-        .arg(log_argument(alloc))
+    node_numbers(alloc)?.arg(log_argument(alloc))?.arg(flag(
+        alloc,
+        "replace-allowed",
+        "Lets the operator put a new folder in the place of a lost one",
+    ))
 }
 
 // `clear`.
@@ -238,6 +275,7 @@ pub(crate) fn init_line<'a>(found: &ArgMatches<'a>) -> Option<InitLine<'a>>
         id: id as u8,
         nodes: nodes as u8,
         from: found.get_str("from"),
+        replaces: is_set(found, "replace"),
     })
 }
 
@@ -262,6 +300,7 @@ pub(crate) fn node_line<'a>(found: &ArgMatches<'a>) -> Option<NodeLine<'a>>
         cache: cache as u8,
         clients: clients as u16,
         log: is_set(found, "log"),
+        may_replace: is_set(found, "replace-allowed"),
     })
 }
 

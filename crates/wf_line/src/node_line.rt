@@ -13,6 +13,8 @@ pub struct InitLine<'a> {
     pub nodes: u8,
     /// The file of the tape to begin with; an empty tape if there is none.
     pub from: Option<&'a str>,
+    /// Whether the folder joins in the place of a lost one: it doesn't vote before a replacement was agreed to.
+    pub replaces: bool,
 }
 
 /// A command line of `node`. The addresses aren't tested yet.
@@ -36,6 +38,8 @@ pub struct NodeLine<'a> {
     pub clients: u16,
     /// Whether each event is written on standard error.
     pub log: bool,
+    /// Whether the operator may let a new folder take the place of another node's.
+    pub may_replace: bool,
 }
 
 /// A command line of `clear`.

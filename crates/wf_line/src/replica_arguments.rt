@@ -1,5 +1,5 @@
 //! The arguments of the command `replica`.
-ghost use Rattle.std.specs.Prelude.{◌≡◌, ℕ, IfNone, IfOk, IfSome};
+ghost use Rattle.std.specs.Prelude.{IfNone, IfOk, IfSome};
 ghost use Rattle.wf_line.specs.CommandLine.{IsOfShape, rows_in};
 ghost use Rattle.wf_line.specs.ReplicaCommandLine.{IsReplicaLineOf, replica_shape, replica_shape_addresses, replica_shape_start};
 ghost use Rattle.wf_line.specs.declared.replica_line.ReplicaLine.{ReplicaLine};

@@ -3,7 +3,7 @@ use Rattle.std.proofs.Common.{◌≡◌, ◌⊎◌, ℕ, ◌<◌, ◌≤◌, Boo
 use Rattle.std.proofs.lemmas.Bool.{cases_Bool, cases_lt}
 use Rattle.std.specs.Prelude.{if◌then◌else◌}
 use Rattle.wf_actor.specs.Life.{logged}
-use Rattle.wf_actor.specs.Process.{ReceivesFrom, ReceivesOwn, IsActed, IsBegun, IsGoingOn, IsLinkChanged, IsReception, IsSameActor, arrived_at, arrived_of, is_peer, emitted_by}
+use Rattle.wf_actor.specs.Process.{ReceivesFrom, ReceivesOwn, IsActed, IsJustOpened, IsGoingOn, IsLinkChanged, IsReception, IsSameActor, arrived_at, arrived_of, is_peer, emitted_by}
 use Rattle.wf_actor.specs.Start.{IsOpened}
 use Rattle.wf_actor.specs.declared.actor.Actor.{Actor}
 use Rattle.wf_actor.specs.declared.link.Link.{Link}
@@ -27,7 +27,7 @@ use Rattle.wf_loop.specs.Folder.{Stand, with_heard}
 use Rattle.wf_peer.specs.PeerProgressText.{peer_progress_text}
 use Rattle.wf_peer.specs.Told.{HearAll, IsHeardOf, IsHeardText}
 use Rattle.wf_peer.specs.declared.heard.Heard.{Heard}
-use Rattle.wf_loop.specs.Continuation.{AreHeardFrom, AreRunsFrom, AreRunsHeardFrom, Continues, ContinuesIn, Follows, GoesOn, HasServed, IsEarlier, IsHeardFrom, IsHeardKept, IsLater, IsNextHeard, KeepsEarlier, StaysSuspended, besides_asks, is_ask, is_ask_first}
+use Rattle.wf_loop.specs.Continuation.{AreHeardFrom, AreRunsFrom, AreRunsHeardFrom, Continues, ContinuesIn, IsNextRun, StaysInRun, HasOnlyServed, IsEarlier, IsHeardFrom, IsHeardKept, IsLater, IsNextHeard, KeepsEarlier, StaysSuspended, besides_asks, besides_chosen, is_ask, is_ask_first, is_chosen, is_chosen_first}
 use Rattle.wf_loop.specs.declared.gate.Gate.TheVariants as gates
 use Rattle.wf_loop.specs.declared.hub.Voter.{Voter}
 
@@ -51,6 +51,16 @@ one_asked (x ∷ xs) m origin asks = ap (λ (ys : List (Message × Origin)). if 
 
 besides_same : (before after : List (Message × Origin)) → after ≡ before → besides_asks after ≡ besides_asks before
 besides_same before after same = ap besides_asks same
+
+-- ---- messages that say what is published
+
+one_chosen : (given : List (Message × Origin)) (m : Message) (origin : Origin) → is_chosen m ≡ true → besides_chosen (given ++ (m, origin) ∷ []) ≡ besides_chosen given
+unfolding besides_chosen
+one_chosen [] m origin says = ap (λ (b : Bool). if b then [] else (m, origin) ∷ []) says
+one_chosen (x ∷ xs) m origin says = ap (λ (ys : List (Message × Origin)). if is_chosen x.0 then ys else x ∷ ys) (one_chosen xs m origin says)
+
+learnt_same : (before after : List (Message × Origin)) → after ≡ before → besides_chosen after ≡ besides_chosen before
+learnt_same before after same = ap besides_chosen same
 
 -- ---- messages whose round and promise were heard before
 
@@ -123,24 +133,24 @@ module _ {T : Type 0} (tapes : Tape T) where
 
   -- ---- a process
 
-  goes_still : (process : Process T tapes) → GoesOn tapes process process
+  goes_still : (process : Process T tapes) → StaysInRun tapes process process
   goes_still process = record { actor = later_same process.actor process.actor refl; among = refl; ended = refl }
 
-  goes_twice : (one two three : Process T tapes) → GoesOn tapes one two → GoesOn tapes two three → GoesOn tapes one three
+  goes_twice : (one two three : Process T tapes) → StaysInRun tapes one two → StaysInRun tapes two three → StaysInRun tapes one three
   goes_twice one two three first second = record {
     actor = later_twice one.actor two.actor three.actor first.actor second.actor;
     among = second.among ∙ first.among;
     ended = second.ended ∙ first.ended;
   }
 
-  pub unchanged : (before after : Process T tapes) → after ≡ before → GoesOn tapes before after
-  unchanged before after same = subst (λ (p : Process T tapes). GoesOn tapes before p) (sym same) (goes_still before)
+  pub unchanged : (before after : Process T tapes) → after ≡ before → StaysInRun tapes before after
+  unchanged before after same = subst (λ (p : Process T tapes). StaysInRun tapes before p) (sym same) (goes_still before)
 
-  same_actor : (before after : Process T tapes) → IsSameActor before after → GoesOn tapes before after
+  same_actor : (before after : Process T tapes) → IsSameActor before after → StaysInRun tapes before after
   same_actor before after is = record { actor = later_same before.actor after.actor is.actor; among = is.among; ended = is.ended }
 
   going_on : (before after : Process T tapes) (outputs : List Message) → IsGoingOn before after → emitted_by after ≡ emitted_by before ++ outputs
-      → IsBeginning before.actor.given.items after.actor.given.items → GoesOn tapes before after
+      → IsBeginning before.actor.given.items after.actor.given.items → StaysInRun tapes before after
   going_on before after outputs goes emitted given = record {
     actor = record {
       number = goes.number;
@@ -155,7 +165,7 @@ module _ {T : Type 0} (tapes : Tape T) where
 
   -- an act
   pub acted : {U : Type 0} (input : Action Definition Message) (origin : Origin) (target : Target) (before : Process T tapes) (result : Result U NodeFault) (after : Process T tapes)
-      → IsActed tapes input origin target before result after → GoesOn tapes before after
+      → IsActed tapes input origin target before result after → StaysInRun tapes before after
   acted input origin target before result after is = going_on before after _ is.goes_on is.emitted (grown _ _ _ is.given)
 
   -- nothing is given to one that tries again
@@ -169,11 +179,11 @@ module _ {T : Type 0} (tapes : Tape T) where
   asked target before result after is = is.given ∙ append-nil before.actor.given.items
 
   -- a message of its own, or of a peer
-  pub own_received : {U : Type 0} (before : Process T tapes) (result : Option (Result U NodeFault)) (after : Process T tapes) → ReceivesOwn tapes before result after → GoesOn tapes before after
+  pub own_received : {U : Type 0} (before : Process T tapes) (result : Option (Result U NodeFault)) (after : Process T tapes) → ReceivesOwn tapes before result after → StaysInRun tapes before after
   own_received before None after is = unchanged before after is.1
   own_received before (Some result) after is = goes_twice before is.1 after (same_actor before is.1 is.2.rest) (going_on is.1 after _ is.3.goes_on is.3.emitted (grown _ _ _ is.3.given))
 
-  received_from : {U : Type 0} (peer : ℕ) (before : Process T tapes) (result : Option (Result U NodeFault)) (after : Process T tapes) → ReceivesFrom tapes peer before result after → GoesOn tapes before after
+  received_from : {U : Type 0} (peer : ℕ) (before : Process T tapes) (result : Option (Result U NodeFault)) (after : Process T tapes) → ReceivesFrom tapes peer before result after → StaysInRun tapes before after
   received_from peer before None after is = unchanged before after is.1
   received_from peer before (Some result) after is = goes_twice before is.1 after (same_actor before is.1 is.2.rest) (going_on is.1 after _ is.3.goes_on is.3.emitted (grown _ _ _ is.3.given))
 
@@ -207,6 +217,18 @@ module _ {T : Type 0} (tapes : Tape T) where
       let asks : is_ask m ≡ true = sym (ap is_ask_first arrived) ∙ first in
       ap besides_asks (is.3.given ∙ ap (λ (a : Actor T tapes). a.given.items ++ (m, origins.Peer peer) ∷ []) popped.rest.actor)
       ∙ one_asked before.actor.given.items m (origins.Peer peer) asks
+
+  -- one that says what is published
+  next_chosen : {U : Type 0} (peer : ℕ) (before : Process T tapes) (result : Option (Result U NodeFault)) (after : Process T tapes) → is_chosen_first (arrived_at before peer) ≡ true
+      → ReceivesFrom tapes peer before result after → besides_chosen after.actor.given.items ≡ besides_chosen before.actor.given.items
+  next_chosen peer before None after first is = ap (λ (p : Process T tapes). besides_chosen p.actor.given.items) is.1
+  next_chosen peer before (Some result) after first is =
+      let m = is.0 in
+      let popped = is.2 in
+      let arrived : arrived_at before peer ≡ m ∷ _ = ap (λ (link : Option Link). arrived_of link) popped.was ∙ popped.changes.first in
+      let says : is_chosen m ≡ true = sym (ap is_chosen_first arrived) ∙ first in
+      ap besides_chosen (is.3.given ∙ ap (λ (a : Actor T tapes). a.given.items ++ (m, origins.Peer peer) ∷ []) popped.rest.actor)
+      ∙ one_chosen before.actor.given.items m (origins.Peer peer) says
 
   -- ---- what the file `heard` has
 
@@ -285,7 +307,7 @@ module _ {T : Type 0} (tapes : Tape T) where
   -- ---- a voter
 
   pub still : (voter : Voter T tapes) → Continues tapes voter voter
-  still voter = record { process = goes_still voter.process; suspended = λ is. record { gate = is; actor = refl }; outvoted = refl; asked = λ _. refl; kept = λ heard is. is }
+  still voter = record { process = goes_still voter.process; suspended = λ is. record { gate = is; actor = refl }; outvoted = refl; asked = λ _. refl; joins = refl; learnt = λ _. refl; kept = λ heard is. is }
 
   pub twice : (one two three : Voter T tapes) → Continues tapes one two → Continues tapes two three → Continues tapes one three
   twice one two three first second = record {
@@ -293,6 +315,8 @@ module _ {T : Type 0} (tapes : Tape T) where
     suspended = λ is. let a = first.suspended is in let b = second.suspended a.gate in record { gate = b.gate; actor = b.actor ∙ a.actor };
     outvoted = second.outvoted ∙ first.outvoted;
     asked = λ is. second.asked (first.outvoted ∙ is) ∙ first.asked is;
+    joins = second.joins ∙ first.joins;
+    learnt = λ is. second.learnt (first.joins ∙ is) ∙ first.learnt is;
     kept = λ heard is. second.kept heard (first.kept heard is);
   }
 
@@ -302,35 +326,39 @@ module _ {T : Type 0} (tapes : Tape T) where
   pub same_voter : (before after : Voter T tapes) → after ≡ before → Continues tapes before after
   same_voter before after same = subst (λ (v : Voter T tapes). Continues tapes before v) (sym same) (still before)
 
-  -- one that acts, or is at least neither suspended nor outvoted, goes on as its process does
-  pub awake : (before after : Voter T tapes) → ¬ (before.gate ≡ gates.Suspended) → before.is_outvoted ≡ false → after.is_outvoted ≡ before.is_outvoted → after.kept ≡ before.kept
-      → GoesOn tapes before.process after.process → ((known : List (Option Heard)) → AreHeardFrom known before.process.actor.given.items → AreHeardFrom known after.process.actor.given.items)
+  -- one that acts, or is at least neither suspended nor outvoted and doesn't join, goes on as its process does
+  pub awake : (before after : Voter T tapes) → ¬ (before.gate ≡ gates.Suspended) → before.is_outvoted ≡ false → before.joins ≡ false → after.is_outvoted ≡ before.is_outvoted → after.joins ≡ before.joins → after.kept ≡ before.kept
+      → StaysInRun tapes before.process after.process → ((known : List (Option Heard)) → AreHeardFrom known before.process.actor.given.items → AreHeardFrom known after.process.actor.given.items)
       → Continues tapes before after
-  awake before after not agrees same kept goes grows = record {
+  awake before after not agrees votes same joins kept goes grows = record {
     process = goes;
     suspended = λ is. absurd (not is);
     outvoted = same;
     asked = λ is. absurd (let no = agrees in cc);
+    joins = joins;
+    learnt = λ is. absurd (let no = votes in cc);
     kept = kept_by before after kept goes.ended grows;
   }
 
-  pub acting : (before after : Voter T tapes) → before.gate ≡ gates.Open → before.is_outvoted ≡ false → after.is_outvoted ≡ before.is_outvoted → after.kept ≡ before.kept
-      → GoesOn tapes before.process after.process → ((known : List (Option Heard)) → AreHeardFrom known before.process.actor.given.items → AreHeardFrom known after.process.actor.given.items)
+  pub acting : (before after : Voter T tapes) → before.gate ≡ gates.Open → before.is_outvoted ≡ false → before.joins ≡ false → after.is_outvoted ≡ before.is_outvoted → after.joins ≡ before.joins → after.kept ≡ before.kept
+      → StaysInRun tapes before.process after.process → ((known : List (Option Heard)) → AreHeardFrom known before.process.actor.given.items → AreHeardFrom known after.process.actor.given.items)
       → Continues tapes before after
-  acting before after acts agrees same kept goes grows = awake before after (λ is. let is_open = acts in cc) agrees same kept goes grows
+  acting before after acts agrees votes same joins kept goes grows = awake before after (λ is. let is_open = acts in cc) agrees votes same joins kept goes grows
 
   pub same_given : (before after : Process T tapes) → after.actor.given.items ≡ before.actor.given.items
       → (known : List (Option Heard)) → AreHeardFrom known before.actor.given.items → AreHeardFrom known after.actor.given.items
   same_given before after same known are = heard_by known _ _ same are
 
   -- one that asks: it isn't suspended, and is given nothing
-  pub asking : (before after : Voter T tapes) → before.gate ≡ gates.Open → after.is_outvoted ≡ before.is_outvoted → after.kept ≡ before.kept → GoesOn tapes before.process after.process
+  pub asking : (before after : Voter T tapes) → before.gate ≡ gates.Open → after.is_outvoted ≡ before.is_outvoted → after.joins ≡ before.joins → after.kept ≡ before.kept → StaysInRun tapes before.process after.process
       → after.process.actor.given.items ≡ before.process.actor.given.items → Continues tapes before after
-  asking before after is_open same kept goes given = record {
+  asking before after is_open same joins kept goes given = record {
     process = goes;
     suspended = λ is. absurd (let at_open = is_open in cc);
     outvoted = same;
     asked = λ _. besides_same _ _ given;
+    joins = joins;
+    learnt = λ _. learnt_same _ _ given;
     kept = kept_given before after kept goes.ended given;
   }
 
@@ -347,81 +375,92 @@ module _ {T : Type 0} (tapes : Tape T) where
         (subst (λ (runs : List (Actor T tapes × ℕ)). AreRunsHeardFrom tapes before.kept runs) (sym (received_from peer before.process result after.process receives).ended) is.ended);
   }
 
-  -- one that takes in a message: it isn't suspended, and asks for what is published if the node is outvoted
-  pub taking : {U : Type 0} (before after : Voter T tapes) (peer : ℕ) (result : Option (Result U NodeFault)) → before.gate ≡ gates.Open → after.is_outvoted ≡ before.is_outvoted → after.kept ≡ before.kept
-      → (before.is_outvoted ≡ true → is_ask_first (arrived_at before.process peer) ≡ true) → IsNextHeard before.kept peer (arrived_at before.process peer)
+  -- one that takes in a message: it isn't suspended; the message asks for what is published if the node is outvoted, and says what is if it
+  -- joins
+  pub taking : {U : Type 0} (before after : Voter T tapes) (peer : ℕ) (result : Option (Result U NodeFault)) → before.gate ≡ gates.Open → after.is_outvoted ≡ before.is_outvoted → after.joins ≡ before.joins → after.kept ≡ before.kept
+      → (before.is_outvoted ≡ true → is_ask_first (arrived_at before.process peer) ≡ true) → (before.joins ≡ true → is_chosen_first (arrived_at before.process peer) ≡ true)
+      → IsNextHeard before.kept peer (arrived_at before.process peer)
       → ReceivesFrom tapes peer before.process result after.process → Continues tapes before after
-  taking before after peer result is_open same kept asks next receives = record {
+  taking before after peer result is_open same joins kept asks says next receives = record {
     process = received_from peer before.process result after.process receives;
     suspended = λ is. absurd (let at_open = is_open in cc);
     outvoted = same;
     asked = λ is. next_asked peer before.process result after.process (asks is) receives;
+    joins = joins;
+    learnt = λ is. next_chosen peer before.process result after.process (says is) receives;
     kept = kept_taking before after peer result kept next receives;
   }
 
   -- the gate alone
-  pub gated : (before after : Voter T tapes) → (before.gate ≡ gates.Suspended → after.gate ≡ gates.Suspended) → after.is_outvoted ≡ before.is_outvoted → after.kept ≡ before.kept
+  pub gated : (before after : Voter T tapes) → (before.gate ≡ gates.Suspended → after.gate ≡ gates.Suspended) → after.is_outvoted ≡ before.is_outvoted → after.joins ≡ before.joins → after.kept ≡ before.kept
       → after.process ≡ before.process → Continues tapes before after
-  gated before after stays same kept is = record {
+  gated before after stays same joins kept is = record {
     process = unchanged before.process after.process is;
     suspended = λ suspended. record { gate = stays suspended; actor = ap (λ (p : Process T tapes). p.actor) is };
     outvoted = same;
     asked = λ _. ap (λ (p : Process T tapes). besides_asks p.actor.given.items) is;
+    joins = joins;
+    learnt = λ _. ap (λ (p : Process T tapes). besides_chosen p.actor.given.items) is;
     kept = kept_as before after kept is;
   }
 
   -- an end of a connection
-  same_node : (before after : Voter T tapes) → after.gate ≡ before.gate → after.is_outvoted ≡ before.is_outvoted → after.kept ≡ before.kept → IsSameActor before.process after.process
+  same_node : (before after : Voter T tapes) → after.gate ≡ before.gate → after.is_outvoted ≡ before.is_outvoted → after.joins ≡ before.joins → after.kept ≡ before.kept → IsSameActor before.process after.process
       → Continues tapes before after
-  same_node before after gate same kept is = record {
+  same_node before after gate same joins kept is = record {
     process = same_actor before.process after.process is;
     suspended = λ suspended. record { gate = gate ∙ suspended; actor = is.actor };
     outvoted = same;
     asked = λ _. ap (λ (a : Actor T tapes). besides_asks a.given.items) is.actor;
+    joins = joins;
+    learnt = λ _. ap (λ (a : Actor T tapes). besides_chosen a.given.items) is.actor;
     kept = kept_given before after kept is.ended (ap (λ (a : Actor T tapes). a.given.items) is.actor);
   }
 
-  same_process : (before after : Voter T tapes) → after.gate ≡ before.gate → after.is_outvoted ≡ before.is_outvoted → after.kept ≡ before.kept → after.process ≡ before.process → Continues tapes before after
-  same_process before after gate same kept is = gated before after (λ suspended. gate ∙ suspended) same kept is
+  same_process : (before after : Voter T tapes) → after.gate ≡ before.gate → after.is_outvoted ≡ before.is_outvoted → after.joins ≡ before.joins → after.kept ≡ before.kept → after.process ≡ before.process → Continues tapes before after
+  same_process before after gate same joins kept is = gated before after (λ suspended. gate ∙ suspended) same joins kept is
 
-  pub relinked : (peer : ℕ) (change : Link → Link → Type 0) (before after : Voter T tapes) → after.gate ≡ before.gate → after.is_outvoted ≡ before.is_outvoted → after.kept ≡ before.kept
+  pub relinked : (peer : ℕ) (change : Link → Link → Type 0) (before after : Voter T tapes) → after.gate ≡ before.gate → after.is_outvoted ≡ before.is_outvoted → after.joins ≡ before.joins → after.kept ≡ before.kept
       → (peer < length before.process.links.items → IsLinkChanged peer change before.process after.process) → (length before.process.links.items ≤ peer → after.process ≡ before.process) → Continues tapes before after
-  relinked peer change before after gate same kept linked no_links =
-      by_order peer (length before.process.links.items) (λ below. same_node before after gate same kept (linked below).rest) (λ above. same_process before after gate same kept (no_links above))
+  relinked peer change before after gate same joins kept linked no_links =
+      by_order peer (length before.process.links.items) (λ below. same_node before after gate same joins kept (linked below).rest)
+      (λ above. same_process before after gate same joins kept (no_links above))
 
-  pub written : {A B : Type 0} (peer : ℕ) (change : Link → Link → Type 0) (before after : Voter T tapes) → after.gate ≡ before.gate → after.is_outvoted ≡ before.is_outvoted → after.kept ≡ before.kept
+  pub written : {A B : Type 0} (peer : ℕ) (change : Link → Link → Type 0) (before after : Voter T tapes) → after.gate ≡ before.gate → after.is_outvoted ≡ before.is_outvoted → after.joins ≡ before.joins → after.kept ≡ before.kept
       → (peer < length before.process.links.items → IsLinkChanged peer change before.process after.process) → (length before.process.links.items ≤ peer → A × (after.process ≡ before.process) × B)
       → Continues tapes before after
-  written peer change before after gate same kept linked no_links = relinked peer change before after gate same kept linked (λ above. (no_links above).1)
+  written peer change before after gate same joins kept linked no_links = relinked peer change before after gate same joins kept linked (λ above. (no_links above).1)
 
   pub received : {A : Type 0} (peer : ℕ) (piece : List ℕ) (before : Voter T tapes) (result : Result ℕ DecodeFault) (after : Voter T tapes) → after.gate ≡ before.gate
-      → after.is_outvoted ≡ before.is_outvoted → after.kept ≡ before.kept
+      → after.is_outvoted ≡ before.is_outvoted → after.joins ≡ before.joins → after.kept ≡ before.kept
       → (is_peer before.process peer ≡ true → IsReception peer piece before.process result after.process) → (is_peer before.process peer ≡ false → A × (after.process ≡ before.process))
       → Continues tapes before after
-  received peer piece before result after gate same kept from other =
+  received peer piece before result after gate same joins kept from other =
       by_test (is_peer before.process peer)
       (λ is. let took = from is in record {
         process = record { actor = later_same before.process.actor after.process.actor took.actor; among = took.among; ended = took.ended };
         suspended = λ suspended. record { gate = gate ∙ suspended; actor = took.actor };
         outvoted = same;
         asked = λ _. ap (λ (a : Actor T tapes). besides_asks a.given.items) took.actor;
+        joins = joins;
+        learnt = λ _. ap (λ (a : Actor T tapes). besides_chosen a.given.items) took.actor;
         kept = kept_given before after kept took.ended (ap (λ (a : Actor T tapes). a.given.items) took.actor);
       })
-      (λ is. same_process before after gate same kept (other is).1)
+      (λ is. same_process before after gate same joins kept (other is).1)
 
   -- a client's request, which was answered, or wasn't
-  pub answered : (before : Process T tapes) (came response : List ℕ) (outcome : Outcome) (after : Process T tapes) → IsAnswer tapes before came response outcome after → GoesOn tapes before after
+  pub answered : (before : Process T tapes) (came response : List ℕ) (outcome : Outcome) (after : Process T tapes) → IsAnswer tapes before came response outcome after → StaysInRun tapes before after
   answered before came response outcome after is = going_on before after _ is.goes_on is.emitted (whole _ _ is.given)
 
-  pub responded : (before : Voter T tapes) (came response : List ℕ) (after : Voter T tapes) → ¬ (before.gate ≡ gates.Suspended) → before.is_outvoted ≡ false
+  pub responded : (before : Voter T tapes) (came response : List ℕ) (after : Voter T tapes) → ¬ (before.gate ≡ gates.Suspended) → before.is_outvoted ≡ false → before.joins ≡ false
       → HasResponded tapes before came response after → Continues tapes before after
-  responded before came response after not agrees is =
-      awake before after not agrees is.outvoted is.kept (answered before.process came response is.answers.outcome after.process is.answers.answer)
+  responded before came response after not agrees votes is =
+      awake before after not agrees votes is.outvoted is.joins is.kept (answered before.process came response is.answers.outcome after.process is.answers.answer)
       (same_given before.process after.process is.answers.answer.given)
 
-  pub stayed : (before after : Voter T tapes) → ¬ (before.gate ≡ gates.Suspended) → before.is_outvoted ≡ false → (after ≡ before) ⊎ HasServed tapes before after → Continues tapes before after
-  stayed before after not agrees (inl same) = same_voter before after same
-  stayed before after not agrees (inr is) = awake before after not agrees is.outvoted is.kept is.process (same_given before.process after.process is.given)
+  pub stayed : (before after : Voter T tapes) → ¬ (before.gate ≡ gates.Suspended) → before.is_outvoted ≡ false → before.joins ≡ false → (after ≡ before) ⊎ HasOnlyServed tapes before after → Continues tapes before after
+  stayed before after not agrees votes (inl same) = same_voter before after same
+  stayed before after not agrees votes (inr is) = awake before after not agrees votes is.outvoted is.joins is.kept is.process (same_given before.process after.process is.given)
 
   -- ---- while its folder is written to
 
@@ -431,6 +470,8 @@ module _ {T : Type 0} (tapes : Tape T) where
     suspended = on.suspended;
     outvoted = on.outvoted;
     asked = on.asked;
+    joins = on.joins;
+    learnt = on.learnt;
     starts = refl;
     begun = refl;
     kept = on.kept stands.heard;
@@ -445,6 +486,8 @@ module _ {T : Type 0} (tapes : Tape T) where
     suspended = λ is. let a = first.suspended is in let b = second.suspended a.gate in record { gate = b.gate; actor = b.actor ∙ a.actor };
     outvoted = second.outvoted ∙ first.outvoted;
     asked = λ is. second.asked (first.outvoted ∙ is) ∙ first.asked is;
+    joins = second.joins ∙ first.joins;
+    learnt = λ is. second.learnt (first.joins ∙ is) ∙ first.learnt is;
     starts = second.starts ∙ first.starts;
     begun = second.begun ∙ first.begun;
     kept = λ is. second.kept (first.kept is);
@@ -453,6 +496,13 @@ module _ {T : Type 0} (tapes : Tape T) where
   -- then it goes on
   pub then_on : (r s : Stand) (one two three : Voter T tapes) → ContinuesIn tapes r one s two → Continues tapes two three → ContinuesIn tapes r one s three
   then_on r s one two three first second = twice_in r s s one two three first (on_in s two three second)
+
+  -- another file was written, or wasn't, and the gate is set after that
+  pub gated_in : (stood stands : Stand) (before after : Voter T tapes) → stands ≡ stood → Continues tapes before after → ContinuesIn tapes stood before stands after
+  gated_in stood stands before after same on = subst (λ (s : Stand). ContinuesIn tapes stood before s after) (sym same) (on_in stood before after on)
+
+  pub kept_in : (stood stands : Stand) (voter : Voter T tapes) → stands ≡ stood → ContinuesIn tapes stood voter stands voter
+  kept_in stood stands voter same = gated_in stood stands voter voter same (still voter)
 
   -- the file `heard` is written
   pub wrote : (known : List (Option Heard)) (text : List ℕ) (stood stands : Stand) (before after : Voter T tapes) → HearAll before.kept known → text ≡ peer_progress_text known
@@ -465,6 +515,8 @@ module _ {T : Type 0} (tapes : Tape T) where
         suspended = λ is. record { gate = gate ∙ is; actor = ap (λ (p : Process T tapes). p.actor) same };
         outvoted = ap (λ (v : Voter T tapes). v.is_outvoted) now;
         asked = λ _. ap (λ (p : Process T tapes). besides_asks p.actor.given.items) same;
+        joins = ap (λ (v : Voter T tapes). v.joins) now;
+        learnt = λ _. ap (λ (p : Process T tapes). besides_chosen p.actor.given.items) same;
         starts = ap (λ (s : Stand). s.starts) put;
         begun = ap (λ (s : Stand). s.begun) put;
         kept = kept_more known text stood stands before after all is_text put (ap (λ (v : Voter T tapes). v.kept) now) same;
@@ -478,6 +530,8 @@ module _ {T : Type 0} (tapes : Tape T) where
     suspended = λ is. record { gate = is; actor = refl };
     outvoted = refl;
     asked = λ _. refl;
+    joins = refl;
+    learnt = λ _. refl;
     starts = elim put [ inl same ↦ ap (λ (s : Stand). s.starts) same | inr is ↦ ap (λ (s : Stand). s.starts) is ];
     begun = elim put [ inl same ↦ ap (λ (s : Stand). s.begun) same | inr is ↦ ap (λ (s : Stand). s.begun) is ];
     kept = kept_either known text stood stands voter all is_text put;
@@ -485,7 +539,7 @@ module _ {T : Type 0} (tapes : Tape T) where
 
   -- ---- a turn: a decision, what is done, and what is kept
 
-  pub turned : (s t : Stand) (one two three four : Voter T tapes) → two.process ≡ one.process → ContinuesIn tapes s two t three → four ≡ three → GoesOn tapes one.process four.process
+  pub turned : (s t : Stand) (one two three four : Voter T tapes) → two.process ≡ one.process → ContinuesIn tapes s two t three → four ≡ three → StaysInRun tapes one.process four.process
   turned s t one two three four decides does keeps =
       goes_twice one.process two.process four.process
       (unchanged one.process two.process decides)
@@ -509,6 +563,23 @@ module _ {T : Type 0} (tapes : Tape T) where
       ap (λ (v : Voter T tapes). besides_asks v.process.actor.given.items) keeps
       ∙ (does.asked (outvoted_at s t two three four does keeps is) ∙ ap (λ (p : Process T tapes). besides_asks p.actor.given.items) decides)
 
+  joins_at : (s t : Stand) (two three four : Voter T tapes) → ContinuesIn tapes s two t three → four ≡ three → four.joins ≡ two.joins
+  joins_at s t two three four does keeps = ap (λ (v : Voter T tapes). v.joins) keeps ∙ does.joins
+
+  pub turned_joins : (s t : Stand) (one two three four : Voter T tapes) → two.joins ≡ one.joins → ContinuesIn tapes s two t three → four ≡ three → four.joins ≡ one.joins
+  turned_joins s t one two three four decides does keeps = joins_at s t two three four does keeps ∙ decides
+
+  pub turned_learnt : (s t : Stand) (one two three four : Voter T tapes) → two.process ≡ one.process → two.joins ≡ one.joins → ContinuesIn tapes s two t three → four ≡ three → one.joins ≡ true
+      → besides_chosen four.process.actor.given.items ≡ besides_chosen one.process.actor.given.items
+  turned_learnt s t one two three four decides stays does keeps is =
+      ap (λ (v : Voter T tapes). besides_chosen v.process.actor.given.items) keeps
+      ∙ (does.learnt (stays ∙ is) ∙ ap (λ (p : Process T tapes). besides_chosen p.actor.given.items) decides)
+
+  -- of these clients, first to last, none was answered by one that joins
+  pub turned_learning : (before joins : Bool) (first second third fourth : List (Voter T tapes × ℕ)) → second ≡ first → joins ≡ before → (joins ≡ true → third ≡ second)
+      → fourth ≡ third → before ≡ true → fourth ≡ first
+  turned_learning before joins first second third fourth decides stays does keeps is = keeps ∙ (does (stays ∙ is) ∙ decides)
+
   -- of these clients, first to last, as many were answered
   pub turned_unanswered : (s t : Stand) (two three four : Voter T tapes) (first second third fourth : List (Voter T tapes × ℕ))
       → second ≡ first → ContinuesIn tapes s two t three → (two.is_outvoted ≡ true → third ≡ second)
@@ -527,14 +598,14 @@ module _ {T : Type 0} (tapes : Tape T) where
   runs_on actor before now [] later are = later_twice actor before now are later
   runs_on actor before now (run ∷ ended) later are = (are.0, are.1, are.2, runs_on are.1 before now ended later are.3)
 
-  runs_more : (actor run next : Actor T tapes) (ended : List (Actor T tapes × ℕ)) → Follows tapes run next → AreRunsFrom tapes actor ended run → AreRunsFrom tapes actor (ended ++ (run, 0) ∷ []) next
+  runs_more : (actor run next : Actor T tapes) (ended : List (Actor T tapes × ℕ)) → IsNextRun tapes run next → AreRunsFrom tapes actor ended run → AreRunsFrom tapes actor (ended ++ (run, 0) ∷ []) next
   runs_more actor run next [] follows are = (are, next, follows, later_same next next refl)
   runs_more actor run next (first ∷ ended) follows are = (are.0, are.1, are.2, runs_more are.1 run next ended follows are.3)
 
-  earlier_on : (past before now : Process T tapes) → GoesOn tapes before now → IsEarlier tapes past before → IsEarlier tapes past now
+  earlier_on : (past before now : Process T tapes) → StaysInRun tapes before now → IsEarlier tapes past before → IsEarlier tapes past now
   earlier_on past before now goes is = record { since = is.since; ended = goes.ended ∙ is.ended; runs = runs_on past.actor before.actor now.actor is.since goes.actor is.runs }
 
-  earlier_ended : (past before now : Process T tapes) → now.ended.items ≡ before.ended.items ++ (before.actor, 0) ∷ [] → Follows tapes before.actor now.actor → IsEarlier tapes past before → IsEarlier tapes past now
+  earlier_ended : (past before now : Process T tapes) → now.ended.items ≡ before.ended.items ++ (before.actor, 0) ∷ [] → IsNextRun tapes before.actor now.actor → IsEarlier tapes past before → IsEarlier tapes past now
   earlier_ended past before now ended follows is = record {
     since = is.since ++ (before.actor, 0) ∷ [];
     ended = ended ∙ ap (λ (runs : List (Actor T tapes × ℕ)). runs ++ (before.actor, 0) ∷ []) is.ended ∙ append_assoc past.ended.items is.since ((before.actor, 0) ∷ []);
@@ -542,8 +613,8 @@ module _ {T : Type 0} (tapes : Tape T) where
   }
 
   -- a node that was opened anew, and compared, is that of the run that follows
-  pub follows_opened : (before next : Process T tapes) (tape : T) → IsOpened tapes tape before.actor.node.id before.n next.actor.node → HasStoredAs before.actor.node next.actor.node → IsBegun next
-      → before.actor.node.halted ≡ true → Follows tapes before.actor next.actor
+  pub follows_opened : (before next : Process T tapes) (tape : T) → IsOpened tapes tape before.actor.node.id before.n next.actor.node → HasStoredAs before.actor.node next.actor.node → IsJustOpened next
+      → before.actor.node.halted ≡ true → IsNextRun tapes before.actor next.actor
   follows_opened before next tape opened stored begun halted = record {
     halted = halted;
     number = opened.number;
@@ -552,10 +623,10 @@ module _ {T : Type 0} (tapes : Tape T) where
     stored = stored;
   }
 
-  pub keeps_going : (before after : Process T tapes) → GoesOn tapes before after → KeepsEarlier tapes before after
+  pub keeps_going : (before after : Process T tapes) → StaysInRun tapes before after → KeepsEarlier tapes before after
   keeps_going before after goes = λ past earlier. earlier_on past before after goes earlier
 
-  pub keeps_begun : (before after : Process T tapes) → after.ended.items ≡ before.ended.items ++ (before.actor, 0) ∷ [] → (before.actor.node.halted ≡ true → Follows tapes before.actor after.actor)
+  pub keeps_begun : (before after : Process T tapes) → after.ended.items ≡ before.ended.items ++ (before.actor, 0) ∷ [] → (before.actor.node.halted ≡ true → IsNextRun tapes before.actor after.actor)
       → before.actor.node.halted ≡ true → KeepsEarlier tapes before after
   keeps_begun before after ended follows halted = λ past earlier. earlier_ended past before after ended (follows halted) earlier
 

@@ -27,7 +27,7 @@ pub record IsLater {T : Type 0} (tapes : Tape T) (before after : Actor T tapes) 
   pub emitted : IsBeginning (logged before.emitted.items) (logged after.emitted.items)
 
 -- The process goes on in its run: no other run began.
-pub record GoesOn {T : Type 0} (tapes : Tape T) (before after : Process T tapes) : Type 0 where
+pub record StaysInRun {T : Type 0} (tapes : Tape T) (before after : Process T tapes) : Type 0 where
   pub actor : IsLater tapes before.actor after.actor
   pub among : after.n ≡ before.n
   pub ended : after.ended.items ≡ before.ended.items
@@ -51,6 +51,21 @@ is_ask_first (m ∷ rest) = is_ask m
 unfoldable pub besides_asks : List (Message × Origin) → List (Message × Origin)
 besides_asks [] = []
 besides_asks (m ∷ rest) = if is_ask m.0 then besides_asks rest else m ∷ besides_asks rest
+
+-- whether a message says what is published
+abbrev pub is_chosen : Message → Bool
+is_chosen (messages.Chosen s d) = true
+is_chosen _ = false
+
+-- whether the first of these does
+abbrev pub is_chosen_first : List Message → Bool
+is_chosen_first [] = false
+is_chosen_first (m ∷ rest) = is_chosen m
+
+-- those of the messages that were given that don't
+unfoldable pub besides_chosen : List (Message × Origin) → List (Message × Origin)
+besides_chosen [] = []
+besides_chosen (m ∷ rest) = if is_chosen m.0 then besides_chosen rest else m ∷ besides_chosen rest
 
 -- ---- what is heard of a peer before its messages count
 
@@ -86,34 +101,40 @@ pub record IsHeardKept {T : Type 0} {tapes : Tape T} (heard : Option (List ℕ))
 -- ---- a turn and its parts
 
 -- The process goes on in its run. Nothing of a suspended node changes. Whether it is outvoted stays, and one that is was given no message
--- but those that ask for what is published. Whatever the file `heard` has, it is enough if it was before.
+-- but those that ask for what is published. Whether it joins stays, and one that does was given no message but those that say what is
+-- published. Whatever the file `heard` has, it is enough if it was before.
 pub record Continues {T : Type 0} (tapes : Tape T) (before after : Voter T tapes) : Type 0 where
-  pub process : GoesOn tapes before.process after.process
+  pub process : StaysInRun tapes before.process after.process
   pub suspended : before.gate ≡ gates.Suspended → StaysSuspended before after
   pub outvoted : after.is_outvoted ≡ before.is_outvoted
   pub asked : before.is_outvoted ≡ true → besides_asks after.process.actor.given.items ≡ besides_asks before.process.actor.given.items
+  pub joins : after.joins ≡ before.joins
+  pub learnt : before.joins ≡ true → besides_chosen after.process.actor.given.items ≡ besides_chosen before.process.actor.given.items
   pub kept : (heard : Option (List ℕ)) → IsHeardKept heard before → IsHeardKept heard after
 
 -- It goes on so, while its folder is written to: the starts that it counts stay, and what the file `heard` has is enough if it was before.
 pub record ContinuesIn {T : Type 0} (tapes : Tape T) (stood : Stand) (before : Voter T tapes) (stands : Stand) (after : Voter T tapes) : Type 0 where
-  pub process : GoesOn tapes before.process after.process
+  pub process : StaysInRun tapes before.process after.process
   pub suspended : before.gate ≡ gates.Suspended → StaysSuspended before after
   pub outvoted : after.is_outvoted ≡ before.is_outvoted
   pub asked : before.is_outvoted ≡ true → besides_asks after.process.actor.given.items ≡ besides_asks before.process.actor.given.items
+  pub joins : after.joins ≡ before.joins
+  pub learnt : before.joins ≡ true → besides_chosen after.process.actor.given.items ≡ besides_chosen before.process.actor.given.items
   pub starts : stands.starts ≡ stood.starts
   pub begun : stands.begun ≡ stood.begun
   pub kept : IsHeardKept stood.heard before → IsHeardKept stands.heard after
 
--- The process goes on in its run, and is given nothing; whether it is outvoted, and what the file `heard` has, stay.
-pub record HasServed {T : Type 0} (tapes : Tape T) (before after : Voter T tapes) : Type 0 where
-  pub process : GoesOn tapes before.process after.process
+-- The process goes on in its run, and is given nothing; whether it is outvoted or joins, and what the file `heard` has, stay.
+pub record HasOnlyServed {T : Type 0} (tapes : Tape T) (before after : Voter T tapes) : Type 0 where
+  pub process : StaysInRun tapes before.process after.process
   pub outvoted : after.is_outvoted ≡ before.is_outvoted
+  pub joins : after.joins ≡ before.joins
   pub given : after.process.actor.given.items ≡ before.process.actor.given.items
   pub kept : after.kept ≡ before.kept
 
 -- One run follows another: the tape of the first one's node had failed, and the other one's node, which was just opened, is the node that it
 -- was. That was compared: it has stored what the first one had, or that and the record of the step within which its tape failed.
-pub record Follows {T : Type 0} (tapes : Tape T) (run next : Actor T tapes) : Type 0 where
+pub record IsNextRun {T : Type 0} (tapes : Tape T) (run next : Actor T tapes) : Type 0 where
   pub halted : run.node.halted ≡ true
   pub number : next.node.id ≡ run.node.id
   pub among : next.node.n ≡ run.node.n
@@ -124,7 +145,7 @@ pub record Follows {T : Type 0} (tapes : Tape T) (run next : Actor T tapes) : Ty
 -- a later moment, and each other one follows the one before it.
 abbrev pub AreRunsFrom : {T : Type 0} (tapes : Tape T) → Actor T tapes → List (Actor T tapes × ℕ) → Actor T tapes → Type 0
 AreRunsFrom tapes actor [] now = IsLater tapes actor now
-AreRunsFrom {T} tapes actor (run ∷ ended) now = IsLater tapes actor run.0 × (next : Actor T tapes) × Follows tapes run.0 next × AreRunsFrom tapes next ended now
+AreRunsFrom {T} tapes actor (run ∷ ended) now = IsLater tapes actor run.0 × (next : Actor T tapes) × IsNextRun tapes run.0 next × AreRunsFrom tapes next ended now
 
 -- It is an earlier moment of the process: in its run, or in one that has ended since then.
 pub record IsEarlier {T : Type 0} (tapes : Tape T) (before now : Process T tapes) : Type 0 where

@@ -4,7 +4,7 @@ use Rattle.std.specs.declared.net.socket_addr.SocketAddr.{SocketAddr}
 use Rattle.wf_actor.specs.declared.process.Process.{Process}
 use Rattle.wf_digest.specs.Digest.{AreDigestsOf}
 use Rattle.wf_loop.specs.Answer.{AreAnswered}
-use Rattle.wf_loop.specs.Continuation.{IsHeardKept, besides_asks}
+use Rattle.wf_loop.specs.Continuation.{IsHeardKept, besides_asks, besides_chosen}
 use Rattle.wf_loop.specs.declared.gate.Gate.TheVariants as gates
 use Rattle.wf_loop.specs.declared.hub.Hub.{Hub}
 use Rattle.wf_loop.specs.Reach.{IsReachOf}
@@ -52,6 +52,20 @@ IsOutvoted hub = hub.voter.is_outvoted ≡ true
 pub record OnlyAnswersAsks {T N C L : Type 0} {tapes : Tape T} {connections : Connection C} (before after : Hub T N C L tapes connections) : Type 0 where
   pub given : besides_asks after.voter.process.actor.given.items ≡ besides_asks before.voter.process.actor.given.items
   pub answered : after.clients.before.items ≡ before.clients.before.items
+
+-- its folder joins in the place of a lost one
+abbrev pub IsJoiner : {T N C L : Type 0} {tapes : Tape T} {connections : Connection C} → Hub T N C L tapes connections → Type 0
+IsJoiner hub = hub.voter.joins ≡ true
+
+-- It still joins; the node was given no message but those that say what is published, and no client was answered.
+pub record OnlyLearns {T N C L : Type 0} {tapes : Tape T} {connections : Connection C} (before after : Hub T N C L tapes connections) : Type 0 where
+  pub joins : IsJoiner after
+  pub given : besides_chosen after.voter.process.actor.given.items ≡ besides_chosen before.voter.process.actor.given.items
+  pub answered : after.clients.before.items ≡ before.clients.before.items
+
+-- what was written is for the next start of the folder, and the process is to end
+abbrev pub IsOver : {T N C L : Type 0} {tapes : Tape T} {connections : Connection C} → Hub T N C L tapes connections → Type 0
+IsOver hub = hub.parts.mesh.is_over ≡ true
 
 -- Each client that was answered was sent the response of a process that had lived, as it was just before, to what had come of the request.
 abbrev pub HasAnswered : {T N C L : Type 0} (tapes : Tape T) {connections : Connection C} → Hub T N C L tapes connections → Type 0

@@ -1,5 +1,5 @@
 -- How far a node is.
-use Rattle.std.specs.Prelude.{◌≡◌, ◌≤◌, ℕ, ⊤, length, Option, Some, None}
+use Rattle.std.specs.Prelude.{◌≡◌, ◌≤◌, ◌⊎◌, ℕ, ⊤, length, Option, Some, None}
 use Rattle.wf_ballot.specs.Sequence.{IsSlot}
 use Rattle.wf_def.specs.Definition.{Definition}
 use Rattle.wf_folder.specs.Reach.{IsNoLowerVote}
@@ -15,14 +15,27 @@ IsHighestUpTo stored last highest =
     (s : ℕ) (vote : Vote Definition) → IsSlot s → s ≤ last → stored.votes s ≡ Some vote → IsNoLowerVote (Some (record { ballot = vote.ballot; sequence = s })) highest
 
 -- it is one of the node's votes, if it is one
-abbrev pub IsVoteOf : DurableState Definition → Option HighestVote → Type 0
-IsVoteOf stored None = ⊤
-IsVoteOf stored (Some v) = (vote : Vote Definition) × (stored.votes v.sequence ≡ Some vote) × (vote.ballot ≡ v.ballot)
+abbrev pub IsVoteOfNode : DurableState Definition → Option HighestVote → Type 0
+IsVoteOfNode stored None = ⊤
+IsVoteOfNode stored (Some v) = (vote : Vote Definition) × (stored.votes v.sequence ≡ Some vote) × (vote.ballot ≡ v.ballot)
 
 -- The node's highest vote: none of its votes is above it.
 pub record IsHighestVote (stored : DurableState Definition) (highest : Option HighestVote) : Type 0 where
   pub none_above : IsHighestUpTo stored 4096 highest
-  pub is_vote : IsVoteOf stored highest
+  pub is_vote : IsVoteOfNode stored highest
+
+-- no vote of the node up to a sequence is at a higher one than this
+abbrev pub AreVotedUpTo : DurableState Definition → ℕ → ℕ → Type 0
+AreVotedUpTo stored last highest = (s : ℕ) (vote : Vote Definition) → IsSlot s → s ≤ last → stored.votes s ≡ Some vote → s ≤ highest
+
+-- the node has a vote at it, or it is 0
+abbrev pub IsVotedOrNone : DurableState Definition → ℕ → Type 0
+IsVotedOrNone stored s = (s ≡ 0) ⊎ ((vote : Vote Definition) × (stored.votes s ≡ Some vote))
+
+-- The highest sequence at which the node has a vote; 0 if it has none.
+pub record IsHighestVoted (stored : DurableState Definition) (highest : ℕ) : Type 0 where
+  pub none_above : AreVotedUpTo stored 4096 highest
+  pub is_voted : IsVotedOrNone stored highest
 
 -- The node has tried this round, promised this ballot, voted so, and published so far.
 pub record IsReachOf {T : Type 0} (node : Node T) (reach : Reach) : Type 0 where

@@ -1,7 +1,7 @@
 //! What is done to a process: by each of these its run goes on, and nothing of a suspended node changes.
 ghost use Rattle.std.specs.Prelude.{◌≡◌, ◌++◌, ◌∷◌, [], ℕ, List, Option, IsTrue, false, true};
 ghost use Rattle.wf_actor.specs.Process.{arrived_at};
-ghost use Rattle.wf_loop.specs.Continuation.{Continues, Follows, IsHeardKept, IsNextHeard, KeepsEarlier, is_ask, is_ask_first};
+ghost use Rattle.wf_loop.specs.Continuation.{Continues, IsNextRun, IsHeardKept, IsNextHeard, KeepsEarlier, is_ask, is_ask_first, is_chosen, is_chosen_first};
 
 use crate::gate::Gate;
 use crate::hub::Voter;
@@ -19,37 +19,51 @@ impl<T: Tape> Voter<T> {
     pub(crate) fn acts(&self) -> bool
         ensures gate { IsTrue result → self.now.gate ≡ Gate.Open }
         ensures agrees { IsTrue result → self.now.is_outvoted ≡ false }
+        ensures votes { IsTrue result → self.now.joins ≡ false }
     {
-        self.gate == Gate::Open && !self.is_outvoted
+        self.learns() && !self.joins
     }
 
-    /// Whether it asks its peers for definitions, by which they learn that it is there: also where it is outvoted.
+    /// Whether it asks its peers for definitions, by which they learn that it is there: also where it is outvoted or joins.
     fn asks(&self) -> bool
         ensures { IsTrue result → self.now.gate ≡ Gate.Open }
     {
         self.gate == Gate::Open
     }
 
-    /// Whether the node is given the first message that has arrived from a peer: each if it acts, and if it is outvoted one that asks for what
-    /// is published.
+    /// Whether the node is given the first message that has arrived from a peer: each if it acts, one that asks for what is published if it is
+    /// outvoted, and one that says what is published if it joins.
     pub(crate) fn takes_next(&self, peer: NodeId) -> bool
         ensures gate { IsTrue result → self.now.gate ≡ Gate.Open }
         ensures asks { IsTrue result → self.now.is_outvoted ≡ true →
             is_ask_first (arrived_at self.now.process peer) ≡ true }
+        ensures says { IsTrue result → self.now.joins ≡ true →
+            is_chosen_first (arrived_at self.now.process peer) ≡ true }
     {
-        if self.is_outvoted {
+        if self.joins {
+            self.learns() && is_chosen_next(&self.process, peer)
+        } else if self.is_outvoted {
             self.asks() && is_asked_next(&self.process, peer)
         } else {
             self.acts()
         }
     }
 
-    /// Whether clients are answered: not before it acts, and not once it is suspended or outvoted.
+    /// Whether it takes in what is published: not while it is outvoted.
+    fn learns(&self) -> bool
+        ensures gate { IsTrue result → self.now.gate ≡ Gate.Open }
+        ensures agrees { IsTrue result → self.now.is_outvoted ≡ false }
+    {
+        self.gate == Gate::Open && !self.is_outvoted
+    }
+
+    /// Whether clients are answered: not before it acts, not once it is suspended or outvoted, and not while it joins.
     pub(crate) fn answers(&self) -> bool
         ensures awake { IsTrue result → ¬ (self.now.gate ≡ Gate.Suspended) }
         ensures agrees { IsTrue result → self.now.is_outvoted ≡ false }
+        ensures votes { IsTrue result → self.now.joins ≡ false }
     {
-        matches!(self.gate, Gate::Open | Gate::Unwritten) && !self.is_outvoted
+        matches!(self.gate, Gate::Open | Gate::Unwritten) && !self.is_outvoted && !self.joins
     }
 
     /// Whether it has connections with its peers.
@@ -61,6 +75,7 @@ impl<T: Tape> Voter<T> {
     pub(crate) fn judge(&mut self, gate: Gate, is_outvoted: bool)
         ensures process { self.new.process ≡ self.old.process }
         ensures outvoted { self.new.is_outvoted ≡ is_outvoted }
+        ensures joins { self.new.joins ≡ self.old.joins }
         ensures kept { self.new.kept ≡ self.old.kept }
         ensures suspended { self.old.gate ≡ Gate.Suspended → self.new.gate ≡ Gate.Suspended }
     {
@@ -73,6 +88,7 @@ impl<T: Tape> Voter<T> {
         ensures on { Continues T.Tape self.old self.new }
         ensures process { self.new.process ≡ self.old.process }
         ensures outvoted { self.new.is_outvoted ≡ self.old.is_outvoted }
+        ensures joins { self.new.joins ≡ self.old.joins }
         ensures kept { self.new.kept ≡ self.old.kept }
         ensures stays { self.old.gate ≡ Gate.Suspended → self.new.gate ≡ Gate.Suspended }
         ensures suspended { gate ≡ Gate.Suspended → self.new.gate ≡ Gate.Suspended }
@@ -130,6 +146,23 @@ fn is_ask(message: &Message) -> bool
     matches!(message, Message::Ask(_))
 }
 
+/// Whether the first message that has arrived from a peer says what is published.
+fn is_chosen_next<T: Tape>(process: &Process<T>, peer: NodeId) -> bool
+    ensures { result ≡ is_chosen_first (arrived_at process.now peer) }
+{
+    match process.next_message(peer) {
+        Some(message) => is_chosen(message),
+        None => false,
+    }
+}
+
+/// Whether a message says what is published.
+fn is_chosen(message: &Message) -> bool
+    ensures { result ≡ is_chosen message.now }
+{
+    matches!(message, Message::Chosen(_, _))
+}
+
 /// Delivers the first message that has arrived from a peer, if the node is given it, and what it tells of the peer is in the folder.
 pub(crate) fn handle<T: Tape>(alloc: Global, voter: &mut Voter<T>, peer: NodeId)
     ensures { Continues T.Tape voter.old voter.new }
@@ -139,7 +172,7 @@ pub(crate) fn handle<T: Tape>(alloc: Global, voter: &mut Voter<T>, peer: NodeId)
     }
 }
 
-/// Asks a peer for the next definition, if the node acts, or is outvoted.
+/// Asks a peer for the next definition, if the node acts, is outvoted, or joins.
 pub(crate) fn ask<T: Tape>(alloc: Global, voter: &mut Voter<T>, peer: NodeId)
     ensures { Continues T.Tape voter.old voter.new }
 {
@@ -193,13 +226,14 @@ pub(crate) fn begin_run<T: Tape + Drop>(voter: &mut Voter<T>, next: Process<T>)
         voter.old.process.ended.items ++ (voter.old.process.actor, 0) ∷ [] }
     requires given { next.actor.given.items ≡ [] }
     requires follows { voter.old.process.actor.node.halted ≡ true →
-        Follows T.Tape voter.old.process.actor next.actor }
+        IsNextRun T.Tape voter.old.process.actor next.actor }
     ensures process { voter.new.process ≡ next }
     ensures kept { (heard : Option (List ℕ)) →
         IsHeardKept heard voter.old → IsHeardKept heard voter.new }
     ensures earlier { voter.old.process.actor.node.halted ≡ true →
         KeepsEarlier T.Tape voter.old.process voter.new.process }
     ensures suspended { voter.old.gate ≡ Gate.Suspended → voter.new.gate ≡ Gate.Suspended }
+    ensures joins { voter.new.joins ≡ voter.old.joins }
 {
     voter.gate = gate_of_start(voter.gate);
     drop(replace(&mut voter.process, next));

@@ -2,7 +2,7 @@
 
 ghost use Rattle.std.specs.Prelude.{◌≡◌};
 ghost use Rattle.wf_loop.specs.Answer.{HasResponded, IsAnswer, IsUnsent};
-ghost use Rattle.wf_loop.specs.Continuation.{GoesOn, HasServed};
+ghost use Rattle.wf_loop.specs.Continuation.{StaysInRun, HasOnlyServed};
 ghost use Rattle.wf_visitors.specs.ServerReply.{nothing};
 
 use crate::hub::Voter;
@@ -17,7 +17,7 @@ use wf_visitors::{Server, ServerReply};
 impl<T: Tape> Server for Voter<T> {
     ghost responds = { λ before came _ response after. HasResponded T.Tape before came response after };
 
-    ghost stays = { λ before after. HasServed T.Tape before after };
+    ghost stays = { λ before after. HasOnlyServed T.Tape before after };
 
     fn answer(
         &mut self,
@@ -50,7 +50,7 @@ fn serve<T: Tape>(
 ) -> Outcome
     requires { outgoing.old ≡ nothing }
     ensures sent { IsAnswer T.Tape process.old incoming.now.bytes outgoing.new.bytes result process.new }
-    ensures on { GoesOn T.Tape process.old process.new }
+    ensures on { StaysInRun T.Tape process.old process.new }
     ensures unsent { IsUnsent result outgoing.old outgoing.new }
 {
     process.serve(alloc, &mut incoming.reader(), outgoing)

@@ -95,6 +95,8 @@ impl<T: Tape + Drop, N: Network> Clients<T, N> {
         ensures on { Continues T.Tape voter.old voter.new }
         ensures outvoted { voter.old.is_outvoted ≡ true →
             self.new.before.items ≡ self.old.before.items }
+        ensures joins { voter.old.joins ≡ true →
+            self.new.before.items ≡ self.old.before.items }
     {
         if !voter.answers() {
             return None;
@@ -116,6 +118,7 @@ impl<T: Tape + Drop, N: Network> Clients<T, N> {
     )
         requires awake { ¬ (voter.old.gate ≡ Gate.Suspended) }
         requires agrees { voter.old.is_outvoted ≡ false }
+        requires votes { voter.old.joins ≡ false }
         ensures { Continues T.Tape voter.old voter.new }
     {
         let before = self.before.and(&*voter, &0);

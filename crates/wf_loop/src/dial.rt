@@ -10,7 +10,7 @@ use std::io::ErrorKind;
 use std::net::{Net, SocketAddr};
 use wf_ballot::NodeId;
 use wf_client::Outgoing;
-use wf_peer::{GREETING_BYTES, GreetingFault, GreetingReply, decode_reply};
+use wf_peer::{GreetingFault, GreetingReply, decode_reply, reply_length};
 use wf_sockets::{Connection, ConnectionSink, Moved, Network};
 use wf_stream::Sink;
 use wf_tape::Tape;
@@ -19,6 +19,9 @@ use wf_visitors::Context;
 
 /// The most reads of one turn.
 const MOST_READS: u32 = 8;
+
+/// The most bytes of a read. No reply has more.
+const PIECE_BYTES: usize = 1_536;
 
 /// The most writes of one turn.
 const MOST_WRITES: u32 = 4_096;
@@ -50,6 +53,8 @@ pub(crate) struct Dial<C: Connection> {
     is_open: bool,
     // since when it is being opened, is established, or is open
     since: u64,
+    // when something last came on it
+    last: u64,
     // why it ended the last time that the log told of, and when
     told: Option<(PeerEnd, u64)>,
     // how many bytes of messages were written to the peer
@@ -80,6 +85,7 @@ impl<C: Connection + Drop> Dial<C> {
             is_established: false,
             is_open: false,
             since: 0,
+            last: 0,
             told: None,
             written: 0,
             due: Alarm { due: 0 },
@@ -111,6 +117,7 @@ impl<C: Connection + Drop> Dial<C> {
     pub(crate) fn open(&mut self, now: u64) {
         self.is_open = true;
         self.since = now;
+        self.last = now;
         self.told = None;
         self.backoff.reset();
     }
@@ -160,15 +167,14 @@ impl<C: Connection + Drop> Dial<C> {
         self.due = Alarm::after(now, self.backoff.wait());
     }
 
-    /// Whether it takes too long: to open, to be replied to, or, once it is open, until the peer is heard, which was heard last at this
-    /// moment.
-    pub(crate) fn is_late(&self, heard: Option<u64>, now: u64) -> bool {
+    /// Whether it takes too long: to open, to be replied to, or, once it is open, until something comes on it. What comes on the peer's own
+    /// connection says nothing of this one.
+    pub(crate) fn is_late(&self, now: u64) -> bool {
         if self.stream.is_none() {
             return false;
         }
         if self.is_open {
-            let last = heard.unwrap_or(0).max(self.since);
-            return is_silent(last, now);
+            return is_silent(self.last, now);
         }
         let most = if self.is_established {
             REPLY_MILLIS
@@ -218,7 +224,7 @@ impl<C: Connection + Drop> Dial<C> {
         if let Some(why) = self.greet(stream, now) {
             return DialTurn::Ended(why);
         }
-        let turned = self.handle(stream);
+        let turned = self.handle(stream, now);
         if turned != DialTurn::Same || !self.is_open {
             return turned;
         }
@@ -273,12 +279,14 @@ impl<C: Connection + Drop> Dial<C> {
     }
 
     /// Reads the peer's reply, or its greeting again; nothing else may come.
-    fn handle(&mut self, stream: &mut C) -> DialTurn {
-        let mut piece = [0u8; GREETING_BYTES];
+    fn handle(&mut self, stream: &mut C, now: u64) -> DialTurn {
+        let mut piece = [0u8; PIECE_BYTES];
         for _ in 0..MOST_READS {
-            let room = GREETING_BYTES.saturating_sub(self.reply.len());
+            let room = reply_length(self.reply.as_slice()).saturating_sub(self.reply.len());
+            let room = room.min(piece.len());
             match stream.read(&mut piece[..room]) {
                 Moved::Bytes(count) => {
+                    self.last = now;
                     let count = count.min(room);
                     match self.take_in(&piece[..count]) {
                         DialTurn::Same => {}

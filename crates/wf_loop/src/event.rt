@@ -131,6 +131,15 @@ pub enum NodeEvent {
     },
     /// The node's tape was opened again.
     Reopened,
+    /// A replacement of a node is known from now on, under this count.
+    ReplacementNoted {
+        node: usize,
+        count: u32,
+    },
+    /// The node's folder has joined, with this last published sequence.
+    Joined {
+        published: u16,
+    },
 }
 
 impl LogEntry for NodeEvent {
@@ -148,7 +157,9 @@ impl LogEntry for NodeEvent {
             | NodeEvent::Accepted { .. }
             | NodeEvent::Agrees
             | NodeEvent::Published { .. }
-            | NodeEvent::Reopened => Level::Info,
+            | NodeEvent::Reopened
+            | NodeEvent::ReplacementNoted { .. }
+            | NodeEvent::Joined { .. } => Level::Info,
         }
     }
 }
@@ -202,6 +213,10 @@ impl fmt::Display for NodeEvent {
             NodeEvent::Published { sequence } => write!(f, "published sequence={sequence}"),
             NodeEvent::Overtaken { sequence } => write!(f, "overtaken sequence={sequence}"),
             NodeEvent::Reopened => f.write_str("tape-reopened"),
+            NodeEvent::ReplacementNoted { node, count } => {
+                write!(f, "replacement-noted node={node} count={count}")
+            }
+            NodeEvent::Joined { published } => write!(f, "joined published={published}"),
         }
     }
 }

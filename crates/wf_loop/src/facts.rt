@@ -1,21 +1,25 @@
 //! What a node tells its operator.
 
 use crate::notes::Notes;
+use crate::order::Order;
 use crate::peer_state::{Differing, PeerState};
+use crate::question::{Decision, Standing};
 use crate::steps::Steps;
 use crate::tally::Tally;
 use std::alloc::AllocError;
 use std::fmt::Write;
 use std::net::{Ipv6Addr, SocketAddr};
 use std::rt::Files;
+use wf_ballot::NodeId;
 use wf_folder::{PeerAddress, Suspension};
 use wf_learner::History;
 use wf_operator::{
-    Health, MetricType, Operated, PictureCounts, StartTime, counter, gauge, head, push_open,
-    push_requests, push_sequences, push_tape_bytes, seconds,
+    Health, MetricType, Operated, PictureCounts, ReplaceReply, ReplaceRequest, StartTime, counter,
+    gauge, head, push_open, push_requests, push_sequences, push_tape_bytes, seconds,
 };
-use wf_peer::PeerRejection;
+use wf_peer::{PeerRejection, hindrance_of};
 use wf_proposer::ProposalState;
+use wf_rejoin::Asked;
 use wf_visitors::Counts;
 
 /// What a node tells its operator.
@@ -44,6 +48,13 @@ pub(crate) struct NodeFacts<'a, R> {
     pub(crate) is_behind: bool,
     pub(crate) clients: usize,
     pub(crate) readers: usize,
+    pub(crate) node: NodeId,
+    // since when the hub runs, and now
+    pub(crate) since: u64,
+    pub(crate) time: u64,
+    pub(crate) standing: Standing,
+    // what an operator's question has left to write
+    pub(crate) order: Option<Order>,
 }
 
 impl<'a, R: Files> Operated for NodeFacts<'a, R> {
@@ -65,6 +76,9 @@ impl<'a, R: Files> Operated for NodeFacts<'a, R> {
         }
         if self.is_halted || self.is_unwritten {
             return Health::Halted;
+        }
+        if let Some(joiner) = &self.standing.joining {
+            return Health::Joins(joiner.phase(self.history.published()));
         }
         if self.is_outvoted {
             if let Some(differing) = self.differs {
@@ -107,6 +121,52 @@ impl<'a, R: Files> Operated for NodeFacts<'a, R> {
         push_steps(text, self.steps)?;
         push_tape_bytes(text, self.rt, self.tape)
     }
+
+    fn push_replacements(&self, text: &mut String) -> Result<bool, AllocError> {
+        self.standing
+            .push_to(text, self.node.number(), self.history.published())?;
+        Ok(true)
+    }
+
+    fn replace(&mut self, request: &ReplaceRequest) -> ReplaceReply {
+        let Some(asked) = self.asked(request) else {
+            return ReplaceReply::NotANode;
+        };
+        let Decision { reply, order } = self.standing.decide(&asked, request);
+        self.note(&order);
+        reply
+    }
+}
+
+impl<'a, R> NodeFacts<'a, R> {
+    /// The node as it is asked. None: it is asked about one that the farm hasn't.
+    fn asked(&self, request: &ReplaceRequest) -> Option<Asked> {
+        let silence = match request {
+            ReplaceRequest::Ask(proposed) | ReplaceRequest::Agree(proposed) => {
+                let peer = self.peers.get(proposed.node.number() as usize)?;
+                peer.silence(self.time)
+            }
+            ReplaceRequest::Begin(_) => None,
+        };
+        Some(Asked {
+            node: self.node,
+            hindrance: hindrance_of(self.standing.state),
+            running: self.time.saturating_sub(self.since),
+            silence,
+        })
+    }
+
+    /// What is to be written: a further question is answered by it.
+    fn note(&mut self, order: &Option<Order>) {
+        match order {
+            Some(Order::Note(latest)) => self.standing.learned = *latest,
+            Some(Order::Join(next)) => self.standing.joining = Some(*next),
+            Some(Order::Joined) | None => {}
+        }
+        if order.is_some() {
+            self.order = *order;
+        }
+    }
 }
 
 /// The address of a peer.
@@ -127,6 +187,7 @@ fn remembered(cause: u8) -> &'static str {
         Some(PeerRejection::LowerPromise) => "a higher promise",
         Some(PeerRejection::LowerVote) => "a higher vote",
         Some(PeerRejection::LowerSequence) => "a later publication",
+        Some(PeerRejection::Retired) => "another folder in its place",
         _ => "more",
     }
 }

@@ -6,8 +6,8 @@ use std::net::SocketAddr;
 use wf_ballot::NodeId;
 use wf_client::Outgoing;
 use wf_peer::{
-    GREETING_BYTES, Greeting, GreetingFault, PeerRejection, Progress, decode, encode,
-    encode_rejection,
+    Greeting, GreetingFault, PeerRejection, Progress, decode, encode, encode_rejection,
+    greeting_length,
 };
 use wf_sockets::{Connection, Moved};
 use wf_stream::Sink;
@@ -138,7 +138,7 @@ impl<C: Connection + Drop> Inbound<C> {
     /// Reads once, to the front of a buffer.
     pub(crate) fn handle(&mut self, piece: &mut [u8], now: u64) -> Came {
         let room = match self.from {
-            None => GREETING_BYTES.saturating_sub(self.greeting.len()),
+            None => greeting_length(self.greeting.as_slice()).saturating_sub(self.greeting.len()),
             Some(_) => piece.len(),
         };
         let room = room.min(piece.len());

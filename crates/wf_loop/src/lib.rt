@@ -5,7 +5,8 @@
 //!   there is to do, a bounded part of it, and waits for nothing; [`Hub::patience`] says for how long the next one may be waited for. Over
 //!   the system's network [`Hub::go_on`] waits and takes a turn. A message for the peers is written before anything else is done. Digests
 //!   of the history are made once nothing came for a moment, or where one is needed.
-//! - [`NodePlan`] says which node it is, and where the others are.
+//! - [`NodePlan`] says which node it is, and where the others are. A folder that joins in the place of a lost one ([`Joiner`]) learns what is
+//! published, and does nothing else. What a node goes by of replacements is constant for a run: what is new is written, and the hub is over.
 //! - [`Log`] writes each [`NodeEvent`] as a line on standard error.
 //!
 //! **Promises.** After each turn the node has lived by its acts (`specs/Lived.antt`), and the process has gone on in its run
@@ -27,14 +28,17 @@ mod facts;
 mod gate;
 mod hub;
 mod inbound;
+mod joiner;
 mod mesh;
 mod notes;
+mod order;
 mod pace;
 mod parts;
 mod peer_calls;
 mod peer_reads;
 mod peer_state;
 mod plan;
+mod question;
 mod reach;
 mod reopening;
 mod service;
@@ -46,6 +50,7 @@ mod unlisted;
 
 pub use event::{NodeEvent, PeerEnd};
 pub use hub::Hub;
+pub use joiner::Joiner;
 pub use plan::{LoopFault, NodePlan};
 pub use reach::reach_of;
 pub use reopening::{FolderError, NodeFolder, NotReopened};

@@ -1,17 +1,21 @@
 //! The connections to and from the peers of a node.
-ghost use Rattle.std.specs.Prelude.{◌≡◌, IfOk, IfSome};
-ghost use Rattle.wf_loop.specs.Continuation.{Continues, ContinuesIn};
+ghost use Rattle.std.specs.Prelude.{◌≡◌, ◌⊎◌, IfOk, IfSome};
+ghost use Rattle.wf_loop.specs.Continuation.{ContinuesIn};
 ghost use Rattle.wf_loop.specs.Hub.{IsGreetedWith};
+ghost use Rattle.wf_loop.specs.Reach.{IsHighestVoted};
+ghost use Rattle.wf_node.specs.Node.{stored_of};
+ghost use Rattle.wf_rejoin.specs.Replacements.{known_count};
 
 use crate::dial::Dial;
 use crate::event::FolderNotWritten;
 use crate::gate::Gate;
 use crate::hub::Voter;
 use crate::inbound::Inbound;
-use crate::notes::Notes;
+use crate::notes::{Notes, Told};
+use crate::order::Order;
 use crate::peer_state::PeerState;
 use crate::plan::NodePlan;
-use crate::reach::reach_of;
+use crate::reach::{reach_of, told_votes};
 use crate::reopening::{FolderError, NodeFolder};
 use crate::steps::Steps;
 use crate::unlisted::Unlisted;
@@ -25,6 +29,7 @@ use wf_digest::Digests;
 use wf_folder::Suspension;
 use wf_learner::History;
 use wf_peer::{Greeting, NodeState, PeerProgress, Progress};
+use wf_rejoin::Replacements;
 use wf_sockets::{Connection, Network};
 use wf_store::{FileName, FolderFault};
 use wf_tape::Tape;
@@ -42,6 +47,9 @@ const UNCONNECTED_START: u64 = 1_000;
 
 const LONGEST_START: u64 = 3_000;
 
+/// The most nodes of a farm.
+pub(crate) const MOST_NODES: usize = 64;
+
 /// The most connections from peers at once.
 pub(crate) const INBOUND_SLOTS: usize = 128;
 
@@ -57,6 +65,13 @@ pub(crate) struct Mesh<N: Network> {
     pub(crate) states: Vec<PeerState>,
     pub(crate) notes: Notes,
     pub(crate) catch_up: CatchUp,
+    // the replacements of nodes that peers have told of, those with which the node began too, and when something new came
+    pub(crate) learned: Replacements,
+    pub(crate) learned_at: Option<u64>,
+    // what is to be written about replacements
+    pub(crate) order: Option<Order>,
+    // whether what was written is for the next start
+    pub(crate) is_over: bool,
     // the messages that the node took in
     pub(crate) steps: Steps,
     // whether the log has that it is outvoted
@@ -67,10 +82,10 @@ pub(crate) struct Mesh<N: Network> {
     pub(crate) is_suspension_new: bool,
     // what can't be written to the folder
     pub(crate) unwritten: Option<FileName>,
+    // since when the hub runs
+    pub(crate) since: u64,
     // since when what peers remember is waited for; None once it was
     began: Option<u64>,
-    // whether the last sequence is published
-    pub(crate) is_full: bool,
     pub(crate) unlisted: Unlisted,
     // whether more waits to be read
     pub(crate) is_busy: bool,
@@ -117,7 +132,8 @@ impl<N: Network> Mesh<N> {
         known: PeerProgress,
         time: u64,
     ) -> Result<Self, AllocError>
-        ensures { IfOk result (λ mesh. mesh.suspension ≡ plan.suspension) }
+        ensures suspended { IfOk result (λ mesh. mesh.suspension ≡ plan.suspension) }
+        ensures joins { IfOk result (λ mesh. mesh.plan.joining ≡ plan.joining) }
     {
         let dials = dials_of(alloc, plan.peers.as_slice())?;
         let inbounds = free_slots(alloc)?;
@@ -125,6 +141,7 @@ impl<N: Network> Mesh<N> {
         let states = unknown_peers(alloc, plan.peers.len())?;
         let notes = Notes::new(alloc, plan.own, known)?;
         let suspension = plan.suspension;
+        let learned = plan.replacements;
         Ok(Mesh {
             plan,
             listener,
@@ -134,14 +151,18 @@ impl<N: Network> Mesh<N> {
             states,
             notes,
             catch_up: CatchUp::new(time),
+            learned,
+            learned_at: None,
+            order: None,
+            is_over: false,
             steps: Steps::default(),
             is_outvoted: false,
             suspension,
             is_suspension_kept: suspension.is_some(),
             is_suspension_new: false,
             unwritten: None,
+            since: time,
             began: Some(time),
-            is_full: false,
             unlisted: Unlisted::new(alloc),
             is_busy: false,
             is_idle: false,
@@ -173,14 +194,20 @@ impl<N: Network> Mesh<N> {
         self.plan.start.at(&reach_of(process.node()))
     }
 
-    /// This node's greeting now. None: an allocation failed.
+    /// This node's greeting now, with the replacements with which it began. None: an allocation failed.
     pub(crate) fn greeting<T: Tape + Drop>(&mut self, voter: &Voter<T>) -> Option<Greeting>
-        ensures { IfSome result (λ said.
+        ensures progress { IfSome result (λ said.
             IsGreetedWith self.old.plan.start voter.now.process.actor.node said.progress) }
+        ensures voted { IfSome result (λ said. (known_count self.old.plan.replacements ≡ 0)
+            ⊎ IsHighestVoted (stored_of voter.now.process.actor.node) said.voted) }
     {
         self.notes.extend(voter.process.node().history());
         let progress = self.progress(&voter.process);
-        self.notes.greeting(progress, state_of(voter))
+        let told = Told {
+            replacements: self.plan.replacements,
+            voted: told_votes(voter.process.node(), &self.plan.replacements)?,
+        };
+        self.notes.greeting(progress, state_of(voter), told)
     }
 
     /// Writes what was heard of the peers to the node's folder, if more was heard than it has. Where that fails, the node acts no more
@@ -314,7 +341,7 @@ impl<N: Network> Mesh<N> {
     pub(crate) fn gate(&mut self, time: u64) -> Gate {
         if self.suspension.is_some() {
             Gate::Suspended
-        } else if self.unwritten.is_some() {
+        } else if self.unwritten.is_some() || self.is_over {
             Gate::Unwritten
         } else if self.has_waited(time) {
             Gate::Open
@@ -412,13 +439,15 @@ pub(crate) fn id_of(number: usize) -> Option<NodeId> {
 }
 
 /// What a node does now, as its peers are told.
-fn state_of<T: Tape + Drop>(voter: &Voter<T>) -> NodeState {
+pub(crate) fn state_of<T: Tape + Drop>(voter: &Voter<T>) -> NodeState {
     match voter.gate {
         Gate::Suspended => NodeState::Suspended,
         Gate::Unwritten => NodeState::Halted,
         Gate::Open | Gate::Starting => {
             if voter.process.is_halted() {
                 NodeState::Halted
+            } else if voter.joins {
+                NodeState::Joins
             } else if voter.is_outvoted {
                 NodeState::Outvoted
             } else {

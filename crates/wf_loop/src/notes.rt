@@ -11,7 +11,15 @@ use wf_ballot::{NodeId, Seq};
 use wf_digest::Digests;
 use wf_learner::History;
 use wf_peer::{Greeting, NodeState, Own, PeerProgress, PeerRejection, Progress, admit, is_from};
+use wf_rejoin::Replacements;
 use wf_tape::Tape;
+
+/// What a node tells its peers of replacements: those that are known, and, where there are any, the highest sequence at which it has a vote.
+#[derive(Clone, Copy)]
+pub(crate) struct Told {
+    pub(crate) replacements: Replacements,
+    pub(crate) voted: Seq,
+}
 
 /// What was heard of the peers, and the digests of this node's history.
 #[derive(Drop)]
@@ -118,8 +126,14 @@ impl Notes {
     }
 
     /// This node's greeting.
-    pub(crate) fn greeting(&self, progress: Progress, state: NodeState) -> Option<Greeting>
-        ensures { IfSome result (λ said. said.progress ≡ progress) }
+    pub(crate) fn greeting(
+        &self,
+        progress: Progress,
+        state: NodeState,
+        told: Told,
+    ) -> Option<Greeting>
+        ensures progress { IfSome result (λ said. said.progress ≡ progress) }
+        ensures voted { IfSome result (λ said. said.voted ≡ told.voted) }
     {
         let digest = self.digests.at(progress.published)?;
         Some(Greeting {
@@ -129,6 +143,8 @@ impl Notes {
             progress,
             digest,
             state,
+            replacements: told.replacements,
+            voted: told.voted,
         })
     }
 
@@ -136,13 +152,14 @@ impl Notes {
     /// its way when a later one was let in, so that accuses nobody.
     pub(crate) fn admit(
         &mut self,
+        replacements: &Replacements,
         index: Option<NodeId>,
         greeting: &Greeting,
     ) -> Result<(), PeerRejection> {
         let node = greeting.node;
         let digest = self.digests.at(greeting.progress.published);
         let before = self.known.heard(node);
-        let admitted = admit(&self.own, index, before, digest, greeting);
+        let admitted = admit(&self.own, replacements, index, before, digest, greeting);
         match admitted {
             Ok(()) => self.known.greet(node, greeting.progress),
             Err(PeerRejection::OlderStart) => {}

@@ -139,7 +139,7 @@ impl Pace {
     }
 
     /// Does what is to be done at a tick, if one is over.
-    #[tactic(auto, using(crate::proofs::Continuation::still_in, crate::proofs::Continuation::on_in))]
+    #[tactic(auto, using(crate::proofs::Continuation::still_in, crate::proofs::Continuation::on_in, crate::proofs::Continuation::twice_in))]
     fn tick<R: Net + Clock + Eprint + AllocGlobal, T: Tape + Drop, F: NodeFolder<T>, N: Network>(
         &mut self,
         context: &Context<'_, '_, R, N>,
@@ -157,6 +157,7 @@ impl Pace {
             clients.accept(context);
             clients.tick(context.time);
             desk.tick(context);
+            mesh.obey(context, voter, folder);
             self.go_on(context, voter, folder, mesh);
         }
     }

@@ -1,6 +1,6 @@
 //! All of a hub but its node: sockets, peers, and who only reads.
 ghost use Rattle.std.specs.Prelude.{◌≡◌, [], Some, IfErr, IfOk};
-ghost use Rattle.wf_loop.specs.StartErrors.{IsCause};
+ghost use Rattle.wf_loop.specs.StartErrors.{IsStartError};
 ghost use Rattle.wf_visitors.specs.Visitors.{responses_of};
 
 use crate::desk::Desk;
@@ -73,7 +73,7 @@ fn doors_of<R: Net, N: Network + Drop>(
     plan: &NodePlan,
     network: N,
 ) -> Result<Doors<N>, LoopFault>
-    ensures { IfErr result (IsCause plan.now) }
+    ensures { IfErr result (IsStartError plan.now) }
 {
     let Some(http) = network.listen(rt, plan.http, Socket::Http.token()) else {
         return Err(LoopFault::Http(plan.http));
@@ -117,6 +117,7 @@ fn begin_at<N: Network + Drop>(
 ) -> Result<HubStart<N>, LoopFault>
     ensures begun { IfOk result (λ begun. responses_of begun.visitors ≡ []) }
     ensures suspended { IfOk result (λ begun. begun.parts.mesh.suspension ≡ plan.suspension) }
+    ensures joins { IfOk result (λ begun. begun.parts.mesh.plan.joining ≡ plan.joining) }
     ensures memory { IfErr result (λ why. why ≡ LoopFault.Memory) }
 {
     let Doors {
@@ -150,7 +151,8 @@ pub(crate) fn bind<R: Net + Clock + AllocGlobal, N: Network + Drop>(
 ) -> Result<HubStart<N>, LoopFault>
     ensures begun { IfOk result (λ begun. responses_of begun.visitors ≡ []) }
     ensures suspended { IfOk result (λ begun. begun.parts.mesh.suspension ≡ plan.suspension) }
-    ensures cause { IfErr result (IsCause plan) }
+    ensures joins { IfOk result (λ begun. begun.parts.mesh.plan.joining ≡ plan.joining) }
+    ensures cause { IfErr result (IsStartError plan) }
 {
     match doors_of(rt, &plan, network) {
         Ok(doors) => begin_at(rt.alloc(), plan, doors, known, time, StartTime::now(rt)),

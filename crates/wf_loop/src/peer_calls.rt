@@ -9,20 +9,17 @@ use crate::event::{NodeEvent, PeerEnd};
 use crate::gate::Gate;
 use crate::hub::Voter;
 use crate::inbound::Inbound;
-use crate::mesh::{Mesh, id_of};
+use crate::mesh::{MOST_NODES, Mesh, id_of};
 use crate::reopening::NodeFolder;
 use std::alloc::Global;
 use std::net::Net;
 use std::time::Clock;
-use wf_ballot::NodeId;
+use wf_ballot::{NodeId, SEQUENCES};
 use wf_folder::{PeerAddress, Suspension};
 use wf_peer::{Greeting, GreetingReply, PeerRejection, encode};
 use wf_sockets::{Connection, Network};
 use wf_tape::Tape;
 use wf_visitors::Context;
-
-/// The most nodes of a farm.
-const MOST_NODES: usize = 64;
 
 impl<N: Network> Mesh<N> {
     /// Lets the connection to a peer go on.
@@ -60,7 +57,8 @@ impl<N: Network> Mesh<N> {
         }
     }
 
-    /// Opens the connection to a peer, whose reply has come. One that is open already brings the peer's greeting again, by which it is heard.
+    /// Opens the connection to a peer, whose reply has come. One that is open already brings the peer's greeting again, by which the
+    /// connection is known to stand.
     #[tactic(auto, using(crate::proofs::Continuation::still_in, crate::proofs::Continuation::on_in, crate::proofs::Continuation::twice_in))]
     fn open<R: Clock + Eprint + AllocGlobal, T: Tape + Drop, F: NodeFolder<T>>(
         &mut self,
@@ -79,7 +77,11 @@ impl<N: Network> Mesh<N> {
             return;
         }
         if self.is_open(index) {
-            self.note_heard(index, context.time);
+            self.note_heard_again(index, reply, context.time);
+            return;
+        }
+        if !self.is_established(index) {
+            // what its reply said has ended all connections
             return;
         }
         if let Some(dial) = self.dials.get_mut(index) {
@@ -93,8 +95,23 @@ impl<N: Network> Mesh<N> {
         self.catch_up.connect(index, context.time);
     }
 
-    /// A peer is heard.
-    fn note_heard(&mut self, index: usize, time: u64) {
+    /// Whether the connection to a peer is there.
+    fn is_established(&self, index: usize) -> bool {
+        match self.dials.get(index) {
+            Some(dial) => dial.is_established(),
+            None => false,
+        }
+    }
+
+    /// A peer has greeted again. It is heard by its messages; by this only once it has the last sequence, since it asks nobody any more
+    /// then.
+    fn note_heard_again(&mut self, index: usize, reply: &GreetingReply, time: u64) {
+        let GreetingReply::Greeting(greeting) = reply else {
+            return;
+        };
+        if greeting.progress.published.number() < SEQUENCES {
+            return;
+        }
         if let Some(state) = self.states.get_mut(index) {
             state.heard_at = Some(time);
         }
@@ -122,7 +139,10 @@ impl<N: Network> Mesh<N> {
                 }
             }
             GreetingReply::Rejected(why, _) => {
-                self.take_rejection(context, voter, peer, *why);
+                // a folder that joins is another one than before, until the peer has agreed to it
+                if !(voter.joins && why.ends_a_node()) {
+                    self.take_rejection(context, voter, peer, *why);
+                }
                 Some(PeerEnd::RejectedBy(*why))
             }
         }
@@ -284,11 +304,11 @@ impl<N: Network> Mesh<N> {
         }
     }
 
-    /// Whether a connection to a peer takes too long to open, or nothing is heard of the peer.
+    /// Whether a connection to a peer takes too long to open, or nothing comes on it.
     fn is_late(&self, index: usize, time: u64) -> bool {
-        match (self.dials.get(index), self.states.get(index)) {
-            (Some(dial), Some(state)) => dial.is_late(state.heard_at, time),
-            _ => false,
+        match self.dials.get(index) {
+            Some(dial) => dial.is_late(time),
+            None => false,
         }
     }
 
@@ -343,14 +363,14 @@ impl<N: Network> Mesh<N> {
         }
     }
 
-    /// Once the last sequence is published nobody asks any more: then each peer is greeted again on the connection from it, and learns by
-    /// this that the node is there.
+    /// Greets each peer again on the connection from it: by this it learns that the connection stands, and once the last sequence is
+    /// published, when nobody asks any more, that the node is there.
     pub(crate) fn greet_again<R: Clock + Eprint + AllocGlobal, T: Tape + Drop>(
         &mut self,
         context: &Context<'_, '_, R, N>,
         voter: &Voter<T>,
     ) {
-        if !self.is_full || !voter.connects() {
+        if !voter.connects() {
             return;
         }
         let Some(own) = self.greeting(voter) else {

@@ -1,5 +1,4 @@
 //! What comes from the peers of a node: connections, greetings and messages.
-ghost use Rattle.std.specs.Prelude.{◌≡◌};
 ghost use Rattle.wf_loop.specs.Continuation.{Continues, ContinuesIn};
 
 use crate::acts::{handle, is_heard_next, open_receiver, receive};
@@ -7,6 +6,7 @@ use crate::event::{NodeEvent, PeerEnd};
 use crate::hub::Voter;
 use crate::inbound::{Came, Inbound};
 use crate::mesh::{INBOUND_SLOTS, Mesh};
+use crate::peer_state::Greeted;
 use crate::reopening::NodeFolder;
 use crate::token::Socket;
 use std::mem;
@@ -253,8 +253,9 @@ impl<N: Network> Mesh<N> {
     }
 
     /// Whether a peer is let in that greets so, by all that the node has published: one that was dialed, or one from an address. What is
-    /// heard of it is in the folder before it is answered, and so is of what it is accused. Whether its history differs is noted.
-    #[tactic(auto, using(crate::proofs::Continuation::still_in, crate::proofs::Continuation::on_in))]
+    /// heard of it is in the folder before it is answered, and so is of what it is accused, and what it says of replacements. Whether its
+    /// history differs is noted.
+    #[tactic(auto, using(crate::proofs::Continuation::twice_in))]
     pub(crate) fn admit_peer<R: Clock + Eprint + AllocGlobal, T: Tape + Drop, F: NodeFolder<T>>(
         &mut self,
         context: &Context<'_, '_, R, N>,
@@ -270,16 +271,18 @@ impl<N: Network> Mesh<N> {
         self.notes.extend(voter.process.node().history());
         let published = voter.process.node().published().number();
         let number = greeting.node.number() as usize;
+        let greeted = self.greeted(number, index);
         let admitted = if self.is_listed(number, address) {
-            self.notes.admit(index, greeting)
+            self.notes.admit(&self.plan.replacements, index, greeting)
         } else {
             Err(PeerRejection::OtherNode)
         };
         match admitted {
             Ok(()) => {
                 if let Some(state) = self.states.get_mut(number) {
-                    state.take(greeting, index.is_some(), published);
+                    state.take(greeting, greeted, published);
                 }
+                self.hear_of_replacements(index.is_some(), greeting, context.time);
             }
             Err(PeerRejection::OtherHistory) => {
                 self.count_rejection(number);
@@ -288,7 +291,17 @@ impl<N: Network> Mesh<N> {
             Err(_) => self.count_rejection(number),
         }
         let _ = self.save(context, voter, folder);
+        self.obey(context, voter, folder);
         admitted
+    }
+
+    /// On which connection the node of this number greets: one that this node dialed, or its own.
+    fn greeted(&self, number: usize, index: Option<NodeId>) -> Greeted {
+        match index {
+            None => Greeted::Comes,
+            Some(_) if self.is_open(number) => Greeted::Again,
+            Some(_) => Greeted::LetsIn,
+        }
     }
 
     /// A peer isn't let in.
@@ -422,8 +435,7 @@ impl<N: Network> Mesh<N> {
         context: &Context<'_, '_, R, N>,
         published: u16,
     ) {
-        self.is_full = published == SEQUENCES;
-        if self.is_full {
+        if published == SEQUENCES {
             return;
         }
         for slot in &mut self.inbounds {

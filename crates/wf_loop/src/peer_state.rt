@@ -23,16 +23,30 @@ impl Default for Agreement {
     }
 }
 
+/// On which connection a peer greets.
+#[derive(Clone, Copy, PartialEq, Eq)]
+pub(crate) enum Greeted {
+    /// On its own: it hasn't compared the histories.
+    Comes,
+    /// On this node's, which it lets in by this, since it has compared them.
+    LetsIn,
+    /// On this node's, which is open, without having compared anything.
+    Again,
+}
+
 impl Agreement {
-    /// What it is after a greeting of a peer that is let in, has published so far, and maybe has let this node in by it, whose own last
-    /// sequence is this one. A peer that is ahead compares the histories itself, and then answers by a greeting or a rejection.
-    pub(crate) fn after(self, said: u16, lets_in: bool, published: u16) -> Agreement {
-        if said < published {
-            Agreement::Unknown
-        } else if said == published || lets_in {
-            Agreement::Agrees
-        } else {
-            self
+    /// What it is after a greeting of a peer that is let in and has published so far, where this node's own last sequence is this one. A
+    /// peer that is ahead compares the histories itself, and then answers by a greeting or a rejection. One that greets again and isn't
+    /// as far has nothing new.
+    pub(crate) fn after(self, said: u16, greeted: Greeted, published: u16) -> Agreement {
+        if said == published {
+            return Agreement::Agrees;
+        }
+        match greeted {
+            Greeted::Again => self,
+            _ if said < published => Agreement::Unknown,
+            Greeted::LetsIn => Agreement::Agrees,
+            Greeted::Comes => self,
         }
     }
 }
@@ -71,15 +85,15 @@ pub(crate) struct PeerState {
 }
 
 impl PeerState {
-    /// It is let in with this greeting, and has maybe let this node in by it, whose own last sequence is this one.
-    pub(crate) fn take(&mut self, greeting: &Greeting, lets_in: bool, published: u16) {
+    /// It is let in with this greeting, where this node's own last sequence is this one.
+    pub(crate) fn take(&mut self, greeting: &Greeting, greeted: Greeted, published: u16) {
         let said = greeting.progress.published.number();
         self.says = Some(greeting.state);
         self.reached = Some(Reached {
             published: said,
             digest: greeting.digest,
         });
-        self.agreement = self.agreement.after(said, lets_in, published);
+        self.agreement = self.agreement.after(said, greeted, published);
     }
 
     /// Whether a message of it came a short time ago, and it serves.
@@ -99,6 +113,14 @@ impl PeerState {
         match self.heard_at {
             Some(heard) => time.saturating_sub(heard) <= HEARD_MILLIS,
             None => false,
+        }
+    }
+
+    /// For how many milliseconds no message of it came. None: none ever did.
+    pub(crate) fn silence(&self, time: u64) -> Option<u64> {
+        match self.heard_at {
+            Some(heard) => Some(time.saturating_sub(heard)),
+            None => None,
         }
     }
 

@@ -1,10 +1,12 @@
 //! Which node of a farm it is, and where the others are.
 
+use crate::joiner::Joiner;
 use std::alloc::AllocError;
 use std::net::SocketAddr;
 use thiserror::Error;
 use wf_folder::Suspension;
 use wf_peer::{Own, Progress};
+use wf_rejoin::Replacements;
 
 /// Which node of a farm it is, and where the others are.
 #[derive(Drop)]
@@ -15,6 +17,12 @@ pub struct NodePlan {
     pub start: Progress,
     /// Who suspended the node, if anybody did.
     pub suspension: Option<Suspension>,
+    /// The replacements of nodes that its folder knows of.
+    pub replacements: Replacements,
+    /// What the folder was told so far, if it joins in the place of a lost one.
+    pub joining: Option<Joiner>,
+    /// Whether an operator may begin replacements at this node, and ask it to agree to them.
+    pub may_replace: bool,
     /// The node's folder.
     pub folder: String,
     /// The path of the node's tape, whose length is told.

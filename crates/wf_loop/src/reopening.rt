@@ -133,6 +133,16 @@ pub trait NodeFolder<T> {
     /// the one that is locked. After an error the text from before or this one is there.
     fn keep_heard(&mut self, text: Vec<u8>) -> Result<(), FolderError>
         ensures { IsHeardPut result text.items (stands self.old) (stands self.new) };
+
+    /// Puts a text in the place of the file `replaced`, what is known of replacements: synced, with the folder, if the folder at its path is
+    /// the one that is locked. After an error the text from before or this one is there.
+    fn keep_replaced(&mut self, text: Vec<u8>) -> Result<(), FolderError>
+        ensures { stands self.new ≡ stands self.old };
+
+    /// Puts a text in the place of the file `joins`, what a folder that joins was told, or an empty one once it has joined: synced, with the
+    /// folder, if the folder at its path is the one that is locked. After an error the text from before or this one is there.
+    fn keep_joining(&mut self, text: Vec<u8>) -> Result<(), FolderError>
+        ensures { stands self.new ≡ stands self.old };
 }
 
 /// A process that goes on for one whose tape has failed, with the digests of no history yet, and the number of its start.

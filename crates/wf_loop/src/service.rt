@@ -1,14 +1,15 @@
 //! How a hub begins and goes on, turn after turn.
 ghost use Rattle.std.specs.Prelude.{◌≡◌, ◌≤◌, ◌+◌, ◌↔◌, ◌++◌, ◌∷◌, [], ℕ, List, true, Err, IfErr, IfOk, IsSome, IsTrue, OnErr, OnOk, Option};
-ghost use Rattle.wf_actor.specs.Process.{IsBegun};
+ghost use Rattle.wf_actor.specs.Process.{IsJustOpened};
 ghost use Rattle.wf_digest.specs.Digest.{AreDigestsOf};
 ghost use Rattle.wf_folder.specs.declared.suspension.Suspension.{Suspension as SuspensionValue};
+ghost use Rattle.wf_loop.specs.declared.joiner.Joiner.{Joiner as JoinerValue};
 ghost use Rattle.wf_loop.specs.Folder.{counted};
-ghost use Rattle.wf_loop.specs.Hub.{GreetsAsNow, HasAnswered, IsBusy, IsHeardFirst, IsOutvoted, IsReopeningDue, IsSuspended, OnlyAnswersAsks, address_of, kept_of, process_of, time_of};
+ghost use Rattle.wf_loop.specs.Hub.{GreetsAsNow, HasAnswered, IsBusy, IsHeardFirst, IsJoiner, IsOutvoted, IsOver, IsReopeningDue, IsSuspended, OnlyAnswersAsks, OnlyLearns, address_of, kept_of, process_of, time_of};
 ghost use Rattle.wf_node.specs.Reopening.{HasStoredAs};
 ghost use Rattle.wf_loop.specs.Lived.{HasLived};
-ghost use Rattle.wf_loop.specs.Continuation.{Continues, ContinuesIn, Follows, GoesOn, KeepsEarlier, StaysSuspended};
-ghost use Rattle.wf_loop.specs.StartErrors.{IsCause};
+ghost use Rattle.wf_loop.specs.Continuation.{ContinuesIn, IsNextRun, StaysInRun, KeepsEarlier, StaysSuspended};
+ghost use Rattle.wf_loop.specs.StartErrors.{IsStartError};
 ghost use Rattle.wf_visitors.specs.Visitors.{responses_of};
 
 use crate::acts::begin_run;
@@ -16,12 +17,12 @@ use crate::clients::Clients;
 use crate::event::NodeEvent;
 use crate::gate::Gate;
 use crate::hub::{Hub, Voter};
-use crate::mesh::Mesh;
+use crate::joiner::Joiner;
+use crate::order::keep_reach;
 use crate::pace::{Pace, TICK_MILLIS};
 use crate::parts::{HubParts, HubStart, bind};
 use crate::plan::{LoopFault, NodePlan};
-use crate::reach::reach_of;
-use crate::reopening::{FolderError, NextRun, NodeFolder, NotReopened, TapeNotReopened};
+use crate::reopening::{NextRun, NodeFolder, NotReopened, TapeNotReopened};
 use crate::tally::Tally;
 use crate::turn::{answer_operators, has_more, serve_all};
 use std::alloc::Global;
@@ -34,7 +35,7 @@ use wf_folder::Suspension;
 use wf_operator::{Behind, PictureCounts};
 use wf_peer::PeerProgress;
 use wf_sockets::{Network, NetworkError, SystemNetwork};
-use wf_store::{FileName, FolderFault};
+use wf_store::FileName;
 use wf_tape::Tape;
 use wf_visitors::{Context, Log, Visitors, now};
 
@@ -46,7 +47,7 @@ const MOMENT_MILLIS: u64 = 1;
 
 /// Why a node of this plan doesn't begin: there is no network of the system.
 fn fault_of(error: NetworkError, plan: &NodePlan) -> LoopFault
-    ensures { IsCause plan.now result }
+    ensures { IsStartError plan.now result }
 {
     let _ = plan;
     match error {
@@ -70,6 +71,9 @@ fn hub_of<T: Tape + Drop, N: Network + Drop>(
     ensures suspended { (suspension : Option SuspensionValue) →
         IfOk begun (λ begun. begun.parts.mesh.suspension ≡ suspension) →
         IsSome suspension → IfOk result IsSuspended }
+    ensures joins { (joining : Option JoinerValue) →
+        IfOk begun (λ begun. begun.parts.mesh.plan.joining ≡ joining) →
+        IsSome joining → IfOk result IsJoiner }
     ensures fault { IfErr result (λ fault. begun ≡ Err fault) }
 {
     match begun {
@@ -89,19 +93,26 @@ fn voter_of<T: Tape>(
     process: Process<T>,
     kept: PeerProgress,
     suspension: &Option<Suspension>,
+    joining: &Option<Joiner>,
 ) -> Voter<T>
     ensures process { result.process ≡ process }
     ensures kept { result.kept ≡ kept }
     ensures suspended { IsSome suspension.now → result.gate ≡ Gate.Suspended }
+    ensures joins { IsSome joining.now → result.joins ≡ true }
 {
     let gate = match suspension {
         Some(_) => Gate::Suspended,
         None => Gate::Starting,
     };
+    let joins = match joining {
+        Some(_) => true,
+        None => false,
+    };
     Voter {
         process,
         gate,
         is_outvoted: false,
+        joins,
         kept,
         rejected: Tally::new(alloc),
         pictures: PictureCounts::default(),
@@ -121,12 +132,19 @@ fn assemble<T: Tape + Drop, N: Network + Drop>(
     ensures hub { process_of result ≡ process }
     ensures kept { kept_of result ≡ known }
     ensures suspended { IsSome parts.mesh.suspension → IsSuspended result }
+    ensures joins { IsSome parts.mesh.plan.joining → IsJoiner result }
     ensures time { time_of result ≡ time }
 {
     let pace = parts.pace(time);
     let http = visitors.address(&parts.network);
     let clients = Clients::new(visitors);
-    let voter = voter_of(alloc, process, known, &parts.mesh.suspension);
+    let voter = voter_of(
+        alloc,
+        process,
+        known,
+        &parts.mesh.suspension,
+        &parts.mesh.plan.joining,
+    );
     hub_with(parts, clients, voter, pace, http, time)
 }
 
@@ -168,7 +186,9 @@ impl<T: Tape + Drop> Hub<T> {
         ensures kept { IfOk result (λ hub. kept_of hub ≡ known) }
         // A node that its folder says is suspended begins so.
         ensures suspended { IsSome plan.suspension → IfOk result IsSuspended }
-        ensures cause { IfErr result (IsCause plan) }
+        // One whose folder joins does so from the first turn on.
+        ensures joins { IsSome plan.joining → IfOk result IsJoiner }
+        ensures cause { IfErr result (IsStartError plan) }
     {
         match SystemNetwork::new(rt) {
             Ok(network) => Hub::on(rt, network, plan, process, known, now(rt)),
@@ -195,13 +215,17 @@ impl<T: Tape + Drop> Hub<T> {
         // Each response that any client was sent is the one to exactly what had come of its request, by a process that had lived.
         ensures answered { HasAnswered T.Tape self.new }
         // It goes on in the run that it was in, as the node that it was.
-        ensures on { GoesOn T.Tape (process_of self.old) (process_of self.new) }
+        ensures on { StaysInRun T.Tape (process_of self.old) (process_of self.new) }
         ensures earlier { KeepsEarlier T.Tape (process_of self.old) (process_of self.new) }
         // A suspended node stays suspended and as it is: it is given nothing, and emits no message.
         ensures suspended { IsSuspended self.old → StaysSuspended self.old.voter self.new.voter }
         // In a turn in which the history of a peer differs and no majority agrees, it is given no message but those that ask for what is
         // published, so it doesn't vote, and no client is answered.
         ensures outvoted { IsOutvoted self.new → OnlyAnswersAsks self.old self.new }
+        // A node whose folder joins is given no message but those that say what is published, so it doesn't vote, and no client is answered.
+        ensures joins { IsJoiner self.old → OnlyLearns self.old self.new }
+        // Once what was written is for the next start of the folder, nothing changes: the node is given nothing, and emits no message.
+        ensures over { IsOver self.old → process_of self.new ≡ process_of self.old }
         ensures starts { (F.stands folder.new).starts ≡ (F.stands folder.old).starts }
         ensures begun { (F.stands folder.new).begun ≡ (F.stands folder.old).begun }
         // What a message of a peer tells of its round and its promise is in the file `heard` before the node is given it.
@@ -232,8 +256,10 @@ impl<T: Tape + Drop, N: Network + Drop> Hub<T, N> {
         ensures kept { IfOk result (λ hub. kept_of hub ≡ known) }
         // A node that its folder says is suspended begins so.
         ensures suspended { IsSome plan.suspension → IfOk result IsSuspended }
+        // One whose folder joins does so from the first turn on.
+        ensures joins { IsSome plan.joining → IfOk result IsJoiner }
         ensures time { IfOk result (λ hub. time_of hub ≡ time) }
-        ensures cause { IfErr result (IsCause plan) }
+        ensures cause { IfErr result (IsStartError plan) }
     {
         hub_of(
             rt.alloc(),
@@ -256,6 +282,14 @@ impl<T: Tape + Drop, N: Network + Drop> Hub<T, N> {
         ensures { result ≡ time_of self.now }
     {
         self.time
+    }
+
+    /// Whether what was written to the folder is for its next start, so that the process is to end: a replacement of a node became known, or
+    /// the folder has joined. Nothing more is sent or taken in.
+    pub fn is_over(&self) -> bool
+        ensures { IsTrue result ↔ IsOver self.now }
+    {
+        self.parts.mesh.is_over
     }
 
     /// The node's process.
@@ -292,16 +326,19 @@ impl<T: Tape + Drop, N: Network + Drop> Hub<T, N> {
         log: &Log<'_, R>,
         folder: &mut F,
     ) -> Result<(), NotReopened>
-        ensures begun { OnOk result (IsBegun (process_of self.new)) }
+        ensures begun { OnOk result (IsJustOpened (process_of self.new)) }
         // It has stored what it had, or that and the record of the step that failed: whatever is on the tape, and of files too.
         ensures stored { OnOk result
             (HasStoredAs (process_of self.old).actor.node (process_of self.new).actor.node) }
+        ensures ended { OnOk result ((process_of self.new).ended.items ≡
+            (process_of self.old).ended.items ++ ((process_of self.old).actor, 0) ∷ []) }
         ensures counted { OnOk result (F.stands folder.new ≡ counted (F.stands folder.old)) }
         ensures before { (F.stands folder.new).begun ≡ (F.stands folder.old).begun }
         ensures heard { IsHeardFirst (F.stands folder.old).heard self.old →
             IsHeardFirst (F.stands folder.new).heard self.new }
         ensures greets { OnOk result (GreetsAsNow (F.stands folder.new).starts self.new) }
         ensures suspended { IsSuspended self.old → IsSuspended self.new }
+        ensures joins { IsJoiner self.old → IsJoiner self.new }
         ensures same { OnErr result (process_of self.new ≡ process_of self.old) }
         // The run that begins follows the one that has ended.
         ensures earlier { (process_of self.old).actor.node.halted ≡ true →
@@ -332,13 +369,13 @@ impl<T: Tape + Drop, N: Network + Drop> Hub<T, N> {
         alloc: Global,
         folder: &mut F,
     ) -> Result<NextRun<T>, NotReopened>
-        ensures begun { IfOk result (λ next. IsBegun next.process) }
+        ensures begun { IfOk result (λ next. IsJustOpened next.process) }
         ensures stored { IfOk result (λ next.
             HasStoredAs (process_of self.now).actor.node next.process.actor.node) }
         ensures ended { IfOk result (λ next. next.process.ended.items ≡
             (process_of self.now).ended.items ++ ((process_of self.now).actor, 0) ∷ []) }
         ensures follows { IfOk result (λ next. (process_of self.now).actor.node.halted ≡ true →
-            Follows T.Tape (process_of self.now).actor next.process.actor) }
+            IsNextRun T.Tape (process_of self.now).actor next.process.actor) }
         ensures digests { IfOk result (λ next. AreDigestsOf [] next.digests) }
         ensures counted { OnOk result (F.stands folder.new ≡ counted (F.stands folder.old)) }
         ensures before { (F.stands folder.new).begun ≡ (F.stands folder.old).begun }
@@ -374,13 +411,13 @@ impl<T: Tape + Drop, N: Network + Drop> Hub<T, N> {
         alloc: Global,
         folder: &mut F,
     ) -> Result<Process<T>, NotReopened>
-        ensures begun { IfOk result (λ process. IsBegun process) }
+        ensures begun { IfOk result (λ process. IsJustOpened process) }
         ensures stored { IfOk result (λ process.
             HasStoredAs (process_of self.now).actor.node process.actor.node) }
         ensures ended { IfOk result (λ process. process.ended.items ≡
             (process_of self.now).ended.items ++ ((process_of self.now).actor, 0) ∷ []) }
         ensures follows { IfOk result (λ process. (process_of self.now).actor.node.halted ≡ true →
-            Follows T.Tape (process_of self.now).actor process.actor) }
+            IsNextRun T.Tape (process_of self.now).actor process.actor) }
         ensures stands { F.stands folder.new ≡ F.stands folder.old }
     {
         match folder.open() {
@@ -397,7 +434,7 @@ impl<T: Tape + Drop, N: Network + Drop> Hub<T, N> {
         requires ended { next.process.ended.items ≡
             (process_of self.old).ended.items ++ ((process_of self.old).actor, 0) ∷ [] }
         requires follows { (process_of self.old).actor.node.halted ≡ true →
-            Follows T.Tape (process_of self.old).actor next.process.actor }
+            IsNextRun T.Tape (process_of self.old).actor next.process.actor }
         requires digests { AreDigestsOf [] next.digests }
         requires given { next.process.actor.given.items ≡ [] }
         ensures process { process_of self.new ≡ next.process }
@@ -405,6 +442,7 @@ impl<T: Tape + Drop, N: Network + Drop> Hub<T, N> {
             IsHeardFirst heard self.old → IsHeardFirst heard self.new }
         ensures greets { GreetsAsNow next.starts self.new }
         ensures suspended { IsSuspended self.old → IsSuspended self.new }
+        ensures joins { IsJoiner self.old → IsJoiner self.new }
         ensures earlier { (process_of self.old).actor.node.halted ≡ true →
             KeepsEarlier T.Tape (process_of self.old) (process_of self.new) }
     {
@@ -459,13 +497,17 @@ impl<T: Tape + Drop, N: Network + Drop> Hub<T, N> {
         // Each response that any client was sent is the one to exactly what had come of its request, by a process that had lived.
         ensures answered { HasAnswered T.Tape self.new }
         // It goes on in the run that it was in, as the node that it was.
-        ensures on { GoesOn T.Tape (process_of self.old) (process_of self.new) }
+        ensures on { StaysInRun T.Tape (process_of self.old) (process_of self.new) }
         ensures earlier { KeepsEarlier T.Tape (process_of self.old) (process_of self.new) }
         // A suspended node stays suspended and as it is: it is given nothing, and emits no message.
         ensures suspended { IsSuspended self.old → StaysSuspended self.old.voter self.new.voter }
         // In a turn in which the history of a peer differs and no majority agrees, it is given no message but those that ask for what is
         // published, so it doesn't vote, and no client is answered.
         ensures outvoted { IsOutvoted self.new → OnlyAnswersAsks self.old self.new }
+        // A node whose folder joins is given no message but those that say what is published, so it doesn't vote, and no client is answered.
+        ensures joins { IsJoiner self.old → OnlyLearns self.old self.new }
+        // Once what was written is for the next start of the folder, nothing changes: the node is given nothing, and emits no message.
+        ensures over { IsOver self.old → process_of self.new ≡ process_of self.old }
         ensures starts { (F.stands folder.new).starts ≡ (F.stands folder.old).starts }
         ensures begun { (F.stands folder.new).begun ≡ (F.stands folder.old).begun }
         // What a message of a peer tells of its round and its promise is in the file `heard` before the node is given it.
@@ -475,19 +517,21 @@ impl<T: Tape + Drop, N: Network + Drop> Hub<T, N> {
         ensures now { time ≤ time_of self.new }
     {
         let could_wait = !self.has_work();
+        let is_over = self.parts.mesh.is_over;
         self.time = time.max(self.time);
         self.judge(log);
-        self.is_busy = self.act(rt, log, folder, ready, could_wait);
+        self.is_busy = self.act_unless(is_over, rt, log, folder, ready, could_wait);
         self.keep(log, folder);
         self.always_lived();
     }
 
     /// Decides how the node acts in this turn. Of a suspended one all ports but the operator's are closed, and where no majority agrees with
-    /// it, clients and readers are sent away.
+    /// it, or its folder joins, clients and readers are sent away.
     fn judge<R: Clock + Eprint>(&mut self, log: &Log<'_, R>)
         ensures process { process_of self.new ≡ process_of self.old }
         ensures kept { kept_of self.new ≡ kept_of self.old }
         ensures suspended { IsSuspended self.old → IsSuspended self.new }
+        ensures joins { self.new.voter.joins ≡ self.old.voter.joins }
         ensures befores { self.new.clients.before.items ≡ self.old.clients.before.items }
         ensures time { time_of self.new ≡ time_of self.old }
     {
@@ -498,7 +542,7 @@ impl<T: Tape + Drop, N: Network + Drop> Hub<T, N> {
             self.clients.close();
             self.parts.desk.readers.close();
             self.parts.mesh.close_all(self.time);
-        } else if is_outvoted {
+        } else if is_outvoted || self.voter.joins {
             self.clients.dismiss();
             self.parts.desk.readers.dismiss();
         }
@@ -518,7 +562,7 @@ impl<T: Tape + Drop, N: Network + Drop> Hub<T, N> {
             mesh.is_suspension_kept = kept.is_ok();
             kept
         } else if is_due && !self.voter.process.is_halted() {
-            keep_reach(&self.voter.process, mesh, folder)
+            keep_reach(&self.voter.process, &mut mesh.notes, folder)
         } else {
             return;
         };
@@ -526,6 +570,32 @@ impl<T: Tape + Drop, N: Network + Drop> Hub<T, N> {
             Ok(()) => mesh.note_written(FileName::Farm),
             Err(why) => mesh.note_unwritten(log, self.time, FileName::Farm, why),
         }
+    }
+
+    /// Does what is to be done, unless what was written is for the next start of the folder. Returns whether there is more to do.
+    #[tactic(auto, using(crate::proofs::Continuation::still_in))]
+    fn act_unless<R: Net + Files + Clock + Eprint + AllocGlobal, F: NodeFolder<T>>(
+        &mut self,
+        is_over: bool,
+        rt: &R,
+        log: &Log<'_, R>,
+        folder: &mut F,
+        ready: &[usize],
+        could_wait: bool,
+    ) -> bool
+        ensures on { ContinuesIn T.Tape (F.stands folder.old) self.old.voter
+            (F.stands folder.new) self.new.voter }
+        ensures outvoted { IsOutvoted self.old →
+            self.new.clients.before.items ≡ self.old.clients.before.items }
+        ensures joins { IsJoiner self.old →
+            self.new.clients.before.items ≡ self.old.clients.before.items }
+        ensures over { is_over ≡ true → process_of self.new ≡ process_of self.old }
+        ensures time { time_of self.new ≡ time_of self.old }
+    {
+        if is_over {
+            return false;
+        }
+        self.act(rt, log, folder, ready, could_wait)
     }
 
     /// Does what the sockets that are ready ask for, and what the clock does. Returns whether there is more to do.
@@ -540,6 +610,8 @@ impl<T: Tape + Drop, N: Network + Drop> Hub<T, N> {
         ensures on { ContinuesIn T.Tape (F.stands folder.old) self.old.voter
             (F.stands folder.new) self.new.voter }
         ensures outvoted { IsOutvoted self.old →
+            self.new.clients.before.items ≡ self.old.clients.before.items }
+        ensures joins { IsJoiner self.old →
             self.new.clients.before.items ≡ self.old.clients.before.items }
         ensures time { time_of self.new ≡ time_of self.old }
     {
@@ -569,21 +641,5 @@ impl<T: Tape + Drop, N: Network + Drop> Hub<T, N> {
         pace.turn(&context, voter, folder, mesh, desk, clients);
         answer_operators(&context, voter, mesh, desk, clients, behind);
         has_more(voter, mesh, clients)
-    }
-}
-
-/// Keeps in the folder how far a node is.
-fn keep_reach<T: Tape + Drop, F: NodeFolder<T>, N: Network>(
-    process: &Process<T>,
-    mesh: &mut Mesh<N>,
-    folder: &mut F,
-) -> Result<(), FolderError>
-    ensures stands { F.stands folder.new ≡ F.stands folder.old }
-{
-    let node = process.node();
-    mesh.notes.extend(node.history());
-    match mesh.notes.digest_at(node.published().number()) {
-        Some(digest) => folder.keep(&reach_of(node), digest),
-        None => Err(FolderError::Store(FolderFault::Memory)),
     }
 }

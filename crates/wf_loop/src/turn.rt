@@ -7,7 +7,9 @@ use crate::clients::Clients;
 use crate::desk::{Desk, serve_operators};
 use crate::facts::NodeFacts;
 use crate::hub::Voter;
-use crate::mesh::Mesh;
+use crate::mesh::{Mesh, state_of};
+use crate::order::Order;
+use crate::question::Standing;
 use crate::reopening::NodeFolder;
 use crate::token::Socket;
 use std::net::Net;
@@ -44,6 +46,8 @@ pub(crate) fn serve_all<
     ensures on { ContinuesIn T.Tape (F.stands folder.old) voter.old
         (F.stands folder.new) voter.new }
     ensures outvoted { voter.old.is_outvoted ≡ true →
+        clients.new.before.items ≡ clients.old.before.items }
+    ensures joins { voter.old.joins ≡ true →
         clients.new.before.items ≡ clients.old.before.items }
 {
     act_on_all(context, voter, folder, mesh, desk, clients, tokens);
@@ -202,6 +206,8 @@ fn serve_clients<R: Clock + Eprint + AllocGlobal, T: Tape + Drop, N: Network>(
     ensures on { Continues T.Tape voter.old voter.new }
     ensures outvoted { voter.old.is_outvoted ≡ true →
         clients.new.before.items ≡ clients.old.before.items }
+    ensures joins { voter.old.joins ≡ true →
+        clients.new.before.items ≡ clients.old.before.items }
 {
     for _ in 0..MOST_SERVED {
         if !serve_next(context, voter, mesh, clients) {
@@ -221,6 +227,8 @@ fn serve_next<R: Clock + Eprint + AllocGlobal, T: Tape + Drop, N: Network>(
 ) -> bool
     ensures on { Continues T.Tape voter.old voter.new }
     ensures outvoted { voter.old.is_outvoted ≡ true →
+        clients.new.before.items ≡ clients.old.before.items }
+    ensures joins { voter.old.joins ≡ true →
         clients.new.before.items ≡ clients.old.before.items }
 {
     let Some(index) = clients.answer_next(context, voter) else {
@@ -247,11 +255,26 @@ pub(crate) fn answer_operators<R: Files + Clock + Eprint + AllocGlobal, T: Tape 
         // what was published in this turn has its digests too
         mesh.notes.extend(history);
         mesh.note_states(&voter.process, context.time);
-        serve_facts(context, voter, mesh, desk, clients, is_behind);
+        let order = serve_facts(context, voter, mesh, desk, clients, is_behind);
+        if order.is_some() {
+            mesh.order = order;
+        }
     }
 }
 
-/// Answers operators with what is known.
+/// What a node answers by where an operator asks it about a replacement.
+fn standing_of<T: Tape + Drop, N: Network>(voter: &Voter<T>, mesh: &Mesh<N>) -> Standing {
+    Standing {
+        may_replace: mesh.plan.may_replace,
+        mark: mesh.plan.start.mark,
+        state: state_of(voter),
+        began_with: mesh.plan.replacements,
+        learned: mesh.learned,
+        joining: mesh.plan.joining,
+    }
+}
+
+/// Answers operators with what is known. Returns what their questions have left to write, if anything.
 fn serve_facts<R: Files + Clock + Eprint + AllocGlobal, T: Tape + Drop, N: Network>(
     context: &Context<'_, '_, R, N>,
     voter: &Voter<T>,
@@ -259,7 +282,7 @@ fn serve_facts<R: Files + Clock + Eprint + AllocGlobal, T: Tape + Drop, N: Netwo
     desk: &mut Desk<N>,
     clients: &Clients<T, N>,
     is_behind: bool,
-) {
+) -> Option<Order> {
     let process = &voter.process;
     let history = process.node().history();
     let latest = mesh.notes.latest(mesh.dials.len());
@@ -293,6 +316,13 @@ fn serve_facts<R: Files + Clock + Eprint + AllocGlobal, T: Tape + Drop, N: Netwo
         is_behind,
         clients: clients.visitors.taken_slots(),
         readers: readers.reader_count(),
+        node: mesh.plan.own.node,
+        since: mesh.since,
+        time: context.time,
+        standing: standing_of(voter, mesh),
+        order: None,
     };
-    serve_operators(operators, context, &mut Operator::new(facts));
+    let mut operator = Operator::new(facts);
+    serve_operators(operators, context, &mut operator);
+    operator.operated().order
 }

@@ -4,7 +4,7 @@ use Rattle.std.specs.Prelude.{Option, Some, None, Result, Ok, Err, OnErr, OnOk, 
 use Rattle.wf_folder.specs.NodeFile.{IsNodeFile, node_text}
 use Rattle.wf_folder.specs.declared.node_admission.NodeFound.TheVariants as finds
 use Rattle.wf_folder.specs.declared.node_file.NodeFile.{NodeFile}
-use Rattle.wf_node_command.specs.Cleared.{HasRead, IsClearDone, IsClearFault, IsCleared, IsHalfCleared, IsRewritten, IsUncleared, IsUnwritten, nothing_heard, without_suspension}
+use Rattle.wf_node_command.specs.Cleared.{HasReadFarmFile, IsClearDone, IsClearFault, IsCleared, IsHalfCleared, IsRewritten, IsUncleared, IsUnwritten, nothing_heard, without_suspension}
 use Rattle.wf_node_command.specs.Folder.{IsFarmFound, IsFoundIn}
 use Rattle.wf_node_command.specs.declared.fault.CommandFault.{CommandFault}
 use Rattle.wf_node_command.specs.declared.fault.CommandFault.TheVariants as faults
@@ -32,21 +32,21 @@ rewritten file cleared old mid new first is second =
 
 -- ---- the folder
 
-has_read : (file : NodeFile) (old new : List Call) (bytes : Option (List ℕ)) → new ≡ read Farm bytes ∷ old → IsFoundIn bytes (finds.File file) → IsNodeFile file → HasRead file old new
+has_read : (file : NodeFile) (old new : List Call) (bytes : Option (List ℕ)) → new ≡ read Farm bytes ∷ old → IsFoundIn bytes (finds.File file) → IsNodeFile file → HasReadFarmFile file old new
 has_read file old new None is found sound = absurd found
 has_read file old new (Some text) is found sound = record { bytes = text; calls = is; is_text = found; sound = sound }
 
-pub is_read : (file : NodeFile) (old new : List Call) → IsFarmFound (finds.File file) old new → IsNodeFile file → HasRead file old new
+pub is_read : (file : NodeFile) (old new : List Call) → IsFarmFound (finds.File file) old new → IsNodeFile file → HasReadFarmFile file old new
 is_read file old new is sound = has_read file old new is.bytes is.calls is.is sound
 
 -- it has no such file
 pub not_read : (old new : List Call) → OnlyReads old new → IsUncleared old new
 not_read old new reads = inl reads
 
-pub not_written : (file : NodeFile) (old mid new : List Call) → HasRead file old mid → IsUnwritten mid new → IsUncleared old new
+pub not_written : (file : NodeFile) (old mid new : List Call) → HasReadFarmFile file old mid → IsUnwritten mid new → IsUncleared old new
 not_written file old mid new is unwritten = inr (record { file = file; found = mid; is_found = is; unwritten = unwritten })
 
-pub written : (file : NodeFile) (old mid new : List Call) → HasRead file old mid → IsRewritten file mid new → IsCleared old new
+pub written : (file : NodeFile) (old mid new : List Call) → HasReadFarmFile file old mid → IsRewritten file mid new → IsCleared old new
 written file old mid new is rewritten = record { file = file; found = mid; is_found = is; written = rewritten }
 
 -- it can't be locked

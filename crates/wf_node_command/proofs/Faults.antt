@@ -31,6 +31,7 @@ pub from_fault : (line : InitLine) (from : Bor (List ℕ)) (fault : CommandFault
 from_fault line from (faults.FromUnread kind) some is = is_some line.from from some
 from_fault line from (faults.FromBad offset) some is = is_some line.from from some
 from_fault line from (faults.BesideUnread kind) some is = is_some line.from from some
+from_fault line from (faults.JoinsUnread kind) some is = is_some line.from from some
 from_fault line from faults.Memory some is = tt
 from_fault line from (faults.FromRejected why) some is =
     subst (λ (f : Option (Bor (List ℕ))). MatchOption f ⊥ (λ from'. IsNotFrom (path_file_name from'.now) line.id line.nodes why)) (sym some) is

@@ -2,10 +2,12 @@ mod Clearing
 mod Faults
 mod Found
 mod Kept
+mod Learned
 mod Making
 mod Opening
 mod Own
 mod Reached
+mod ReplacementFiles
 mod Served
 mod Started
 mod Starting

@@ -1,6 +1,7 @@
 -- From a node that is ready to one that was served.
-use Rattle.std.proofs.Common.{◌≡◌, ◌∙◌, ℕ, Bool, true, List, [], ◌∷◌, ap, append-nil, inr, refl, sym, subst}
-use Rattle.std.specs.Prelude.{◌↔◌, IsTrue, Option, Some, None, Result, Ok, Err}
+use Rattle.std.proofs.Common.{◌≡◌, ◌∙◌, ℕ, Bool, false, true, List, [], ◌∷◌, ap, append-nil, inl, inr, refl, sym, subst}
+use Rattle.std.proofs.lemmas.Bool.{false≢true}
+use Rattle.std.specs.Prelude.{◌↔◌, IsSome, IsTrue, Option, Some, None, Result, Ok, Err}
 use Rattle.wf_actor.specs.declared.actor.Actor.{Actor}
 use Rattle.wf_actor.specs.declared.actor.Origin.{Origin}
 use Rattle.wf_actor.specs.declared.process.Process.{Process}
@@ -8,21 +9,27 @@ use Rattle.wf_codec.specs.Message.{view}
 use Rattle.wf_codec.specs.declared.message.Message.{Message}
 use Rattle.wf_line.specs.declared.node_line.NodeLine.{NodeLine}
 use Rattle.wf_loop.specs.Continuation.{AreHeardFrom, AreRunsHeardFrom, IsEarlier, KeepsEarlier}
-use Rattle.wf_loop.specs.Hub.{HasAnswered, IsHeardFirst, IsReopeningDue, kept_of, process_of}
+use Rattle.wf_loop.specs.Hub.{HasAnswered, IsHeardFirst, IsJoiner, IsOver, IsReopeningDue, kept_of, process_of}
 use Rattle.wf_loop.specs.Lived.{HasLived}
 use Rattle.wf_loop.specs.declared.hub.Hub.{Hub}
+use Rattle.wf_loop.specs.declared.joiner.Joiner.{Joiner}
 use Rattle.wf_loop.specs.declared.plan.LoopFault.{LoopFault}
+use Rattle.wf_node_command.proofs.Learned.{learner_at_first}
 use Rattle.wf_node_command.specs.Done.{HasLivedOn, IsNodeDone, IsServed}
 use Rattle.wf_node_command.specs.Fault.{IsFromSystem}
 use Rattle.wf_node_command.specs.Folder.{IsHeardIn, StaysFrom, heard_in}
-use Rattle.wf_node_command.specs.Ready.{IsFresh, IsReady}
+use Rattle.wf_node_command.specs.Learned.{IsLearner}
+use Rattle.wf_node_command.specs.Ready.{IsJustStarted, IsReady}
 use Rattle.wf_node_command.specs.Running.{IsRunning}
 use Rattle.wf_node_command.specs.Start.{IsNodeCause, IsNodeFault, IsUnserved}
 use Rattle.wf_node_command.specs.declared.fault.CommandFault.{CommandFault}
 use Rattle.wf_node_command.specs.declared.fault.CommandFault.TheVariants as faults
 use Rattle.wf_node_command.specs.declared.ready.ReadyNode.{ReadyNode}
-use Rattle.wf_peer.specs.Told.{IsHeardOf, IsHeardText}
+use Rattle.wf_peer.specs.Sender.{heard_of}
+use Rattle.wf_peer.specs.Told.{IsHeardOf, IsHeardText, IsLeft, TellsNoMoreOf}
 use Rattle.wf_peer.specs.declared.heard.Heard.{Heard as HeardOfNode}
+use Rattle.wf_rejoin.specs.Replacements.{latest_of}
+use Rattle.wf_rejoin.specs.declared.replacement.Replacement.{Replacement}
 use Rattle.wf_sockets.specs.declared.connection.Connection.{Ghosts as Connection}
 use Rattle.wf_store.specs.Call.{Call, locked}
 use Rattle.wf_tape.specs.declared.tape.Tape.{Ghosts as Tape}
@@ -34,7 +41,17 @@ system_cause line old new (faults.PeerCount count) is = absurd is
 system_cause line old new (faults.BadAddress option) is = absurd is
 system_cause line old new (faults.Rejected why) is = absurd is
 system_cause line old new (faults.PeerProgress why) is = absurd is
+system_cause line old new (faults.Replacement why) is = absurd is
 system_cause line old new fault is = is
+
+-- what is left of what was heard was heard
+left_hears : (known : Option HeardOfNode) (latest : Option Replacement) (left : Option HeardOfNode) → IsLeft known latest left → (m : Message) → TellsNoMoreOf left (view m) → TellsNoMoreOf known (view m)
+left_hears None latest left is m tells = subst (λ (h : Option HeardOfNode). TellsNoMoreOf h (view m)) is tells
+left_hears (Some known) None left is m tells = subst (λ (h : Option HeardOfNode). TellsNoMoreOf h (view m)) is tells
+left_hears (Some known) (Some latest) left is m tells = elim is [
+  | inl same ↦ subst (λ (h : Option HeardOfNode). TellsNoMoreOf h (view m)) same.1 tells
+  | inr other ↦ absurd (subst (λ (h : Option HeardOfNode). TellsNoMoreOf h (view m)) other.1 tells)
+]
 
 module _ {T : Type 0} (tapes : Tape T) where
   pub kept_still : (process : Process T tapes) → KeepsEarlier tapes process process
@@ -56,9 +73,9 @@ module _ {T : Type 0} (tapes : Tape T) where
   }
 
   -- the hub's process, at whatever end, is a later moment of the one that it began with
-  pub lived_on : {N C L : Type 0} {connections : Connection C} (begun hub : Hub T N C L tapes connections) (calls : List Call) → HasLived tapes (process_of hub) → HasAnswered tapes hub → KeepsEarlier tapes (process_of begun) (process_of hub)
-      → IsHeardFirst (heard_in calls) hub → HasLivedOn tapes (process_of begun) calls
-  lived_on begun hub calls lived answered keeps heard = record {
+  pub lived_on : {N C L : Type 0} {connections : Connection C} (begun hub : Hub T N C L tapes connections) (joining : Option Joiner) (calls : List Call) → HasLived tapes (process_of hub) → HasAnswered tapes hub
+      → KeepsEarlier tapes (process_of begun) (process_of hub) → IsHeardFirst (heard_in calls) hub → (IsSome joining → IsLearner tapes hub) → HasLivedOn tapes (process_of begun) joining calls
+  lived_on begun hub joining calls lived answered keeps heard learns = record {
     voter = hub.voter;
     lived = lived;
     befores = hub.clients.before.items;
@@ -67,11 +84,27 @@ module _ {T : Type 0} (tapes : Tape T) where
     answered = answered;
     earlier = keeps (process_of begun) (its_own (process_of begun));
     heard = heard;
+    learned = λ joins. (learns joins).1;
   }
 
-  pub served_on : {N C L : Type 0} {connections : Connection C} (process : Process T tapes) (hub : Hub T N C L tapes connections) (old new : List Call) → process_of hub ≡ process → HasLivedOn tapes (process_of hub) new → ∥ StaysFrom old new ∥₁
-      → IsServed tapes process old new (Ok tt)
-  served_on process hub old new same lived stays = (subst (λ (p : Process T tapes). HasLivedOn tapes p new) same lived, stays)
+  -- a node that is ready was served, as that of a folder that joins if it does
+  pub served_first : {N C L : Type 0} {connections : Connection C} (ready : ReadyNode T tapes) (hub held : Hub T N C L tapes connections) (old began new : List Call) → IsJustStarted tapes ready old → process_of hub ≡ ready.process → held ≡ hub
+      → (IsSome ready.plan.joining → IsJoiner hub) → began ≡ old
+      → ((joining : Option Joiner) → (IsSome joining → IsLearner tapes held) → HasLivedOn tapes (process_of held) joining new) → ∥ StaysFrom began new ∥₁
+      → IsServed tapes ready.process ready.plan.joining old new (Ok tt)
+  served_first {N} {C} {L} {connections} ready hub held old began new fresh same is joins stood on stays =
+      let held_is : process_of held ≡ ready.process = ap (λ (h : Hub T N C L tapes connections). process_of h) is ∙ same in
+      let held_joins : IsSome ready.plan.joining → IsJoiner held = λ some. subst (λ (h : Hub T N C L tapes connections). IsJoiner h) (sym is) (joins some) in
+      let lived : HasLivedOn tapes (process_of held) ready.plan.joining new =
+      on ready.plan.joining (λ some. learner_at_first tapes held ready.process held_is fresh.begun fresh.first (held_joins some)) in (
+        subst (λ (p : Process T tapes). HasLivedOn tapes p ready.plan.joining new) held_is lived,
+        subst (λ (calls : List Call). ∥ StaysFrom calls new ∥₁) stood stays,
+      )
+
+  -- a hub that is over stays
+  pub over_still : {N C L : Type 0} {connections : Connection C} (first now next : Hub T N C L tapes connections) (over : Bool) → (IsTrue over ↔ IsOver now) → over ≡ false → (IsOver first → now ≡ first) → IsOver first → next ≡ first
+  over_still {N} {C} {L} {connections} first now next over decides not same is =
+      absurd (false≢true (sym not ∙ decides.1 (subst (λ (h : Hub T N C L tapes connections). IsOver h) (sym (same is)) is)))
 
   -- nothing was given to it yet, and what it heard is in the file
   none_given_yet : (known : List (Option HeardOfNode)) → AreHeardFrom known []
@@ -88,18 +121,18 @@ module _ {T : Type 0} (tapes : Tape T) where
   no_runs : (known : List (Option HeardOfNode)) (runs : List (Actor T tapes × ℕ)) → runs ≡ [] → AreRunsHeardFrom tapes known runs
   no_runs known runs none = subst (λ (xs : List (Actor T tapes × ℕ)). AreRunsHeardFrom tapes known xs) (sym none) (none_ended_yet known)
 
-  heard_at_first : {N C L : Type 0} {connections : Connection C} (ready : ReadyNode T tapes) (hub : Hub T N C L tapes connections) (calls : List Call) → IsFresh tapes ready calls → process_of hub ≡ ready.process → kept_of hub ≡ ready.heard
+  heard_at_first : {N C L : Type 0} {connections : Connection C} (ready : ReadyNode T tapes) (hub : Hub T N C L tapes connections) (calls : List Call) → IsJustStarted tapes ready calls → process_of hub ≡ ready.process → kept_of hub ≡ ready.heard
       → IsHeardFirst (heard_in calls) hub
   heard_at_first ready hub calls fresh same kept = record {
-    known = ready.heard;
+    known = fresh.known;
     text = fresh.heard;
-    all = λ i m is. subst (λ (k : List (Option HeardOfNode)). IsHeardOf k i (view m)) kept is;
+    all = λ i m is. left_hears (heard_of fresh.known i) (latest_of ready.plan.replacements i) (heard_of ready.heard i) (fresh.left i) m (subst (λ (k : List (Option HeardOfNode)). IsHeardOf k i (view m)) kept is);
     given = none_given (kept_of hub) (process_of hub).actor.given.items (ap (λ (p : Process T tapes). p.actor.given.items) same ∙ fresh.begun.given);
     ended = no_runs (kept_of hub) (process_of hub).ended.items (ap (λ (p : Process T tapes). p.ended.items) same ∙ fresh.first);
   }
 
   -- so it is of the hub as it is held, and of the calls as the held folder has them
-  pub heard_at_start : {N C L : Type 0} {connections : Connection C} (ready : ReadyNode T tapes) (hub held : Hub T N C L tapes connections) (calls held_calls : List Call) → IsFresh tapes ready calls → process_of hub ≡ ready.process
+  pub heard_at_start : {N C L : Type 0} {connections : Connection C} (ready : ReadyNode T tapes) (hub held : Hub T N C L tapes connections) (calls held_calls : List Call) → IsJustStarted tapes ready calls → process_of hub ≡ ready.process
       → kept_of hub ≡ ready.heard → held ≡ hub → held_calls ≡ calls → IsHeardFirst (heard_in held_calls) held
   heard_at_start {N} {C} {L} {connections} ready hub held calls held_calls fresh same kept is are =
       subst (λ (h : Hub T N C L tapes connections). IsHeardFirst (heard_in held_calls) h) (sym is)
@@ -109,25 +142,28 @@ module _ {T : Type 0} (tapes : Tape T) where
   heard_text None known is = is
   heard_text (Some bytes) known is = is.2
 
-  pub fresh_by : (line : NodeLine) (ready : ReadyNode T tapes) (old mid : List Call) → IsReady tapes line ready old mid → IsFresh tapes ready mid
+  pub fresh_by : (line : NodeLine) (ready : ReadyNode T tapes) (old mid : List Call) → IsReady tapes line ready old mid → IsJustStarted tapes ready mid
   fresh_by line ready old mid is =
       let counted = is.is_ready.is_counted.is_counted in
       record {
         begun = is.is_ready.is_started.begun;
         first = is.is_ready.is_started.first;
-        heard = subst (λ (bytes : Option (List ℕ)). IsHeardText bytes ready.heard) (sym (ap heard_in counted.calls)) (heard_text counted.bytes ready.heard counted.is_heard);
+        known = is.is_ready.known;
+        heard = subst (λ (bytes : Option (List ℕ)). IsHeardText bytes is.is_ready.known) (sym (ap heard_in counted.calls)) (heard_text counted.bytes is.is_ready.known counted.is_heard);
+        left = is.is_ready.left;
       }
 
-  pub not_served : (process : Process T tapes) (calls : List Call) (why : LoopFault) → IsServed tapes process calls calls (Err (faults.Loop why))
-  not_served process calls why = (tt, refl)
+  pub not_served : (process : Process T tapes) (joining : Option Joiner) (calls : List Call) (why : LoopFault) → IsServed tapes process joining calls calls (Err (faults.Loop why))
+  not_served process joining calls why = (tt, refl)
 
   -- a node that is ready runs
-  pub running_by : (line : NodeLine) (ready : ReadyNode T tapes) (process : Process T tapes) (old mid new : List Call) → IsReady tapes line ready (locked ∷ old) mid → process ≡ ready.process → new ≡ mid
-      → IsRunning tapes line process old new
-  running_by line ready process old mid new is same stays = record {
+  pub running_by : (line : NodeLine) (ready : ReadyNode T tapes) (process : Process T tapes) (kept : List (Option HeardOfNode)) (old mid new : List Call) → IsReady tapes line ready (locked ∷ old) mid
+      → process ≡ ready.process → kept ≡ ready.heard → new ≡ mid → IsRunning tapes line process kept old new
+  running_by line ready process kept old mid new is same heard stays = record {
     ready = ready;
     is_ready = subst (λ (calls : List Call). IsReady tapes line ready (locked ∷ old) calls) (sym stays) is;
     same = same;
+    heard = heard;
   }
 
   -- or it doesn't, and only its start was counted
@@ -138,24 +174,26 @@ module _ {T : Type 0} (tapes : Tape T) where
     left = inr (inr (subst (λ (calls : List Call). IsUnserved line (locked ∷ old) calls) (sym same) (record {
       file = is.file;
       written = ready.file;
-      heard = ready.heard;
+      heard = is.is_ready.known;
       is_start = record { admitted = is.admitted; is_admitted = is.is_admitted; is_counted = is.is_ready.is_counted };
     })));
   }
 
   -- a node that is ready was served, or not
   pub served_by : (line : NodeLine) (ready : ReadyNode T tapes) (old mid new : List Call) (result : Result (Unit {0}) CommandFault) → IsReady tapes line ready (locked ∷ old) mid
-      → IsServed tapes ready.process mid new result → IsNodeDone tapes line old new result
+      → IsServed tapes ready.process ready.plan.joining mid new result → IsNodeDone tapes line old new result
   served_by line ready old mid new (Ok done) is served = record {
     file = is.file;
     written = ready.file;
-    heard = ready.heard;
+    heard = is.is_ready.known;
     begun = mid;
     is_start = record { admitted = is.admitted; is_admitted = is.is_admitted; is_counted = is.is_ready.is_counted };
     started = ready.process;
     is_started = is.is_ready.is_started;
     on_read = is.is_ready.on_read;
     is_raised = is.is_ready.is_raised;
+    joining = ready.plan.joining;
+    is_joining = is.is_planned.joins;
     on = served.0;
     stays = served.1;
   }

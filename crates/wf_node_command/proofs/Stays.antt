@@ -4,7 +4,7 @@ use Rattle.std.proofs.Math.Logic.{∥∥₁_map}
 use Rattle.std.specs.Prelude.{if◌then◌else◌, Option, Some, Result, Ok, Err, IfOk, OnErr, OnOk}
 use Rattle.wf_folder.specs.declared.node_admission.NodeFound.{NodeFound}
 use Rattle.wf_folder.specs.declared.presence.Presence.{Presence}
-use Rattle.wf_node_command.specs.Folder.{IsFarmFound, IsPut, StaysFrom, heard_in, heard_of_file, is_of_tape, is_own, is_tape, needs_own, of_tapes, tape_changes}
+use Rattle.wf_node_command.specs.Folder.{IsFarmFound, MayHaveGot, StaysFrom, heard_in, heard_of_file, is_of_tape, is_own, is_tape, needs_own, of_tapes, tape_changes}
 use Rattle.wf_store.specs.Call.{Call, changes, compared, failed, failed_at, is_change, opened_existing, read, replaced, seen}
 use Rattle.wf_store.specs.declared.fault.FolderFault.{FolderFault}
 use Rattle.wf_store.specs.declared.file_name.FileName.{FileName}
@@ -84,9 +84,17 @@ module _ (old new : List Call) where
 
   -- it was replaced, if it is this file; then the folder was looked at
   pub heard_put : {E : Type 0} (file : FileName) (bytes : List ℕ) (mid : List Call) (result : Result (Unit {0}) E) → mid ≡ replaced file bytes ∷ old → heard_in new ≡ heard_in mid
-      → IsPut result (heard_in old) (heard_of_file file (Some bytes) (heard_in old)) (heard_in new)
+      → MayHaveGot result (heard_in old) (heard_of_file file (Some bytes) (heard_in old)) (heard_in new)
   heard_put file bytes mid (Ok done) put same = same ∙ ap heard_in put
   heard_put file bytes mid (Err error) put same = inr (same ∙ ap heard_in put)
+
+  -- it was, and isn't this file
+  pub nothing_heard : {E : Type 0} (result : Result (Unit {0}) E) (got : Option (List ℕ)) → got ≡ heard_in old → MayHaveGot result (heard_in old) got (heard_in new) → heard_in new ≡ heard_in old
+  nothing_heard (Ok done) got same is = is ∙ same
+  nothing_heard (Err error) got same is = elim is [
+    | inl was ↦ was
+    | inr put ↦ put ∙ same
+  ]
 
   pub heard_not_put : (file : FileName) (put : Option (List ℕ)) → new ≡ failed_at file ∷ old → (heard_in new ≡ heard_in old) ⊎ (heard_in new ≡ put)
   heard_not_put file put wrong = inl (ap heard_in wrong)

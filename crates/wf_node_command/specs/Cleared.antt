@@ -11,7 +11,7 @@ use Rattle.wf_store.specs.Call.{Call, OnlyReads, failed_at, locked, read, replac
 use Rattle.wf_store.specs.declared.file_name.FileName.TheVariants.{Farm, Heard}
 
 -- The file `farm` was read, and is this node's file.
-pub record HasRead (file : NodeFile) (old new : List Call) : Type 0 where
+pub record HasReadFarmFile (file : NodeFile) (old new : List Call) : Type 0 where
   pub bytes : List ℕ
   pub calls : new ≡ read Farm (Some bytes) ∷ old
   pub is_text : IsTextOf bytes file
@@ -38,14 +38,14 @@ IsUnwritten old new =
 pub record IsCleared (old new : List Call) : Type 0 where
   pub file : NodeFile
   pub found : List Call
-  pub is_found : HasRead file old found
+  pub is_found : HasReadFarmFile file old found
   pub written : IsRewritten file found new
 
 -- The folder was read, and its files weren't both written.
 pub record IsHalfCleared (old new : List Call) : Type 0 where
   pub file : NodeFile
   pub found : List Call
-  pub is_found : HasRead file old found
+  pub is_found : HasReadFarmFile file old found
   pub unwritten : IsUnwritten found new
 
 -- it wasn't cleared: no file was changed, or not both were

@@ -14,6 +14,7 @@ fault_status (faults.PeerCount count) = 2
 fault_status (faults.BadAddress option) = 2
 fault_status (faults.Id id nodes) = 2
 fault_status faults.Name = 2
+fault_status faults.ReplaceFrom = 2
 fault_status fault = 1
 
 -- the error of a list of peers
@@ -29,13 +30,16 @@ IsFromSystem (faults.PeerCount count) = ⊥
 IsFromSystem (faults.BadAddress option) = ⊥
 IsFromSystem (faults.Id id nodes) = ⊥
 IsFromSystem faults.Name = ⊥
+IsFromSystem faults.ReplaceFrom = ⊥
 IsFromSystem (faults.NotEmpty why) = ⊥
 IsFromSystem (faults.Rejected why) = ⊥
 IsFromSystem (faults.PeerProgress why) = ⊥
+IsFromSystem (faults.Replacement why) = ⊥
 IsFromSystem (faults.FromUnread kind) = ⊥
 IsFromSystem (faults.FromBad offset) = ⊥
 IsFromSystem (faults.FromRejected why) = ⊥
 IsFromSystem (faults.BesideUnread kind) = ⊥
+IsFromSystem (faults.JoinsUnread kind) = ⊥
 IsFromSystem fault = ⊤
 
 -- why nothing is known of what was heard: the file `heard` is bad, or the system failed

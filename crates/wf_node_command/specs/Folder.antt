@@ -13,7 +13,7 @@ use Rattle.wf_store.specs.Call.{Call, IsAfter, changes, read}
 use Rattle.wf_store.specs.declared.deed.Deed.{Deed}
 use Rattle.wf_store.specs.declared.deed.Deed.TheVariants as deeds
 use Rattle.wf_store.specs.declared.file_name.FileName.{FileName}
-use Rattle.wf_store.specs.declared.file_name.FileName.TheVariants.{Farm, Heard, NodeTape, ReplicaTape}
+use Rattle.wf_store.specs.declared.file_name.FileName.TheVariants.{Farm, Heard, Joins, NodeTape, Replaced, ReplicaTape}
 
 -- ---- the files `farm` that may be in a folder that a process holds
 
@@ -45,7 +45,7 @@ pub record IsFarmFound (found : NodeFound) (old new : List Call) : Type 0 where
 -- what the bytes of a file `heard` say of the peers: of none anything if there is no such file
 abbrev pub IsHeardIn : Option (List ℕ) → List (Option HeardOfNode) → Type 0
 IsHeardIn None known = known ≡ replicate 64 None
-IsHeardIn (Some bytes) known = (length known ≡ 64) × peers.ArePeerProgress known × peers.IsTextOf bytes known
+IsHeardIn (Some bytes) known = (length known ≡ 64) × peers.ArePeerProgress known × peers.IsProgressTextOf bytes known
 
 -- The file `heard` was read, and says this.
 pub record IsHeardFound (known : List (Option HeardOfNode)) (old new : List Call) : Type 0 where
@@ -58,7 +58,7 @@ pub record IsHeardBad (new : List Call) : Type 0 where
   pub bytes : List ℕ
   pub earlier : List Call
   pub calls : new ≡ read Heard (Some bytes) ∷ earlier
-  pub none : (known : List (Option HeardOfNode)) → length known ≡ 64 → peers.ArePeerProgress known → ¬ peers.IsTextOf bytes known
+  pub none : (known : List (Option HeardOfNode)) → length known ≡ 64 → peers.ArePeerProgress known → ¬ peers.IsProgressTextOf bytes known
 
 -- ---- what the tape had
 
@@ -97,15 +97,17 @@ heard_in [] = None
 heard_in (call ∷ earlier) = heard_by call.deed call.bytes (heard_in earlier)
 
 -- it has what it was to get; after an error it may have that, or what it had
-abbrev pub IsPut : {E : Type 0} → Result (Unit {0}) E → (had got has : Option (List ℕ)) → Type 0
-IsPut (Ok done) had got has = has ≡ got
-IsPut (Err error) had got has = (has ≡ had) ⊎ (has ≡ got)
+abbrev pub MayHaveGot : {E : Type 0} → Result (Unit {0}) E → (had got has : Option (List ℕ)) → Type 0
+MayHaveGot (Ok done) had got has = has ≡ got
+MayHaveGot (Err error) had got has = (has ≡ had) ⊎ (has ≡ got)
 
 -- ---- what is left alone
 
 abbrev pub is_tape : FileName → Bool
 is_tape Farm = false
 is_tape Heard = false
+is_tape Joins = false
+is_tape Replaced = false
 is_tape (NodeTape node) = true
 is_tape ReplicaTape = true
 
@@ -149,12 +151,12 @@ needs_own (deeds.FailsAt file) = true
 needs_own deed = false
 
 -- each of the later calls that does so came once the folder had been seen to be the one that is locked
-abbrev pub AreGuarded : List Call → List Call → Type 0
-AreGuarded [] begun = ⊤
-AreGuarded (call ∷ later) begun = (needs_own call.deed ≡ true → is_own (later ++ begun) ≡ true) × AreGuarded later begun
+abbrev pub AreInLockedFolder : List Call → List Call → Type 0
+AreInLockedFolder [] begun = ⊤
+AreInLockedFolder (call ∷ later) begun = (needs_own call.deed ≡ true → is_own (later ++ begun) ≡ true) × AreInLockedFolder later begun
 
 -- Calls came after these. None of them made a tape, or put one in the place of another, and only the folder that is locked was written to.
 pub record StaysFrom (begun calls : List Call) : Type 0 where
   pub after : IsAfter begun calls
   pub tapes : tape_changes calls ≡ tape_changes begun
-  pub guarded : AreGuarded after.later begun
+  pub guarded : AreInLockedFolder after.later begun

@@ -30,6 +30,7 @@ abbrev pub nodes_of : Beside → Option ℕ
 nodes_of besides.Nothing = None
 nodes_of (besides.Serve file) = Some file.nodes
 nodes_of (besides.Node file) = Some file.nodes
+nodes_of besides.Joins = None
 nodes_of (besides.Bad fault) = None
 
 -- the node that uses the folder, if it is one alone
@@ -37,9 +38,10 @@ abbrev pub only_node : Beside → Option ℕ
 only_node (besides.Node file) = Some file.node
 only_node beside = None
 
--- the file can be read, or there is none; if it says a number of nodes, it says this one; and so the node
+-- the file can be read, or there is none, and the folder doesn't join; if it says a number of nodes, it says this one; and so the node
 abbrev pub IsReadable : Beside → Type 0
 IsReadable (besides.Bad fault) = ⊥
+IsReadable besides.Joins = ⊥
 IsReadable beside = ⊤
 
 abbrev pub IsThatIfAny : Option ℕ → ℕ → Type 0
@@ -59,15 +61,17 @@ pub record IsOfNode (beside : Beside) (name : Option (List ℕ)) (id n : ℕ) : 
   pub named : IsNamed beside name id
 
 -- the bytes of a file `farm` read so
-abbrev pub IsReadAs : List ℕ → Beside → Type 0
-IsReadAs bytes besides.Nothing = ⊥
-IsReadAs bytes (besides.Serve file) = bytes ≡ farm_text file
-IsReadAs bytes (besides.Node file) = IsTextOf bytes file
-IsReadAs bytes (besides.Bad fault) = ((file : FarmFile) → IsFarmFile file → bytes ≢ farm_text file) × ((file : NodeFile) → IsNodeFile file → ¬ IsTextOf bytes file)
+abbrev pub IsFarmFileReadAs : List ℕ → Beside → Type 0
+IsFarmFileReadAs bytes besides.Nothing = ⊥
+IsFarmFileReadAs bytes (besides.Serve file) = bytes ≡ farm_text file
+IsFarmFileReadAs bytes (besides.Node file) = IsTextOf bytes file
+IsFarmFileReadAs bytes besides.Joins = ⊥
+IsFarmFileReadAs bytes (besides.Bad fault) = ((file : FarmFile) → IsFarmFile file → bytes ≢ farm_text file) × ((file : NodeFile) → IsNodeFile file → ¬ IsTextOf bytes file)
 
 -- why it can't
 abbrev pub IsWhyNotOfNode : Beside → Option (List ℕ) → (id n : ℕ) → FromRejection → Type 0
 IsWhyNotOfNode beside name id n (causes.BadFile fault) = beside ≡ besides.Bad fault
+IsWhyNotOfNode beside name id n causes.Joins = beside ≡ besides.Joins
 IsWhyNotOfNode beside name id n (causes.OtherNodes found wanted) = (nodes_of beside ≡ Some found) × (wanted ≡ n) × (found ≢ n)
 IsWhyNotOfNode beside name id n (causes.OtherNode found wanted) = (only_node beside ≡ Some found) × (wanted ≡ id) × (found ≢ id)
 IsWhyNotOfNode beside name id n (causes.OtherName wanted) = (wanted ≡ id) × (¬ IsNamed beside name id)
@@ -134,7 +138,7 @@ pub record IsTapeOfOther (id : ℕ) (bytes : List ℕ) (round tried : ℕ) : Typ
 -- ---- both
 
 -- The tape of `--from` can be this node's of a farm of n: by what is beside it, by the name that its path ends with, and by its bytes.
-pub record IsFrom (name : Option (List ℕ)) (id n : ℕ) (bytes : List ℕ) : Type 0 where
+pub record MayBeFrom (name : Option (List ℕ)) (id n : ℕ) (bytes : List ℕ) : Type 0 where
   pub beside : Beside
   pub by_place : IsOfNode beside name id n
   pub by_records : IsTapeOfNode id bytes
@@ -147,11 +151,12 @@ IsNotFrom name id n why = (beside : Beside) × IsWhyNotOfNode beside name id n w
 -- ---- its errors
 
 -- it can't be read
-abbrev pub IsUnread : CommandFault → Type 0
-IsUnread (faults.FromUnread kind) = ⊤
-IsUnread (faults.BesideUnread kind) = ⊤
-IsUnread faults.Memory = ⊤
-IsUnread fault = ⊥
+abbrev pub CannotBeRead : CommandFault → Type 0
+CannotBeRead (faults.FromUnread kind) = ⊤
+CannotBeRead (faults.BesideUnread kind) = ⊤
+CannotBeRead (faults.JoinsUnread kind) = ⊤
+CannotBeRead faults.Memory = ⊤
+CannotBeRead fault = ⊥
 
 -- no node opens on it
 abbrev pub IsUnopened : CommandFault → Type 0
@@ -174,6 +179,7 @@ abbrev pub IsFromFault : (from : List ℕ) (id n : ℕ) → CommandFault → Typ
 IsFromFault from id n (faults.FromUnread kind) = ⊤
 IsFromFault from id n (faults.FromBad offset) = ⊤
 IsFromFault from id n (faults.BesideUnread kind) = ⊤
+IsFromFault from id n (faults.JoinsUnread kind) = ⊤
 IsFromFault from id n faults.Memory = ⊤
 IsFromFault from id n (faults.FromRejected why) = IsNotFrom (path_file_name from) id n why
 IsFromFault from id n fault = ⊥

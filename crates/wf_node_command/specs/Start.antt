@@ -1,7 +1,7 @@
 -- On what a node starts: what its folder has, and the calls by which that is read and written.
 use Rattle.std.specs.Prelude.{◌≡◌, ◌<◌, ◌⊎◌, ℕ, List, [], ◌∷◌, Option, Some, length, option_map}
 use Rattle.wf_actor.specs.Start.{IsOpened}
-use Rattle.wf_actor.specs.Process.{IsBegun}
+use Rattle.wf_actor.specs.Process.{IsJustOpened}
 use Rattle.wf_actor.specs.declared.process.Process.{Process}
 use Rattle.wf_address.specs.Address.{IsFirstBad, IsNoAddress, words_of}
 use Rattle.wf_address.specs.declared.address_option.AddressOption.{AddressOption}
@@ -18,11 +18,15 @@ use Rattle.wf_node.specs.Node.{stored_of}
 use Rattle.wf_node_command.specs.Fault.{IsFromSystem}
 use Rattle.wf_node_command.specs.Folder.{IsFoundIn, IsHeardBad, IsHeardIn}
 use Rattle.wf_node_command.specs.Held.{HasGoneBack, HasHeld, HoldsAll}
+use Rattle.wf_node_command.specs.ReplacementFiles.{IsBadFile}
 use Rattle.wf_node_command.specs.declared.fault.CommandFault.{CommandFault}
 use Rattle.wf_node_command.specs.declared.fault.CommandFault.TheVariants as faults
+use Rattle.wf_node_command.specs.declared.replacement_fault.ReplacementFault.{ReplacementFault}
+use Rattle.wf_peer.specs.Told.{AreLeft}
 use Rattle.wf_peer.specs.declared.heard.Heard.{Heard as HeardOfNode}
+use Rattle.wf_rejoin.specs.declared.replacement.Replacement.{Replacement}
 use Rattle.wf_store.specs.Call.{Call, OnlyReads, drawn, failed_at, locked, opened, read, replaced, seen}
-use Rattle.wf_store.specs.declared.file_name.FileName.TheVariants.{Farm, Heard, NodeTape}
+use Rattle.wf_store.specs.declared.file_name.FileName.TheVariants.{Farm, Heard, Joins, NodeTape, Replaced}
 use Rattle.wf_tape.specs.declared.tape.Tape.{Ghosts as Tape}
 
 -- ---- the file `farm`, and whether the tape is there
@@ -41,7 +45,7 @@ pub record IsLookedAt (found : NodeFound) (tape : Presence) (old new : List Call
   pub calls : new ≡ seen (NodeTape (node_in found)) tape ∷ read Farm bytes ∷ old
 
 -- What was found admits this start, of one of as many nodes as addresses are listed.
-pub record IsAdmitted (line : NodeLine) (file : NodeFile) (old new : List Call) : Type 0 where
+pub record IsFileAdmitted (line : NodeLine) (file : NodeFile) (old new : List Call) : Type 0 where
   pub found : NodeFound
   pub tape : Presence
   pub looked : IsLookedAt found tape old new
@@ -54,9 +58,31 @@ pub record IsRejectedBy (line : NodeLine) (why : NodeRejection) (old new : List 
   pub looked : IsLookedAt found tape old new
   pub rejection : IsNodeRejection (length (words_of line.peers.now)) found tape why
 
--- why a start isn't admitted
+-- ---- the files about replacements
+
+-- What was found admits this start, and then the files `replaced` and `joins` were read.
+pub record IsStartAdmitted (line : NodeLine) (file : NodeFile) (old new : List Call) : Type 0 where
+  pub looked_at : List Call
+  pub is_file : IsFileAdmitted line file old looked_at
+  pub replaced_bytes : Option (List ℕ)
+  pub joins_bytes : Option (List ℕ)
+  pub calls : new ≡ read Joins joins_bytes ∷ read Replaced replaced_bytes ∷ looked_at
+
+-- It admits this start, and one of them is bad.
+pub record HasBadFile (line : NodeLine) (why : ReplacementFault) (old new : List Call) : Type 0 where
+  pub file : NodeFile
+  pub looked_at : List Call
+  pub is_file : IsFileAdmitted line file old looked_at
+  pub bad : IsBadFile file why new
+
+-- why a start isn't admitted: by what was found, or by one of these files
+abbrev pub IsFileCause : NodeLine → List Call → List Call → CommandFault → Type 0
+IsFileCause line old new (faults.Rejected why) = IsRejectedBy line why old new
+IsFileCause line old new fault = IsFromSystem fault
+
 abbrev pub IsWhyNotAdmitted : NodeLine → List Call → List Call → CommandFault → Type 0
 IsWhyNotAdmitted line old new (faults.Rejected why) = IsRejectedBy line why old new
+IsWhyNotAdmitted line old new (faults.Replacement why) = HasBadFile line why old new
 IsWhyNotAdmitted line old new fault = IsFromSystem fault
 
 -- ---- the tape
@@ -96,7 +122,7 @@ module _ {T : Type 0} (tapes : Tape T) where
   -- tape, which has its records since. It holds all that the file says is known of it.
   pub record IsStarted (file : NodeFile) (process : Process T tapes) : Type 0 where
     pub opened : IsOpened tapes process.actor.node.tape file.node file.nodes process.actor.node
-    pub begun : IsBegun process
+    pub begun : IsJustOpened process
     pub first : process.ended.items ≡ []
     pub among : process.n ≡ file.nodes
     pub holds : HoldsAll file.known (stored_of process.actor.node)
@@ -104,14 +130,20 @@ module _ {T : Type 0} (tapes : Tape T) where
 -- ---- what is drawn and written
 
 -- the bits that mark this life were drawn
-abbrev pub IsDrawn : List Call → List Call → Type 0
-IsDrawn old new = (life : List ℕ) × (new ≡ drawn life ∷ old)
+abbrev pub IsLifeDrawn : List Call → List Call → Type 0
+IsLifeDrawn old new = (life : List ℕ) × (new ≡ drawn life ∷ old)
 
 -- What was heard of the peers was read, and then the file `farm` was written: the start is counted.
-pub record IsCounted (heard : List (Option HeardOfNode)) (written : NodeFile) (old new : List Call) : Type 0 where
+pub record IsStartCounted (heard : List (Option HeardOfNode)) (written : NodeFile) (old new : List Call) : Type 0 where
   pub bytes : Option (List ℕ)
   pub is_heard : IsHeardIn bytes heard
   pub calls : new ≡ replaced Farm (node_text written) ∷ read Heard bytes ∷ old
+
+-- The start was counted, and of what was heard that of folders that others have replaced is left out.
+pub record IsReadyCounted (replacements : List (Option Replacement)) (heard : List (Option HeardOfNode)) (written : NodeFile) (old new : List Call) : Type 0 where
+  pub known : List (Option HeardOfNode)
+  pub is_counted : IsStartCounted known written old new
+  pub left : AreLeft known replacements heard
 
 -- Its text wasn't written, or may have been.
 pub record IsUncounted (old new : List Call) : Type 0 where
@@ -130,12 +162,12 @@ pub record IsCountedOn (file written : NodeFile) (heard : List (Option HeardOfNo
   pub on_tape : List Call
   pub is_on_tape : IsTapeOpened file old on_tape
   pub life : List ℕ
-  pub is_counted : IsCounted heard written (drawn life ∷ on_tape) new
+  pub is_counted : IsStartCounted heard written (drawn life ∷ on_tape) new
 
 -- The calls of a start on a folder that is locked, from the first one to the last one.
 pub record IsStartOn (line : NodeLine) (file written : NodeFile) (heard : List (Option HeardOfNode)) (old new : List Call) : Type 0 where
   pub admitted : List Call
-  pub is_admitted : IsAdmitted line file old admitted
+  pub is_admitted : IsStartAdmitted line file old admitted
   pub is_counted : IsCountedOn file written heard admitted new
 
 -- The tape was opened, and then the start wasn't counted.
@@ -145,15 +177,15 @@ pub record IsLeftOpened (file : NodeFile) (old new : List Call) : Type 0 where
   pub later : OnlyReads on_tape new ⊎ ((life : List ℕ) × IsUncounted (drawn life ∷ on_tape) new)
 
 -- what is left of a start that was admitted, and that wasn't counted
-abbrev pub IsLeft : NodeFile → List Call → List Call → Type 0
-IsLeft file old new = IsUnopened file old new ⊎ IsLeftOpened file old new
+abbrev pub IsLeftUncounted : NodeFile → List Call → List Call → Type 0
+IsLeftUncounted file old new = IsUnopened file old new ⊎ IsLeftOpened file old new
 
 -- The calls of such a start.
-pub record IsStopped (line : NodeLine) (old new : List Call) : Type 0 where
+pub record IsStartCutShort (line : NodeLine) (old new : List Call) : Type 0 where
   pub file : NodeFile
   pub admitted : List Call
-  pub is_admitted : IsAdmitted line file old admitted
-  pub left : IsLeft file admitted new
+  pub is_admitted : IsStartAdmitted line file old admitted
+  pub left : IsLeftUncounted file admitted new
 
 -- The calls of one that was counted, where the node wasn't served.
 pub record IsUnserved (line : NodeLine) (old new : List Call) : Type 0 where
@@ -164,7 +196,7 @@ pub record IsUnserved (line : NodeLine) (old new : List Call) : Type 0 where
 
 -- what is left in the folder where the node wasn't served: no file was changed; or it was locked, and the start was stopped
 abbrev pub IsNotServed : NodeLine → List Call → List Call → Type 0
-IsNotServed line old new = OnlyReads old new ⊎ (IsStopped line (locked ∷ old) new ⊎ IsUnserved line (locked ∷ old) new)
+IsNotServed line old new = OnlyReads old new ⊎ (IsStartCutShort line (locked ∷ old) new ⊎ IsUnserved line (locked ∷ old) new)
 
 -- ---- its errors
 
@@ -172,12 +204,12 @@ IsNotServed line old new = OnlyReads old new ⊎ (IsStopped line (locked ∷ old
 pub record HasReturned (line : NodeLine) (why : NodeRejection) (old new : List Call) : Type 0 where
   pub file : NodeFile
   pub admitted : List Call
-  pub is_admitted : IsAdmitted line file old admitted
+  pub is_admitted : IsStartAdmitted line file old admitted
   pub returned : IsReturned file why admitted new
 
 -- why a start is rejected: by what was found in the folder, or by the tape
-abbrev pub IsRejected : NodeLine → NodeRejection → List Call → List Call → Type 0
-IsRejected line why old new = IsRejectedBy line why old new ⊎ HasReturned line why old new
+abbrev pub IsStartRejected : NodeLine → NodeRejection → List Call → List Call → Type 0
+IsStartRejected line why old new = IsRejectedBy line why old new ⊎ HasReturned line why old new
 
 -- the value of an option, if it is given
 abbrev pub value_of : NodeLine → AddressOption → Option (List ℕ)
@@ -207,8 +239,9 @@ IsStopFault file old new fault = IsFromSystem fault
 
 -- why a start on a folder that is locked isn't counted
 abbrev pub IsHeldCause : NodeLine → List Call → List Call → CommandFault → Type 0
-IsHeldCause line old new (faults.Rejected why) = IsRejected line why old new
+IsHeldCause line old new (faults.Rejected why) = IsStartRejected line why old new
 IsHeldCause line old new (faults.PeerProgress why) = IsHeardBad new
+IsHeldCause line old new (faults.Replacement why) = HasBadFile line why old new
 IsHeldCause line old new fault = IsFromSystem fault
 
 -- Why a node didn't begin: the list or an option of the command line, what was found in the folder, or the system.
@@ -216,8 +249,9 @@ abbrev pub IsNodeCause : NodeLine → List Call → List Call → CommandFault �
 IsNodeCause line old new (faults.BadPeer index) = IsFirstBad (words_of line.peers.now) index
 IsNodeCause line old new (faults.PeerCount count) = (count ≡ length (words_of line.peers.now)) × (64 < count)
 IsNodeCause line old new (faults.BadAddress option) = IsBadOption line option
-IsNodeCause line old new (faults.Rejected why) = IsRejected line why (locked ∷ old) new
+IsNodeCause line old new (faults.Rejected why) = IsStartRejected line why (locked ∷ old) new
 IsNodeCause line old new (faults.PeerProgress why) = IsHeardBad new
+IsNodeCause line old new (faults.Replacement why) = HasBadFile line why (locked ∷ old) new
 IsNodeCause line old new fault = IsFromSystem fault
 
 -- Why, and what is left in its folder.

@@ -1,8 +1,8 @@
 //! `wfarm clear`.
-ghost use Rattle.std.specs.Prelude.{◌≡◌, ◌∷◌, None, IfErr, IfOk, OnErr, OnOk};
+ghost use Rattle.std.specs.Prelude.{IfErr, IfOk, OnErr, OnOk};
 ghost use Rattle.wf_folder.specs.NodeFile.{IsNodeFile};
-ghost use Rattle.wf_node_command.specs.Cleared.{HasRead, IsClearDone, IsClearFault, IsCleared, IsRewritten, IsUncleared, IsUnwritten};
-ghost use Rattle.wf_store.specs.Call.{OnlyReads, locked};
+ghost use Rattle.wf_node_command.specs.Cleared.{HasReadFarmFile, IsClearDone, IsClearFault, IsCleared, IsRewritten, IsUncleared, IsUnwritten};
+ghost use Rattle.wf_store.specs.Call.{OnlyReads};
 
 use crate::fault::CommandFault;
 use crate::folder::{find_in, write_farm, write_heard};
@@ -56,7 +56,7 @@ fn write_cleared<S: Store>(alloc: Global, store: &mut S, file: &NodeFile) -> Res
 /// The node's file of a folder.
 #[tactic(auto, using(crate::proofs::Clearing::is_read))]
 fn file_in<S: Store>(store: &mut S) -> Result<NodeFile, CommandFault>
-    ensures file { IfOk result (λ file. HasRead file (S.calls store.old) (S.calls store.new)) }
+    ensures file { IfOk result (λ file. HasReadFarmFile file (S.calls store.old) (S.calls store.new)) }
     ensures reads { OnlyReads (S.calls store.old) (S.calls store.new) }
     ensures fault { IfErr result IsClearFault }
 {

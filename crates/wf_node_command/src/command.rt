@@ -1,6 +1,6 @@
 //! Runs a parsed command line.
 ghost use Rattle.wf_line.specs.NodeLine.{IsNodeCommandInRange};
-ghost use Rattle.wf_node_command.specs.Done.{IsDone};
+ghost use Rattle.wf_node_command.specs.Done.{IsCommandDone};
 
 use crate::clear::clear;
 use crate::fault::CommandFault;
@@ -24,7 +24,7 @@ pub fn run<R: Files<File = File> + Clock + Eprint + Net + AllocGlobal, S: Store>
     turns: u64,
 ) -> (Result<(), CommandFault>, S)
     requires { IsNodeCommandInRange command.now }
-    ensures { IsDone S.Tape.Tape command.now (S.calls store) (S.calls result.1) result.0 }
+    ensures { IsCommandDone S.Tape.Tape command.now (S.calls store) (S.calls result.1) result.0 }
 {
     let mut store = store;
     match command {

@@ -3,6 +3,7 @@ ghost use Rattle.std.specs.Prelude.{◌≡◌, ◌≤◌};
 ghost use Rattle.wf_node_command.specs.Fault.{fault_status};
 
 use crate::from_rejection::FromRejection;
+use crate::replacement_fault::ReplacementFault;
 use std::io;
 use thiserror::Error;
 use wf_address::AddressOption;
@@ -29,6 +30,9 @@ pub enum CommandFault {
     /// No farm can have this name.
     #[error("bad farm name: 1 to 32 letters, digits, -, . and _ are wanted")]
     Name,
+    /// A folder that joins begins without a tape.
+    #[error("--replace begins without a tape: --from isn't taken with it")]
+    ReplaceFrom,
     /// A call of the folder failed.
     #[error("{0}")]
     Folder(FolderFault),
@@ -41,6 +45,9 @@ pub enum CommandFault {
     /// The file `heard` is bad.
     #[error("bad file heard: {0}")]
     PeerProgress(PeerProgressFault),
+    /// A file of the folder about replacements isn't taken.
+    #[error("{0}")]
+    Replacement(ReplacementFault),
     /// The file of `--from` can't be read.
     #[error("--from can't be read: {0}")]
     FromUnread(io::ErrorKind),
@@ -53,6 +60,9 @@ pub enum CommandFault {
     /// The file `farm` beside the tape of `--from` can't be read.
     #[error("the file farm beside --from can't be read: {0}")]
     BesideUnread(io::ErrorKind),
+    /// The file `joins` beside the tape of `--from` can't be read.
+    #[error("the file joins beside --from can't be read: {0}")]
+    JoinsUnread(io::ErrorKind),
     /// The tape's file can't be read.
     #[error("the tape can't be read: {0}")]
     TapeUnread(io::ErrorKind),
@@ -84,15 +94,18 @@ impl CommandFault {
             | CommandFault::PeerCount(_)
             | CommandFault::BadAddress(_)
             | CommandFault::Id(..)
-            | CommandFault::Name => 2,
+            | CommandFault::Name
+            | CommandFault::ReplaceFrom => 2,
             CommandFault::Folder(_)
             | CommandFault::NotEmpty(_)
             | CommandFault::Rejected(_)
             | CommandFault::PeerProgress(_)
+            | CommandFault::Replacement(_)
             | CommandFault::FromUnread(_)
             | CommandFault::FromBad(_)
             | CommandFault::FromRejected(..)
             | CommandFault::BesideUnread(_)
+            | CommandFault::JoinsUnread(_)
             | CommandFault::TapeUnread(_)
             | CommandFault::TapeUnwritten(_)
             | CommandFault::TapeFailed

@@ -1,10 +1,10 @@
 //! The tape that a new folder begins with, by `init --from`.
-ghost use Rattle.std.specs.Prelude.{◌≡◌, ◌≢◌, ◌≤◌, ◌<◌, ◌↔◌, ◌++◌, ℕ, List, Option, Some, codes, IfErr, IfNone, IfOk, IfSome, IsOk, IsTrue, OnOk, map, slice_get};
+ghost use Rattle.std.specs.Prelude.{◌≡◌, ◌≢◌, ◌≤◌, ◌<◌, ◌↔◌, ◌++◌, Option, Some, codes, IfErr, IfNone, IfOk, IfSome, IsTrue, OnOk, map};
 ghost use Rattle.std.specs.Option.{option_copied};
 ghost use Rattle.std.specs.Path.{path_file_name};
 ghost use Rattle.wf_journal.specs.Record.{view};
 ghost use Rattle.wf_journal.specs.Records.{AreRecords};
-ghost use Rattle.wf_node_command.specs.From.{AllCanBeOf, CanBeOf, CanBeRecordsOf, IsFrom, IsFromFault, IsNamed, IsOfNode, IsReadAs, IsTapeFault, IsRecordsFault, IsTapeOfNode, IsThatIfAny, IsUnopened, IsUnread, IsUntried, IsUntriedIn, IsWhyNotOfNode, ballot_of, digits, nodes_of, only_node, tape_name};
+ghost use Rattle.wf_node_command.specs.From.{AllCanBeOf, CanBeOf, CanBeRecordsOf, MayBeFrom, IsFromFault, IsNamed, IsOfNode, IsFarmFileReadAs, IsTapeFault, IsRecordsFault, IsTapeOfNode, IsThatIfAny, IsUnopened, CannotBeRead, IsUntried, IsUntriedIn, IsWhyNotOfNode, ballot_of, digits, nodes_of, only_node, tape_name};
 
 use crate::fault::CommandFault;
 use crate::from_rejection::{Beside, FromRejection};
@@ -33,7 +33,8 @@ pub(crate) struct FirstTape {
 }
 
 /// The tape in a file, if it can be that of a node of a farm of so many: the file `farm` beside it is that of a farm of as many nodes, or of
-/// this node, the tape has the name of this node's, and it promised and voted for no round of the node's own that it hadn't tried.
+/// this node, its folder doesn't join, the tape has the name of this node's, and it promised and voted for no round of the node's own that
+/// it hadn't tried.
 /// Without a file `farm` beside it its name doesn't matter. Nothing is written.
 pub(crate) fn tape_from<R: Files + AllocGlobal>(
     rt: &R,
@@ -44,7 +45,7 @@ pub(crate) fn tape_from<R: Files + AllocGlobal>(
     requires nodes { nodes ≤ 64 }
     requires member { id < nodes }
     ensures tape { IfOk result (λ tape.
-        IsFrom (path_file_name from.now) id nodes tape.bytes.items) }
+        MayBeFrom (path_file_name from.now) id nodes tape.bytes.items) }
     ensures fault { IfErr result (IsFromFault from.now id nodes) }
 {
     let beside = match find_beside(rt, from) {
@@ -84,7 +85,7 @@ pub(crate) fn read_file<R: Files + AllocGlobal>(
 
 /// The bytes of the tape in a file.
 fn read_tape<R: Files + AllocGlobal>(rt: &R, from: &str) -> Result<Vec<u8>, CommandFault>
-    ensures { IfErr result IsUnread }
+    ensures { IfErr result CannotBeRead }
 {
     match read_file(rt, from, MOST_TAPE_BYTES) {
         Ok(bytes) => Ok(bytes),
@@ -95,15 +96,15 @@ fn read_tape<R: Files + AllocGlobal>(rt: &R, from: &str) -> Result<Vec<u8>, Comm
     }
 }
 
-/// The file `farm` beside a file.
+/// What is beside a file: the file `farm`, and a file `joins`.
 fn find_beside<R: Files + AllocGlobal>(rt: &R, from: &str) -> Result<Beside, CommandFault>
-    ensures { IfErr result IsUnread }
+    ensures { IfErr result CannotBeRead }
 {
     let Ok(path) = Path::new(from).with_file_name(rt.alloc(), "farm") else {
         return Err(CommandFault::Memory);
     };
     match read_file(rt, path.as_str(), MOST_FARM_BYTES) {
-        Ok(bytes) => Ok(beside_of(&bytes)),
+        Ok(bytes) => beside_in(rt, from, &bytes),
         Err(error) => match error.kind() {
             ErrorKind::NotFound => Ok(Beside::Nothing),
             ErrorKind::OutOfMemory => Err(CommandFault::Memory),
@@ -112,9 +113,41 @@ fn find_beside<R: Files + AllocGlobal>(rt: &R, from: &str) -> Result<Beside, Com
     }
 }
 
+/// What is beside a file whose file `farm` has these bytes.
+fn beside_in<R: Files + AllocGlobal>(
+    rt: &R,
+    from: &str,
+    bytes: &[u8],
+) -> Result<Beside, CommandFault>
+    ensures { IfErr result CannotBeRead }
+{
+    match has_joins(rt, from) {
+        Ok(true) => Ok(Beside::Joins),
+        Ok(false) => Ok(beside_of(bytes)),
+        Err(fault) => Err(fault),
+    }
+}
+
+/// Whether a file `joins` that isn't empty is beside a file.
+fn has_joins<R: Files + AllocGlobal>(rt: &R, from: &str) -> Result<bool, CommandFault>
+    ensures { IfErr result CannotBeRead }
+{
+    let Ok(path) = Path::new(from).with_file_name(rt.alloc(), "joins") else {
+        return Err(CommandFault::Memory);
+    };
+    match read_file(rt, path.as_str(), 1) {
+        Ok(bytes) => Ok(!bytes.is_empty()),
+        Err(error) => match error.kind() {
+            ErrorKind::NotFound => Ok(false),
+            ErrorKind::OutOfMemory => Err(CommandFault::Memory),
+            kind => Err(CommandFault::JoinsUnread(kind)),
+        },
+    }
+}
+
 /// What the bytes of a file `farm` say.
 fn beside_of(bytes: &[u8]) -> Beside
-    ensures { IsReadAs bytes.now result }
+    ensures { IsFarmFileReadAs bytes.now result }
 {
     match FarmFile::read(bytes) {
         Ok(file) => Beside::Serve(file),
@@ -131,8 +164,10 @@ fn admit_place(beside: &Beside, name: Option<&str>, id: u8, nodes: u8) -> Result
     ensures of_node { OnOk result (IsOfNode beside.now (option_copied name.entry) id nodes) }
     ensures why { IfErr result (IsWhyNotOfNode beside.now (option_copied name.entry) id nodes) }
 {
-    if let Beside::Bad(fault) = beside {
-        return Err(FromRejection::BadFile(*fault));
+    match beside {
+        Beside::Bad(fault) => return Err(FromRejection::BadFile(*fault)),
+        Beside::Joins => return Err(FromRejection::Joins),
+        Beside::Nothing | Beside::Serve(_) | Beside::Node(_) => {}
     }
     if let Some(found) = other_than(nodes_of(beside), nodes) {
         return Err(FromRejection::OtherNodes(found, nodes));
@@ -165,7 +200,7 @@ fn nodes_of(beside: &Beside) -> Option<u8>
     match beside {
         Beside::Serve(file) => Some(file.nodes),
         Beside::Node(file) => Some(file.nodes),
-        Beside::Nothing | Beside::Bad(_) => None,
+        Beside::Nothing | Beside::Joins | Beside::Bad(_) => None,
     }
 }
 
@@ -175,7 +210,7 @@ fn only_node(beside: &Beside) -> Option<u8>
 {
     match beside {
         Beside::Node(file) => Some(file.node),
-        Beside::Nothing | Beside::Serve(_) | Beside::Bad(_) => None,
+        Beside::Nothing | Beside::Serve(_) | Beside::Joins | Beside::Bad(_) => None,
     }
 }
 
@@ -186,7 +221,9 @@ fn is_named(beside: &Beside, name: Option<&str>, id: u8) -> bool
 {
     match beside {
         Beside::Nothing => true,
-        Beside::Serve(_) | Beside::Node(_) | Beside::Bad(_) => is_tape_name(name, id),
+        Beside::Serve(_) | Beside::Node(_) | Beside::Joins | Beside::Bad(_) => {
+            is_tape_name(name, id)
+        }
     }
 }
 

@@ -3,7 +3,7 @@
 use thiserror::Error;
 use wf_folder::{FarmFile, NodeFile, NodeFileFault};
 
-/// What was found as the file `farm` beside a tape.
+/// What was found as the file `farm` beside a tape, and as the file `joins`.
 #[derive(Clone, Copy)]
 pub enum Beside {
     /// There is no such file.
@@ -12,6 +12,8 @@ pub enum Beside {
     Serve(FarmFile),
     /// That of one node.
     Node(NodeFile),
+    /// One, and a file `joins` that isn't empty.
+    Joins,
     /// A file that can't be read as either.
     Bad(NodeFileFault),
 }
@@ -22,6 +24,9 @@ pub enum FromRejection {
     /// The file `farm` beside it can't be read as one.
     #[error("the file farm beside it: {0}")]
     BadFile(NodeFileFault),
+    /// Its folder joins in the place of a lost one, so that it may not vote yet.
+    #[error("the tape of a folder that joins: it may not vote")]
+    Joins,
     /// It is of a farm of the first number of nodes, and the second one is wanted.
     #[error("the tape of a farm of {0} nodes, and of {1} is wanted")]
     OtherNodes(u8, u8),

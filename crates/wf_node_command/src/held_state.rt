@@ -1,12 +1,11 @@
 //! What a node has stored, compared with what is known of it.
-ghost use Rattle.std.specs.Prelude.{◌≡◌, ◌≤◌, IfErr, IfOk, Some, length};
+ghost use Rattle.std.specs.Prelude.{◌≡◌, IfErr, IfOk, Some, length};
 ghost use Rattle.wf_digest.specs.Digest.{AreDigestsOf, digest_at};
 ghost use Rattle.wf_node.specs.Node.{stored_of};
-ghost use Rattle.wf_node_command.specs.Held.{HasReached, HoldsAll, IsKnownOf, IsWhyNotHeld, digest_up_to};
+ghost use Rattle.wf_node_command.specs.Held.{HasReached, HoldsAll, IsKnownOf, IsWhyNotHeld};
 
 use crate::fault::CommandFault;
 use std::alloc::{AllocError, Global};
-use wf_ballot::Seq;
 use wf_digest::Digests;
 use wf_folder::{Known, Reach, admit_tape};
 use wf_learner::History;

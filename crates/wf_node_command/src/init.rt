@@ -1,19 +1,23 @@
 //! `wfarm init`.
-ghost use Rattle.std.specs.Prelude.{◌≡◌, ◌≤◌, ◌<◌, ◌∷◌, IfErr, IfOk, IsSome, OnErr, OnOk};
+ghost use Rattle.std.specs.Prelude.{◌≡◌, ◌<◌, ◌⊎◌, ◌↔◌, ◌∷◌, IfErr, IfOk, IsSome, IsTrue, OnErr, OnOk, true};
 ghost use Rattle.wf_folder.specs.Name.{pad};
 ghost use Rattle.wf_line.specs.NodeLine.{IsInitInRange};
-ghost use Rattle.wf_node_command.specs.Made.{IsFilled, IsFirstTape, IsInitCause, IsInitDone, IsUnfilled, IsWhyNotEmpty, made_empty};
+ghost use Rattle.wf_node_command.specs.Made.{IsFolderMade, IsFirstTape, IsInitCause, IsInitDone, IsUnfilled, IsWhyNotEmpty, made_empty, with_joins};
 ghost use Rattle.wf_node_command.specs.Fault.{IsFromSystem};
-ghost use Rattle.wf_store.specs.Call.{OnlyReads};
+ghost use Rattle.wf_store.specs.Call.{OnlyReads, failed_at};
+ghost use Rattle.wf_store.specs.Fault.{IsWhyUnwritten};
+ghost use Rattle.wf_store.specs.declared.file_name.FileName.TheVariants as names;
 
 use crate::fault::CommandFault;
 use crate::folder::write_farm;
 use crate::from::{FirstTape, tape_from};
 use std::alloc::Global;
 use std::rt::Files;
+use wf_ballot::NodeId;
 use wf_folder::{FarmName, NodeFile, admit_new};
 use wf_line::InitLine;
-use wf_store::{FileName, Store};
+use wf_rejoin::Joining;
+use wf_store::{FileName, FolderFault, Store};
 
 /// Makes the folder of a node.
 #[tactic(auto, using(crate::proofs::Making::not_made))]
@@ -28,10 +32,20 @@ pub(crate) fn init<R: Files + Eprint + AllocGlobal, S: Store>(
     if line.nodes <= line.id {
         return Err(CommandFault::Id(line.id, line.nodes));
     }
+    if joins_with_tape(line) {
+        return Err(CommandFault::ReplaceFrom);
+    }
     match FarmName::new(line.farm.as_bytes()) {
         Some(farm) => make(rt, store, line, farm),
         None => Err(CommandFault::Name),
     }
+}
+
+/// Whether a folder is to join, and to begin with a tape.
+fn joins_with_tape(line: &InitLine<'_>) -> bool
+    ensures { IsTrue result ↔ ((line.now.replaces ≡ true) × IsSome line.now.from) }
+{
+    line.replaces && line.from.is_some()
 }
 
 /// Makes the folder: the tape to begin with is read first, so that nothing is made where that isn't taken. A tape of which no file says
@@ -46,6 +60,7 @@ fn make<R: Files + Eprint + AllocGlobal, S: Store>(
     requires range { IsInitInRange line.now }
     requires member { line.now.id < line.now.nodes }
     requires farm { farm ≡ pad line.now.farm.now }
+    requires alone { ¬ ((line.now.replaces ≡ true) × IsSome line.now.from) }
     ensures { IsInitDone line.now (S.calls store.old) (S.calls store.new) result }
 {
     let FirstTape { bytes, is_known } = match first_tape(rt, line) {
@@ -82,6 +97,7 @@ fn make_with<S: Store>(
     requires member { line.now.id < line.now.nodes }
     requires farm { farm ≡ pad line.now.farm.now }
     requires tape { IsFirstTape line.now tape.items }
+    requires alone { ¬ ((line.now.replaces ≡ true) × IsSome line.now.from) }
     ensures { IsInitDone line.now (S.calls store.old) (S.calls store.new) result }
 {
     match make_empty(store) {
@@ -117,8 +133,9 @@ fn make_empty<S: Store>(store: &mut S) -> Result<(), CommandFault>
     }
 }
 
-/// Writes the tape and the file `farm` of an empty folder: the tape first, so that a folder with a file `farm` has one.
-#[tactic(auto, using(crate::proofs::Making::tape_failed, crate::proofs::Making::tape_alone, crate::proofs::Making::filled))]
+/// Writes the tape, the file `joins` where the folder joins, and the file `farm` of an empty folder: that one last, so that a folder with a
+/// file `farm` has a tape, and doesn't vote where it is to join.
+#[tactic(auto, using(crate::proofs::Making::tape_failed, crate::proofs::Making::tape_alone, crate::proofs::Making::no_farm, crate::proofs::Making::filled))]
 fn write_files<S: Store>(
     alloc: Global,
     store: &mut S,
@@ -129,7 +146,7 @@ fn write_files<S: Store>(
     requires range { IsInitInRange line.now }
     requires member { line.now.id < line.now.nodes }
     requires farm { farm ≡ pad line.now.farm.now }
-    ensures filled { OnOk result (IsFilled line.now tape.items (S.calls store.old) (S.calls store.new)) }
+    ensures filled { OnOk result (IsFolderMade line.now tape.items (S.calls store.old) (S.calls store.new)) }
     ensures left { OnErr result (IsUnfilled line.now tape.items (S.calls store.old) (S.calls store.new)) }
     ensures fault { IfErr result IsFromSystem }
 {
@@ -143,10 +160,37 @@ fn write_files<S: Store>(
     if let Err(fault) = store.replace(FileName::NodeTape(line.id), tape) {
         return Err(CommandFault::Folder(fault));
     }
+    if let Err(fault) = write_joins(alloc, store, line, mark) {
+        return Err(CommandFault::Folder(fault));
+    }
     let file = NodeFile::new(line.id, line.nodes, farm, mark);
     match write_farm(alloc, store, &file) {
         Ok(()) => Ok(()),
         Err(fault) => Err(CommandFault::Folder(fault)),
+    }
+}
+
+/// Writes the file `joins` of the folder with this mark, if it joins.
+fn write_joins<S: Store>(
+    alloc: Global,
+    store: &mut S,
+    line: &InitLine<'_>,
+    mark: [u8; 16],
+) -> Result<(), FolderFault>
+    requires range { IsInitInRange line.now }
+    requires member { line.now.id < line.now.nodes }
+    ensures written { OnOk result (S.calls store.new ≡ with_joins line.now mark (S.calls store.old)) }
+    ensures unwritten { OnErr result ((S.calls store.new ≡ S.calls store.old)
+        ⊎ (S.calls store.new ≡ failed_at names.Joins ∷ S.calls store.old)) }
+    ensures cause { IfErr result (IsWhyUnwritten names.Joins) }
+{
+    if !line.replaces {
+        return Ok(());
+    }
+    let joining = Joining::new(NodeId::new(line.id).unwrap(), line.nodes, mark);
+    match joining.text(alloc) {
+        Ok(text) => store.replace(FileName::Joins, text),
+        Err(_) => Err(FolderFault::Memory),
     }
 }
 

@@ -6,8 +6,10 @@
 //!
 //! **Promises** (`specs/Done.antt`), of the calls of the folder in their order (`specs/Start.antt`, `specs/Made.antt`, `specs/Cleared.antt`).
 //! - `node` locks the folder first. It begins only where the file `farm` that was read is a node's, of a farm of as many nodes as addresses
-//!   are listed, and its tape is there: never on an empty or an unknown folder. The tape is read, compared with what the file says is known
-//!   of the node, and then opened; the start is counted last, once the file `heard` was read. Its node was opened in memory, as that node
+//!   are listed, and its tape is there: never on an empty or an unknown folder. The files `replaced` and `joins` are read next, and are what
+//!   it goes by (`specs/Ready.antt`): a bad one is an error. The tape is read, compared with what the file `farm` says is known
+//!   of the node, and then opened; the start is counted last, once the file `heard` was read, of which what was heard of folders that others
+//!   have replaced is left out. Its node was opened in memory, as that node
 //!   of that farm, on the bytes that were read, without zeros that were never synced (`wf_recovery`): it had stored what they stand for.
 //!   Then it moved to its tape, of which nothing is read: its records replace what that held, in one call. If the tape is durable, whatever
 //!   a crash leaves stands for what the node had stored.
@@ -16,8 +18,11 @@
 //!   from that node on, and each client was sent the response to exactly what had come of its request (`HasAnswered`). Meanwhile no tape
 //!   was made or put in the place of another, and a file was opened or written only where the folder at its path had been seen to be the
 //!   one that is locked (`specs/Folder.antt`).
-//! - `init` makes and locks a folder without names, draws its mark, and leaves a tape that is empty, or one on which that node opens, and
-//!   then the file of a node of that number, farm and name that never started: these two files, in this order.
+//! - Where the file `joins` said that the folder joins, the node was given no message but those that say what is published, in each of its
+//!   runs: it voted for nothing, and promised nothing (`specs/Learned.antt`).
+//! - `init` makes and locks a folder without names, draws its mark, and leaves a tape that is empty, or one on which that node opens; with
+//!   `--replace` an empty one, and then the file `joins` with that mark; and then the file of a node of that number, farm and name that never
+//!   started: these files, in this order.
 //! - `clear` locks the folder, forgets what was heard, and then writes the file that it read without its suspension.
 //! - Each error has its cause, and its status: 2 where the command line is bad, else 1.
 //!
@@ -41,6 +46,8 @@ mod init;
 mod node;
 mod read_node;
 mod ready;
+mod replacement_fault;
+mod replacement_files;
 mod running;
 mod running_node;
 mod serve;
@@ -50,5 +57,6 @@ mod tape;
 pub use command::run;
 pub use fault::CommandFault;
 pub use from_rejection::FromRejection;
+pub use replacement_fault::ReplacementFault;
 pub use running_node::RunningNode;
 pub use wf_address::AddressOption;

@@ -8,8 +8,9 @@ ghost use Rattle.wf_node_command.specs.Done.{IsNodeDone};
 ghost use Rattle.wf_node_command.specs.Fault.{IsFromSystem, IsWhyUnheard};
 ghost use Rattle.wf_node_command.specs.Folder.{StandsForRead, tape_in};
 ghost use Rattle.wf_node_command.specs.Held.{IsKnownOf, IsRaisedTo};
-ghost use Rattle.wf_node_command.specs.Ready.{IsReady, IsReadyAs};
-ghost use Rattle.wf_node_command.specs.Start.{IsAdmitted, IsCounted, IsDrawn, IsHeldCause, IsLeft, IsNodeFault, IsNotCounted, IsStarted, IsStopFault, IsStopped, IsTapeOpened, IsUnopened, IsWhyNotAdmitted, IsWhyNotCompared, node_in};
+ghost use Rattle.wf_node_command.specs.Ready.{IsPlanOf, IsReady, IsReadyAs};
+ghost use Rattle.wf_node_command.specs.ReplacementFiles.{AreNoted};
+ghost use Rattle.wf_node_command.specs.Start.{IsFileAdmitted, IsFileCause, IsReadyCounted, IsStartAdmitted, IsStartCounted, IsLifeDrawn, IsHeldCause, IsLeftUncounted, IsNodeFault, IsNotCounted, IsStarted, IsStopFault, IsStartCutShort, IsTapeOpened, IsUnopened, IsWhyNotAdmitted, IsWhyNotCompared, node_in};
 ghost use Rattle.wf_store.specs.Call.{OnlyReads, locked};
 
 use crate::addresses::{NodeAddresses, addresses_of};
@@ -17,6 +18,7 @@ use crate::event::NodeStarts;
 use crate::fault::CommandFault;
 use crate::folder::{find_in, read_peer_progress, write_farm};
 use crate::ready::ReadyNode;
+use crate::replacement_files::{ReplacementFiles, read_replacement_files};
 use crate::serve::serve;
 use crate::tape::{examine_tape, fault_of_tape, open_process};
 use std::alloc::Global;
@@ -90,11 +92,11 @@ fn start_held<R: Files<File = File> + Clock + Eprint + AllocGlobal, S: Store>(
         IsReady S.Tape.Tape line.now ready (S.calls store.old) (S.calls store.new)) }
     ensures sound { IfOk result (λ ready. IsNodeFile ready.file) }
     ensures left { OnErr result (OnlyReads (S.calls store.old) (S.calls store.new)
-        ⊎ IsStopped line.now (S.calls store.old) (S.calls store.new)) }
+        ⊎ IsStartCutShort line.now (S.calls store.old) (S.calls store.new)) }
     ensures cause { IfErr result (IsHeldCause line.now (S.calls store.old) (S.calls store.new)) }
 {
     match admit(store, line, node_addresses.peers.len() as u8) {
-        Ok(file) => start_as(rt, store, line, node_addresses, &file),
+        Ok((file, files)) => start_as(rt, store, line, node_addresses, &file, &files),
         Err(fault) => {
             drop(node_addresses);
             Err(fault)
@@ -102,17 +104,49 @@ fn start_held<R: Files<File = File> + Clock + Eprint + AllocGlobal, S: Store>(
     }
 }
 
-/// The file of this start of one of so many nodes, by what is in the folder.
+/// The file of this start of one of so many nodes, by what is in the folder, and what the folder says of replacements.
+#[tactic(auto, using(crate::proofs::Started::noted_by, crate::proofs::Started::start_admitted, crate::proofs::Started::not_file, crate::proofs::Started::bad_file, wf_store::specs::CallTheorems::reads_both))]
+fn admit<S: Store>(
+    store: &mut S,
+    line: &NodeLine<'_>,
+    nodes: u8,
+) -> Result<(NodeFile, ReplacementFiles), CommandFault>
+    requires { nodes ≡ length (words_of line.now.peers.now) }
+    ensures admit { IfOk result (λ admitted.
+        IsStartAdmitted line.now admitted.0 (S.calls store.old) (S.calls store.new)) }
+    ensures file { IfOk result (λ admitted. IsNodeFile admitted.0) }
+    ensures nodes { IfOk result (λ admitted. admitted.0.nodes ≡ nodes) }
+    ensures noted { IfOk result (λ admitted.
+        AreNoted admitted.0 admitted.1 (S.calls store.new)) }
+    ensures reads { OnlyReads (S.calls store.old) (S.calls store.new) }
+    ensures fault { IfErr result
+        (IsWhyNotAdmitted line.now (S.calls store.old) (S.calls store.new)) }
+{
+    let file = match admit_file(store, line, nodes) {
+        Ok(file) => file,
+        Err(fault) => return Err(fault),
+    };
+    match read_replacement_files(store, &file) {
+        Ok(files) => Ok((file, files)),
+        Err(fault) => Err(fault),
+    }
+}
+
+/// The file of this start of one of so many nodes, by the file `farm` and the tape.
 #[tactic(auto, using(crate::proofs::Started::admitted_by, crate::proofs::Started::rejected_by, wf_store::specs::CallTheorems::reads_both, crate::proofs::Started::start_is_file, crate::proofs::Started::start_has_nodes))]
-fn admit<S: Store>(store: &mut S, line: &NodeLine<'_>, nodes: u8) -> Result<NodeFile, CommandFault>
+fn admit_file<S: Store>(
+    store: &mut S,
+    line: &NodeLine<'_>,
+    nodes: u8,
+) -> Result<NodeFile, CommandFault>
     requires { nodes ≡ length (words_of line.now.peers.now) }
     ensures admit { IfOk result (λ file.
-        IsAdmitted line.now file (S.calls store.old) (S.calls store.new)) }
+        IsFileAdmitted line.now file (S.calls store.old) (S.calls store.new)) }
     ensures file { IfOk result IsNodeFile }
     ensures nodes { IfOk result (λ file. file.nodes ≡ nodes) }
     ensures reads { OnlyReads (S.calls store.old) (S.calls store.new) }
     ensures fault { IfErr result
-        (IsWhyNotAdmitted line.now (S.calls store.old) (S.calls store.new)) }
+        (IsFileCause line.now (S.calls store.old) (S.calls store.new)) }
 {
     let found = match find_in(store) {
         Ok(found) => found,
@@ -139,21 +173,23 @@ fn node_in(found: &NodeFound) -> u8
 }
 
 /// Starts the node on its folder, as this file says. The tape is opened first: where it doesn't open, no start is counted.
-#[tactic(auto, using(crate::proofs::Starting::unopened, crate::proofs::Starting::unplanned, crate::proofs::Starting::counted_on, crate::proofs::Starting::uncounted_on, crate::proofs::Starting::stop_of_system, crate::proofs::Starting::stop_unopened, crate::proofs::Starting::stop_unheard))]
+#[tactic(auto, using(crate::proofs::Starting::plan_still, crate::proofs::Starting::unopened, crate::proofs::Starting::unplanned, crate::proofs::Starting::counted_on, crate::proofs::Starting::uncounted_on, crate::proofs::Starting::stop_of_system, crate::proofs::Starting::stop_unopened, crate::proofs::Starting::stop_unheard))]
 fn start_as<R: Files<File = File> + Clock + Eprint + AllocGlobal, S: Store>(
     rt: &R,
     store: &mut S,
     line: &NodeLine<'_>,
     node_addresses: NodeAddresses,
     file: &NodeFile,
+    files: &ReplacementFiles,
 ) -> Result<ReadyNode<S::Tape>, CommandFault>
     requires range { IsNodeInRange line.now }
     requires file { IsNodeFile file.now }
     requires nodes { file.now.nodes ≡ length node_addresses.peers.items }
     ensures ready { IfOk result (λ ready.
         IsReadyAs S.Tape.Tape file.now ready (S.calls store.old) (S.calls store.new)) }
+    ensures plan { IfOk result (λ ready. IsPlanOf line.now files.now ready.plan) }
     ensures sound { IfOk result (λ ready. IsNodeFile ready.file) }
-    ensures left { OnErr result (IsLeft file.now (S.calls store.old) (S.calls store.new)) }
+    ensures left { OnErr result (IsLeftUncounted file.now (S.calls store.old) (S.calls store.new)) }
     ensures cause { IfErr result (IsStopFault file.now (S.calls store.old) (S.calls store.new)) }
 {
     match open_node(rt, store, line, file) {
@@ -163,6 +199,7 @@ fn start_as<R: Files<File = File> + Clock + Eprint + AllocGlobal, S: Store>(
             line,
             node_addresses,
             file,
+            files,
             &known.reach,
         ) {
             Ok(plan) => make_ready(rt.alloc(), store, file, plan, process, &known),
@@ -227,11 +264,13 @@ fn plan_of<S: Store>(
     line: &NodeLine<'_>,
     node_addresses: NodeAddresses,
     file: &NodeFile,
+    files: &ReplacementFiles,
     reach: &Reach,
 ) -> Result<NodePlan, CommandFault>
     requires file { IsNodeFile file.now }
     requires nodes { file.now.nodes ≡ length node_addresses.peers.items }
-    ensures drawn { OnOk result (IsDrawn (S.calls store.old) (S.calls store.new)) }
+    ensures plan { IfOk result (IsPlanOf line.now files.now) }
+    ensures drawn { OnOk result (IsLifeDrawn (S.calls store.old) (S.calls store.new)) }
     ensures reads { OnlyReads (S.calls store.old) (S.calls store.new) }
     ensures fault { IfErr result IsFromSystem }
 {
@@ -242,7 +281,7 @@ fn plan_of<S: Store>(
             return Err(CommandFault::Folder(fault));
         }
     };
-    plan_with(alloc, line, node_addresses, file, life, reach)
+    plan_with(alloc, line, node_addresses, file, files, life, reach)
 }
 
 /// Which node it is, how far it is in the life that these bits mark, and where the others are.
@@ -251,11 +290,13 @@ fn plan_with(
     line: &NodeLine<'_>,
     node_addresses: NodeAddresses,
     file: &NodeFile,
+    files: &ReplacementFiles,
     life: [u8; 16],
     reach: &Reach,
 ) -> Result<NodePlan, CommandFault>
     requires file { IsNodeFile file.now }
     requires nodes { file.now.nodes ≡ length node_addresses.peers.items }
+    ensures plan { IfOk result (IsPlanOf line.now files.now) }
     ensures fault { IfErr result IsFromSystem }
 {
     let NodeAddresses {
@@ -283,6 +324,9 @@ fn plan_with(
         },
         start: Progress::new(file.mark, file.starts, life, reach),
         suspension: file.suspension,
+        replacements: files.known,
+        joining: files.joining,
+        may_replace: line.may_replace,
         folder,
         tape,
         peers,
@@ -294,7 +338,8 @@ fn plan_with(
     })
 }
 
-/// Counts the start in the folder: the node is ready to be served then.
+/// Counts the start in the folder: the node is ready to be served then. What was heard of a folder that another one has replaced since is
+/// left out.
 #[tactic(auto, using(crate::proofs::Starting::raised_by))]
 fn make_ready<S: Store>(
     alloc: Global,
@@ -307,8 +352,9 @@ fn make_ready<S: Store>(
     requires file { IsNodeFile file.now }
     requires known { IsKnownOf (stored_of process.actor.node) known.now }
     ensures process { IfOk result (λ ready. ready.process ≡ process) }
-    ensures counted { IfOk result (λ ready.
-        IsCounted ready.heard ready.file (S.calls store.old) (S.calls store.new)) }
+    ensures plan { IfOk result (λ ready. ready.plan ≡ plan) }
+    ensures counted { IfOk result (λ ready. IsReadyCounted plan.replacements ready.heard ready.file
+        (S.calls store.old) (S.calls store.new)) }
     ensures raised { IfOk result (λ ready.
         IsRaisedTo (stored_of process.actor.node) file.now ready.file) }
     ensures sound { IfOk result (λ ready. IsNodeFile ready.file) }
@@ -317,9 +363,9 @@ fn make_ready<S: Store>(
 {
     match count_start(alloc, store, file, known) {
         Ok((heard, written)) => Ok(ReadyNode {
+            heard: heard.without(&plan.replacements),
             plan,
             process,
-            heard,
             file: written,
         }),
         Err(fault) => {
@@ -341,7 +387,7 @@ fn count_start<S: Store>(
 ) -> Result<(PeerProgress, NodeFile), CommandFault>
     requires { IsNodeFile file.now }
     ensures counted { IfOk result (λ counted.
-        IsCounted counted.0 counted.1 (S.calls store.old) (S.calls store.new)) }
+        IsStartCounted counted.0 counted.1 (S.calls store.old) (S.calls store.new)) }
     ensures raised { IfOk result (λ counted. counted.1 ≡ record file.now {
       known = raised_known file.now.known known.now.reach known.now.digest;
     }) }

@@ -10,7 +10,7 @@ use wf_tape::Tape;
 pub(crate) struct ReadyNode<T: Tape> {
     pub(crate) plan: NodePlan,
     pub(crate) process: Process<T>,
-    /// What was heard of the peers before.
+    /// What was heard of the peers before, but for folders that others have replaced.
     pub(crate) heard: PeerProgress,
     /// The file `farm`, as it was written at this start.
     pub(crate) file: NodeFile,

@@ -1,7 +1,7 @@
 //! The folder of a node while it is served.
 ghost use Rattle.std.specs.Prelude.{◌≡◌, false, true, IfOk, OnOk, Some};
 ghost use Rattle.wf_folder.specs.NodeAdmission.{IsSoundFind};
-ghost use Rattle.wf_node_command.specs.Folder.{IsPut, StaysFrom, calls_in, heard_in, heard_of_file, is_own, is_tape};
+ghost use Rattle.wf_node_command.specs.Folder.{MayHaveGot, StaysFrom, calls_in, heard_in, heard_of_file, is_own, is_tape};
 
 use crate::folder::find_in;
 use wf_folder::NodeFound;
@@ -101,7 +101,7 @@ impl<S: Store> RunningStore<S> {
         requires file { is_tape file ≡ false }
         requires own { is_own (S.calls self.old.store) ≡ true }
         ensures began { self.new.began.items ≡ self.old.began.items }
-        ensures heard { IsPut result (heard_in (S.calls self.old.store))
+        ensures heard { MayHaveGot result (heard_in (S.calls self.old.store))
             (heard_of_file file (Some text.items) (heard_in (S.calls self.old.store)))
             (heard_in (S.calls self.new.store)) }
     {

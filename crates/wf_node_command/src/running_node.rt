@@ -1,13 +1,14 @@
 //! A node that runs on its folder, and that its caller steps.
-ghost use Rattle.std.specs.Prelude.{◌≡◌, ◌≤◌, IfErr, IfOk};
+ghost use Rattle.std.specs.Prelude.{◌≡◌, ◌≤◌, ◌↔◌, IfErr, IfOk, IsTrue};
 ghost use Rattle.wf_folder.specs.NodeFile.{IsNodeFile};
 ghost use Rattle.wf_line.specs.NodeLine.{IsNodeInRange};
 ghost use Rattle.wf_loop.specs.Continuation.{KeepsEarlier};
-ghost use Rattle.wf_loop.specs.Hub.{HasAnswered, IsHeardFirst, process_of};
+ghost use Rattle.wf_loop.specs.Hub.{HasAnswered, IsHeardFirst, IsOver, kept_of, process_of};
 ghost use Rattle.wf_loop.specs.Lived.{HasLived};
 ghost use Rattle.wf_node_command.specs.Fault.{IsFromSystem};
 ghost use Rattle.wf_node_command.specs.Folder.{StaysFrom, calls_in, heard_in};
-ghost use Rattle.wf_node_command.specs.Ready.{IsFresh};
+ghost use Rattle.wf_node_command.specs.Learned.{IsLearner};
+ghost use Rattle.wf_node_command.specs.Ready.{IsJustStarted};
 ghost use Rattle.wf_node_command.specs.Running.{IsRunning};
 ghost use Rattle.wf_node_command.specs.Start.{IsNodeFault};
 
@@ -52,8 +53,8 @@ impl<S: Store, N: Network + Drop> RunningNode<S, N> {
         time: u64,
     ) -> Result<Self, (CommandFault, S)>
         requires { IsNodeInRange line.now }
-        ensures running { IfOk result (λ node. IsRunning S.Tape.Tape line.now
-            (process_of node.hub) (S.calls store) (S.calls node.folder.running.store)) }
+        ensures running { IfOk result (λ node. IsRunning S.Tape.Tape line.now (process_of node.hub)
+            (kept_of node.hub) (S.calls store) (S.calls node.folder.running.store)) }
         ensures began { IfOk result (λ node. calls_in S.calls node.folder.running.began.items ≡
             S.calls node.folder.running.store) }
         ensures heard { IfOk result (λ node.
@@ -78,8 +79,9 @@ impl<S: Store, N: Network + Drop> RunningNode<S, N> {
         time: u64,
     ) -> Result<Self, (CommandFault, S)>
         requires file { IsNodeFile ready.file }
-        requires fresh { IsFresh S.Tape.Tape ready (S.calls store) }
+        requires fresh { IsJustStarted S.Tape.Tape ready (S.calls store) }
         ensures process { IfOk result (λ node. process_of node.hub ≡ ready.process) }
+        ensures kept { IfOk result (λ node. kept_of node.hub ≡ ready.heard) }
         ensures same { IfOk result (λ node. S.calls node.folder.running.store ≡ S.calls store) }
         ensures began { IfOk result (λ node. calls_in S.calls node.folder.running.began.items ≡
             S.calls store) }
@@ -131,6 +133,13 @@ impl<S: Store, N: Network + Drop> RunningNode<S, N> {
         self.hub.always_lived();
     }
 
+    /// Whether what its process wrote is for the next start of its folder: it is given nothing any more, and is to end without an error.
+    pub fn is_over(&self) -> bool
+        ensures { IsTrue result ↔ IsOver self.now.hub }
+    {
+        self.hub.is_over()
+    }
+
     /// For how long the next turn may be waited for at most where no socket is ready, in milliseconds.
     pub fn patience(&self, time: u64) -> u64
         ensures { result ≤ 100 }
@@ -140,7 +149,7 @@ impl<S: Store, N: Network + Drop> RunningNode<S, N> {
 
     /// One turn, at this time in milliseconds, for the sockets with these tokens, which may be ready; it waits for nothing. Where the tape
     /// has failed, it is opened again once that is due.
-    #[tactic(auto, using(crate::proofs::Served::kept_still))]
+    #[tactic(auto, using(crate::proofs::Learned::learner_on, crate::proofs::Served::kept_still))]
     pub fn turn<R: Files<File = File> + Clock + Eprint + Net + AllocGlobal>(
         &mut self,
         rt: &R,
@@ -155,6 +164,8 @@ impl<S: Store, N: Network + Drop> RunningNode<S, N> {
         // It goes on in its run, or its run has ended and another began.
         ensures earlier { KeepsEarlier S.Tape.Tape (process_of self.old.hub)
             (process_of self.new.hub) }
+        // If its folder joins, it goes on learning: it doesn't vote.
+        ensures learns { IsLearner S.Tape.Tape self.old.hub → IsLearner S.Tape.Tape self.new.hub }
         ensures began { calls_in S.calls self.new.folder.running.began.items ≡
             calls_in S.calls self.old.folder.running.began.items }
         ensures heard { IsHeardFirst (heard_in (S.calls self.old.folder.running.store)) self.old.hub →
@@ -181,7 +192,7 @@ impl<S: Store, N: Network + Drop> RunningNode<S, N> {
 
 impl<S: Store> RunningNode<S> {
     /// One turn over the network of the system, for which it waits.
-    #[tactic(auto, using(crate::proofs::Served::kept_still))]
+    #[tactic(auto, using(crate::proofs::Learned::learner_on, crate::proofs::Served::kept_still))]
     pub(crate) fn go_on<R: Files<File = File> + Clock + Eprint + Net + AllocGlobal>(
         &mut self,
         rt: &R,
@@ -189,6 +200,7 @@ impl<S: Store> RunningNode<S> {
     )
         ensures earlier { KeepsEarlier S.Tape.Tape (process_of self.old.hub)
             (process_of self.new.hub) }
+        ensures learns { IsLearner S.Tape.Tape self.old.hub → IsLearner S.Tape.Tape self.new.hub }
         ensures began { calls_in S.calls self.new.folder.running.began.items ≡
             calls_in S.calls self.old.folder.running.began.items }
         ensures heard { IsHeardFirst (heard_in (S.calls self.old.folder.running.store)) self.old.hub →
@@ -217,7 +229,7 @@ pub(crate) fn log_begun<R: Clock + Eprint, T: Tape + Drop, N: Network + Drop>(
 }
 
 /// Opens the tape of a halted node again, if it is time to; where that fails it is tried later.
-#[tactic(auto, using(crate::proofs::Served::kept_still, crate::proofs::Served::kept_same, crate::proofs::Served::kept_due))]
+#[tactic(auto, using(crate::proofs::Learned::learner_reopened, crate::proofs::Served::kept_still, crate::proofs::Served::kept_same, crate::proofs::Served::kept_due))]
 fn reopen_if_due<
     R: Clock + Eprint + AllocGlobal,
     T: Tape + Drop,
@@ -225,6 +237,7 @@ fn reopen_if_due<
     N: Network + Drop,
 >(rt: &R, log: &Log<'_, R>, hub: &mut Hub<T, N>, folder: &mut F)
     ensures earlier { KeepsEarlier T.Tape (process_of hub.old) (process_of hub.new) }
+    ensures learns { IsLearner T.Tape hub.old → IsLearner T.Tape hub.new }
     ensures begun { (F.stands folder.new).begun ≡ (F.stands folder.old).begun }
     ensures heard { IsHeardFirst (F.stands folder.old).heard hub.old →
         IsHeardFirst (F.stands folder.new).heard hub.new }

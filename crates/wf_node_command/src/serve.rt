@@ -1,12 +1,14 @@
 //! A node is served.
-ghost use Rattle.std.specs.Prelude.{◌≡◌};
+ghost use Rattle.std.specs.Prelude.{◌≡◌, IsSome, Option};
 ghost use Rattle.wf_folder.specs.NodeFile.{IsNodeFile};
 ghost use Rattle.wf_loop.specs.Continuation.{KeepsEarlier};
-ghost use Rattle.wf_loop.specs.Hub.{HasAnswered, IsHeardFirst, process_of};
+ghost use Rattle.wf_loop.specs.Hub.{HasAnswered, IsHeardFirst, IsOver, process_of};
 ghost use Rattle.wf_loop.specs.Lived.{HasLived};
+ghost use Rattle.wf_loop.specs.declared.joiner.Joiner.{Joiner as JoinerValue};
 ghost use Rattle.wf_node_command.specs.Done.{HasLivedOn, IsServed};
 ghost use Rattle.wf_node_command.specs.Folder.{StaysFrom, calls_in, heard_in};
-ghost use Rattle.wf_node_command.specs.Ready.{IsFresh};
+ghost use Rattle.wf_node_command.specs.Learned.{IsLearner};
+ghost use Rattle.wf_node_command.specs.Ready.{IsJustStarted};
 
 use crate::fault::CommandFault;
 use crate::ready::ReadyNode;
@@ -19,8 +21,8 @@ use wf_line::NodeLine;
 use wf_loop::{Hub, Log};
 use wf_store::Store;
 
-/// Serves a node that is ready for this many turns, over the network of the system, and hands its folder back.
-#[tactic(auto, using(crate::proofs::Served::served_on, crate::proofs::Served::not_served))]
+/// Serves a node that is ready for this many turns, or until its process is over, over the network of the system, and hands its folder back.
+#[tactic(auto, using(crate::proofs::Served::not_served))]
 pub(crate) fn serve<R: Files<File = File> + Clock + Eprint + Net + AllocGlobal, S: Store>(
     rt: &R,
     store: S,
@@ -29,8 +31,9 @@ pub(crate) fn serve<R: Files<File = File> + Clock + Eprint + Net + AllocGlobal, 
     turns: u64,
 ) -> (Result<(), CommandFault>, S)
     requires file { IsNodeFile ready.file }
-    requires fresh { IsFresh S.Tape.Tape ready (S.calls store) }
-    ensures { IsServed S.Tape.Tape ready.process (S.calls store) (S.calls result.1) result.0 }
+    requires fresh { IsJustStarted S.Tape.Tape ready (S.calls store) }
+    ensures { IsServed S.Tape.Tape ready.process ready.plan.joining (S.calls store) (S.calls result.1)
+        result.0 }
 {
     let ReadyNode {
         plan,
@@ -50,7 +53,7 @@ pub(crate) fn serve<R: Files<File = File> + Clock + Eprint + Net + AllocGlobal, 
     }
 }
 
-/// Takes that many turns of a node, and hands its folder back.
+/// Takes that many turns of a node, or those until its process is over, and hands its folder back.
 #[tactic(auto, using(crate::proofs::Served::lived_on))]
 fn take_turns<R: Files<File = File> + Clock + Eprint + Net + AllocGlobal, S: Store>(
     rt: &R,
@@ -59,7 +62,8 @@ fn take_turns<R: Files<File = File> + Clock + Eprint + Net + AllocGlobal, S: Sto
     turns: u64,
 ) -> S
     requires heard { IsHeardFirst (heard_in (S.calls node.folder.running.store)) node.hub }
-    ensures on { HasLivedOn S.Tape.Tape (process_of node.hub) (S.calls result) }
+    ensures on { (joining : Option JoinerValue) → (IsSome joining → IsLearner S.Tape.Tape node.hub) →
+        HasLivedOn S.Tape.Tape (process_of node.hub) joining (S.calls result) }
     ensures stays { ∥ StaysFrom (calls_in S.calls node.folder.running.began.items)
         (S.calls result) ∥₁ }
 {
@@ -68,8 +72,8 @@ fn take_turns<R: Files<File = File> + Clock + Eprint + Net + AllocGlobal, S: Sto
     node.close()
 }
 
-/// Takes that many turns of a node.
-#[tactic(auto, using(crate::proofs::Served::kept_still))]
+/// Takes that many turns of a node, or those until its process is over.
+#[tactic(auto, using(crate::proofs::Learned::learner_still, crate::proofs::Served::kept_still))]
 fn go_on<R: Files<File = File> + Clock + Eprint + Net + AllocGlobal, S: Store>(
     rt: &R,
     log: &Log<'_, R>,
@@ -84,12 +88,19 @@ fn go_on<R: Files<File = File> + Clock + Eprint + Net + AllocGlobal, S: Store>(
     // It goes on in its run, or its run has ended and others began.
     ensures earlier { KeepsEarlier S.Tape.Tape (process_of node.old.hub)
         (process_of node.new.hub) }
+    // If its folder joins, it goes on learning.
+    ensures learns { IsLearner S.Tape.Tape node.old.hub → IsLearner S.Tape.Tape node.new.hub }
+    // One that is over takes no turn.
+    ensures over { IsOver node.old.hub → node.new.hub ≡ node.old.hub }
     ensures began { calls_in S.calls node.new.folder.running.began.items ≡
         calls_in S.calls node.old.folder.running.began.items }
     ensures heard { IsHeardFirst (heard_in (S.calls node.old.folder.running.store)) node.old.hub →
         IsHeardFirst (heard_in (S.calls node.new.folder.running.store)) node.new.hub }
 {
     for _ in 0..turns {
+        if node.is_over() {
+            break;
+        }
         node.go_on(rt, log);
     }
     node.always_lived();

@@ -1,15 +1,19 @@
 //! What the operator's port answers.
+ghost use Rattle.std.specs.Prelude.{◌≡◌};
 
 use crate::lines::{canon_at, empty_map, push_line, text_of};
 use crate::metrics::{MetricType, head};
 use crate::page::TextPage;
-use crate::request::{FirstLine, is_whole, number_of, request_of};
+use crate::replacement::{ReplaceReply, ReplaceRequest};
+use crate::request::{FirstLine, is_whole, number_of, replace_request_of, request_of};
 use http::StatusCode;
 use std::alloc::{AllocError, Global};
 use std::fmt::Write;
 use std::net::SocketAddr;
 use wf_client::{Incoming, Outgoing};
+use wf_http::Allowed;
 use wf_learner::History;
+use wf_rejoin::Phase;
 use wf_version::BUILD_LABELS;
 use wf_visitors::{Server, ServerReply};
 
@@ -40,6 +44,8 @@ pub enum Health {
     ReaderDiffers {
         sequence: u16,
     },
+    /// Its folder joins, and is so far: it answers no client, and doesn't vote.
+    Joins(Phase),
 }
 
 /// A process that tells an operator of itself.
@@ -61,6 +67,19 @@ pub trait Operated {
 
     /// Appends its metrics, without which build it is. The only error is allocation failure.
     fn push_metrics(&self, text: &mut String) -> Result<(), AllocError>;
+
+    /// Appends what it knows of replacements of nodes, and whether its own folder joins. Returns whether there is such a thing: there is
+    /// none where it isn't a node. The only error is allocation failure.
+    fn push_replacements(&self, text: &mut String) -> Result<bool, AllocError> {
+        let _ = text;
+        Ok(false)
+    }
+
+    /// What it answers where an operator asks it about a replacement of a node.
+    fn replace(&mut self, request: &ReplaceRequest) -> ReplaceReply {
+        let _ = request;
+        ReplaceReply::NotANode
+    }
 }
 
 /// What answers the operator of a process.
@@ -84,7 +103,7 @@ impl<O: Operated> Server for Operator<O> {
         if incoming.bytes().is_empty() {
             return ServerReply::Nothing;
         }
-        match respond(alloc, &self.operated, incoming.bytes()) {
+        match respond(alloc, &mut self.operated, incoming.bytes()) {
             Ok(page) => {
                 let (status, bytes) = page.send(outgoing);
                 ServerReply::Sent { status, bytes }
@@ -96,21 +115,69 @@ impl<O: Operated> Server for Operator<O> {
 
 impl<O: Operated> Operator<O> {
     /// What answers the operator of this process.
-    pub fn new(operated: O) -> Self {
+    pub fn new(operated: O) -> Self
+        ensures { result.operated ≡ operated }
+    {
         Operator { operated }
+    }
+
+    /// The process, as what it was asked has left it.
+    pub fn operated(&self) -> &O
+        ensures { result.now ≡ self.now.operated }
+    {
+        &self.operated
     }
 }
 
 /// The page for a request.
-fn respond<O: Operated>(alloc: Global, operated: &O, bytes: &[u8]) -> Result<TextPage, AllocError> {
+fn respond<O: Operated>(
+    alloc: Global,
+    operated: &mut O,
+    bytes: &[u8],
+) -> Result<TextPage, AllocError> {
     let FirstLine {
         method,
         path,
         query,
     } = request_of(bytes);
-    if method != "GET" {
-        return TextPage::only_get(alloc);
+    if is_of_question(path) {
+        if method == "POST" {
+            reply_page(alloc, operated, path, query)
+        } else {
+            TextPage::only(alloc, Allowed::Post)
+        }
+    } else if method == "GET" {
+        state_page(alloc, operated, path, query)
+    } else {
+        TextPage::only(alloc, Allowed::Get)
     }
+}
+
+/// Whether a path is one by which a node is asked about a replacement.
+fn is_of_question(path: &str) -> bool {
+    matches!(path, "/replace/ask" | "/replace/agree" | "/replace/begin")
+}
+
+/// What the process answers to a question about a replacement.
+fn reply_page<O: Operated>(
+    alloc: Global,
+    operated: &mut O,
+    path: &str,
+    query: &str,
+) -> Result<TextPage, AllocError> {
+    match replace_request_of(path, query) {
+        Some(request) => operated.replace(&request).page(alloc),
+        None => malformed_page(alloc),
+    }
+}
+
+/// The page of what the process is, at a path.
+fn state_page<O: Operated>(
+    alloc: Global,
+    operated: &O,
+    path: &str,
+    query: &str,
+) -> Result<TextPage, AllocError> {
     match path {
         "/healthz" => health_page(alloc, operated.health()),
         "/readyz" => readiness_page(alloc, operated),
@@ -118,11 +185,22 @@ fn respond<O: Operated>(alloc: Global, operated: &O, bytes: &[u8]) -> Result<Tex
         "/metrics" => metrics_page(alloc, operated),
         "/map" => map_page(alloc, operated.history(), query),
         "/history" => history_page(alloc, operated, query),
+        "/replacements" => replacements_page(alloc, operated),
         _ => TextPage::of(alloc, StatusCode::NOT_FOUND, "not found\n"),
     }
 }
 
-/// Whether it serves, its tape stands, and no reader's history differs.
+/// What the process knows of replacements.
+fn replacements_page<O: Operated>(alloc: Global, operated: &O) -> Result<TextPage, AllocError> {
+    let mut text = String::new(alloc);
+    if operated.push_replacements(&mut text)? {
+        Ok(TextPage::of_text(StatusCode::OK, text))
+    } else {
+        TextPage::of(alloc, StatusCode::NOT_FOUND, "not found\n")
+    }
+}
+
+/// Whether it serves or joins, its tape stands, and no reader's history differs.
 fn health_page(alloc: Global, health: Health) -> Result<TextPage, AllocError> {
     match health {
         Health::Fine => TextPage::of(alloc, StatusCode::OK, "ok\n"),
@@ -149,13 +227,22 @@ fn health_page(alloc: Global, health: Health) -> Result<TextPage, AllocError> {
             StatusCode::SERVICE_UNAVAILABLE,
             format!(in alloc; "history differs from a reader at sequence {sequence}\n")?,
         )),
+        Health::Joins(phase) => joining_page(alloc, StatusCode::OK, phase),
     }
+}
+
+/// How far a folder is that joins.
+fn joining_page(alloc: Global, status: StatusCode, phase: Phase) -> Result<TextPage, AllocError> {
+    Ok(TextPage::of_text(status, format!(in alloc; "{phase}\n")?))
 }
 
 /// Whether a map that is proposed to it can be published: it hears a majority, and nothing is wrong with it. That a reader's history
 /// differs stops nobody.
 fn vote_page<O: Operated>(alloc: Global, operated: &O) -> Result<TextPage, AllocError> {
     let health = operated.health();
+    if let Health::Joins(phase) = health {
+        return joining_page(alloc, StatusCode::SERVICE_UNAVAILABLE, phase);
+    }
     if !matches!(health, Health::Fine | Health::ReaderDiffers { .. }) {
         return health_page(alloc, health);
     }
@@ -169,6 +256,9 @@ fn vote_page<O: Operated>(alloc: Global, operated: &O) -> Result<TextPage, Alloc
 /// Whether it answers clients, and has all that it heard of.
 fn readiness_page<O: Operated>(alloc: Global, operated: &O) -> Result<TextPage, AllocError> {
     let health = operated.health();
+    if let Health::Joins(phase) = health {
+        return joining_page(alloc, StatusCode::SERVICE_UNAVAILABLE, phase);
+    }
     if matches!(health, Health::Suspended { .. } | Health::Differs { .. }) {
         return health_page(alloc, health);
     }

@@ -50,14 +50,14 @@ impl TextPage {
         }
     }
 
-    /// That only GET is allowed.
-    pub(crate) fn only_get(alloc: Global) -> Result<TextPage, AllocError> {
+    /// That only this method is allowed.
+    pub(crate) fn only(alloc: Global, allowed: Allowed) -> Result<TextPage, AllocError> {
         let mut page = TextPage::of(
             alloc,
             StatusCode::METHOD_NOT_ALLOWED,
             "method not allowed\n",
         )?;
-        page.allowed = Some(Allowed::Get);
+        page.allowed = Some(allowed);
         Ok(page)
     }
 

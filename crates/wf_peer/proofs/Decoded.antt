@@ -10,7 +10,7 @@ use Rattle.std.proofs.lemmas.Nat.{be_bytes_4, from_be_bytes-to_be_bytes_4}
 use Rattle.wf_ballot.specs.Sequence.{seq_bytes}
 use Rattle.wf_folder.specs.Reach.{IsPromise, IsVote, IsVoteOrNone}
 use Rattle.wf_folder.specs.declared.reach.HighestVote.{HighestVote}
-use Rattle.wf_peer.specs.Greeting.{IsGreeting, IsProgress, body_bytes, progress_bytes, promise_bytes, state_byte, vote_bytes}
+use Rattle.wf_peer.specs.Greeting.{HasFixedParts, IsProgress, fixed_bytes, progress_bytes, promise_bytes, state_byte, vote_bytes}
 use Rattle.wf_peer.specs.GreetingReply.{IsProgressOrNone, remembered_bytes}
 use Rattle.wf_peer.specs.declared.fault.GreetingFault.{GreetingFault}
 use Rattle.wf_peer.specs.declared.greeting.Greeting.{Greeting}
@@ -72,13 +72,13 @@ progress_whole b r1 r2 r3 r4 r5 m s l r pr v pu em e1 es e2 el e3 er e4 ep e5 ev
     ∙ ap (λ (x : List ℕ). p.mark ++ (to_be_bytes w32 p.starts ++ (p.life ++ (to_be_bytes w32 p.round ++ (promise_bytes p.promise ++ (x ++ pu)))))) vote
     ∙ ap (λ (x : List ℕ). p.mark ++ (to_be_bytes w32 p.starts ++ (p.life ++ (to_be_bytes w32 p.round ++ (promise_bytes p.promise ++ (vote_bytes p.vote ++ x)))))) published
 
-pub body_parts : (b r1 r2 r3 f n pr d s : List ℕ) → f ≡ take 32 b → r1 ≡ drop 32 b → n ≡ take 2 r1 → r2 ≡ drop 2 r1 → pr ≡ take 54 r2 → r3 ≡ drop 54 r2 → d ≡ take 32 r3 → s ≡ drop 32 r3 →
-    (g : Greeting) → IsGreeting g → b ≡ body_bytes g → (f ≡ g.farm) × (n ≡ g.nodes ∷ g.node ∷ []) × (pr ≡ progress_bytes g.progress) × (d ≡ g.digest) × (s ≡ state_byte g.state ∷ 0 ∷ [])
-unfolding body_bytes
-body_parts b r1 r2 r3 f n pr d s ef e1 en e2 ep e3 ed es g is e =
-    let a1 : r1 ≡ (g.nodes ∷ g.node ∷ []) ++ (progress_bytes g.progress ++ (g.digest ++ (state_byte g.state ∷ 0 ∷ []))) = e1 ∙ drop_front 32 b g.farm _ (length_of_farm g.farm is.farm) e in
-    let a2 : r2 ≡ progress_bytes g.progress ++ (g.digest ++ (state_byte g.state ∷ 0 ∷ [])) = e2 ∙ drop_front 2 r1 (g.nodes ∷ g.node ∷ []) _ refl a1 in
-    let a3 : r3 ≡ g.digest ++ (state_byte g.state ∷ 0 ∷ []) = e3 ∙ drop_front 54 r2 (progress_bytes g.progress) _ (length_of_progress g.progress is.progress) a2 in (
+pub fixed_parts : (b r1 r2 r3 f n pr d s : List ℕ) → f ≡ take 32 b → r1 ≡ drop 32 b → n ≡ take 2 r1 → r2 ≡ drop 2 r1 → pr ≡ take 54 r2 → r3 ≡ drop 54 r2 → d ≡ take 32 r3 → s ≡ drop 32 r3 →
+    (g : Greeting) → HasFixedParts g → b ≡ fixed_bytes g → (f ≡ g.farm) × (n ≡ g.nodes ∷ g.node ∷ []) × (pr ≡ progress_bytes g.progress) × (d ≡ g.digest) × (s ≡ state_byte g.state ∷ [])
+unfolding fixed_bytes
+fixed_parts b r1 r2 r3 f n pr d s ef e1 en e2 ep e3 ed es g is e =
+    let a1 : r1 ≡ (g.nodes ∷ g.node ∷ []) ++ (progress_bytes g.progress ++ (g.digest ++ (state_byte g.state ∷ []))) = e1 ∙ drop_front 32 b g.farm _ (length_of_farm g.farm is.farm) e in
+    let a2 : r2 ≡ progress_bytes g.progress ++ (g.digest ++ (state_byte g.state ∷ [])) = e2 ∙ drop_front 2 r1 (g.nodes ∷ g.node ∷ []) _ refl a1 in
+    let a3 : r3 ≡ g.digest ++ (state_byte g.state ∷ []) = e3 ∙ drop_front 54 r2 (progress_bytes g.progress) _ (length_of_progress g.progress is.progress) a2 in (
       ef ∙ take_front 32 b g.farm _ (length_of_farm g.farm is.farm) e,
       en ∙ take_front 2 r1 (g.nodes ∷ g.node ∷ []) _ refl a1,
       ep ∙ take_front 54 r2 (progress_bytes g.progress) _ (length_of_progress g.progress is.progress) a2,
@@ -92,10 +92,15 @@ two (x ∷ []) size = absurd (omega (arith, size))
 two (x ∷ y ∷ []) size = refl
 two (x ∷ y ∷ z ∷ n) size = absurd (omega (arith, size))
 
-pub body_whole : (b r1 r2 r3 f n pr d s : List ℕ) → f ≡ take 32 b → r1 ≡ drop 32 b → n ≡ take 2 r1 → r2 ≡ drop 2 r1 → pr ≡ take 54 r2 → r3 ≡ drop 54 r2 → d ≡ take 32 r3 → s ≡ drop 32 r3 → length n ≡ 2 →
-    (g : Greeting) → g.farm ≡ f → g.nodes ≡ get_or n 0 0 → g.node ≡ get_or n 1 0 → pr ≡ progress_bytes g.progress → g.digest ≡ d → s ≡ state_byte g.state ∷ 0 ∷ [] → b ≡ body_bytes g
-unfolding body_bytes
-body_whole b r1 r2 r3 f n pr d s ef e1 en e2 ep e3 ed es size g farm nodes node progress digest state =
+pub one : (n : List ℕ) → length n ≡ 1 → n ≡ get_or n 0 0 ∷ []
+one [] size = absurd (omega (arith, size))
+one (x ∷ []) size = refl
+one (x ∷ y ∷ n) size = absurd (omega (arith, size))
+
+pub fixed_whole : (b r1 r2 r3 f n pr d s : List ℕ) → f ≡ take 32 b → r1 ≡ drop 32 b → n ≡ take 2 r1 → r2 ≡ drop 2 r1 → pr ≡ take 54 r2 → r3 ≡ drop 54 r2 → d ≡ take 32 r3 → s ≡ drop 32 r3 → length n ≡ 2 →
+    (g : Greeting) → g.farm ≡ f → g.nodes ≡ get_or n 0 0 → g.node ≡ get_or n 1 0 → pr ≡ progress_bytes g.progress → g.digest ≡ d → s ≡ state_byte g.state ∷ [] → b ≡ fixed_bytes g
+unfolding fixed_bytes
+fixed_whole b r1 r2 r3 f n pr d s ef e1 en e2 ep e3 ed es size g farm nodes node progress digest state =
     joined 32 b f r1 ef e1 ∙ ap (λ (t : List ℕ). f ++ t) (joined 2 r1 n r2 en e2) ∙ ap (λ (t : List ℕ). f ++ (n ++ t)) (joined 54 r2 pr r3 ep e3) ∙ ap (λ (t : List ℕ). f ++ (n ++ (pr ++ t))) (joined 32 r3 d s ed es)
     ∙ ap (λ (x : List ℕ). x ++ (n ++ (pr ++ (d ++ s)))) (sym farm)
     ∙ ap (λ (x : List ℕ). g.farm ++ (x ++ (pr ++ (d ++ s)))) (two n size)
@@ -105,10 +110,10 @@ body_whole b r1 r2 r3 f n pr d s ef e1 en e2 ep e3 ed es size g farm nodes node 
     ∙ ap (λ (x : List ℕ). g.farm ++ ((g.nodes ∷ g.node ∷ []) ++ (progress_bytes g.progress ++ (x ++ s)))) (sym digest)
     ∙ ap (λ (x : List ℕ). g.farm ++ ((g.nodes ∷ g.node ∷ []) ++ (progress_bytes g.progress ++ (g.digest ++ x)))) state
 
-pub length_of_body : (g : Greeting) → IsGreeting g → length (body_bytes g) ≡ 122
-unfolding body_bytes
-length_of_body g is =
-    let end = state_byte g.state ∷ 0 ∷ [] in
+pub length_of_fixed : (g : Greeting) → HasFixedParts g → length (fixed_bytes g) ≡ 121
+unfolding fixed_bytes
+length_of_fixed g is =
+    let end = state_byte g.state ∷ [] in
     omega (
       arith,
       length-append g.farm ((g.nodes ∷ g.node ∷ []) ++ (progress_bytes g.progress ++ (g.digest ++ end))),

@@ -6,3 +6,6 @@ pub mod Same
 pub mod Sizes
 pub mod Reported
 pub mod HeardLater
+pub mod ToldReplacements
+pub mod Bodies
+pub mod Replies

@@ -9,7 +9,7 @@ use Rattle.wf_folder.specs.Words.{mark_then, number_then, reach_then}
 use Rattle.wf_folder.specs.declared.reach.Reach.{Reach}
 use Rattle.wf_folder.proofs.WordLemmas.{digits_then, reach_after, reach_before}
 use Rattle.wf_peer.specs.GreetingReply.{rejection_byte}
-use Rattle.wf_peer.specs.PeerProgressText.{ArePeerProgress, IsPeerProgress, IsTextOf, ReadsLines, accusation_then, line_then, lines_of}
+use Rattle.wf_peer.specs.PeerProgressText.{ArePeerProgress, IsPeerProgress, IsProgressTextOf, ReadsLines, accusation_then, line_then, lines_of}
 use Rattle.wf_peer.specs.Progress.{reach_of}
 use Rattle.wf_peer.specs.declared.fault.PeerProgressFault.{PeerProgressFault}
 use Rattle.wf_peer.specs.declared.heard.Heard.{Heard}
@@ -177,34 +177,34 @@ same_text line rest bytes known others marked (size, are, e) count are_others sa
     same_lines known others (size ∙ sym count) are are_others (sym e ∙ append_cancel_left line rest (lines_of others) (sym marked ∙ same))
 
 pub only_these : (bytes rest : List ℕ) (known : List (Option Heard)) → bytes ≡ codes "wfarm heard 2\n" ++ rest → ReadsLines rest 64 known (Ok tt) →
-    (others : List (Option Heard)) → length others ≡ 64 → ArePeerProgress others → IsTextOf bytes others → ◌≡◌ {A = Result (List (Option Heard)) PeerProgressFault} (Ok known) (Ok others)
+    (others : List (Option Heard)) → length others ≡ 64 → ArePeerProgress others → IsProgressTextOf bytes others → ◌≡◌ {A = Result (List (Option Heard)) PeerProgressFault} (Ok known) (Ok others)
 only_these bytes rest known marked read others count are text = elim text [
   | inl same ↦ ap (λ (l : List (Option Heard)). Ok l) (same_text (codes "wfarm heard 2\n") rest bytes known others marked read count are same)
   | inr old ↦ absurd (not_both bytes rest (lines_of others) marked old)
 ]
 
 pub only_these_old : (bytes rest : List ℕ) (known : List (Option Heard)) → bytes ≡ codes "wfarm heard 1\n" ++ rest → ReadsLines rest 64 known (Ok tt) →
-    (others : List (Option Heard)) → length others ≡ 64 → ArePeerProgress others → IsTextOf bytes others → ◌≡◌ {A = Result (List (Option Heard)) PeerProgressFault} (Ok known) (Ok others)
+    (others : List (Option Heard)) → length others ≡ 64 → ArePeerProgress others → IsProgressTextOf bytes others → ◌≡◌ {A = Result (List (Option Heard)) PeerProgressFault} (Ok known) (Ok others)
 only_these_old bytes rest known marked read others count are text = elim text [
   | inl same ↦ absurd (not_both bytes (lines_of others) rest same marked)
   | inr old ↦ ap (λ (l : List (Option Heard)). Ok l) (same_text (codes "wfarm heard 1\n") rest bytes known others marked read count are old)
 ]
 
-pub is_text : (bytes rest : List ℕ) (known : List (Option Heard)) → bytes ≡ codes "wfarm heard 2\n" ++ rest → ReadsLines rest 64 known (Ok tt) → IsTextOf bytes known
+pub is_text : (bytes rest : List ℕ) (known : List (Option Heard)) → bytes ≡ codes "wfarm heard 2\n" ++ rest → ReadsLines rest 64 known (Ok tt) → IsProgressTextOf bytes known
 is_text bytes rest known marked (size, are, e) = inl (marked ∙ ap (λ (l : List ℕ). codes "wfarm heard 2\n" ++ l) e)
 
-pub is_old_text : (bytes rest : List ℕ) (known : List (Option Heard)) → bytes ≡ codes "wfarm heard 1\n" ++ rest → ReadsLines rest 64 known (Ok tt) → IsTextOf bytes known
+pub is_old_text : (bytes rest : List ℕ) (known : List (Option Heard)) → bytes ≡ codes "wfarm heard 1\n" ++ rest → ReadsLines rest 64 known (Ok tt) → IsProgressTextOf bytes known
 is_old_text bytes rest known marked (size, are, e) = inr (marked ∙ ap (λ (l : List ℕ). codes "wfarm heard 1\n" ++ l) e)
 
 pub not_lines : (bytes rest : List ℕ) (new : List (Option Heard)) (fault : PeerProgressFault) → bytes ≡ codes "wfarm heard 2\n" ++ rest → ReadsLines rest 64 new (Err fault) →
-    (others : List (Option Heard)) → length others ≡ 64 → ArePeerProgress others → ¬ IsTextOf bytes others
+    (others : List (Option Heard)) → length others ≡ 64 → ArePeerProgress others → ¬ IsProgressTextOf bytes others
 not_lines bytes rest new fault marked none others count are text = elim text [
   | inl same ↦ none others count are (append_cancel_left (codes "wfarm heard 2\n") rest (lines_of others) (sym marked ∙ same))
   | inr old ↦ not_both bytes rest (lines_of others) marked old
 ]
 
 pub not_old_lines : (bytes rest : List ℕ) (new : List (Option Heard)) (fault : PeerProgressFault) → bytes ≡ codes "wfarm heard 1\n" ++ rest → ReadsLines rest 64 new (Err fault) →
-    (others : List (Option Heard)) → length others ≡ 64 → ArePeerProgress others → ¬ IsTextOf bytes others
+    (others : List (Option Heard)) → length others ≡ 64 → ArePeerProgress others → ¬ IsProgressTextOf bytes others
 not_old_lines bytes rest new fault marked none others count are text = elim text [
   | inl same ↦ not_both bytes (lines_of others) rest same marked
   | inr old ↦ none others count are (append_cancel_left (codes "wfarm heard 1\n") rest (lines_of others) (sym marked ∙ old))

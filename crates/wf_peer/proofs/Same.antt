@@ -20,7 +20,7 @@ is_reach p is = record { of_round = is.round; of_promise = is.promise; of_vote =
 
 -- a number is that of one rejection
 abbrev rejection_at : ℕ → PeerRejection
-rejection_at n = cond (n == 1) causes.OtherFarm (cond (n == 2) causes.OtherNodes (cond (n == 3) causes.OtherNode (cond (n == 4) causes.OtherMark (cond (n == 5) causes.OlderStart (cond (n == 6) causes.OtherLife (cond (n == 7) causes.LowerRound (cond (n == 8) causes.LowerPromise (cond (n == 9) causes.LowerSequence (cond (n == 10) causes.OtherHistory causes.LowerVote)))))))))
+rejection_at n = cond (n == 1) causes.OtherFarm (cond (n == 2) causes.OtherNodes (cond (n == 3) causes.OtherNode (cond (n == 4) causes.OtherMark (cond (n == 5) causes.OlderStart (cond (n == 6) causes.OtherLife (cond (n == 7) causes.LowerRound (cond (n == 8) causes.LowerPromise (cond (n == 9) causes.LowerSequence (cond (n == 10) causes.OtherHistory (cond (n == 11) causes.LowerVote (cond (n == 12) causes.NotBegun (cond (n == 13) causes.NotTold causes.Retired))))))))))))
 
 at_byte : (why : PeerRejection) → rejection_at (rejection_byte why) ≡ why
 at_byte causes.OtherFarm = refl
@@ -34,6 +34,9 @@ at_byte causes.LowerPromise = refl
 at_byte causes.LowerSequence = refl
 at_byte causes.OtherHistory = refl
 at_byte causes.LowerVote = refl
+at_byte causes.NotBegun = refl
+at_byte causes.NotTold = refl
+at_byte causes.Retired = refl
 
 same_rejection : (a b : PeerRejection) → rejection_byte a ≡ rejection_byte b → a ≡ b
 same_rejection a b e = sym (at_byte a) ∙ ap rejection_at e ∙ at_byte b
@@ -50,6 +53,9 @@ byte_fits causes.LowerPromise = omega arith
 byte_fits causes.LowerSequence = omega arith
 byte_fits causes.OtherHistory = omega arith
 byte_fits causes.LowerVote = omega arith
+byte_fits causes.NotBegun = omega arith
+byte_fits causes.NotTold = omega arith
+byte_fits causes.Retired = omega arith
 
 -- the end of a line is no accusation
 not_accused : (why : PeerRejection) (r s : List ℕ) → accusation_then None r ≡ accusation_then (Some why) s → ⊥

@@ -1,5 +1,5 @@
 -- A greeting and its bytes. Numbers are big-endian.
-use Rattle.std.specs.Prelude.{◌≡◌, ℕ, ◌<◌, ◌^◌, List, [], ◌∷◌, ◌++◌, codes, length, Option, Some, None}
+use Rattle.std.specs.Prelude.{◌≡◌, ℕ, zero, suc, ◌+◌, ◌*◌, ◌<◌, ◌≤◌, ◌^◌, List, [], ◌∷◌, ◌++◌, codes, get_or, length, replicate, Option, Some, None}
 use Rattle.std.specs.Int.{w16, w32, to_be_bytes}
 use Rattle.wf_ballot.specs.Ballot.{Ballot, ballot_bytes}
 use Rattle.wf_ballot.specs.Node.{IsNode}
@@ -11,6 +11,8 @@ use Rattle.wf_peer.specs.declared.greeting.Greeting.{Greeting}
 use Rattle.wf_peer.specs.declared.progress.Progress.{Progress}
 use Rattle.wf_peer.specs.declared.state.NodeState.{NodeState}
 use Rattle.wf_peer.specs.declared.state.NodeState.TheVariants as states
+use Rattle.wf_rejoin.specs.Replacements.{known_count}
+use Rattle.wf_rejoin.specs.declared.replacement.Replacement.{Replacement}
 
 -- a node's progress: a mark and a life of 16 bytes each, and numbers in their ranges
 pub record IsProgress (p : Progress) : Type 0 where
@@ -22,13 +24,40 @@ pub record IsProgress (p : Progress) : Type 0 where
   pub vote : IsVoteOrNone p.vote
   pub published : IsSequence p.published
 
--- a greeting: a farm's name, a number of nodes, a node, its progress, and a digest of 32 bytes
-pub record IsGreeting (g : Greeting) : Type 0 where
+-- a replacement that is told: a count of 32 bits above 0, and a mark of 16 bytes
+pub record IsToldReplacement (r : Replacement) : Type 0 where
+  pub begun : 1 ≤ r.count
+  pub fits : r.count < 2 ^ 32
+  pub size : length r.mark ≡ 16
+
+abbrev pub IsToldOrNone : Option Replacement → Type 0
+IsToldOrNone None = Unit {0}
+IsToldOrNone (Some r) = IsToldReplacement r
+
+unfoldable pub AreToldOrNone : List (Option Replacement) → Type 0
+AreToldOrNone [] = Unit {0}
+AreToldOrNone (x ∷ rest) = IsToldOrNone x × AreToldOrNone rest
+
+-- the replacements that are told, that of node i at index i, and with them a sequence, which is 0
+-- where none are told
+pub record AreTold (known : List (Option Replacement)) (voted : ℕ) : Type 0 where
+  pub size : length known ≡ 64
+  pub each : AreToldOrNone known
+  pub sequence : IsSequence voted
+  pub unvoted : known_count known ≡ 0 → voted ≡ 0
+
+-- a farm's name, a number of nodes, a node, its progress, and a digest of 32 bytes
+pub record HasFixedParts (g : Greeting) : Type 0 where
   pub farm : IsFarmName g.farm
   pub nodes : g.nodes < 256
   pub node : IsNode g.node
   pub progress : IsProgress g.progress
   pub digest : length g.digest ≡ 32
+
+-- a greeting: these, and what is told of replacements
+pub record IsGreeting (g : Greeting) : Type 0 where
+  pub fixed : HasFixedParts g
+  pub told : AreTold g.replacements g.voted
 
 -- ---- its bytes
 
@@ -61,15 +90,49 @@ greeting_mark = codes "wf-node\n"
 abbrev pub peer_version : ℕ
 peer_version = 2
 
--- after the version: the farm's name (32 bytes), its number of nodes (1), the node (1), its progress (54), the digest (32), the state (1) and
--- the number of nodes that were replaced (1), which is none in this version
+-- the replacement of node i, if there is one: the node (1), its count (4) and its mark (16); and what follows
+unfoldable pub entry_then : ℕ → Option Replacement → List ℕ → List ℕ
+entry_then i None rest = rest
+entry_then i (Some r) rest = i ∷ (to_be_bytes w32 r.count ++ (r.mark ++ rest))
+
+-- those of the nodes from i on, in rising order
+unfoldable pub entries_from : ℕ → List (Option Replacement) → List ℕ
+entries_from i [] = []
+entries_from i (x ∷ rest) = entry_then i x (entries_from (suc i) rest)
+
+-- after the number of replaced nodes: nothing where it is 0, else the replacements, and the highest
+-- sequence at which the node has a vote (2)
+abbrev pub told_after : ℕ → List (Option Replacement) → ℕ → List ℕ
+told_after zero known voted = []
+told_after (suc k) known voted = entries_from 0 known ++ seq_bytes voted
+
+-- the number of replaced nodes (1), and what follows it
+unfoldable pub told_bytes : List (Option Replacement) → ℕ → List ℕ
+told_bytes known voted = known_count known ∷ told_after (known_count known) known voted
+
+-- after the version: the farm's name (32 bytes), its number of nodes (1), the node (1), its progress (54), the digest (32), the state (1)
+unfoldable pub fixed_bytes : Greeting → List ℕ
+fixed_bytes g = g.farm ++ ((g.nodes ∷ g.node ∷ []) ++ (progress_bytes g.progress ++ (g.digest ++ (state_byte g.state ∷ []))))
+
+-- these, and what is told of replacements
 unfoldable pub body_bytes : Greeting → List ℕ
-body_bytes g = g.farm ++ ((g.nodes ∷ g.node ∷ []) ++ (progress_bytes g.progress ++ (g.digest ++ (state_byte g.state ∷ 0 ∷ []))))
+body_bytes g = fixed_bytes g ++ told_bytes g.replacements g.voted
 
 -- all of it
 unfoldable pub greeting_bytes : Greeting → List ℕ
 greeting_bytes g = greeting_mark ++ (to_be_bytes w16 peer_version ++ body_bytes g)
 
--- the number of its bytes
-abbrev pub greeting_length : ℕ
-greeting_length = 132
+-- the greeting that tells of no replacement instead
+abbrev pub plain : Greeting → Greeting
+plain g = record g { replacements = replicate 64 None; voted = 0 }
+
+-- ---- the number of its bytes
+
+-- of those after the number of replaced nodes
+abbrev pub told_length : ℕ → ℕ
+told_length zero = 0
+told_length (suc k) = 21 * suc k + 2
+
+-- of the greeting that begins so; while fewer than 132 are there, these are its least
+abbrev pub greeting_length : List ℕ → ℕ
+greeting_length bytes = 132 + told_length (get_or bytes 131 0)

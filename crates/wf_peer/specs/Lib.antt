@@ -6,3 +6,4 @@ pub mod GreetingReply
 pub mod Sender
 pub mod Reported
 pub mod Told
+pub mod ToldEntries

@@ -48,8 +48,8 @@ peer_progress_text known = peer_progress_line ++ lines_of known
 abbrev pub old_peer_progress_text : List (Option Heard) → List ℕ
 old_peer_progress_text known = old_peer_progress_line ++ lines_of known
 
-abbrev pub IsTextOf : List ℕ → List (Option Heard) → Type 0
-IsTextOf bytes known = (bytes ≡ peer_progress_text known) ⊎ (bytes ≡ old_peer_progress_text known)
+abbrev pub IsProgressTextOf : List ℕ → List (Option Heard) → Type 0
+IsProgressTextOf bytes known = (bytes ≡ peer_progress_text known) ⊎ (bytes ≡ old_peer_progress_text known)
 
 -- what is read of the lines of so many nodes, if the bytes are that
 abbrev pub ReadsLines : List ℕ → ℕ → List (Option Heard) → Result Unit PeerProgressFault → Type 0

@@ -1,13 +1,15 @@
 -- What has to be heard of a peer before its message counts.
-use Rattle.std.specs.Prelude.{◌≡◌, ℕ, ◌≤◌, List, Option, Some, None, replicate}
+use Rattle.std.specs.Prelude.{◌≡◌, ◌≢◌, ℕ, ◌≤◌, ◌⊎◌, List, Option, Some, None, replicate}
 use Rattle.wf_codec.specs.Message.{view}
 use Rattle.wf_codec.specs.declared.message.Message.{Message as MessageOfCode}
 use Rattle.wf_folder.specs.Reach.{IsNoLower}
 use Rattle.wf_model.specs.Message.{Message, Prepare, Promise, Accept, Accepted, Nack, Chosen, Ask}
-use Rattle.wf_peer.specs.PeerProgressText.{IsTextOf}
+use Rattle.wf_peer.specs.PeerProgressText.{IsProgressTextOf}
 use Rattle.wf_peer.specs.Sender.{heard_of}
 use Rattle.wf_peer.specs.declared.heard.Heard.{Heard}
 use Rattle.wf_peer.specs.declared.progress.Progress.{Progress}
+use Rattle.wf_rejoin.specs.Replacements.{latest_of}
+use Rattle.wf_rejoin.specs.declared.replacement.Replacement.{Replacement}
 
 -- a message raises neither the round nor the promise of its sender, which is so far
 abbrev pub TellsNoMore : {V : Type 0} → Progress → Message V → Type 0
@@ -34,7 +36,7 @@ HearAll earlier later = (i : ℕ) (m : MessageOfCode) → IsHeardOf earlier i (v
 -- what the bytes of a file say was heard of the peers; nothing if there is no such file
 abbrev pub IsHeardText : Option (List ℕ) → List (Option Heard) → Type 0
 IsHeardText None known = known ≡ replicate 64 None
-IsHeardText (Some bytes) known = IsTextOf bytes known
+IsHeardText (Some bytes) known = IsProgressTextOf bytes known
 
 -- ---- of one node
 
@@ -47,3 +49,16 @@ IsPast (Some h) (Some g) = (h.progress.round ≤ g.progress.round) × IsNoLower 
 -- of each node
 abbrev pub ArePast : (earlier later : List (Option Heard)) → Type 0
 ArePast earlier later = (i : ℕ) → IsPast (heard_of earlier i) (heard_of later i)
+
+-- ---- once folders have taken the place of others
+
+-- What was heard of a node is left where its folder is that of the node's latest replacement, or the
+-- node was never replaced.
+abbrev pub IsLeft : Option Heard → Option Replacement → Option Heard → Type 0
+IsLeft None latest left = left ≡ None
+IsLeft (Some h) None left = left ≡ Some h
+IsLeft (Some h) (Some r) left = ((h.progress.mark ≡ r.mark) × (left ≡ Some h)) ⊎ ((h.progress.mark ≢ r.mark) × (left ≡ None))
+
+-- of each node
+abbrev pub AreLeft : List (Option Heard) → List (Option Replacement) → List (Option Heard) → Type 0
+AreLeft known latest left = (i : ℕ) → IsLeft (heard_of known i) (latest_of latest i) (heard_of left i)

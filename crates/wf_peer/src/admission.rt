@@ -1,15 +1,18 @@
 //! Whether a peer is let in.
-ghost use Rattle.std.specs.Prelude.{◌≡◌, ◌≢◌, ◌<◌, ◌↔◌, length, IfErr, IfNone, IfSome, IsOk, IsTrue, Some};
-ghost use Rattle.wf_peer.specs.Admission.{AgreesWith, IsAdmitted, IsCause, IsForgotten, IsLess, IsPlaced};
+ghost use Rattle.std.specs.Prelude.{◌≡◌, ◌<◌, ◌↔◌, IfErr, IfNone, IfSome, IsOk, IsTrue, Some};
+ghost use Rattle.wf_peer.specs.Admission.{AgreesWith, IsAdmitted, IsFolderRejection, IsForgotten, IsLess, IsNodesFolder, IsPlaced, IsRejectionCause, greeted_folder, is_joins};
 ghost use Rattle.wf_peer.specs.declared.rejection.PeerRejection.{PeerRejection as RejectionValue};
 ghost use Rattle.wf_peer.specs.Progress.{HasKept, IsAccusedOf, IsNoLess, IsSameStart, owed, progress_in};
+ghost use Rattle.wf_rejoin.specs.Replacements.{latest_of};
 
 use crate::greeting::Greeting;
 use crate::heard::Heard;
 use crate::progress::Progress;
 use crate::rejection::PeerRejection;
+use crate::state::NodeState;
 use wf_ballot::NodeId;
 use wf_folder::{FarmName, is_no_lower, is_no_lower_vote, open_vote};
+use wf_rejoin::{FolderRejection, GreetedFolder, Replacement, Replacements};
 
 /// The node that lets peers in.
 #[derive(Clone, Copy, Debug, PartialEq, Eq)]
@@ -22,20 +25,22 @@ pub struct Own {
     pub node: NodeId,
 }
 
-/// Whether a peer that greets so is let in, by what was last heard of this peer, if anything was, what it was accused of, and this node's
+/// Whether a peer that greets so is let in, by what this node knows of replacements, what was last heard of this peer, if anything was, what
+/// it was accused of, and this node's
 /// digest of its own history up to the sequence that the peer published last, if this node has published that one. `index` is the node that is listed
 /// at the address that was dialed; None for a peer that connected, which may be any other node of the farm.
 ///
 /// A peer that is let in takes the place of an older connection from it: its start is no older.
 pub fn admit(
     own: &Own,
+    replacements: &Replacements,
     index: Option<NodeId>,
     heard: Option<Heard>,
     digest: Option<[u8; 32]>,
     greeting: &Greeting,
 ) -> Result<(), PeerRejection>
-    ensures admitted { IsOk result ↔ IsAdmitted own.now index heard digest greeting.now }
-    ensures cause { IfErr result (IsCause own.now index heard digest greeting.now) }
+    ensures admitted { IsOk result ↔ IsAdmitted own.now replacements.now index heard digest greeting.now }
+    ensures cause { IfErr result (IsRejectionCause own.now replacements.now index heard digest greeting.now) }
 {
     if greeting.farm != own.farm {
         return Err(PeerRejection::OtherFarm);
@@ -45,6 +50,9 @@ pub fn admit(
     }
     if !is_placed(own, index, greeting.node) {
         return Err(PeerRejection::OtherNode);
+    }
+    if let Some(why) = folder_rejection(replacements, greeting) {
+        return Err(why);
     }
     if let Some(why) = accusation_of(&heard, &greeting.progress) {
         return Err(why);
@@ -67,6 +75,44 @@ fn is_placed(own: &Own, index: Option<NodeId>, node: NodeId) -> bool
         Some(index) => node == index,
         None => node.number() < own.nodes && node != own.node,
     }
+}
+
+/// Why the folder that greets isn't taken for the node's, by what is known of replacements.
+fn folder_rejection(replacements: &Replacements, greeting: &Greeting) -> Option<PeerRejection>
+    ensures none { IfNone result (IsNodesFolder replacements.now greeting.now) }
+    ensures some { IfSome result (λ why. IsFolderRejection (latest_of replacements.now greeting.now.node) (greeted_folder greeting.now) why) }
+    ensures other { IfSome result (λ _. ¬ IsNodesFolder replacements.now greeting.now) }
+{
+    match replacements.admit(greeting.node, &greeted_folder(greeting)) {
+        Ok(()) => None,
+        Err(FolderRejection::NotBegun) => Some(PeerRejection::NotBegun),
+        Err(FolderRejection::NotTold) => Some(PeerRejection::NotTold),
+        Err(FolderRejection::Retired(_)) => Some(PeerRejection::Retired),
+    }
+}
+
+/// The folder that greets.
+fn greeted_folder(greeting: &Greeting) -> GreetedFolder
+    ensures { result ≡ greeted_folder greeting.now }
+{
+    let count = match greeting.replacements.latest(greeting.node) {
+        Some(own) => own.count,
+        None => 0,
+    };
+    GreetedFolder {
+        replacement: Replacement {
+            count,
+            mark: greeting.progress.mark,
+        },
+        joins: is_joins(greeting.state),
+    }
+}
+
+/// Whether a node's folder joins.
+fn is_joins(state: NodeState) -> bool
+    ensures { result ≡ is_joins state }
+{
+    matches!(state, NodeState::Joins)
 }
 
 /// What the folder was accused of before.

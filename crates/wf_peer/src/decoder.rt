@@ -1,27 +1,32 @@
 //! Greetings out of bytes.
-ghost use Rattle.std.specs.Prelude.{◌≡◌, ◌≢◌, ◌<◌, ◌^◌, ◌++◌, ◌∷◌, ◌↔◌, [], ℕ, List, Option, Some, Ok, Err, length, IfErr, IfOk, IfNone, IfSome, IsErrOf};
+ghost use Rattle.std.specs.Prelude.{◌≡◌, ◌≢◌, ◌+◌, ◌<◌, ◌≤◌, ◌^◌, ◌++◌, ◌↔◌, ℕ, List, Option, Some, Ok, Err, get_or, length, IfErr, IfOk, IfSome, IsErrOf};
 ghost use Rattle.std.specs.Int.{w16, w32, to_be_bytes};
 ghost use Rattle.wf_ballot.specs.Ballot.{Ballot as BallotValue};
 ghost use Rattle.wf_folder.specs.Reach.{IsPromise, IsVote, IsVoteOrNone};
 ghost use Rattle.wf_folder.specs.declared.reach.HighestVote.{HighestVote as VoteValue};
-ghost use Rattle.wf_peer.specs.Greeting.{IsGreeting, IsProgress, body_bytes, greeting_bytes, greeting_length, progress_bytes, promise_bytes, peer_version, state_byte, vote_bytes};
+ghost use Rattle.wf_peer.specs.Greeting.{HasFixedParts, IsGreeting, IsProgress, body_bytes, fixed_bytes, greeting_bytes, greeting_length, greeting_mark, plain, progress_bytes, promise_bytes, peer_version, state_byte, told_length, vote_bytes};
 ghost use Rattle.wf_peer.specs.declared.greeting.Greeting.{Greeting as GreetingValue};
 ghost use Rattle.wf_peer.specs.declared.progress.Progress.{Progress as ProgressValue};
 ghost use Rattle.wf_peer.specs.declared.state.NodeState.{NodeState as StateValue};
 
-use crate::encoder::GREETING_MARK;
+use crate::encoder::{GREETING_MARK, told_length};
 use crate::fault::GreetingFault;
-use crate::greeting::Greeting;
+use crate::greeting::{GREETING_BYTES, Greeting};
 use crate::progress::Progress;
+use crate::replaced_decoder::decode_told;
 use crate::state::NodeState;
 use wf_ballot::{Ballot, NodeId, Seq, Slot};
 use wf_folder::{FarmName, HighestVote, after};
+use wf_rejoin::Replacements;
 
 /// The bytes of the version, those of `PEER_VERSION`.
 const VERSION_BYTES: &[u8] = &[0, 2];
 
-/// The number of bytes of a greeting after its version.
+/// The least number of bytes of a greeting after its version: with that of replaced nodes.
 const BODY: usize = 122;
+
+/// The number of those without that.
+const FIXED: usize = 121;
 
 /// The number of bytes of a node's progress.
 pub(crate) const PROGRESS: usize = 54;
@@ -32,13 +37,27 @@ pub fn decode(bytes: &[u8]) -> Result<Greeting, GreetingFault>
     ensures greeting { IfOk result IsGreeting }
     ensures front { IfOk result (λ g. (rest : List ℕ) × (bytes.now ≡ greeting_bytes g ++ rest)) }
     ensures each { (g : GreetingValue) (rest : List ℕ) → IsGreeting g → bytes.now ≡ greeting_bytes g ++ rest → result ≡ Ok g }
-    ensures short { IsErrOf result GreetingFault.Short → length bytes.now < greeting_length }
+    ensures short { IsErrOf result GreetingFault.Short → length bytes.now < greeting_length bytes.now }
+    ensures mark { IsErrOf result GreetingFault.Short → 8 ≤ length bytes.now → (rest : List ℕ) × (bytes.now ≡ greeting_mark ++ rest) }
     ensures few { length bytes.now < 8 → result ≡ Err GreetingFault.Short }
     ensures begins { (g : GreetingValue) (more : List ℕ) → IsGreeting g → 0 < length more → bytes.now ++ more ≡ greeting_bytes g → result ≡ Err GreetingFault.Short }
 {
     match after(bytes, GREETING_MARK) {
         Some(rest) => decode_body(after_version(rest)?),
         None => Err(fault_of_mark(bytes)),
+    }
+}
+
+/// How many bytes the greeting has that begins so; while fewer than 132 are there, the least that it has. A reader that reads no more than
+/// these before it decodes reads nothing of what follows a greeting.
+pub fn greeting_length(bytes: &[u8]) -> usize
+    ensures value { result ≡ greeting_length bytes.now }
+    ensures within { (g : GreetingValue) (more rest : List ℕ) → IsGreeting g → bytes.now ++ more ≡ greeting_bytes g ++ rest → result ≤ length (greeting_bytes g) }
+    ensures whole { (g : GreetingValue) (more rest : List ℕ) → IsGreeting g → bytes.now ++ more ≡ greeting_bytes g ++ rest → 132 ≤ length bytes.now → result ≡ length (greeting_bytes g) }
+{
+    match bytes.get(GREETING_BYTES - 1) {
+        Some(count) => GREETING_BYTES + told_length(usize::from(*count)),
+        None => GREETING_BYTES,
     }
 }
 
@@ -81,34 +100,41 @@ fn decode_body(bytes: &[u8]) -> Result<Greeting, GreetingFault>
     ensures greeting { IfOk result IsGreeting }
     ensures front { IfOk result (λ g. (rest : List ℕ) × (bytes.now ≡ body_bytes g ++ rest)) }
     ensures each { (g : GreetingValue) (rest : List ℕ) → IsGreeting g → bytes.now ≡ body_bytes g ++ rest → result ≡ Ok g }
-    ensures short { IsErrOf result GreetingFault.Short → length bytes.now < 122 }
-    ensures begins { length bytes.now < 122 → result ≡ Err GreetingFault.Short }
+    ensures short { IsErrOf result GreetingFault.Short → length bytes.now < 122 + told_length (get_or bytes.now 121 0) }
+    ensures begins { (g : GreetingValue) (more : List ℕ) → IsGreeting g → 0 < length more → bytes.now ++ more ≡ body_bytes g → result ≡ Err GreetingFault.Short }
 {
     if bytes.len() < BODY {
         return Err(GreetingFault::Short);
     }
-    let (body, _) = bytes.split_at(BODY);
-    match body_of(body) {
-        Some(greeting) => Ok(greeting),
+    let (fixed, told) = bytes.split_at(FIXED);
+    match fixed_of(fixed) {
+        Some(greeting) => match decode_told(told) {
+            Ok(told) => Ok(Greeting {
+                replacements: told.0,
+                voted: told.1,
+                ..greeting
+            }),
+            Err(fault) => Err(fault),
+        },
         None => Err(GreetingFault::Malformed),
     }
 }
 
-/// The greeting with these bytes after its version.
-fn body_of(bytes: &[u8]) -> Option<Greeting>
-    requires { length bytes.now ≡ 122 }
-    ensures greeting { IfSome result IsGreeting }
-    ensures some { IfSome result (λ g. bytes.now ≡ body_bytes g) }
-    ensures each { (g : GreetingValue) → IsGreeting g → bytes.now ≡ body_bytes g → result ≡ Some g }
+/// The greeting with these bytes after its version, which tells of no replacement.
+fn fixed_of(bytes: &[u8]) -> Option<Greeting>
+    requires { length bytes.now ≡ 121 }
+    ensures parts { IfSome result HasFixedParts }
+    ensures some { IfSome result (λ g. bytes.now ≡ fixed_bytes g) }
+    ensures each { (g : GreetingValue) → HasFixedParts g → bytes.now ≡ fixed_bytes g → result ≡ Some (plain g) }
 {
     let (farm, rest) = bytes.split_at(32);
     let (numbers, rest) = rest.split_at(2);
     let (progress, rest) = rest.split_at(PROGRESS);
-    let (digest, end) = rest.split_at(32);
+    let (digest, state) = rest.split_at(32);
     let farm = FarmName::from_bytes(farm)?;
     let node = NodeId::new(numbers[1])?;
     let progress = progress_of(progress)?;
-    let state = state_of(end)?;
+    let state = NodeState::of_byte(state[0])?;
     Some(Greeting {
         farm,
         nodes: numbers[0],
@@ -116,6 +142,8 @@ fn body_of(bytes: &[u8]) -> Option<Greeting>
         progress,
         digest: array(digest),
         state,
+        replacements: Replacements::new(),
+        voted: Seq::new(0).unwrap(),
     })
 }
 
@@ -192,32 +220,8 @@ fn some_vote_of(bytes: &[u8]) -> Option<HighestVote>
     Some(HighestVote { ballot, sequence })
 }
 
-/// The state that a greeting ends with, before the number of replaced nodes, which is none.
-fn state_of(bytes: &[u8]) -> Option<NodeState>
-    requires { length bytes.now ≡ 2 }
-    ensures some { IfSome result (λ s. bytes.now ≡ state_byte s ∷ 0 ∷ []) }
-    ensures each { (s : StateValue) → bytes.now ≡ state_byte s ∷ 0 ∷ [] → result ≡ Some s }
-{
-    match bytes {
-        [state, count] => state_before(*state, *count),
-        _ => None,
-    }
-}
-
-/// The state with this byte, if no node is replaced.
-fn state_before(state: u8, count: u8) -> Option<NodeState>
-    ensures some { IfSome result (λ s. (state ≡ state_byte s) × (count ≡ 0)) }
-    ensures each { (s : StateValue) → state ≡ state_byte s → count ≡ 0 → result ≡ Some s }
-{
-    if count == 0 {
-        NodeState::of_byte(state)
-    } else {
-        None
-    }
-}
-
 /// The number with these bytes.
-fn number_of(bytes: &[u8]) -> u32
+pub(crate) fn number_of(bytes: &[u8]) -> u32
     requires { length bytes.now ≡ 4 }
     ensures bytes { bytes.now ≡ to_be_bytes w32 result }
     ensures each { (n : ℕ) → n < 2 ^ 32 → bytes.now ≡ to_be_bytes w32 n → result ≡ n }
@@ -226,7 +230,7 @@ fn number_of(bytes: &[u8]) -> u32
 }
 
 /// Bytes as an array.
-fn array<const N: usize>(bytes: &[u8]) -> [u8; N]
+pub(crate) fn array<const N: usize>(bytes: &[u8]) -> [u8; N]
     requires { length bytes.now ≡ N }
     ensures { result ≡ bytes.now }
 {

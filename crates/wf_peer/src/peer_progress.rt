@@ -102,7 +102,7 @@ impl PeerProgress {
     }
 }
 
-ghost use Rattle.std.specs.Prelude.{◌≡◌, ◌≤◌};
+ghost use Rattle.std.specs.Prelude.{◌≡◌};
 ghost use Rattle.wf_ballot.specs.Sequence.{IsSequence};
 ghost use Rattle.wf_codec.specs.Message.{view};
 ghost use Rattle.wf_peer.specs.Progress.{accused, first_accusation, greeted, together};

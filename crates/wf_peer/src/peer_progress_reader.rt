@@ -1,5 +1,5 @@
 //! The text of what was heard is read.
-ghost use Rattle.std.specs.Prelude.{◌≡◌, ◌≢◌, ◌≤◌, ◌++◌, ℕ, List, Option, Some, length, IfNone, IfSome};
+ghost use Rattle.std.specs.Prelude.{◌≡◌, ◌≢◌, ◌≤◌, ℕ, List, Option, Some, length, IfNone, IfSome};
 ghost use Rattle.wf_peer.specs.GreetingReply.{rejection_byte};
 ghost use Rattle.wf_peer.specs.PeerProgressText.{IsPeerProgress, ReadsLines, accusation_then, line_then};
 ghost use Rattle.wf_peer.specs.declared.heard.Heard.{Heard as HeardValue};
@@ -18,7 +18,7 @@ const LINES: usize = 65;
 
 impl PeerProgress {
     ghost use Rattle.std.specs.Prelude.{◌≡◌, List, Option, Ok, length, IfOk};
-    ghost use Rattle.wf_peer.specs.PeerProgressText.{ArePeerProgress, IsTextOf};
+    ghost use Rattle.wf_peer.specs.PeerProgressText.{ArePeerProgress, IsProgressTextOf};
     ghost use Rattle.wf_peer.specs.declared.heard.Heard.{Heard as HeardValue};
 
     /// What was heard, by its text, of this version or of version 1. Err: the bytes aren't the text of any, and the first line at which they
@@ -26,8 +26,8 @@ impl PeerProgress {
     #[tactic(auto, using(crate::proofs::Lines::not_lines, crate::proofs::Lines::not_old_lines, crate::proofs::Lines::is_text, crate::proofs::Lines::is_old_text))]
     pub fn read(bytes: &[u8]) -> Result<PeerProgress, PeerProgressFault>
         ensures known { IfOk result (λ known. (length known ≡ 64) × ArePeerProgress known) }
-        ensures text { IfOk result (IsTextOf bytes.now) }
-        ensures each { (known : List (Option HeardValue)) → length known ≡ 64 → ArePeerProgress known → IsTextOf bytes.now known → result ≡ Ok known }
+        ensures text { IfOk result (IsProgressTextOf bytes.now) }
+        ensures each { (known : List (Option HeardValue)) → length known ≡ 64 → ArePeerProgress known → IsProgressTextOf bytes.now known → result ≡ Ok known }
     {
         let mut nodes = [None; 64];
         if let Some(rest) = after(bytes, FIRST_LINE) {

@@ -36,6 +36,15 @@ pub enum PeerRejection {
     /// Its history differs.
     #[error("histories differ: a tape was changed, or backups were mixed")]
     OtherHistory,
+    /// Its folder joins, and no operator has begun its replacement.
+    #[error("it joins in the place of another folder: begin with wfarmctl replace")]
+    NotBegun,
+    /// Its folder is a later one of the node than this node was told of.
+    #[error("not told of the replacement")]
+    NotTold,
+    /// Another folder has taken the place of its own.
+    #[error("retired: another folder took its place; end it, and never start its folder again")]
+    Retired,
 }
 
 impl PeerRejection {
@@ -43,7 +52,7 @@ impl PeerRejection {
     ghost use Rattle.wf_peer.specs.GreetingReply.{EndsANode, accuses, rejection_byte};
     ghost use Rattle.wf_peer.specs.declared.rejection.PeerRejection.{PeerRejection as RejectionValue};
 
-    /// Whether a node that is told this has forgotten something, or runs on a copy: it is suspended.
+    /// Whether a node that is told this has forgotten something, runs on a copy, or is retired: it is suspended.
     pub fn ends_a_node(self) -> bool
         ensures { IsTrue result ↔ EndsANode self }
     {
@@ -56,6 +65,7 @@ impl PeerRejection {
                 | PeerRejection::LowerPromise
                 | PeerRejection::LowerVote
                 | PeerRejection::LowerSequence
+                | PeerRejection::Retired
         )
     }
 
@@ -90,6 +100,9 @@ impl PeerRejection {
             PeerRejection::LowerSequence => 9,
             PeerRejection::OtherHistory => 10,
             PeerRejection::LowerVote => 11,
+            PeerRejection::NotBegun => 12,
+            PeerRejection::NotTold => 13,
+            PeerRejection::Retired => 14,
         }
     }
 
@@ -110,6 +123,9 @@ impl PeerRejection {
             9 => Some(PeerRejection::LowerSequence),
             10 => Some(PeerRejection::OtherHistory),
             11 => Some(PeerRejection::LowerVote),
+            12 => Some(PeerRejection::NotBegun),
+            13 => Some(PeerRejection::NotTold),
+            14 => Some(PeerRejection::Retired),
             _ => None,
         }
     }

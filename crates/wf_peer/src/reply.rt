@@ -1,12 +1,12 @@
 //! What a node answers to a greeting.
-ghost use Rattle.std.specs.Prelude.{◌≡◌, ◌+◌, ◌≤◌, ◌<◌, ◌++◌, ◌∷◌, ℕ, List, Option, Ok, Err, IfOk, IsErrOf, OnErr, OnOk, length, vec_len, vec_capacity};
-ghost use Rattle.wf_peer.specs.GreetingReply.{IsProgressOrNone, IsReply, cause_bytes, rejection_byte, rejection_bytes, remembered_bytes, reply_bytes};
-ghost use Rattle.wf_peer.specs.Greeting.{IsProgress, greeting_length, progress_bytes};
+ghost use Rattle.std.specs.Prelude.{◌≡◌, ◌+◌, ◌≤◌, ◌<◌, ◌++◌, ◌∷◌, ℕ, List, Option, Ok, Err, get_or, IfOk, IsErrOf, OnErr, OnOk, length, vec_len, vec_capacity};
+ghost use Rattle.wf_peer.specs.GreetingReply.{IsProgressOrNone, IsGreetingReply, cause_bytes, rejection_byte, rejection_bytes, remembered_bytes, remembered_length, reply_bytes, reply_length};
+ghost use Rattle.wf_peer.specs.Greeting.{IsProgress, progress_bytes};
 ghost use Rattle.wf_peer.specs.declared.progress.Progress.{Progress as ProgressValue};
 ghost use Rattle.wf_peer.specs.declared.rejection.PeerRejection.{PeerRejection as RejectionValue};
 ghost use Rattle.wf_peer.specs.declared.reply.GreetingReply.{GreetingReply as ReplyValue};
 
-use crate::decoder::{PROGRESS, after_version, decode, progress_of};
+use crate::decoder::{PROGRESS, after_version, decode, greeting_length, progress_of};
 use crate::encoder::put_progress;
 use crate::fault::GreetingFault;
 use crate::greeting::Greeting;
@@ -18,6 +18,9 @@ use wf_frame::put;
 
 /// What a rejection begins with.
 const REJECTION_MARK: &[u8] = b"wf-nope\n";
+
+/// The number of bytes of a rejection up to its cause.
+const CAUSE_BYTES: usize = 11;
 
 /// The most bytes of a rejection.
 pub const REJECTION_BYTES: usize = 66;
@@ -96,11 +99,11 @@ fn put_remembered(remembered: &Option<Progress>, out: &mut Vec<u8>)
 /// The reply that bytes begin with. `Short`: they may go on as one, and more are needed. Any other error stays, whatever follows.
 #[tactic(auto, unfolding(crate::specs::GreetingReply::rejection_bytes, crate::specs::Greeting::greeting_bytes))]
 pub fn decode_reply(bytes: &[u8]) -> Result<GreetingReply, GreetingFault>
-    ensures reply { IfOk result IsReply }
+    ensures reply { IfOk result IsGreetingReply }
     ensures front { IfOk result (λ reply. (rest : List ℕ) × (bytes.now ≡ reply_bytes reply ++ rest)) }
-    ensures each { (reply : ReplyValue) (rest : List ℕ) → IsReply reply → bytes.now ≡ reply_bytes reply ++ rest → result ≡ Ok reply }
-    ensures short { IsErrOf result GreetingFault.Short → length bytes.now < greeting_length }
-    ensures begins { (reply : ReplyValue) (more : List ℕ) → IsReply reply → 0 < length more → bytes.now ++ more ≡ reply_bytes reply → result ≡ Err GreetingFault.Short }
+    ensures each { (reply : ReplyValue) (rest : List ℕ) → IsGreetingReply reply → bytes.now ≡ reply_bytes reply ++ rest → result ≡ Ok reply }
+    ensures short { IsErrOf result GreetingFault.Short → length bytes.now < reply_length bytes.now }
+    ensures begins { (reply : ReplyValue) (more : List ℕ) → IsGreetingReply reply → 0 < length more → bytes.now ++ more ≡ reply_bytes reply → result ≡ Err GreetingFault.Short }
 {
     match after(bytes, REJECTION_MARK) {
         Some(rest) => match decode_rejection(after_version(rest)?) {
@@ -114,12 +117,32 @@ pub fn decode_reply(bytes: &[u8]) -> Result<GreetingReply, GreetingFault>
     }
 }
 
+/// How many bytes the reply has that begins so; while fewer than 12 are there, or fewer than 132 of a greeting, the least that it has. A
+/// reader that reads no more than these before it decodes reads nothing of what follows a reply.
+pub fn reply_length(bytes: &[u8]) -> usize
+    ensures value { result ≡ reply_length bytes.now }
+    ensures within { (reply : ReplyValue) (more rest : List ℕ) → IsGreetingReply reply → bytes.now ++ more ≡ reply_bytes reply ++ rest → result ≤ length (reply_bytes reply) }
+{
+    if bytes.len() < CAUSE_BYTES + 1 {
+        return CAUSE_BYTES + 1;
+    }
+    if bytes[5] == REJECTION_MARK[5] {
+        if bytes[CAUSE_BYTES] == 0 {
+            CAUSE_BYTES + 1
+        } else {
+            REJECTION_BYTES
+        }
+    } else {
+        greeting_length(bytes)
+    }
+}
+
 /// The cause that bytes begin with, and what is remembered.
 fn decode_rejection(bytes: &[u8]) -> Result<(PeerRejection, Option<Progress>), GreetingFault>
     ensures remembered { IfOk result (λ x. IsProgressOrNone x.1) }
     ensures front { IfOk result (λ x. (rest : List ℕ) × (bytes.now ≡ rejection_byte x.0 ∷ (remembered_bytes x.1 ++ rest))) }
     ensures each { (why : RejectionValue) (p : Option ProgressValue) (rest : List ℕ) → IsProgressOrNone p → bytes.now ≡ rejection_byte why ∷ (remembered_bytes p ++ rest) → result ≡ Ok (why, p) }
-    ensures short { IsErrOf result GreetingFault.Short → length bytes.now < 56 }
+    ensures short { IsErrOf result GreetingFault.Short → length bytes.now < 1 + remembered_length (get_or bytes.now 1 0) }
     ensures begins { (why : RejectionValue) (p : Option ProgressValue) (more : List ℕ) → IsProgressOrNone p → 0 < length more → bytes.now ++ more ≡ rejection_byte why ∷ remembered_bytes p → result ≡ Err GreetingFault.Short }
 {
     match bytes {
@@ -139,7 +162,7 @@ fn decode_remembered(bytes: &[u8]) -> Result<Option<Progress>, GreetingFault>
     ensures remembered { IfOk result IsProgressOrNone }
     ensures front { IfOk result (λ p. (rest : List ℕ) × (bytes.now ≡ remembered_bytes p ++ rest)) }
     ensures each { (p : Option ProgressValue) (rest : List ℕ) → IsProgressOrNone p → bytes.now ≡ remembered_bytes p ++ rest → result ≡ Ok p }
-    ensures short { IsErrOf result GreetingFault.Short → length bytes.now < 55 }
+    ensures short { IsErrOf result GreetingFault.Short → length bytes.now < remembered_length (get_or bytes.now 0 0) }
     ensures begins { (p : Option ProgressValue) (more : List ℕ) → IsProgressOrNone p → 0 < length more → bytes.now ++ more ≡ remembered_bytes p → result ≡ Err GreetingFault.Short }
 {
     match bytes {
@@ -156,7 +179,7 @@ fn decode_tagged(tag: u8, bytes: &[u8]) -> Result<Option<Progress>, GreetingFaul
     ensures remembered { IfOk result IsProgressOrNone }
     ensures front { IfOk result (λ p. (rest : List ℕ) × (tag ∷ bytes.now ≡ remembered_bytes p ++ rest)) }
     ensures each { (p : Option ProgressValue) (rest : List ℕ) → IsProgressOrNone p → tag ∷ bytes.now ≡ remembered_bytes p ++ rest → result ≡ Ok p }
-    ensures short { IsErrOf result GreetingFault.Short → length bytes.now < 54 }
+    ensures short { IsErrOf result GreetingFault.Short → 1 + length bytes.now < remembered_length tag }
     ensures begins { (p : Option ProgressValue) (more : List ℕ) → IsProgressOrNone p → 0 < length more → tag ∷ (bytes.now ++ more) ≡ remembered_bytes p → result ≡ Err GreetingFault.Short }
 {
     match tag {

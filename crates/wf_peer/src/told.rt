@@ -1,8 +1,9 @@
 //! Whether what a message tells of its sender was heard before.
-ghost use Rattle.std.specs.Prelude.{◌↔◌, ◌≡◌, IsTrue};
+ghost use Rattle.std.specs.Prelude.{◌↔◌, ◌≡◌, IsTrue, length};
 ghost use Rattle.wf_codec.specs.Message.{view};
 ghost use Rattle.wf_peer.specs.Sender.{heard_of};
-ghost use Rattle.wf_peer.specs.Told.{ArePast, HearAll, IsHeardOf, IsPast, TellsNoMore, TellsNoMoreOf};
+ghost use Rattle.wf_peer.specs.Told.{AreLeft, ArePast, HearAll, IsHeardOf, IsLeft, IsPast, TellsNoMore, TellsNoMoreOf};
+ghost use Rattle.wf_rejoin.specs.Replacements.{latest_of};
 
 use crate::heard::Heard;
 use crate::peer_progress::PeerProgress;
@@ -10,6 +11,7 @@ use crate::progress::Progress;
 use wf_ballot::NodeId;
 use wf_codec::Message;
 use wf_folder::is_no_lower;
+use wf_rejoin::{Replacement, Replacements};
 
 impl PeerProgress {
     /// Whether a node has greeted, and a message of it raises neither the round nor the promise that was heard of it.
@@ -27,6 +29,54 @@ impl PeerProgress {
     {
         have_all_of(&self.nodes, &earlier.nodes)
     }
+
+    /// What was heard of the folders that are the nodes' now: nothing is left of one whose place another one has taken.
+    #[tactic(auto, using(crate::proofs::HeardLater::hear_left))]
+    pub fn without(&self, replacements: &Replacements) -> PeerProgress
+        ensures value { AreLeft self.now replacements.now result }
+        ensures heard { HearAll result self.now }
+    {
+        let mut left = PeerProgress::new();
+        leave(&self.nodes, replacements.nodes(), &mut left.nodes);
+        left
+    }
+}
+
+/// Sets what is left of what was heard of each node.
+fn leave(heard: &[Option<Heard>], latest: &[Option<Replacement>], left: &mut [Option<Heard>])
+    requires { length heard.now ≡ length left.old }
+    ensures { AreLeft heard.now latest.now left.new }
+{
+    for index in 0..left.len() {
+        left[index] = left_at(heard, latest, index);
+    }
+}
+
+/// What is left of what was heard of the node of this number.
+fn left_at(heard: &[Option<Heard>], latest: &[Option<Replacement>], index: usize) -> Option<Heard>
+    ensures { IsLeft (heard_of heard.now index) (latest_of latest.now index) result }
+{
+    match latest.get(index) {
+        Some(latest) => left_of(&heard_at(heard, index), latest),
+        None => heard_at(heard, index),
+    }
+}
+
+/// What is left of what was heard of a node.
+fn left_of(heard: &Option<Heard>, latest: &Option<Replacement>) -> Option<Heard>
+    ensures { IsLeft heard.now latest.now result }
+{
+    match (heard, latest) {
+        (Some(heard), Some(latest)) if !is_folder_of(heard, latest) => None,
+        (heard, _) => *heard,
+    }
+}
+
+/// Whether it was heard of the folder of this replacement.
+fn is_folder_of(heard: &Heard, latest: &Replacement) -> bool
+    ensures { IsTrue result ↔ (heard.now.progress.mark ≡ latest.now.mark) }
+{
+    heard.progress.mark == latest.mark
 }
 
 /// Whether of each node no less was heard than earlier.

@@ -7,7 +7,7 @@ use Rattle.wf_folder.specs.Number.{number_digits}
 use Rattle.wf_folder.specs.Words.{mark_then, number_then}
 use Rattle.wf_folder.proofs.WordLemmas.{both_marks, both_numbers, digits_then}
 use Rattle.wf_rejoin.specs.Lines.{AreAll, ReadsLines, lines_of}
-use Rattle.wf_rejoin.specs.ReplacementsText.{IsEntry, IsReplacement, entry_line, replaced_text}
+use Rattle.wf_rejoin.specs.ReplacementsText.{IsEntry, IsReplacementInRange, entry_line, replaced_text}
 use Rattle.wf_rejoin.specs.declared.fault.ReplacementsFault.{ReplacementsFault}
 use Rattle.wf_rejoin.specs.declared.replacement.Replacement.{Replacement}
 use Rattle.wf_rejoin.proofs.Lines as lines
@@ -36,7 +36,7 @@ pub is_entry : (bytes r1 r2 rest mark : List ℕ) (count : ℕ) → bytes ≡ nu
 unfolding entry_line
 is_entry bytes r1 r2 rest mark count e1 e2 e3 = e1 ∙ ap (number_then (codes "count ") count) (e2 ∙ ap (mark_then (codes " mark ") mark) e3)
 
-pub not_an_entry : (bytes : List ℕ) → ((rest : List ℕ) → bytes ≢ codes "nothing\n" ++ rest) → ((r : Replacement) (rest : List ℕ) → IsReplacement r → bytes ≢ entry_line (Some r) rest) →
+pub not_an_entry : (bytes : List ℕ) → ((rest : List ℕ) → bytes ≢ codes "nothing\n" ++ rest) → ((r : Replacement) (rest : List ℕ) → IsReplacementInRange r → bytes ≢ entry_line (Some r) rest) →
     (x : Option Replacement) (rest : List ℕ) → IsEntry x → bytes ≢ entry_line x rest
 unfolding entry_line
 not_an_entry bytes nothing none None rest is e = nothing rest e
@@ -49,7 +49,7 @@ same_replacement r s count mark =
     let made : ℕ → List ℕ → Replacement = λ c m. record { count = c; mark = m } in
     ap (λ (c : ℕ). made c r.mark) count ∙ ap (λ (m : List ℕ). made s.count m) mark
 
-both_replacements : (p q : Replacement) (r s : List ℕ) → IsReplacement p → IsReplacement q → entry_line (Some p) r ≡ entry_line (Some q) s → (p ≡ q) × (r ≡ s)
+both_replacements : (p q : Replacement) (r s : List ℕ) → IsReplacementInRange p → IsReplacementInRange q → entry_line (Some p) r ≡ entry_line (Some q) s → (p ≡ q) × (r ≡ s)
 unfolding entry_line
 both_replacements p q r s of_p of_q e =
     let count = both_numbers (codes "count ") p.count q.count _ _ of_p.fits of_q.fits e in

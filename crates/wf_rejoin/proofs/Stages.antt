@@ -7,9 +7,9 @@ use Rattle.wf_folder.specs.FarmFile.{IsNumberOfNodes}
 use Rattle.wf_folder.specs.Number.{number_digits}
 use Rattle.wf_folder.specs.Words.{mark_then, number_then}
 use Rattle.wf_folder.proofs.WordLemmas.{both_marks, both_numbers, digits_then}
-use Rattle.wf_rejoin.specs.JoiningText.{IsAnswer, IsJoins, IsStage, joins_text, own_line, stage_line, told}
+use Rattle.wf_rejoin.specs.JoiningText.{IsAnswerInRange, IsJoins, IsStage, joins_text, own_line, stage_line, told}
 use Rattle.wf_rejoin.specs.Lines.{AreAll, ReadsLines, lines_of}
-use Rattle.wf_rejoin.specs.ReplacementsText.{IsReplacement}
+use Rattle.wf_rejoin.specs.ReplacementsText.{IsReplacementInRange}
 use Rattle.wf_rejoin.specs.declared.answer.Answer.{Answer}
 use Rattle.wf_rejoin.specs.declared.fault.JoiningFault.{JoiningFault}
 use Rattle.wf_rejoin.specs.declared.joining.Joining.{Joining}
@@ -85,7 +85,7 @@ is_answered bytes r1 r2 rest published voted a e1 e2 e3 same_published same_vote
     ∙ ap (λ (k : ℕ). number_then (codes "published ") a.published (number_then (codes " voted ") k (codes "\n" ++ rest))) (sym same_voted)
 
 pub not_a_stage : (bytes : List ℕ) → ((rest : List ℕ) → bytes ≢ codes "nothing\n" ++ rest) → ((rest : List ℕ) → bytes ≢ codes "agreed\n" ++ rest) →
-    ((a : Answer) (rest : List ℕ) → IsAnswer a → bytes ≢ stage_line (Answered a) rest) → (x : Stage) (rest : List ℕ) → IsStage x → bytes ≢ stage_line x rest
+    ((a : Answer) (rest : List ℕ) → IsAnswerInRange a → bytes ≢ stage_line (Answered a) rest) → (x : Stage) (rest : List ℕ) → IsStage x → bytes ≢ stage_line x rest
 unfolding stage_line
 not_a_stage bytes nothing agreed none Unasked rest is e = nothing rest e
 not_a_stage bytes nothing agreed none Agreed rest is e = agreed rest e
@@ -93,7 +93,7 @@ not_a_stage bytes nothing agreed none (Answered a) rest is e = none a rest is e
 
 -- ---- a line, and what follows it, are determined by the bytes
 
-pub both_own : (n m ns ms : ℕ) (p q : Replacement) (r s : List ℕ) → n < 2 ^ 32 → m < 2 ^ 32 → ns < 2 ^ 32 → ms < 2 ^ 32 → IsReplacement p → IsReplacement q →
+pub both_own : (n m ns ms : ℕ) (p q : Replacement) (r s : List ℕ) → n < 2 ^ 32 → m < 2 ^ 32 → ns < 2 ^ 32 → ms < 2 ^ 32 → IsReplacementInRange p → IsReplacementInRange q →
     own_line n ns p r ≡ own_line m ms q s → (n ≡ m) × (ns ≡ ms) × (p ≡ q) × (r ≡ s)
 unfolding own_line
 both_own n m ns ms p q r s fits_n fits_m fits_ns fits_ms of_p of_q e =
@@ -108,7 +108,7 @@ same_answer a b published voted =
     let made : ℕ → ℕ → Answer = λ p v. record { published = p; voted = v } in
     ap (λ (p : ℕ). made p a.voted) published ∙ ap (λ (v : ℕ). made b.published v) voted
 
-both_answered : (a b : Answer) (r s : List ℕ) → IsAnswer a → IsAnswer b → stage_line (Answered a) r ≡ stage_line (Answered b) s → (a ≡ b) × (r ≡ s)
+both_answered : (a b : Answer) (r s : List ℕ) → IsAnswerInRange a → IsAnswerInRange b → stage_line (Answered a) r ≡ stage_line (Answered b) s → (a ≡ b) × (r ≡ s)
 unfolding stage_line
 both_answered a b r s of_a of_b e =
     let published = both_numbers (codes "published ") a.published b.published _ _ (omega (arith, of_a.published)) (omega (arith, of_b.published)) e in
@@ -165,13 +165,13 @@ pub is_text : (bytes rest others : List ℕ) (node nodes : ℕ) (r : Replacement
 is_text bytes rest others node nodes r stages marked own (size, are, e) =
     marked ∙ ap (λ (l : List ℕ). codes "wfarm joins 1\n" ++ l) (own ∙ ap (own_line node nodes r) e)
 
-pub are_joins : (others : List ℕ) (node nodes : ℕ) (r : Replacement) (stages : List Stage) → IsNumberOfNodes nodes → node < nodes → IsReplacement r →
+pub are_joins : (others : List ℕ) (node nodes : ℕ) (r : Replacement) (stages : List Stage) → IsNumberOfNodes nodes → node < nodes → IsReplacementInRange r →
     ReadsLines {E = JoiningFault} IsStage stage_line others 64 stages (Ok tt) → IsJoins (told node nodes r stages)
 are_joins others node nodes r stages farm below is (size, are, e) =
     record { joins = record { of_farm = farm; member = below; stages = size }; replacement = is; each = are }
 
 own_parts_of : (bytes rest others : List ℕ) (node nodes : ℕ) (r : Replacement) (j : Joining) → bytes ≡ codes "wfarm joins 1\n" ++ rest → rest ≡ own_line node nodes r others →
-    IsNumberOfNodes nodes → node < nodes → IsReplacement r → IsJoins j → bytes ≡ joins_text j →
+    IsNumberOfNodes nodes → node < nodes → IsReplacementInRange r → IsJoins j → bytes ≡ joins_text j →
     (node ≡ j.node) × (nodes ≡ j.nodes) × (r ≡ j.replacement) × (others ≡ lines_of stage_line j.stages)
 own_parts_of bytes rest others node nodes r j marked own farm below is joins same =
     both_own node j.node nodes j.nodes r j.replacement others (lines_of stage_line j.stages) (omega (arith, farm.1, below)) (omega (arith, joins.joins.of_farm.1, joins.joins.member))
@@ -183,7 +183,7 @@ same_told node nodes r stages j e1 e2 e3 e4 =
     ap (λ (k : ℕ). told k nodes r stages) e1 ∙ ap (λ (k : ℕ). told j.node k r stages) e2 ∙ ap (λ (k : Replacement). told j.node j.nodes k stages) e3 ∙ ap (λ (k : List Stage). told j.node j.nodes j.replacement k) e4
 
 pub only_this : (bytes rest others : List ℕ) (node nodes : ℕ) (r : Replacement) (stages : List Stage) → bytes ≡ codes "wfarm joins 1\n" ++ rest → rest ≡ own_line node nodes r others →
-    IsNumberOfNodes nodes → node < nodes → IsReplacement r → ReadsLines {E = JoiningFault} IsStage stage_line others 64 stages (Ok tt) →
+    IsNumberOfNodes nodes → node < nodes → IsReplacementInRange r → ReadsLines {E = JoiningFault} IsStage stage_line others 64 stages (Ok tt) →
     (k : Joining) → k ≡ told node nodes r stages → (j : Joining) → IsJoins j → bytes ≡ joins_text j → ◌≡◌ {A = Result Joining JoiningFault} (Ok k) (Ok j)
 only_this bytes rest others node nodes r stages marked own farm below is (size, are, e) k is_told j joins same =
     let parts = own_parts_of bytes rest others node nodes r j marked own farm below is joins same in
@@ -191,14 +191,14 @@ only_this bytes rest others node nodes r stages marked own farm below is (size, 
     ap (λ (x : Joining). Ok x) (is_told ∙ same_told node nodes r stages j parts.0 parts.1 parts.2 all)
 
 pub none_such : (bytes rest others : List ℕ) (node nodes : ℕ) (r : Replacement) → bytes ≡ codes "wfarm joins 1\n" ++ rest → rest ≡ own_line node nodes r others →
-    IsNumberOfNodes nodes → node < nodes → IsReplacement r → ((stages : List Stage) → length stages ≡ 64 → AreAll IsStage stages → others ≢ lines_of stage_line stages) →
+    IsNumberOfNodes nodes → node < nodes → IsReplacementInRange r → ((stages : List Stage) → length stages ≡ 64 → AreAll IsStage stages → others ≢ lines_of stage_line stages) →
     (j : Joining) → IsJoins j → bytes ≢ joins_text j
 none_such bytes rest others node nodes r marked own farm below is none j joins same =
     let parts = own_parts_of bytes rest others node nodes r j marked own farm below is joins same in
     none j.stages joins.joins.stages joins.each parts.3
 
 pub no_own : (bytes rest : List ℕ) → bytes ≡ codes "wfarm joins 1\n" ++ rest →
-    ((node nodes : ℕ) (r : Replacement) (others : List ℕ) → IsNumberOfNodes nodes → node < nodes → IsReplacement r → rest ≢ own_line node nodes r others) →
+    ((node nodes : ℕ) (r : Replacement) (others : List ℕ) → IsNumberOfNodes nodes → node < nodes → IsReplacementInRange r → rest ≢ own_line node nodes r others) →
     (j : Joining) → IsJoins j → bytes ≢ joins_text j
 no_own bytes rest marked none j joins same =
     none j.node j.nodes j.replacement (lines_of stage_line j.stages) joins.joins.of_farm joins.joins.member joins.replacement

@@ -8,9 +8,9 @@ use Rattle.wf_rejoin.specs.declared.replacement.Replacement.{Replacement}
 
 -- Where a replacement is known, it is that one's folder; else it is one that was never replaced, and
 -- doesn't join.
-abbrev pub IsTaken : Option Replacement → GreetedFolder → Type 0
-IsTaken None g = (g.joins ≡ false) × (g.replacement.count ≡ 0)
-IsTaken (Some k) g = g.replacement.mark ≡ k.mark
+abbrev pub IsFolderTaken : Option Replacement → GreetedFolder → Type 0
+IsFolderTaken None g = (g.joins ≡ false) × (g.replacement.count ≡ 0)
+IsFolderTaken (Some k) g = g.replacement.mark ≡ k.mark
 
 -- it joins, and no operator has begun its replacement
 pub record IsUnbegun (g : GreetedFolder) : Type 0 where
@@ -19,7 +19,7 @@ pub record IsUnbegun (g : GreetedFolder) : Type 0 where
 
 -- Why it isn't: its replacement wasn't begun; it says that it has a higher count than is known; or
 -- another folder takes its place, with a count that isn't lower.
-abbrev pub IsCause : Option Replacement → GreetedFolder → FolderRejection → Type 0
-IsCause known g causes.NotBegun = IsUnbegun g
-IsCause known g causes.NotTold = (¬ IsUnbegun g) × (count_of known < g.replacement.count)
-IsCause known g (causes.Retired k) = (¬ IsUnbegun g) × (known ≡ Some k) × (g.replacement.count ≤ k.count) × (g.replacement.mark ≢ k.mark)
+abbrev pub IsFolderCause : Option Replacement → GreetedFolder → FolderRejection → Type 0
+IsFolderCause known g causes.NotBegun = IsUnbegun g
+IsFolderCause known g causes.NotTold = (¬ IsUnbegun g) × (count_of known < g.replacement.count)
+IsFolderCause known g (causes.Retired k) = (¬ IsUnbegun g) × (known ≡ Some k) × (g.replacement.count ≤ k.count) × (g.replacement.mark ≢ k.mark)

@@ -14,7 +14,7 @@ abbrev pub IsLongAgo : Option ℕ → Type 0
 IsLongAgo None = Unit {0}
 IsLongAgo (Some silence) = quiet_time ≤ silence
 
-pub record IsQuiet (asked : Asked) : Type 0 where
+pub record HasBeenQuiet (asked : Asked) : Type 0 where
   pub started : quiet_time ≤ asked.running
   pub heard : IsLongAgo asked.silence
 
@@ -29,7 +29,7 @@ pub record Agrees (known : List (Option Replacement)) (asked : Asked) (node : �
   pub other : asked.node ≢ node
   pub votes : asked.hindrance ≡ None
   pub is_new : IsNewTo (latest_of known node) r
-  pub quiet : (force ≡ true) ⊎ IsQuiet asked
+  pub quiet : (force ≡ true) ⊎ HasBeenQuiet asked
 
 -- it votes, and has agreed to the replacement, or was told of it
 pub record Answers (known : List (Option Replacement)) (asked : Asked) (node : ℕ) (r : Replacement) : Type 0 where

@@ -3,25 +3,25 @@ use Rattle.std.specs.Prelude.{ℕ, ◌<◌, ◌^◌, List, ◌++◌, codes}
 use Rattle.wf_folder.specs.Words.{mark_then, number_then}
 use Rattle.wf_rejoin.specs.Joining.{IsJoining}
 use Rattle.wf_rejoin.specs.Lines.{AreAll, lines_of}
-use Rattle.wf_rejoin.specs.ReplacementsText.{IsReplacement}
+use Rattle.wf_rejoin.specs.ReplacementsText.{IsReplacementInRange}
 use Rattle.wf_rejoin.specs.declared.answer.Answer.{Answer}
 use Rattle.wf_rejoin.specs.declared.joining.Joining.{Joining}
 use Rattle.wf_rejoin.specs.declared.joining.Stage.{Stage}
 use Rattle.wf_rejoin.specs.declared.joining.Stage.TheVariants.{Unasked, Agreed, Answered}
 use Rattle.wf_rejoin.specs.declared.replacement.Replacement.{Replacement}
 
-pub record IsAnswer (a : Answer) : Type 0 where
+pub record IsAnswerInRange (a : Answer) : Type 0 where
   pub published : a.published < 2 ^ 16
   pub voted : a.voted < 2 ^ 16
 
 abbrev pub IsStage : Stage → Type 0
 IsStage Unasked = Unit {0}
 IsStage Agreed = Unit {0}
-IsStage (Answered a) = IsAnswer a
+IsStage (Answered a) = IsAnswerInRange a
 
 pub record IsJoins (j : Joining) : Type 0 where
   pub joins : IsJoining j
-  pub replacement : IsReplacement j.replacement
+  pub replacement : IsReplacementInRange j.replacement
   pub each : AreAll IsStage j.stages
 
 -- what a folder was told, by its parts

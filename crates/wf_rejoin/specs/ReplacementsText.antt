@@ -7,14 +7,14 @@ use Rattle.wf_rejoin.specs.Lines.{lines_of}
 use Rattle.wf_rejoin.specs.declared.replacement.Replacement.{Replacement}
 
 -- a count of 32 bits and a mark of 16 bytes
-pub record IsReplacement (r : Replacement) : Type 0 where
+pub record IsReplacementInRange (r : Replacement) : Type 0 where
   pub fits : r.count < 2 ^ 32
   pub bytes : IsBytes r.mark
   pub size : length r.mark ≡ 16
 
 abbrev pub IsEntry : Option Replacement → Type 0
 IsEntry None = Unit {0}
-IsEntry (Some r) = IsReplacement r
+IsEntry (Some r) = IsReplacementInRange r
 
 -- a node's line, and what follows
 unfoldable pub entry_line : Option Replacement → List ℕ → List ℕ

@@ -47,7 +47,7 @@ OneFolder = (tables : ℕ → ℕ → List (Option Replacement)) (j other : Join
 
 -- At least half of all nodes have answered it, and none of their answers is higher than m; it has
 -- published a window more.
-pub record IsGuarded (j : Joining) (published : ℕ) : Type 0 where
+pub record IsGuardedByAnswers (j : Joining) (published : ℕ) : Type 0 where
   pub m : ℕ
   pub asked : ℕ → Bool
   pub half : j.nodes ≤ 2 * count_nodes j.nodes asked
@@ -55,7 +55,7 @@ pub record IsGuarded (j : Joining) (published : ℕ) : Type 0 where
   pub far : HasWindowAfter m published
 
 abbrev pub VotersAreGuarded : Type 0
-VotersAreGuarded = (j : Joining) (published : ℕ) → IsJoining j → MayVote j published → IsGuarded j published
+VotersAreGuarded = (j : Joining) (published : ℕ) → IsJoining j → MayVote j published → IsGuardedByAnswers j published
 
 -- What an answer is about is up to m, if the answer is no higher.
 abbrev pub AnswersAreBounds : Type 0 → Type 0

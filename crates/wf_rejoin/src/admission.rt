@@ -1,6 +1,6 @@
 //! Which folder a node takes for a peer's.
-ghost use Rattle.std.specs.Prelude.{◌≡◌, ◌↔◌, ◌<◌, IfErr, IsOk, IsTrue};
-ghost use Rattle.wf_rejoin.specs.Admission.{IsCause, IsTaken, IsUnbegun};
+ghost use Rattle.std.specs.Prelude.{◌↔◌, ◌<◌, IfErr, IsOk, IsTrue};
+ghost use Rattle.wf_rejoin.specs.Admission.{IsFolderCause, IsFolderTaken, IsUnbegun};
 ghost use Rattle.wf_rejoin.specs.Replacements.{latest_of};
 
 use crate::replacement::Replacement;
@@ -33,8 +33,8 @@ impl Replacements {
     /// Whether a peer's folder is taken for that of this node, or why not. Where no replacement of the node is known, what was heard of
     /// it decides further.
     pub fn admit(&self, node: NodeId, greeted: &GreetedFolder) -> Result<(), FolderRejection>
-        ensures taken { IsOk result ↔ IsTaken (latest_of self.now node) greeted.now }
-        ensures cause { IfErr result (IsCause (latest_of self.now node) greeted.now) }
+        ensures taken { IsOk result ↔ IsFolderTaken (latest_of self.now node) greeted.now }
+        ensures cause { IfErr result (IsFolderCause (latest_of self.now node) greeted.now) }
     {
         match self.latest(node) {
             Some(known) => admit_after(&known, greeted),
@@ -45,8 +45,8 @@ impl Replacements {
 
 /// Whether a folder is taken where a replacement is known.
 fn admit_after(known: &Replacement, greeted: &GreetedFolder) -> Result<(), FolderRejection>
-    ensures taken { IsOk result ↔ IsTaken (Some known.now) greeted.now }
-    ensures cause { IfErr result (IsCause (Some known.now) greeted.now) }
+    ensures taken { IsOk result ↔ IsFolderTaken (Some known.now) greeted.now }
+    ensures cause { IfErr result (IsFolderCause (Some known.now) greeted.now) }
 {
     if greeted.replacement.mark == known.mark {
         return Ok(());
@@ -63,8 +63,8 @@ fn admit_after(known: &Replacement, greeted: &GreetedFolder) -> Result<(), Folde
 
 /// Whether a folder is taken where no replacement is known.
 fn admit_first(greeted: &GreetedFolder) -> Result<(), FolderRejection>
-    ensures taken { IsOk result ↔ IsTaken None greeted.now }
-    ensures cause { IfErr result (IsCause None greeted.now) }
+    ensures taken { IsOk result ↔ IsFolderTaken None greeted.now }
+    ensures cause { IfErr result (IsFolderCause None greeted.now) }
 {
     if is_unbegun(greeted) {
         return Err(FolderRejection::NotBegun);

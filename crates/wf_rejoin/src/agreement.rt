@@ -1,7 +1,7 @@
 //! Whether an asked node agrees to a replacement.
-ghost use Rattle.std.specs.Prelude.{◌≡◌, ◌↔◌, IfErr, IfNone, IfOk, IfSome, IsOk, IsTrue, Some, None, slice_set};
-ghost use Rattle.wf_rejoin.specs.Agreement.{Agrees, IsNewTo, IsObjection, IsObjectionNow, IsObjectionTo, IsQuiet};
-ghost use Rattle.wf_rejoin.specs.Replacements.{AreNoOlder, IsNoOlder, latest_of};
+ghost use Rattle.std.specs.Prelude.{◌≡◌, ◌↔◌, IfErr, IfNone, IfOk, IfSome, IsOk, Some, None, slice_set};
+ghost use Rattle.wf_rejoin.specs.Agreement.{Agrees, IsNewTo, IsObjection, IsObjectionNow, IsObjectionTo, HasBeenQuiet};
+ghost use Rattle.wf_rejoin.specs.Replacements.{AreNoOlder, IsNoOlder};
 
 use crate::replacement::Replacement;
 use crate::replacements::Replacements;
@@ -136,9 +136,9 @@ fn objection_after(known: &Replacement, replacement: &Replacement) -> Option<Obj
 
 /// What stands against it in time, unless it is forced.
 fn objection_now(asked: &Asked) -> Option<Objection>
-    ensures none { IfNone result (IsQuiet asked.now) }
+    ensures none { IfNone result (HasBeenQuiet asked.now) }
     ensures some { IfSome result (IsObjectionNow asked.now) }
-    ensures early { IfSome result (λ _. ¬ IsQuiet asked.now) }
+    ensures early { IfSome result (λ _. ¬ HasBeenQuiet asked.now) }
 {
     if asked.running < QUIET_TIME {
         return Some(Objection::StartedRecently);

@@ -1,8 +1,8 @@
 //! A folder that joins in the place of a lost one.
-ghost use Rattle.std.specs.Prelude.{◌≡◌, ◌<◌, ◌≤◌, ◌↔◌, IfOk, IfSome, IsTrue, SomeIff, length, replicate, true};
+ghost use Rattle.std.specs.Prelude.{◌≡◌, ◌<◌, ◌≤◌, ◌↔◌, IfSome, IsTrue, SomeIff, replicate, true};
 ghost use Rattle.std.specs.List.{list_all};
 ghost use Rattle.wf_folder.specs.FarmFile.{IsNumberOfNodes};
-ghost use Rattle.wf_rejoin.specs.Joining.{AgreementCounts, AllAnswered, AnswerCounts, HasHalf, HasWindowAfter, IsJoining, IsOpenTo, MayServe, MayVote, agreed_count, agreed_nodes, begun, has_agreed, highest_answer, highest_below, highest_of, owes_nothing, stage_of, with_stage};
+ghost use Rattle.wf_rejoin.specs.Joining.{AgreementCounts, AllAnswered, AnswerCounts, HasHalf, HasWindowAfter, IsJoining, IsOpenTo, MayServe, MayVote, agreed_count, agreed_nodes, begun, has_agreed, highest_answer, highest_of, owes_nothing, stage_of, with_stage};
 ghost use Rattle.wf_rejoin.specs.declared.joining.Stage.TheVariants.{Agreed, Answered, Unasked};
 
 use crate::answer::Answer;

@@ -1,9 +1,9 @@
 //! The text of a file `joins` is read.
-ghost use Rattle.std.specs.Prelude.{◌≡◌, ◌≢◌, ◌≤◌, ◌<◌, ◌++◌, ℕ, List, length, IfNone, IfSome};
+ghost use Rattle.std.specs.Prelude.{◌≡◌, ◌≢◌, ◌≤◌, ◌<◌, ℕ, List, length, IfNone, IfSome};
 ghost use Rattle.wf_folder.specs.FarmFile.{IsNumberOfNodes};
-ghost use Rattle.wf_rejoin.specs.JoiningText.{IsAnswer, IsStage, own_line, stage_line, told};
+ghost use Rattle.wf_rejoin.specs.JoiningText.{IsAnswerInRange, IsStage, own_line, stage_line, told};
 ghost use Rattle.wf_rejoin.specs.Lines.{ReadsLines};
-ghost use Rattle.wf_rejoin.specs.ReplacementsText.{IsReplacement};
+ghost use Rattle.wf_rejoin.specs.ReplacementsText.{IsReplacementInRange};
 ghost use Rattle.wf_rejoin.specs.declared.answer.Answer.{Answer as AnswerValue};
 ghost use Rattle.wf_rejoin.specs.declared.joining.Stage.{Stage as StageValue};
 ghost use Rattle.wf_rejoin.specs.declared.joining.Stage.TheVariants.{Answered};
@@ -64,9 +64,9 @@ fn told(node: u8, nodes: u8, replacement: Replacement, stages: [Stage; 64]) -> J
 fn split_own(bytes: &[u8]) -> Option<(u8, u8, Replacement, &[u8])>
     ensures nodes { IfSome result (λ x. IsNumberOfNodes x.1) }
     ensures node { IfSome result (λ x. x.0 < x.1) }
-    ensures replacement { IfSome result (λ x. IsReplacement x.2) }
+    ensures replacement { IfSome result (λ x. IsReplacementInRange x.2) }
     ensures some { IfSome result (λ x. bytes.now ≡ own_line x.0 x.1 x.2 x.3.now) }
-    ensures none { IfNone result ((node nodes : ℕ) (r : ReplacementValue) (rest : List ℕ) → IsNumberOfNodes nodes → node < nodes → IsReplacement r → bytes.now ≢ own_line node nodes r rest) }
+    ensures none { IfNone result ((node nodes : ℕ) (r : ReplacementValue) (rest : List ℕ) → IsNumberOfNodes nodes → node < nodes → IsReplacementInRange r → bytes.now ≢ own_line node nodes r rest) }
 {
     let (node, rest) = split_word(bytes, b"node ")?;
     let (nodes, rest) = split_word(rest, b" of ")?;
@@ -139,9 +139,9 @@ fn split_stage(bytes: &[u8]) -> Option<(Stage, &[u8])>
 
 /// The answer of the node whose line bytes begin with, and what follows it.
 fn split_answer(bytes: &[u8]) -> Option<(Answer, &[u8])>
-    ensures known { IfSome result (λ x. IsAnswer x.0) }
+    ensures known { IfSome result (λ x. IsAnswerInRange x.0) }
     ensures some { IfSome result (λ x. bytes.now ≡ stage_line (Answered x.0) x.1.now) }
-    ensures none { IfNone result ((a : AnswerValue) (rest : List ℕ) → IsAnswer a → bytes.now ≢ stage_line (Answered a) rest) }
+    ensures none { IfNone result ((a : AnswerValue) (rest : List ℕ) → IsAnswerInRange a → bytes.now ≢ stage_line (Answered a) rest) }
 {
     let (published, rest) = split_word(bytes, b"published ")?;
     let (voted, rest) = split_word(rest, b" voted ")?;
@@ -154,9 +154,9 @@ fn split_answer(bytes: &[u8]) -> Option<(Answer, &[u8])>
 
 /// The answer with these numbers.
 fn answer_of(published: u32, voted: u32) -> Option<Answer>
-    ensures known { IfSome result IsAnswer }
+    ensures known { IfSome result IsAnswerInRange }
     ensures some { IfSome result (λ a. (a.published ≡ published) × (a.voted ≡ voted)) }
-    ensures none { IfNone result ((a : AnswerValue) → IsAnswer a → a.published ≡ published → a.voted ≢ voted) }
+    ensures none { IfNone result ((a : AnswerValue) → IsAnswerInRange a → a.published ≡ published → a.voted ≢ voted) }
 {
     let Ok(published) = u16::try_from(published) else {
         return None;

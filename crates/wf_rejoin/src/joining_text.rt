@@ -1,9 +1,9 @@
 //! What a folder that joins was told, as a text.
 ghost use Rattle.std.specs.Prelude.{◌≡◌, ◌++◌, [], OnOk};
 ghost use Rattle.wf_rejoin.specs.Joining.{IsJoining};
-ghost use Rattle.wf_rejoin.specs.JoiningText.{IsAnswer, IsStage, own_line, stage_line};
+ghost use Rattle.wf_rejoin.specs.JoiningText.{IsAnswerInRange, IsStage, own_line, stage_line};
 ghost use Rattle.wf_rejoin.specs.Lines.{AreAll, lines_of};
-ghost use Rattle.wf_rejoin.specs.ReplacementsText.{IsReplacement};
+ghost use Rattle.wf_rejoin.specs.ReplacementsText.{IsReplacementInRange};
 ghost use Rattle.wf_rejoin.specs.declared.joining.Stage.TheVariants.{Answered};
 
 use crate::answer::Answer;
@@ -63,7 +63,7 @@ fn push_own(
     replacement: &Replacement,
 ) -> Result<(), AllocError>
     ensures items { OnOk result (text.new.items ≡ text.old.items ++ own_line node nodes replacement.now []) }
-    ensures known { OnOk result (IsReplacement replacement.now) }
+    ensures known { OnOk result (IsReplacementInRange replacement.now) }
 {
     let Replacement { count, mark } = *replacement;
     push_word(text, b"node ", node)?;
@@ -106,7 +106,7 @@ fn push_stage(text: &mut Vec<u8>, stage: &Stage) -> Result<(), AllocError>
 #[tactic(auto, using(crate::proofs::Stages::answer_parts))]
 fn push_answer(text: &mut Vec<u8>, answer: &Answer) -> Result<(), AllocError>
     ensures items { OnOk result (text.new.items ≡ text.old.items ++ stage_line (Answered answer.now) []) }
-    ensures known { OnOk result (IsAnswer answer.now) }
+    ensures known { OnOk result (IsAnswerInRange answer.now) }
 {
     let Answer { published, voted } = *answer;
     push_word(text, b"published ", u32::from(published))?;

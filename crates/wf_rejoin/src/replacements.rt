@@ -6,7 +6,7 @@ use std::marker::Model;
 use wf_ballot::NodeId;
 
 /// The latest replacement of each node that a farm may have, in the order of the nodes; none of one that was never replaced.
-#[derive(Clone, Copy)]
+#[derive(Clone, Copy, Debug, PartialEq, Eq)]
 pub struct Replacements {
     pub(crate) nodes: [Option<Replacement>; 64],
 }
@@ -23,15 +23,45 @@ impl Model for Replacements {
 }
 
 impl Replacements {
-    ghost use Rattle.std.specs.Prelude.{◌≡◌, ◌↔◌, ◌≢◌, ◌<◌, Some, None, IfSome, IsTrue, SomeIff, replicate, slice_set};
+    ghost use Rattle.std.specs.Prelude.{◌≡◌, ◌↔◌, ◌<◌, ◌≤◌, Some, None, IfSome, IsTrue, SomeIff, length, replicate, slice_set};
     ghost use Rattle.wf_rejoin.specs.Agreement.{Answers};
-    ghost use Rattle.wf_rejoin.specs.Replacements.{AreNoOlder, IsNews, count_of, latest_of};
+    ghost use Rattle.wf_rejoin.specs.Replacements.{AreNoOlder, IsNewReplacement, known_count, latest_of};
 
     /// Nothing is known.
     pub fn new() -> Replacements
         ensures { result ≡ replicate 64 None }
     {
         Replacements { nodes: [None; 64] }
+    }
+
+    /// The replacements with this latest one of each node, in the order of the nodes.
+    pub fn of(nodes: [Option<Replacement>; 64]) -> Replacements
+        ensures { result ≡ nodes }
+    {
+        Replacements { nodes }
+    }
+
+    /// The latest replacement of each of 64 nodes, in their order; None of one of which none is known.
+    pub fn nodes(&self) -> &[Option<Replacement>]
+        ensures value { result.now ≡ self.now }
+        ensures all { length result.now ≡ 64 }
+    {
+        &self.nodes
+    }
+
+    /// Of how many nodes a replacement is known.
+    pub fn count(&self) -> usize
+        ensures value { result ≡ known_count self.now }
+        ensures most { result ≤ 64 }
+    {
+        self.nodes.iter().filter(|latest| latest.is_some()).count()
+    }
+
+    /// Whether no replacement is known.
+    pub fn is_empty(&self) -> bool
+        ensures { IsTrue result ↔ (known_count self.now ≡ 0) }
+    {
+        self.count() == 0
     }
 
     /// The latest replacement of a node that is known, if one is.
@@ -61,7 +91,7 @@ impl Replacements {
         node: NodeId,
         replacement: Replacement,
     ) -> Option<Replacements>
-        ensures value { SomeIff result (IsNews self.now peer node replacement) (slice_set self.now node (Some replacement)) }
+        ensures value { SomeIff result (IsNewReplacement self.now peer node replacement) (slice_set self.now node (Some replacement)) }
         ensures kept { IfSome result (AreNoOlder self.now) }
     {
         if peer != node && is_later(&self.latest(node), &replacement) {

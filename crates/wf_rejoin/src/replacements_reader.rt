@@ -1,7 +1,7 @@
 //! The text of what a node knows of replacements is read.
-ghost use Rattle.std.specs.Prelude.{◌≡◌, ◌≢◌, ◌≤◌, ◌++◌, ℕ, List, Option, Some, length, IfNone, IfSome};
+ghost use Rattle.std.specs.Prelude.{◌≡◌, ◌≢◌, ◌≤◌, ℕ, List, Option, Some, length, IfNone, IfSome};
 ghost use Rattle.wf_rejoin.specs.Lines.{ReadsLines};
-ghost use Rattle.wf_rejoin.specs.ReplacementsText.{IsEntry, IsReplacement, entry_line};
+ghost use Rattle.wf_rejoin.specs.ReplacementsText.{IsEntry, IsReplacementInRange, entry_line};
 ghost use Rattle.wf_rejoin.specs.declared.replacement.Replacement.{Replacement as ReplacementValue};
 
 use crate::fault::ReplacementsFault;
@@ -75,9 +75,9 @@ fn split_entry(bytes: &[u8]) -> Option<(Option<Replacement>, &[u8])>
 
 /// The replacement of the node whose line bytes begin with, and what follows it.
 fn split_replacement(bytes: &[u8]) -> Option<(Replacement, &[u8])>
-    ensures known { IfSome result (λ x. IsReplacement x.0) }
+    ensures known { IfSome result (λ x. IsReplacementInRange x.0) }
     ensures some { IfSome result (λ x. bytes.now ≡ entry_line (Some x.0) x.1.now) }
-    ensures none { IfNone result ((r : ReplacementValue) (rest : List ℕ) → IsReplacement r → bytes.now ≢ entry_line (Some r) rest) }
+    ensures none { IfNone result ((r : ReplacementValue) (rest : List ℕ) → IsReplacementInRange r → bytes.now ≢ entry_line (Some r) rest) }
 {
     let (count, rest) = split_word(bytes, b"count ")?;
     let (mark, rest) = split_named(rest, b" mark ")?;

@@ -1,2 +1,3 @@
 pub mod Pipe
 pub mod Channel
+pub mod Flow

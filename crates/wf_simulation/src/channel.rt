@@ -143,7 +143,8 @@ impl Channel {
         }
     }
 
-    /// Closes an end: over unread bytes the other end is reset, else it reads to the end of what was sent. A host that is off tells nobody.
+    /// Closes an end: over unread bytes the other end is reset, else it reads to the end of what was sent. A host that is off tells nobody;
+    /// once it is on it answers by a reset.
     pub(crate) fn close(&mut self, side: Side, medium: &mut Medium)
         ensures { KeepsBoth self.old self.new }
     {
@@ -173,7 +174,7 @@ impl Channel {
         if medium.is_on(self.callee.host) {
             self.back.reset(medium);
         } else {
-            self.back.lose();
+            self.callee.is_forgotten = true;
         }
     }
 
@@ -423,7 +424,8 @@ fn write_to(flow: &mut Flow, end: &mut Endpoint, bytes: &[u8], medium: &mut Medi
 
 /// Ends a direction, unless it has ended.
 fn end_flow(flow: &mut Flow, medium: &mut Medium)
-    ensures { KeepsBytes flow.old.pipe flow.new.pipe }
+    ensures bytes { KeepsBytes flow.old.pipe flow.new.pipe }
+    ensures lost { flow.new.is_lost ≡ flow.old.is_lost }
 {
     if flow.pipe.is_open() {
         flow.pipe.end();
@@ -441,6 +443,7 @@ fn watch_end(end: &mut Endpoint, incoming: &Flow, outgoing: &Flow, token: usize,
 fn close_end(end: &mut Endpoint, incoming: &mut Flow, outgoing: &mut Flow, medium: &mut Medium)
     ensures incoming { KeepsBytes incoming.old.pipe incoming.new.pipe }
     ensures outgoing { KeepsBytes outgoing.old.pipe outgoing.new.pipe }
+    ensures lost { outgoing.new.is_lost ≡ outgoing.old.is_lost }
 {
     if let (true, Some(token)) = (end.is_ready, end.token) {
         medium.note_stale(end.host, token);
@@ -449,7 +452,7 @@ fn close_end(end: &mut Endpoint, incoming: &mut Flow, outgoing: &mut Flow, mediu
     end.is_ready = false;
     end.token = None;
     if !medium.is_on(end.host) {
-        outgoing.lose();
+        end.is_forgotten = true;
     } else if incoming.pipe.has_unread() {
         outgoing.reset(medium);
     } else {

@@ -11,7 +11,7 @@ pub struct Counts {
     pub unanswered: u64,
     /// Connections that were reset by chance.
     pub resets: u64,
-    /// Connections that were reset since one end was closed over unread bytes, or bytes came for a closed one.
+    /// Resets since an end was closed over unread bytes, or something came for an end that was closed or that its host has forgotten.
     pub answers: u64,
     /// Directions that were lost.
     pub losses: u64,

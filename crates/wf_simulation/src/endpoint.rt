@@ -19,6 +19,8 @@ pub(crate) struct Endpoint {
     pub(crate) wants_room: bool,
     // whether the program has closed it
     pub(crate) is_closed: bool,
+    // whether its host was off when it was closed, and so doesn't know the connection any more
+    pub(crate) is_forgotten: bool,
 }
 
 impl Endpoint {
@@ -30,6 +32,7 @@ impl Endpoint {
             is_ready: false,
             wants_room: false,
             is_closed: false,
+            is_forgotten: false,
         }
     }
 

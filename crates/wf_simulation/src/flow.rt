@@ -1,6 +1,8 @@
 //! A direction of a connection, with what is on its way.
 #![tactic(auto, using(crate::proofs::Keeps::keeps_same, crate::proofs::Keeps::keeps_twice))]
 
+ghost use Rattle.std.specs.Prelude.{◌≡◌, ◌≢◌, true, false, None};
+ghost use Rattle.wf_simulation.specs.Flow.{IsReset};
 ghost use Rattle.wf_simulation.specs.Pipe.{KeepsBytes};
 
 use crate::counts::raise;
@@ -15,9 +17,9 @@ pub(crate) struct Flow {
     pub(crate) pipe: Pipe,
     pub(crate) due: Option<u64>,
     // whether a reset is on its way
-    has_reset: bool,
+    pub(crate) has_reset: bool,
     // whether nothing arrives any more, and nobody is told
-    is_lost: bool,
+    pub(crate) is_lost: bool,
 }
 
 impl Flow {
@@ -33,7 +35,10 @@ impl Flow {
 
     /// Something is on its way: a step is due, unless one is already.
     pub(crate) fn begin(&mut self, medium: &mut Medium)
-        ensures { KeepsBytes self.old.pipe self.new.pipe }
+        ensures bytes { KeepsBytes self.old.pipe self.new.pipe }
+        ensures due { self.old.is_lost ≡ false → self.new.due ≢ None }
+        ensures lost { self.new.is_lost ≡ self.old.is_lost }
+        ensures reset { self.new.has_reset ≡ self.old.has_reset }
     {
         if self.due.is_none() && !self.is_lost {
             self.due = Some(medium.soon());
@@ -42,7 +47,9 @@ impl Flow {
 
     /// Sends a reset: the other end comes to know that the connection has failed.
     pub(crate) fn reset(&mut self, medium: &mut Medium)
-        ensures { KeepsBytes self.old.pipe self.new.pipe }
+        ensures bytes { KeepsBytes self.old.pipe self.new.pipe }
+        ensures reset { IsReset self.new }
+        ensures lost { self.new.is_lost ≡ self.old.is_lost }
     {
         self.has_reset = true;
         self.pipe.fail_writer();
@@ -50,7 +57,7 @@ impl Flow {
     }
 
     /// Nothing arrives any more, and nobody is told.
-    pub(crate) fn lose(&mut self)
+    fn lose(&mut self)
         ensures { KeepsBytes self.old.pipe self.new.pipe }
     {
         self.is_lost = true;
@@ -65,7 +72,8 @@ impl Flow {
         }
     }
 
-    /// Does the step that is due, if one is: what is on its way from an end to another arrives, or it doesn't.
+    /// Does the step that is due, if one is: what is on its way from an end to another arrives, or it doesn't. What a host that has
+    /// forgotten the connection had sent is lost; its reset isn't.
     pub(crate) fn step(
         &mut self,
         back: &mut Flow,
@@ -79,7 +87,9 @@ impl Flow {
         if !self.is_due(medium.time) {
             return;
         }
-        if !medium.reaches(from.host, to.host) {
+        if from.is_forgotten && !self.has_reset {
+            self.due = None;
+        } else if !medium.reaches(from.host, to.host) {
             raise(&mut medium.counts.waits);
             self.due = Some(medium.later());
         } else if medium.chance.happens(medium.faults.losses) {
@@ -91,10 +101,11 @@ impl Flow {
         }
     }
 
-    /// What is on its way arrives, or a part of it.
+    /// What is on its way arrives, or a part of it. A host that has forgotten the connection answers all but a reset by a reset.
     fn arrive(&mut self, back: &mut Flow, to: &mut Endpoint, medium: &mut Medium)
         ensures forth { KeepsBytes self.old.pipe self.new.pipe }
         ensures back { KeepsBytes back.old.pipe back.new.pipe }
+        ensures forgotten { to.old.is_forgotten ≡ true → self.old.has_reset ≡ false → IsReset back.new }
     {
         if medium.chance.happens(medium.faults.resets) {
             raise(&mut medium.counts.resets);
@@ -103,6 +114,10 @@ impl Flow {
         }
         if self.has_reset {
             self.arrive_reset(back, to, medium);
+            return;
+        }
+        if to.is_forgotten {
+            self.reject(back, medium);
             return;
         }
         back.pipe.confirm();
@@ -122,6 +137,7 @@ impl Flow {
     fn arrive_reset(&mut self, back: &mut Flow, to: &mut Endpoint, medium: &mut Medium)
         ensures forth { KeepsBytes self.old.pipe self.new.pipe }
         ensures back { KeepsBytes back.old.pipe back.new.pipe }
+        ensures reset { IsReset back.old → IsReset back.new }
     {
         self.has_reset = false;
         self.pipe.fail_reader(medium.chance.up_to(2) == 1);
@@ -134,17 +150,25 @@ impl Flow {
         ensures forth { KeepsBytes self.old.pipe self.new.pipe }
         ensures back { KeepsBytes back.old.pipe back.new.pipe }
     {
-        let in_flight = self.pipe.in_flight();
         if to.is_closed || self.pipe.has_reader_failed() {
-            self.pipe.arrive(in_flight);
-            raise(&mut medium.counts.answers);
-            back.reset(medium);
+            self.reject(back, medium);
             return;
         }
-        let part = medium.chance.part(in_flight);
+        let part = medium.chance.part(self.pipe.in_flight());
         self.pipe.arrive(part);
         to.notify();
         raise(&mut medium.counts.pieces);
         medium.counts.bytes = medium.counts.bytes.saturating_add(part as u64);
+    }
+
+    /// What arrives is for nobody: it is dropped, and a reset comes back.
+    fn reject(&mut self, back: &mut Flow, medium: &mut Medium)
+        ensures forth { KeepsBytes self.old.pipe self.new.pipe }
+        ensures back { KeepsBytes back.old.pipe back.new.pipe }
+        ensures reset { IsReset back.new }
+    {
+        self.pipe.arrive(self.pipe.in_flight());
+        raise(&mut medium.counts.answers);
+        back.reset(medium);
     }
 }

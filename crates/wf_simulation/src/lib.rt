@@ -16,8 +16,8 @@
 //! **What goes wrong.** Bytes come in pieces of any size, at any time, several pieces in one read; a write is short where there is no
 //! room, and a reader makes room only once the writer hears of it. A connection is reset at any byte; each end learns of it by itself,
 //! with what it hadn't read or without, or never. A direction is lost in silence; a host doesn't reach another for a time, in one
-//! direction or both, and what was sent then comes after it. A host is off: what is closed there is closed in silence, and later bytes
-//! for it are answered by a reset. An attempt to connect is refused, or nothing answers; a queue at a listener is full, or what waits
+//! direction or both, and what was sent then comes after it. A host is off: what is closed there is closed in silence, what it had sent
+//! may be lost, and once it is on again what comes for a connection from before is answered by a reset. An attempt to connect is refused, or nothing answers; a queue at a listener is full, or what waits
 //! there is reset. Several events are one, some are false, and some are of a socket that is closed.
 //!
 //! **Doesn't.** No clause says what a cell has: that a [`SimulatedNetwork`]'s connection reads the pipe of its own end is one line of

@@ -87,7 +87,7 @@ impl World {
         self.set_host(host, false);
     }
 
-    /// Turns a host on. It knows of no connection from before.
+    /// Turns a host on. It knows of no connection from before, and answers what comes for one by a reset.
     pub fn turn_on(&mut self, host: usize) {
         self.set_host(host, true);
     }

@@ -12,6 +12,10 @@ pub enum FileName {
     Farm,
     /// `heard`, which says what a node heard of its peers.
     Heard,
+    /// `joins`, which says what the folder of a node was told that joins in the place of a lost one.
+    Joins,
+    /// `replaced`, which says what a node knows of replacements.
+    Replaced,
     /// `node-I.tape`, the tape of a node.
     NodeTape(u8),
     /// `replica.tape`, the tape of a replica.
@@ -23,6 +27,8 @@ impl fmt::Display for FileName {
         match self {
             FileName::Farm => f.write_str("farm"),
             FileName::Heard => f.write_str("heard"),
+            FileName::Joins => f.write_str("joins"),
+            FileName::Replaced => f.write_str("replaced"),
             FileName::NodeTape(node) => write!(f, "node-{node}.tape"),
             FileName::ReplicaTape => f.write_str("replica.tape"),
         }
@@ -36,6 +42,8 @@ pub fn path_in(alloc: Global, folder: &str, file: FileName) -> Result<String, Al
     match file {
         FileName::Farm => format!(in alloc; "{folder}/farm"),
         FileName::Heard => format!(in alloc; "{folder}/heard"),
+        FileName::Joins => format!(in alloc; "{folder}/joins"),
+        FileName::Replaced => format!(in alloc; "{folder}/replaced"),
         FileName::NodeTape(node) => tape_path(alloc, folder, node),
         FileName::ReplicaTape => format!(in alloc; "{folder}/replica.tape"),
     }

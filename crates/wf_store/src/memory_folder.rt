@@ -16,6 +16,8 @@ pub struct MemoryFolder {
     alloc: Global,
     farm: RefCell<MemoryDisk>,
     heard: RefCell<MemoryDisk>,
+    joins: RefCell<MemoryDisk>,
+    replaced: RefCell<MemoryDisk>,
     replica_tape: RefCell<MemoryDisk>,
     node_tapes: Vec<RefCell<MemoryDisk>>,
     is_locked: Cell<bool>,
@@ -35,6 +37,8 @@ impl MemoryFolder {
             alloc,
             farm: RefCell::new(MemoryDisk::new(alloc)),
             heard: RefCell::new(MemoryDisk::new(alloc)),
+            joins: RefCell::new(MemoryDisk::new(alloc)),
+            replaced: RefCell::new(MemoryDisk::new(alloc)),
             replica_tape: RefCell::new(MemoryDisk::new(alloc)),
             node_tapes: empty_disks(alloc, nodes)?,
             is_locked: Cell::new(false),
@@ -67,6 +71,8 @@ impl MemoryFolder {
     pub fn cut(&self, back: usize, keep: usize) {
         cut_disk(&self.farm, back, keep);
         cut_disk(&self.heard, back, keep);
+        cut_disk(&self.joins, back, keep);
+        cut_disk(&self.replaced, back, keep);
         cut_disk(&self.replica_tape, back, keep);
         for disk in &self.node_tapes {
             cut_disk(disk, back, keep);
@@ -111,6 +117,8 @@ impl MemoryFolder {
         match file {
             FileName::Farm => Some(&self.farm),
             FileName::Heard => Some(&self.heard),
+            FileName::Joins => Some(&self.joins),
+            FileName::Replaced => Some(&self.replaced),
             FileName::ReplicaTape => Some(&self.replica_tape),
             FileName::NodeTape(node) => self.node_tapes.get(node as usize),
         }
@@ -132,6 +140,8 @@ impl MemoryFolder {
     pub(crate) fn count_names(&self) -> usize {
         let mut count = count_on(&self.farm)
             .saturating_add(count_on(&self.heard))
+            .saturating_add(count_on(&self.joins))
+            .saturating_add(count_on(&self.replaced))
             .saturating_add(count_on(&self.replica_tape));
         for disk in &self.node_tapes {
             count = count.saturating_add(count_on(disk));

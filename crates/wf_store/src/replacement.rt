@@ -2,7 +2,7 @@
 ghost use Rattle.std.specs.Prelude.{◌≡◌, ◌⊎◌, Some, OnOk};
 ghost use Rattle.wf_disk.specs.Call.{IsCounted};
 ghost use Rattle.wf_disk.specs.Folder.{whole, IsLeftOf, MayLeave, IsSynced};
-ghost use Rattle.wf_tape.specs.DiskTape.{unsynced, IsButSecond, placed, Passes, images_of};
+ghost use Rattle.wf_tape.specs.DiskTape.{unsynced, IsButSecond, placed, LeavesOnly, images_of};
 
 use wf_disk::{Disk, DiskFault, Name};
 
@@ -11,7 +11,7 @@ use wf_disk::{Disk, DiskFault, Name};
 /// exactly the bytes.
 pub fn replace_on<D: Disk>(disk: &mut D, bytes: &[u8]) -> Result<(), DiskFault>
     ensures ok { D.durable → OnOk result (IsSynced (D.folder disk.new) bytes.now) }
-    ensures passes { D.durable → Passes D.Disk
+    ensures passes { D.durable → LeavesOnly D.Disk
         (λ image. images_of D.Disk disk.old image ⊎ (image ≡ bytes.now)) disk.old disk.new }
     ensures cause { IsCounted (D.failed disk.old) (D.failed disk.new) result }
 {
@@ -25,7 +25,7 @@ pub fn replace_on<D: Disk>(disk: &mut D, bytes: &[u8]) -> Result<(), DiskFault>
 fn put_second<D: Disk>(disk: &mut D, bytes: &[u8]) -> Result<(), DiskFault>
     ensures ok { D.durable → OnOk result ((D.folder disk.new).second ≡ Some (whole bytes.now)) }
     ensures kept { D.durable → IsButSecond (D.folder disk.old) (D.folder disk.new) }
-    ensures passes { D.durable → Passes D.Disk (images_of D.Disk disk.old) disk.old disk.new }
+    ensures passes { D.durable → LeavesOnly D.Disk (images_of D.Disk disk.old) disk.old disk.new }
     ensures cause { IsCounted (D.failed disk.old) (D.failed disk.new) result }
 {
     match write_second(disk, bytes) {
@@ -38,7 +38,7 @@ fn put_second<D: Disk>(disk: &mut D, bytes: &[u8]) -> Result<(), DiskFault>
 fn write_second<D: Disk>(disk: &mut D, bytes: &[u8]) -> Result<(), DiskFault>
     ensures ok { D.durable → OnOk result ((D.folder disk.new).second ≡ Some (unsynced bytes.now)) }
     ensures kept { D.durable → IsButSecond (D.folder disk.old) (D.folder disk.new) }
-    ensures passes { D.durable → Passes D.Disk (images_of D.Disk disk.old) disk.old disk.new }
+    ensures passes { D.durable → LeavesOnly D.Disk (images_of D.Disk disk.old) disk.old disk.new }
     ensures cause { IsCounted (D.failed disk.old) (D.failed disk.new) result }
 {
     match disk.make() {
@@ -50,7 +50,7 @@ fn write_second<D: Disk>(disk: &mut D, bytes: &[u8]) -> Result<(), DiskFault>
 /// Gives the second file the own name, and syncs the names.
 fn place_second<D: Disk>(disk: &mut D) -> Result<(), DiskFault>
     ensures ok { D.durable → OnOk result (D.folder disk.new ≡ placed (D.folder disk.old)) }
-    ensures passes { D.durable → Passes D.Disk (λ image. MayLeave (D.folder disk.old) image
+    ensures passes { D.durable → LeavesOnly D.Disk (λ image. MayLeave (D.folder disk.old) image
         ⊎ IsLeftOf (D.folder disk.old).second image) disk.old disk.new }
     ensures cause { IsCounted (D.failed disk.old) (D.failed disk.new) result }
 {

@@ -21,7 +21,7 @@ fn write_init(line: &InitLine<'_>, answer: &mut Transcript) {
     write_bracketed(line.state, answer);
     write_bracketed(line.farm, answer);
     write_if_any("from", line.from, answer);
-    answer.line("");
+    answer.line(if line.replaces { ", replaces" } else { "" });
 }
 
 fn write_node(line: &NodeLine<'_>, answer: &mut Transcript) {
@@ -36,7 +36,12 @@ fn write_node(line: &NodeLine<'_>, answer: &mut Transcript) {
     answer.value(line.cache);
     answer.text(", clients ");
     answer.value(line.clients);
-    answer.line(if line.log { ", log" } else { "" });
+    answer.text(if line.log { ", log" } else { "" });
+    answer.line(if line.may_replace {
+        ", may replace"
+    } else {
+        ""
+    });
 }
 
 fn write_clear(line: &ClearLine<'_>, answer: &mut Transcript) {

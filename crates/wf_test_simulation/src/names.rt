@@ -54,6 +54,7 @@ impl Names {
             cache: 1,
             clients: 16,
             log: true,
+            may_replace: false,
         }
     }
 }
@@ -73,5 +74,6 @@ pub(crate) fn init_line(node: u8, nodes: u8) -> NodeCommand<'static>
         id: node.min(63),
         nodes: nodes.clamp(1, 64),
         from: None,
+        replaces: false,
     })
 }

@@ -2,7 +2,7 @@
 use std::alloc::Global;
 use std::process::Abort;
 use wf_folder::Presence;
-use wf_store::{FileName, FolderFault, MemoryFolder, MemoryStore, Store};
+use wf_store::{FileName, FolderFault, MemoryFolder, MemoryStore, Store, path_in};
 use wf_tape::Tape;
 
 /// A power cut after a replacement: the call that fails, or 0, and how much it keeps; which file the cut puts back; and whether the
@@ -110,6 +110,37 @@ const CUTS: &[Cut] = &[
     },
 ];
 
+/// A file of a folder, its name, and the bytes that it gets.
+struct Written {
+    file: FileName,
+    path: &'static str,
+    bytes: &'static [u8],
+}
+
+/// The files that are replaced.
+const WRITTEN: &[Written] = &[
+    Written {
+        file: FileName::Farm,
+        path: "folder/farm",
+        bytes: b"whose it is",
+    },
+    Written {
+        file: FileName::Heard,
+        path: "folder/heard",
+        bytes: b"what was heard",
+    },
+    Written {
+        file: FileName::Joins,
+        path: "folder/joins",
+        bytes: b"how far it is",
+    },
+    Written {
+        file: FileName::Replaced,
+        path: "folder/replaced",
+        bytes: b"",
+    },
+];
+
 /// A folder for the tape of one node.
 fn new_folder(rt: &impl Abort, alloc: Global) -> MemoryFolder {
     MemoryFolder::new(alloc, 1).expect(rt, "a folder")
@@ -147,6 +178,33 @@ fn a_cut_leaves_the_old_bytes_or_the_new(rt: HostRuntime) {
         let bytes: &[u8] = if cut.is_new { b"new" } else { b"old" };
         assert!(&rt; has(&folder, FileName::Farm, bytes));
         drop(folder);
+    }
+}
+
+#[test]
+fn each_file_has_its_own_bytes(rt: HostRuntime) {
+    let folder = new_folder(&rt, rt.alloc());
+    let mut store = MemoryStore::new(&folder);
+    for written in WRITTEN {
+        assert!(&rt; store.presence(written.file) == Ok(Presence::Absent));
+        let bytes = written.bytes.to_vec(rt.alloc()).expect(&rt, "the bytes");
+        assert!(&rt; store.replace(written.file, bytes).is_ok());
+    }
+    assert!(&rt; store.count_names() == Ok(WRITTEN.len()));
+    drop(store);
+    folder.cut(1, 0);
+    for written in WRITTEN {
+        assert!(&rt; has(&folder, written.file, written.bytes));
+    }
+    drop(folder);
+}
+
+#[test]
+fn a_file_is_at_the_path_of_its_name(rt: HostRuntime) {
+    for written in WRITTEN {
+        let path = path_in(rt.alloc(), "folder", written.file).expect(&rt, "a path");
+        assert!(&rt; path.as_str() == written.path);
+        drop(path);
     }
 }
 

@@ -50,6 +50,7 @@ fn init_line() -> NodeCommand<'static>
         id: 0,
         nodes: 1,
         from: None,
+        replaces: false,
     })
 }
 
@@ -67,6 +68,7 @@ fn node_line() -> NodeCommand<'static>
         cache: 1,
         clients: 1,
         log: false,
+        may_replace: false,
     })
 }
 

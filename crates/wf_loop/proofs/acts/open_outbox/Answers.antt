@@ -3,4 +3,4 @@ use Rattle.wf_loop.proofs.Continuation.{relinked}
 use Rattle.wf_loop.proofs.acts.open_outbox.Goals as goal
 
 pub returns : goal.returns
-returns g c = relinked g.T.Tape _ _ _ _ refl refl refl c.open_outbox.ensures.linked c.open_outbox.ensures.no_links
+returns g c = relinked g.T.Tape _ _ _ _ refl refl refl refl c.open_outbox.ensures.linked c.open_outbox.ensures.no_links

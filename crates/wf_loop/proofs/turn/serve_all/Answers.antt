@@ -7,3 +7,6 @@ returns-clause-on g c = then_on g.T.Tape _ _ _ _ _ (then_on g.T.Tape _ _ _ _ _ c
 
 pub returns-clause-outvoted : goal.returns-clause-outvoted
 returns-clause-outvoted g c = λ is. c.serve_clients.ensures.outvoted (c.handle_all_own.ensures.outvoted ∙ (c.act_on_all.ensures.on.outvoted ∙ is)) ∙ c.act_on_all.ensures.befores
+
+pub returns-clause-joins : goal.returns-clause-joins
+returns-clause-joins g c = λ is. c.serve_clients.ensures.joins (c.handle_all_own.ensures.joins ∙ (c.act_on_all.ensures.on.joins ∙ is)) ∙ c.act_on_all.ensures.befores

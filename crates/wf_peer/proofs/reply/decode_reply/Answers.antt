@@ -4,22 +4,17 @@ use Rattle.std.specs.Prelude.{Option, codes}
 use Rattle.std.proofs.lemmas.List.{append_assoc, append_cancel_left}
 use Rattle.std.specs.Int.{w16, to_be_bytes}
 use Rattle.wf_peer.specs.Greeting.{body_bytes, greeting_bytes, peer_version}
-use Rattle.wf_peer.specs.GreetingReply.{IsReply, rejection_byte, rejection_bytes, remembered_bytes, reply_bytes}
+use Rattle.wf_peer.specs.GreetingReply.{IsGreetingReply, rejection_byte, rejection_bytes, remembered_bytes, reply_bytes}
 use Rattle.std.proofs.lemmas.Result.{err_from_is_err_and}
 use Rattle.wf_peer.specs.declared.fault.GreetingFault.{GreetingFault}
 use Rattle.wf_peer.specs.declared.fault.GreetingFault.TheVariants as faults
-use Rattle.wf_peer.specs.declared.greeting.Greeting.{Greeting}
 use Rattle.wf_peer.specs.declared.progress.Progress.{Progress}
 use Rattle.wf_peer.specs.declared.rejection.PeerRejection.{PeerRejection}
 use Rattle.wf_peer.specs.declared.reply.GreetingReply.{GreetingReply}
 use Rattle.wf_peer.specs.declared.reply.GreetingReply.TheVariants as replies
 use Rattle.wf_peer.proofs.Decoded.{behind_front, error_of_exit, handed_on, within_front}
+use Rattle.wf_peer.proofs.Replies.{either, short_reply}
 use Rattle.wf_peer.proofs.reply.decode_reply.Goals as goal
-
--- by which of the two the reply is
-either : (P : GreetingReply → Type 0) → ((g : Greeting) → P (replies.Greeting g)) → ((why : PeerRejection) (p : Option Progress) → P (replies.Rejected why p)) → (reply : GreetingReply) → P reply
-either P of_greeting of_rejection (replies.Greeting g) = of_greeting g
-either P of_greeting of_rejection (replies.Rejected why p) = of_rejection why p
 
 not_both : (bytes a b : List ℕ) → bytes ≡ codes "wf-nope\n" ++ a → bytes ≡ codes "wf-node\n" ++ b → ⊥
 not_both bytes a b rejected greeted =
@@ -47,7 +42,7 @@ one_rejection why other p q same = ap replied same
 
 pub returns-in-Err-clause-each : goal.returns-in-Err-clause-each
 unfolding rejection_bytes greeting_bytes
-returns-in-Err-clause-each c = either (λ (reply : GreetingReply). (rest : List ℕ) → IsReply reply → c.args.bytes.now ≡ reply_bytes reply ++ rest → ◌≡◌ {A = Result GreetingReply GreetingFault} (Err c.in-Err.fault) (Ok reply))
+returns-in-Err-clause-each c = either (λ (reply : GreetingReply). (rest : List ℕ) → IsGreetingReply reply → c.args.bytes.now ≡ reply_bytes reply ++ rest → ◌≡◌ {A = Result GreetingReply GreetingFault} (Err c.in-Err.fault) (Ok reply))
     (λ g rest is e. absurd (not_both c.args.bytes.now _ ((to_be_bytes w16 peer_version ++ body_bytes g) ++ rest) c.in-Some.ensures e))
     (λ why p rest is e.
     let here : c.in_ok-after_version-in-Some.field-0.now ≡ rejection_byte why ∷ (remembered_bytes p ++ rest) =
@@ -57,7 +52,7 @@ returns-in-Err-clause-each c = either (λ (reply : GreetingReply). (rest : List 
 
 pub returns-in-Ok-clause-each : goal.returns-in-Ok-clause-each
 unfolding rejection_bytes greeting_bytes
-returns-in-Ok-clause-each c = either (λ (reply : GreetingReply). (rest : List ℕ) → IsReply reply → c.args.bytes.now ≡ reply_bytes reply ++ rest → ◌≡◌ {A = Result GreetingReply GreetingFault} (Ok (replies.Rejected c.in-Ok.why c.in-Ok.remembered)) (Ok reply))
+returns-in-Ok-clause-each c = either (λ (reply : GreetingReply). (rest : List ℕ) → IsGreetingReply reply → c.args.bytes.now ≡ reply_bytes reply ++ rest → ◌≡◌ {A = Result GreetingReply GreetingFault} (Ok (replies.Rejected c.in-Ok.why c.in-Ok.remembered)) (Ok reply))
     (λ g rest is e. absurd (not_both c.args.bytes.now _ ((to_be_bytes w16 peer_version ++ body_bytes g) ++ rest) c.in-Some.ensures e))
     (λ why p rest is e.
     let here : c.in_ok-after_version-in-Some.field-0.now ≡ rejection_byte why ∷ (remembered_bytes p ++ rest) =
@@ -76,7 +71,7 @@ after_mark why p = to_be_bytes w16 peer_version ++ rejection_byte why ∷ rememb
 
 pub returns-in_err-after_version-in-Some-clause-begins : goal.returns-in_err-after_version-in-Some-clause-begins
 unfolding rejection_bytes greeting_bytes
-returns-in_err-after_version-in-Some-clause-begins c = either (λ (reply : GreetingReply). (more : List ℕ) → IsReply reply → 0 < length more → c.args.bytes.now ++ more ≡ reply_bytes reply → c.from_residual.result ≡ Err faults.Short)
+returns-in_err-after_version-in-Some-clause-begins c = either (λ (reply : GreetingReply). (more : List ℕ) → IsGreetingReply reply → 0 < length more → c.args.bytes.now ++ more ≡ reply_bytes reply → c.from_residual.result ≡ Err faults.Short)
     (λ g more is some e. absurd (not_both_longer c.args.bytes.now more _ (to_be_bytes w16 peer_version ++ body_bytes g) c.in-Some.ensures e))
     (λ why p more is some e.
     let behind = behind_front c.args.bytes.now c.in-Some.rest.now more (codes "wf-nope\n") (after_mark why p) c.in-Some.ensures e in
@@ -86,7 +81,7 @@ returns-in_err-after_version-in-Some-clause-begins c = either (λ (reply : Greet
 
 pub returns-in-Err-clause-begins : goal.returns-in-Err-clause-begins
 unfolding rejection_bytes greeting_bytes
-returns-in-Err-clause-begins c = either (λ (reply : GreetingReply). (more : List ℕ) → IsReply reply → 0 < length more → c.args.bytes.now ++ more ≡ reply_bytes reply → ◌≡◌ {A = Result GreetingReply GreetingFault} (Err c.in-Err.fault) (Err faults.Short))
+returns-in-Err-clause-begins c = either (λ (reply : GreetingReply). (more : List ℕ) → IsGreetingReply reply → 0 < length more → c.args.bytes.now ++ more ≡ reply_bytes reply → ◌≡◌ {A = Result GreetingReply GreetingFault} (Err c.in-Err.fault) (Err faults.Short))
     (λ g more is some e. absurd (not_both_longer c.args.bytes.now more _ (to_be_bytes w16 peer_version ++ body_bytes g) c.in-Some.ensures e))
     (λ why p more is some e.
     let behind = behind_front c.args.bytes.now c.in-Some.rest.now more (codes "wf-nope\n") (after_mark why p) c.in-Some.ensures e in
@@ -95,7 +90,12 @@ returns-in-Err-clause-begins c = either (λ (reply : GreetingReply). (more : Lis
 
 pub returns-in-Err-decode-clause-begins : goal.returns-in-Err-decode-clause-begins
 unfolding rejection_bytes greeting_bytes
-returns-in-Err-decode-clause-begins c = either (λ (reply : GreetingReply). (more : List ℕ) → IsReply reply → 0 < length more → c.args.bytes.now ++ more ≡ reply_bytes reply → ◌≡◌ {A = Result GreetingReply GreetingFault} (Err c.in-Err-decode.fault) (Err faults.Short))
+returns-in-Err-decode-clause-begins c = either (λ (reply : GreetingReply). (more : List ℕ) → IsGreetingReply reply → 0 < length more → c.args.bytes.now ++ more ≡ reply_bytes reply → ◌≡◌ {A = Result GreetingReply GreetingFault} (Err c.in-Err-decode.fault) (Err faults.Short))
     (λ g more is some e. handed_on c.in-Err-decode.fault _ (c.in-Err-decode.ensures.begins g more is some e))
     (λ why p more is some e.
     handed_on c.in-Err-decode.fault _ (c.in-Err-decode.ensures.few (within_front c.args.bytes.now more (codes "wf-nope\n") (after_mark why p) e c.in-None.ensures)))
+
+pub returns-in-Err-decode-clause-short : goal.returns-in-Err-decode-clause-short
+returns-in-Err-decode-clause-short c = λ short.
+    let decoded = handed_on _ _ short in
+    short_reply c.args.bytes.now (c.in-Err-decode.ensures.short decoded) (c.in-Err-decode.ensures.mark decoded)

@@ -7,3 +7,6 @@ returns-clause-on g c = twice_in g.T.Tape _ _ _ _ _ _ c.serve_all.ensures.on c.t
 
 pub returns-clause-outvoted : goal.returns-clause-outvoted
 returns-clause-outvoted g c = λ is. c.turn.ensures.befores ∙ c.serve_all.ensures.outvoted is
+
+pub returns-clause-joins : goal.returns-clause-joins
+returns-clause-joins g c = λ is. c.turn.ensures.befores ∙ c.serve_all.ensures.joins is

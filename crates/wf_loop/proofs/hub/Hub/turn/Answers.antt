@@ -1,24 +1,37 @@
-use Rattle.std.proofs.Common.{ap}
-use Rattle.wf_loop.proofs.Continuation.{keeps_going, turned, turned_asked, turned_heard, turned_suspended, turned_unanswered}
+use Rattle.std.proofs.Common.{ap, ◌∙◌}
+use Rattle.wf_loop.proofs.Continuation.{keeps_going, turned, turned_asked, turned_heard, turned_joins, turned_learning, turned_learnt, turned_suspended, turned_unanswered}
 use Rattle.wf_loop.proofs.hub.Hub.turn.Goals as goal
 use Rattle.wf_loop.specs.declared.clients.Clients.{Clients}
+use Rattle.wf_loop.specs.declared.hub.Voter.{Voter}
 
 pub returns-clause-on : goal.returns-clause-on
-returns-clause-on g c = turned g.T.Tape _ _ c.args.self.now.voter _ _ _ c.judge.ensures.process c.act-self.ensures.on c.keep.ensures.voter
+returns-clause-on g c = turned g.T.Tape _ _ c.args.self.now.voter _ _ _ c.judge.ensures.process c.act_unless-self.ensures.on c.keep.ensures.voter
 
 pub returns-clause-earlier : goal.returns-clause-earlier
 returns-clause-earlier g c = keeps_going g.T.Tape _ _ (returns-clause-on g c)
 
 pub returns-clause-suspended : goal.returns-clause-suspended
-returns-clause-suspended g c = turned_suspended g.T.Tape _ _ _ _ _ _ c.judge.ensures.process c.judge.ensures.suspended c.act-self.ensures.on c.keep.ensures.voter
+returns-clause-suspended g c = turned_suspended g.T.Tape _ _ _ _ _ _ c.judge.ensures.process c.judge.ensures.suspended c.act_unless-self.ensures.on c.keep.ensures.voter
 
 pub returns-clause-outvoted : goal.returns-clause-outvoted
 returns-clause-outvoted g c = λ is. record {
-  given = turned_asked g.T.Tape _ _ c.args.self.now.voter _ _ _ c.judge.ensures.process c.act-self.ensures.on c.keep.ensures.voter is;
+  given = turned_asked g.T.Tape _ _ c.args.self.now.voter _ _ _ c.judge.ensures.process c.act_unless-self.ensures.on c.keep.ensures.voter is;
   answered =
-      turned_unanswered g.T.Tape _ _ _ _ _ _ _ _ _ c.judge.ensures.befores c.act-self.ensures.on c.act-self.ensures.outvoted c.keep.ensures.voter
+      turned_unanswered g.T.Tape _ _ _ _ _ _ _ _ _ c.judge.ensures.befores c.act_unless-self.ensures.on c.act_unless-self.ensures.outvoted c.keep.ensures.voter
       (ap (λ (served : Clients _ _ _ _ g.T.Tape _). served.before.items) c.keep.ensures.clients) is;
 }
 
 pub returns-clause-heard : goal.returns-clause-heard
-returns-clause-heard g c = turned_heard g.T.Tape _ _ _ _ _ _ _ c.judge.ensures.process c.judge.ensures.kept c.act-self.ensures.on c.keep.ensures.voter c.keep.ensures.stands
+returns-clause-heard g c = turned_heard g.T.Tape _ _ _ _ _ _ _ c.judge.ensures.process c.judge.ensures.kept c.act_unless-self.ensures.on c.keep.ensures.voter c.keep.ensures.stands
+
+pub returns-clause-joins : goal.returns-clause-joins
+returns-clause-joins g c = λ is. record {
+  joins = turned_joins g.T.Tape _ _ c.args.self.now.voter _ _ _ c.judge.ensures.joins c.act_unless-self.ensures.on c.keep.ensures.voter ∙ is;
+  given = turned_learnt g.T.Tape _ _ c.args.self.now.voter _ _ _ c.judge.ensures.process c.judge.ensures.joins c.act_unless-self.ensures.on c.keep.ensures.voter is;
+  answered =
+      turned_learning g.T.Tape c.args.self.now.voter.joins _ _ _ _ _ c.judge.ensures.befores c.judge.ensures.joins c.act_unless-self.ensures.joins
+      (ap (λ (served : Clients _ _ _ _ g.T.Tape _). served.before.items) c.keep.ensures.clients) is;
+}
+
+pub returns-clause-over : goal.returns-clause-over
+returns-clause-over g c = λ is. ap (λ (v : Voter _ g.T.Tape). v.process) c.keep.ensures.voter ∙ (c.act_unless-self.ensures.over is ∙ c.judge.ensures.process)

@@ -1,0 +1,70 @@
+-- A process whose folder joins goes on learning.
+use Rattle.std.proofs.Common.{◌≡◌, ◌∙◌, ℕ, List, [], ◌∷◌, ◌++◌, ap, refl, subst, sym}
+use Rattle.std.specs.Prelude.{Result, Ok, Err, OnErr, OnOk}
+use Rattle.wf_actor.specs.Process.{IsJustOpened}
+use Rattle.wf_actor.specs.declared.actor.Actor.{Actor}
+use Rattle.wf_actor.specs.declared.actor.Origin.{Origin}
+use Rattle.wf_actor.specs.declared.process.Process.{Process}
+use Rattle.wf_codec.specs.declared.message.Message.{Message}
+use Rattle.wf_loop.specs.Continuation.{StaysInRun, besides_chosen}
+use Rattle.wf_loop.specs.Hub.{IsJoiner, OnlyLearns, process_of}
+use Rattle.wf_loop.specs.declared.hub.Hub.{Hub}
+use Rattle.wf_loop.specs.declared.reopening.NotReopened.{NotReopened}
+use Rattle.wf_node_command.specs.Learned.{HasOnlyLearned, HaveOnlyLearned, IsLearner}
+use Rattle.wf_sockets.specs.declared.connection.Connection.{Ghosts as Connection}
+use Rattle.wf_tape.specs.declared.tape.Tape.{Ghosts as Tape}
+
+nothing_given : besides_chosen [] ≡ []
+unfolding besides_chosen
+nothing_given = refl
+
+none_given : (given : List (Message × Origin)) → given ≡ [] → besides_chosen given ≡ []
+none_given given none = ap besides_chosen none ∙ nothing_given
+
+module _ {T : Type 0} (tapes : Tape T) where
+  no_runs : HaveOnlyLearned tapes []
+  unfolding HaveOnlyLearned
+  no_runs = tt
+
+  -- a run more has ended
+  one_run_more : (runs : List (Actor T tapes × ℕ)) (run : Actor T tapes) (number : ℕ) → HaveOnlyLearned tapes runs → besides_chosen run.given.items ≡ [] → HaveOnlyLearned tapes (runs ++ (run, number) ∷ [])
+  unfolding HaveOnlyLearned
+  one_run_more [] run number have given = (given, tt)
+  one_run_more (first ∷ runs) run number have given = (have.0, one_run_more runs run number have.1 given)
+
+  -- it begins so: nothing was given to it yet
+  begins : (process : Process T tapes) → IsJustOpened process → process.ended.items ≡ [] → HasOnlyLearned tapes process
+  begins process opened first = record {
+    given = none_given process.actor.given.items opened.given;
+    ended = subst (λ (runs : List (Actor T tapes × ℕ)). HaveOnlyLearned tapes runs) (sym first) no_runs;
+  }
+
+  pub learner_at_first : {N C L : Type 0} {connections : Connection C} (hub : Hub T N C L tapes connections) (process : Process T tapes) → process_of hub ≡ process → IsJustOpened process → process.ended.items ≡ [] → IsJoiner hub
+      → IsLearner tapes hub
+  learner_at_first hub process same opened first joins = (joins, subst (λ (p : Process T tapes). HasOnlyLearned tapes p) (sym same) (begins process opened first))
+
+  -- a turn
+  pub learner_on : {N C L : Type 0} {connections : Connection C} (old new : Hub T N C L tapes connections) → StaysInRun tapes (process_of old) (process_of new) → (IsJoiner old → OnlyLearns old new) → IsLearner tapes old → IsLearner tapes new
+  learner_on old new stays learns was =
+      let only = learns was.0 in (
+        only.joins,
+        record {
+          given = only.given ∙ was.1.given;
+          ended = subst (λ (runs : List (Actor T tapes × ℕ)). HaveOnlyLearned tapes runs) (sym stays.ended) was.1.ended;
+        },
+      )
+
+  -- a tape that was opened again, or not
+  pub learner_reopened : {N C L : Type 0} {connections : Connection C} (old new : Hub T N C L tapes connections) (result : Result (Unit {0}) NotReopened) → (IsJoiner old → IsJoiner new) → OnOk result (IsJustOpened (process_of new))
+      → OnOk result ((process_of new).ended.items ≡ (process_of old).ended.items ++ ((process_of old).actor, 0) ∷ []) → OnErr result (process_of new ≡ process_of old) → IsLearner tapes old → IsLearner tapes new
+  learner_reopened old new (Ok done) joins opened ended same was = (
+    joins was.0,
+    record {
+      given = none_given (process_of new).actor.given.items opened.given;
+      ended = subst (λ (runs : List (Actor T tapes × ℕ)). HaveOnlyLearned tapes runs) (sym ended) (one_run_more (process_of old).ended.items (process_of old).actor 0 was.1.ended was.1.given);
+    },
+  )
+  learner_reopened old new (Err why) joins opened ended same was = (joins was.0, subst (λ (p : Process T tapes). HasOnlyLearned tapes p) (sym same) was.1)
+
+  pub learner_still : {N C L : Type 0} {connections : Connection C} (hub : Hub T N C L tapes connections) → IsLearner tapes hub → IsLearner tapes hub
+  learner_still hub is = is

@@ -1,0 +1,23 @@
+-- A process whose folder joins in the place of a lost one.
+use Rattle.std.specs.Prelude.{◌≡◌, ℕ, List, [], ◌∷◌}
+use Rattle.wf_actor.specs.declared.actor.Actor.{Actor}
+use Rattle.wf_actor.specs.declared.process.Process.{Process}
+use Rattle.wf_loop.specs.Continuation.{besides_chosen}
+use Rattle.wf_loop.specs.Hub.{IsJoiner, process_of}
+use Rattle.wf_loop.specs.declared.hub.Hub.{Hub}
+use Rattle.wf_sockets.specs.declared.connection.Connection.{Ghosts as Connection}
+use Rattle.wf_tape.specs.declared.tape.Tape.{Ghosts as Tape}
+
+-- in each of these runs the node was given no message but those that say what is published
+unfoldable pub HaveOnlyLearned : {T : Type 0} (tapes : Tape T) → List (Actor T tapes × ℕ) → Type 0
+HaveOnlyLearned tapes [] = Unit {0}
+HaveOnlyLearned tapes (run ∷ runs) = (besides_chosen run.0.given.items ≡ []) × HaveOnlyLearned tapes runs
+
+-- So it is in the run that it is in, and in those that have ended: it never voted, and promised nothing.
+pub record HasOnlyLearned {T : Type 0} (tapes : Tape T) (process : Process T tapes) : Type 0 where
+  pub given : besides_chosen process.actor.given.items ≡ []
+  pub ended : HaveOnlyLearned tapes process.ended.items
+
+-- the folder of a hub's process joins, and the process has only learned
+abbrev pub IsLearner : {T N C L : Type 0} (tapes : Tape T) {connections : Connection C} → Hub T N C L tapes connections → Type 0
+IsLearner tapes hub = IsJoiner hub × HasOnlyLearned tapes (process_of hub)
