@@ -26,7 +26,7 @@ def scripts() -> list[pathlib.Path]:
     """The scripts of tools/ and bench/, and the demo."""
     every = [*(TOP / "tools").glob("*.py"), *(TOP / "bench").glob("*.py"), TOP / "demo",
              TOP / "tools" / "wfarmctl"]
-    return sorted(every)
+    return sorted(it for it in every if it.name != "kit.py")
 
 
 # run in a process for each folder: what each script of it writes for --help, and on standard error
