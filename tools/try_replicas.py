@@ -367,7 +367,7 @@ def lag(options, top):
             lines.pipe(replica)
         lines.start()
         for process in farm.voters + replicas:
-            want("a process doesn't begin", until(lambda: process.published() is not None))
+            until(lambda: process.published() is not None)
         time.sleep(2)
         count = 0
         for number in range(1, 301):
